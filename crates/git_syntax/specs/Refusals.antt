@@ -1,9 +1,8 @@
 -- Laws on refusals, over the definitions alone: what is refused spells nothing.
-use Rattle.std.specs.Prelude.{◌≡◌, ℕ, ◌+◌, ◌≤◌, ◌⊎◌, List, [], length, IsUtf8}
+use Rattle.std.specs.Prelude.{◌≡◌, ℕ, ◌⊎◌, List, [], IsUtf8}
 use Rattle.git_syntax.specs.declared.refusal.UrlKind.{UrlKind}
 use Rattle.git_syntax.specs.declared.refusal.UrlFault.{UrlFault}
 use Rattle.git_syntax.specs.declared.refusal.Refusal.{Refusal}
-use Rattle.git_syntax.specs.declared.refusal.Refusal.TheVariants as refusal
 use Rattle.git_syntax.specs.Location.{Location}
 use Rattle.git_syntax.specs.Grammar.{Spells}
 use Rattle.git_syntax.specs.Flaws.{MissesPath, HasForm, IsTooLong, KindFlaw, NamesFlaw}
@@ -11,18 +10,6 @@ use Rattle.git_syntax.specs.Flaws.{MissesPath, HasForm, IsTooLong, KindFlaw, Nam
 -- nor by bytes in which the flaw of a refusal is
 abbrev pub RefusalExclusive : Type 0
 RefusalExclusive = (b : List ℕ) (r : Refusal) (v : Location) → NamesFlaw b r → ¬ Spells b v
-
--- where the place ends that a refusal reports
-abbrev pub place_end : Refusal → ℕ
-place_end refusal.EmptyLocal = 0
-place_end (refusal.MissingPath kind at) = at
-place_end (refusal.NotUtf8 kind at) = at + 1
-place_end (refusal.TooLong shown total at len) = at + len
-place_end (refusal.BadUrl kind named at len) = at + len
-
--- that place is in the text
-abbrev pub RefusalWithin : Type 0
-RefusalWithin = (b : List ℕ) (r : Refusal) → NamesFlaw b r → place_end r ≤ length b
 
 -- a flaw is in the bytes, at some place: one of those that errors name, without the copy that an error holds
 pub data HasFlaw (b : List ℕ) : Type 0 where

@@ -76,7 +76,7 @@ fn path_start(bytes: &[u8], web: bool) -> Option<usize>
 }
 
 /// The front up to where a path may first start, and the rest.
-pub(crate) fn cut_before_path(bytes: &[u8], web: bool) -> (&[u8], &[u8])
+pub fn cut_before_path(bytes: &[u8], web: bool) -> (&[u8], &[u8])
     ensures joined { bytes.now ≡ result.0.now ++ result.1.now }
     ensures front { Lacks (is_path_start web) result.0.now }
     ensures rest { StartsPath web result.1.now }

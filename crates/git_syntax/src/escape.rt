@@ -103,7 +103,7 @@ pub fn has_percent(text: &[u8]) -> bool
 }
 
 /// Whether the text decodes to UTF-8.
-pub(crate) fn decodes_to_utf8(text: &[u8]) -> bool
+pub fn decodes_to_utf8(text: &[u8]) -> bool
     ensures { IsTrue result ↔ IsUtf8 (percent.percent_decode text.now) }
 {
     if is_plain(text) {
@@ -145,7 +145,7 @@ pub(crate) fn decoding_is_utf8(text: &[u8]) -> bool
 }
 
 /// What is left of a text behind the first character of its decoding, if that begins with one.
-fn past_character(text: &[u8]) -> Option<&[u8]>
+pub fn past_character(text: &[u8]) -> Option<&[u8]>
     requires { 0 < length (percent.percent_decode text.now) }
     ensures { PassesCharacter text.now result }
 {
@@ -158,7 +158,7 @@ fn past_character(text: &[u8]) -> Option<&[u8]>
 }
 
 /// The next four bytes of a decoding, or as many as there are, and their count.
-fn front(text: &[u8]) -> ([u8; 4], usize)
+pub fn front(text: &[u8]) -> ([u8; 4], usize)
     ensures small { result.1 ≤ 4 }
     ensures full { length (take result.1 result.0) ≡ result.1 }
     ensures bytes { take result.1 result.0 ≡ take 4 (percent.percent_decode text.now) }
@@ -178,7 +178,7 @@ fn front(text: &[u8]) -> ([u8; 4], usize)
 }
 
 /// What is left of a text behind the next `count` bytes of its decoding.
-fn skip(text: &[u8], count: usize) -> &[u8]
+pub fn skip(text: &[u8], count: usize) -> &[u8]
     ensures { percent.percent_decode result.now ≡ drop count (percent.percent_decode text.now) }
 {
     let mut rest = text;
@@ -200,7 +200,7 @@ fn behind_first(text: &[u8]) -> &[u8]
 
 /// The first byte of the decoding of a text, and what is left of the text behind it.
 #[inline(always)]
-fn split_decoded(text: &[u8]) -> Option<(u8, &[u8])>
+pub fn split_decoded(text: &[u8]) -> Option<(u8, &[u8])>
     ensures { SplitsDecoded text.now result }
 {
     let (first, behind) = text.split_first()?;

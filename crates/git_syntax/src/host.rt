@@ -25,7 +25,7 @@ use port::{are_digits, ends_host, with_port, with_rest};
 
 /// How strictly a host is read.
 #[derive(Clone, Copy, PartialEq, Eq)]
-pub(crate) enum HostSyntax {
+pub enum HostSyntax {
     /// As HTTP has it: escapes stay, and brackets hold an IPv6 literal.
     Http,
     /// As Git's own transports have it: an IPv6 text needs no brackets.
@@ -281,7 +281,7 @@ fn reads_address(syntax: HostSyntax, piece: &[u8]) -> bool
 }
 
 /// Whether the piece is an IPv6 text, perhaps with a colon behind it.
-fn is_address_piece(piece: &[u8]) -> bool
+pub fn is_address_piece(piece: &[u8]) -> bool
     ensures { IsTrue result ↔ IsAddressPiece piece.now }
 {
     if is_address(piece) {

@@ -25,7 +25,7 @@ pub fn first_byte(bytes: &[u8], c: u8) -> usize
 }
 
 /// How many bytes are before the first `%` without two hexadecimal digits behind it.
-pub(crate) fn broken_escape(bytes: &[u8]) -> usize
+pub fn broken_escape(bytes: &[u8]) -> usize
     requires { spec.is_sound bytes.now ≡ false }
     ensures { StandsBroken bytes.now result }
 {
@@ -40,7 +40,7 @@ pub(crate) fn broken_escape(bytes: &[u8]) -> usize
 }
 
 /// How many bytes are before the first that is not UTF-8.
-pub(crate) fn not_utf8(bytes: &[u8]) -> usize
+pub fn not_utf8(bytes: &[u8]) -> usize
     requires { ¬ IsUtf8 bytes.now }
     ensures { IsValidUpTo bytes.now result }
 {

@@ -1,9 +1,7 @@
 //! Refusals: why a text spells no location, the form that it was taken for, and what is wrong with it.
 //!
 //! What these report of a text are numbers, names and a slice of it, so making one takes no memory.
-//! `error_text` says them to people, and `debug` to logs.
-
-use thiserror::Error;
+//! `error_text` says forms and faults to people.
 
 /// The form that a text was taken for. `Display` names it, as in `the URL has no path`.
 ///
@@ -64,36 +62,13 @@ pub struct Fault {
     pub len: usize,
 }
 
-/// Why a text spells no location, and where: `len` bytes of the text are wrong, behind its first `at`. It
-/// borrows from the text, of which it holds at most a front.
-///
-/// The place is what is there and should not be: the character that is white space, the `%` of a broken
-/// escape, the first backslash of an authority, the user, the password or the path that decodes to no text,
-/// the host that is none, or all of a piece whose colons mark no port, the text between brackets that is no
-/// host, a bracket that is not closed or what follows a closed one, all that is in a port's place, and what
-/// should be a scheme. Where something is missing, it is where that would be, and no byte long.
-///
-/// `Display` says it in words, which show no byte of the text; `Debug` shows the length of a front in place
-/// of its bytes.
-///
-/// ```
-/// fn has_bad_port(refusal: &Refusal<'_>) -> bool {
-///     matches!(
-///         refusal,
-///         Refusal::BadUrl {
-///             fault: UrlFault::BadPort,
-///             ..
-///         }
-///     )
-/// }
-/// ```
-#[derive(Clone, Copy, Error)]
+/// Why a text spells no location: a flaw that is in it, and where. Of several it is the one that `find` came
+/// upon; the one reason and the one place of a text are those of `git_refusals`.
+#[derive(Clone, Copy)]
 pub enum Refusal<'a> {
     /// The text is empty.
-    #[error("the location is empty")]
     EmptyLocal,
     /// A path is wanted and there is none.
-    #[error("the {kind} has no path")]
     MissingPath {
         /// The form that the text was taken for.
         kind: UrlKind,
@@ -101,7 +76,6 @@ pub enum Refusal<'a> {
         at: usize,
     },
     /// The text is not UTF-8.
-    #[error("the {kind} is not UTF-8")]
     NotUtf8 {
         /// The form that the text was taken for.
         kind: UrlKind,
@@ -109,7 +83,6 @@ pub enum Refusal<'a> {
         at: usize,
     },
     /// The scheme or the authority is too long.
-    #[error("the scheme or the authority of the URL is longer than 1024 bytes, in a text of {total} bytes")]
     TooLong {
         /// The front of the text: the scheme, `://` and the 1,024 bytes behind it, or the whole where it is
         /// shorter.
@@ -122,7 +95,6 @@ pub enum Refusal<'a> {
         len: usize,
     },
     /// The text is no URL, or the host of the scp form is none.
-    #[error("the {kind} has {fault}")]
     BadUrl {
         /// The form that the text was taken for.
         kind: UrlKind,

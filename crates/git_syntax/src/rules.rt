@@ -17,9 +17,9 @@ pub struct Rules {
     /// The protocol that it names.
     pub known: KnownScheme,
     /// The syntax of its host.
-    pub(crate) syntax: HostSyntax,
+    pub syntax: HostSyntax,
     /// Whether it needs a host.
-    pub(crate) needs_host: bool,
+    pub needs_host: bool,
     /// Whether it is HTTP's: a path may begin with `?` and `#` too, and an empty one is the root.
     pub web: bool,
     /// Whether it needs a path, in which a home folder is without the `/` before it.
@@ -27,7 +27,7 @@ pub struct Rules {
 }
 
 /// The rules of the scheme with this text.
-pub(crate) fn rules_of(scheme: &[u8]) -> Rules
+pub fn rules_of(scheme: &[u8]) -> Rules
     ensures known { scheme_named result.known scheme.now ≡ scheme_of scheme.now }
     ensures syntax { host_syntax result.syntax ≡ host_syntax_of scheme.now }
     ensures host { result.needs_host ≡ requires_host scheme.now }

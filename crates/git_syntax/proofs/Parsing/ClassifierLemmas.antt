@@ -220,7 +220,7 @@ nil_tested t e = nil_from_length t (eqb-true (length t) 0 (sym e))
 -- ---- remote helpers as text
 
 -- a byte of a name is ASCII
-name_byte_ascii : (b : ℕ) → is_name_byte b ≡ true → b < 128
+pub name_byte_ascii : (b : ℕ) → is_name_byte b ≡ true → b < 128
 name_byte_ascii b h = grind (arith, nat_tests)
 
 -- the name of a helper is UTF-8
@@ -263,7 +263,7 @@ pub empty_unspelled : (v : Location) → ¬ Spells [] v
 empty_unspelled v h = grind (arith, nat_tests, joined_nonempty)
 
 -- what has a mark isn't neither
-url_form_not_neither : (b front rest : List ℕ) → UrlForm b front rest → ¬ IsNeither b
+pub url_form_not_neither : (b front rest : List ℕ) → UrlForm b front rest → ¬ IsNeither b
 url_form_not_neither b front rest s n = n.no_mark (front, rest, s.joined)
 
 -- the scheme of a URL is what comes before the first `://`

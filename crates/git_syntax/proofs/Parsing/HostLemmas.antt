@@ -188,7 +188,7 @@ plain_not_many piece (text, rest, h, place, e) (inl begins) =
 plain_not_many piece (text, rest, h, place, e) (inr two) = absurd (plain_one_colon text rest h.no_colon place (subst HoldsTwoColons e two))
 
 -- a port's place is empty or begins with a colon
-place_begins : (rest : List ℕ) → IsPortPlace rest → (rest ≡ []) ⊎ (begins_with colon rest ≡ true)
+pub place_begins : (rest : List ℕ) → IsPortPlace rest → (rest ≡ []) ⊎ (begins_with colon rest ≡ true)
 place_begins rest h = grind arith
 
 -- a piece is one host and one port's place
@@ -526,7 +526,7 @@ dns_byte_ascii : (b : ℕ) → is_dns_byte b ≡ true → b < 128
 dns_byte_ascii b h = grind (arith, nat_tests)
 
 -- so is a byte of a host of HTTP
-http_byte_ascii : (b : ℕ) → is_http_host_byte b ≡ true → b < 128
+pub http_byte_ascii : (b : ℕ) → is_http_host_byte b ≡ true → b < 128
 http_byte_ascii b h = grind (arith, nat_tests)
 
 -- and one of a zone

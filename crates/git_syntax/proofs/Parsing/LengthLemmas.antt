@@ -1,20 +1,23 @@
 -- The length test: what counts of a text in pieces, and that the walk over it is the definition.
-use Rattle.std.proofs.Common.{◌↔◌, ◌-◌, codes, zero, suc, length-append, ◌≡◌, ℕ, ◌+◌, ◌<◌, ◌≤◌, Bool, true, false, not, ◌==◌, ◌||◌, inl, inr, List, [], ◌∷◌, ◌++◌, length, take, drop, refl, sym, ap, subst, ◌∙◌, arith, append_assoc}
+use Rattle.std.proofs.Common.{◌↔◌, ◌-◌, codes, zero, suc, length-append, ◌≡◌, ℕ, ◌+◌, ◌<◌, ◌≤◌, Bool, true, false, not, ◌==◌, ◌||◌, inl, inr, List, [], ◌∷◌, ◌++◌, length, take, drop, refl, sym, ap, subst, ◌∙◌, arith, append_assoc, Option, None, Some, IsTrue}
 use Rattle.std.proofs.lemmas.Bool.Decides.{nat_tests}
 use Rattle.std.specs.Prelude.{nat_le}
 use Rattle.std.specs.List.{list_all, list_any, count_by, position_or_len}
 use Rattle.std.specs.Char.{is_ascii_whitespace}
+use Rattle.std.specs.Option.{is_some}
 use Rattle.std.proofs.Math.Seq.{drop-append-add, take-nil}
 use Rattle.std.proofs.lemmas.Bool.{cases_Bool, and_from, and_parts, or_left, or_right, or_cases, eqb-true, cases_lt, leb-true, le-leb, lt-leb, false≢true}
 use Rattle.std.proofs.lemmas.List.Elements.{filter-append}
 use Rattle.std.proofs.lemmas.List.Filters.{length-filter_both}
+use Rattle.std.proofs.lemmas.List.Folds.{list_any_at}
 use Rattle.std.proofs.lemmas.List.Sums.{length-filter}
+use Rattle.memchr.specs.Find.{IsFirstByte, is_byte2, is_byte3}
 use Rattle.git_syntax.specs.declared.length.Stage.TheVariants.{Slashes, Front}
 use Rattle.git_syntax.specs.Bytes.{Lacks, FreeOf, colon, begins_by, is_path_start, StartsPath}
 use Rattle.git_syntax.specs.Schemes.{is_web_scheme}
 use Rattle.git_syntax.specs.Authority.{is_any_slash, without_white_space, IsWithinLimit, Fits, FitsText}
 use Rattle.git_syntax.specs.Internal.LengthChecks.{without_slashes, starts_within, is_in_time, is_rest_short}
-use Rattle.git_syntax.proofs.Texts.CutLemmas.{cut_at_first, cut_unique, lacks_head_tail}
+use Rattle.git_syntax.proofs.Texts.CutLemmas.{cut_at_first, cut_unique, lacks-cons, lacks_after, lacks_head_tail, lacks_weaker}
 
 -- ---- white space
 
@@ -42,6 +45,46 @@ lacks_without web (b ∷ bs) lacks =
       | inl white ↦ ap (list_any (is_path_start web)) (white_left_out b bs white) ∙ rest
       | inr other ↦ ap (list_any (is_path_start web)) (other_left_in b bs other) ∙ rw parts.0 rest
     ]
+
+-- a text without white space is left as a whole
+nothing_left_out : (bs : List ℕ) → Lacks is_ascii_whitespace bs → without_white_space bs ≡ bs
+nothing_left_out [] lacks = refl
+nothing_left_out (b ∷ bs) lacks =
+    let parts = lacks_head_tail is_ascii_whitespace b bs lacks in
+    other_left_in b bs parts.0 ∙ ap (λ t. b ∷ t) (nothing_left_out bs parts.1)
+
+-- so each byte of it counts
+pub all_visible : (bs : List ℕ) → Lacks is_ascii_whitespace bs → length bs ≡ count_by (λ b. not (is_ascii_whitespace b)) bs
+all_visible bs lacks = sym (ap length (nothing_left_out bs lacks)) ∙ length-filter (λ b. not (is_ascii_whitespace b)) bs
+
+-- a byte that is none of these five is not white space
+not_white : (b : ℕ) → is_byte3 32 9 10 b ≡ false → is_byte2 13 12 b ≡ false → is_ascii_whitespace b ≡ false
+not_white b three two = grind (arith, nat_tests)
+
+-- a text that has none of the five has no white space
+nothing_white : (bs : List ℕ) → Lacks (is_byte3 32 9 10) bs → Lacks (is_byte2 13 12) bs → Lacks is_ascii_whitespace bs
+nothing_white [] three two = refl
+nothing_white (b ∷ bs) three two =
+    let threes = lacks_head_tail (is_byte3 32 9 10) b bs three in
+    let twos = lacks_head_tail (is_byte2 13 12) b bs two in
+    lacks-cons is_ascii_whitespace b bs (not_white b threes.0 twos.0) (nothing_white bs threes.1 twos.1)
+
+-- where no white space is in a text, neither of the last two is
+neither_of_two : (bs : List ℕ) → Lacks is_ascii_whitespace bs → Lacks (is_byte2 13 12) bs
+neither_of_two bs lacks = lacks_weaker (is_byte2 13 12) is_ascii_whitespace (λ b two. grind (arith, nat_tests)) bs lacks
+
+-- a search finds a place exactly where some byte passes its test
+search_decides : (test : ℕ → Bool) (bs : List ℕ) (found : Option ℕ) → IsFirstByte test bs found → is_some found ≡ list_any test bs
+search_decides test bs None first = sym (lacks_after test bs 0 (λ k l m. first k l m))
+search_decides test bs (Some at) first = sym (list_any_at test bs at 0 first.0.high first.1)
+
+-- a text has no white space where two searches find none of the five, and only there
+pub white_space_searched : (bs : List ℕ) (three two : Option ℕ) (lacking : Bool) → IsFirstByte (is_byte3 32 9 10) bs three → IsFirstByte (is_byte2 13 12) bs two → is_some three ≡ false → is_some two ≡ not lacking
+    → IsTrue lacking ↔ Lacks is_ascii_whitespace bs
+white_space_searched bs three two lacking first_three first_two none is =
+    let three_lack : Lacks (is_byte3 32 9 10) bs = sym (search_decides (is_byte3 32 9 10) bs three first_three) ∙ none in
+    let two_decided : list_any (is_byte2 13 12) bs ≡ not lacking = sym (search_decides (is_byte2 13 12) bs two first_two) ∙ is in
+    (grind (arith, nat_tests, nothing_white), grind (arith, nat_tests, neither_of_two))
 
 -- ---- a path among the first bytes
 

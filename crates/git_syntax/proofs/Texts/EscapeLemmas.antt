@@ -105,7 +105,7 @@ sound_tail b bs sound = (and_parts _ _ (sym (sound_step b bs) ∙ sound)).1
 pub sound_cons : (b : ℕ) (bs : List ℕ) → (not (b == 37) || begins_with_digits bs) ≡ true → is_sound bs ≡ true → is_sound (b ∷ bs) ≡ true
 sound_cons b bs head rest = sound_step b bs ∙ and_from _ _ head rest
 
-digits-append : (xs ys : List ℕ) → begins_with_digits xs ≡ true → begins_with_digits (xs ++ ys) ≡ true
+pub digits-append : (xs ys : List ℕ) → begins_with_digits xs ≡ true → begins_with_digits (xs ++ ys) ≡ true
 digits-append xs ys digits = grind arith
 
 -- two digits before a byte that is none are digits without it

@@ -54,7 +54,7 @@ fn is_simple_byte(byte: u8) -> bool
 }
 
 /// Whether the text is an IPv6 literal: an address, or one with `%25` and a zone behind it.
-pub(super) fn is_literal(text: &[u8]) -> bool
+pub fn is_literal(text: &[u8]) -> bool
     ensures { IsTrue result ↔ IsLiteral text.now }
 {
     match cut(text, b'%') {

@@ -1,0 +1,24 @@
+-- Characters and escapes, the checks that find nothing, and the flaws that the others find in hosts and authorities.
+pub mod CharacterLemmas
+pub mod EscapeLemmas
+pub mod PassLemmas
+pub mod FlawLemmas
+-- What each check finds, or else what the piece holds.
+pub mod HostLemmas
+pub mod AuthorityLemmas
+pub mod SchemeLemmas
+pub mod UrlLemmas
+pub mod FormLemmas
+pub mod ScpLemmas
+-- Each check finds one place at most, and so a text has one refusal at most.
+pub mod OneCheckLemmas
+pub mod OneHostLemmas
+pub mod OneLemmas
+-- What is refused: the flaw that its error names is there, so it spells no location, and its place is in it.
+pub mod UnspelledLemmas
+pub mod WithinLemmas
+-- The front of a URL that is too long names its refusal.
+pub mod FrontLemmas
+-- Where the parts of a location are.
+pub mod PartLemmas
+pub mod PartLawLemmas

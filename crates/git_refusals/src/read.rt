@@ -1,0 +1,52 @@
+//! Reading: what is found in a text, or its refusal.
+//!
+//! It uses `git_syntax::find`, and looks for the reason in refused texts alone.
+
+ghost use Rattle.std.specs.Prelude.{◌≡◌, ◌+◌, ◌≤◌, [], Err, IfErr, IfOk, length};
+ghost use Rattle.git_refusals.specs.Kinds.{empty_refusal};
+ghost use Rattle.git_syntax.specs.Internal.FoundPieces.{IsReady, meant, room_for};
+ghost use Rattle.git_syntax.specs.Grammar.{Spells};
+ghost use Rattle.git_syntax.specs.Location.{Location};
+ghost use Rattle.git_refusals.specs.Reasons.{Refused};
+
+pub use crate::form::refusal_of;
+use crate::reason::Reason;
+use crate::refusal::Refusal;
+use git_syntax::find::find;
+use git_syntax::found::Found;
+use git_syntax::refusal::UrlKind;
+
+/// The slices of the one location that the bytes spell, or the one refusal of the bytes.
+pub fn read(bytes: &[u8]) -> Result<Found<'_>, Refusal>
+    ensures found { IfOk result (λ found. Spells bytes.now (meant found)) }
+    ensures ready { IfOk result (λ found. IsReady found) }
+    ensures room { IfOk result (λ found. room_for found ≤ length bytes.now) }
+    ensures unspelled { IfErr result (λ refusal. (v : Location) → ¬ Spells bytes.now v) }
+    ensures refused { IfErr result (λ refusal. Refused bytes.now refusal) }
+    ensures empty { bytes.now ≡ [] → result ≡ Err empty_refusal }
+    ensures within { IfErr result (λ refusal. refusal.at + refusal.len ≤ length bytes.now) }
+{
+    match find(bytes) {
+        Ok(found) => Ok(found),
+        Err(_) => Err(refusal(bytes)),
+    }
+}
+
+/// The refusal of bytes that spell no location.
+pub fn refusal(bytes: &[u8]) -> Refusal
+    requires { (v : Location) → ¬ Spells bytes.now v }
+    ensures refused { Refused bytes.now result }
+    ensures empty { bytes.now ≡ [] → result ≡ empty_refusal }
+    ensures within { result.at + result.len ≤ length bytes.now }
+{
+    match refusal_of(bytes) {
+        Some(refusal) => refusal,
+        // Every text that spells no location is refused.
+        None => Refusal {
+            form: UrlKind::Local,
+            reason: Reason::Empty,
+            at: 0,
+            len: 0,
+        },
+    }
+}
