@@ -21,7 +21,7 @@ mod counted;
 use bstr::BStr;
 use git_rules::config;
 use git_rules::rewrite::Rewrites;
-use gix_url::{ParseError, Refusal, Url, UrlRef, expand_path};
+use gix_url::{ParseError, RefusalKind, Url, UrlRef, expand_path};
 use std::alloc::Global;
 use std::cmp::Ordering;
 
@@ -259,10 +259,10 @@ pub extern "C" fn call_bench_from_parts(alloc: Global, bytes: &[u8]) -> usize
 pub extern "C" fn call_bench_refuse_in(bytes: &[u8], room: &mut [u8]) -> bool
     ensures { IsTrue result → (v : Location) → ¬ Spells bytes.now v }
 {
-    matches!(
-        UrlRef::parse_in(bytes, room),
-        Err(ParseError::Refused(Refusal::TooLong { .. }))
-    )
+    match UrlRef::parse_in(bytes, room) {
+        Err(ParseError::Refused(refusal)) => refusal.reason.kind() == RefusalKind::TooLong,
+        Err(ParseError::NoRoom) | Ok(_) => false,
+    }
 }
 
 /// The length of the text that Git fetches from in place of the bytes, by a configuration.

@@ -1,6 +1,6 @@
-//! Examples of texts that are read into a room, and of what is refused there.
+//! Examples of texts that are read into a room.
 
-use gix_url::{ParseError, Refusal, UrlFault, UrlRef};
+use gix_url::{ParseError, UrlRef};
 
 /// The host that a line names, in a room that is used for line after line.
 fn host_in<'a>(line: &'a [u8], room: &'a mut [u8]) -> Option<&'a str> {
@@ -10,17 +10,7 @@ fn host_in<'a>(line: &'a [u8], room: &'a mut [u8]) -> Option<&'a str> {
     }
 }
 
-fn has_bad_port(refusal: &Refusal<'_>) -> bool {
-    matches!(
-        refusal,
-        Refusal::BadUrl {
-            fault: UrlFault::BadPort,
-            ..
-        }
-    )
-}
-
 /// Whether the same text is read where there is room for as many bytes as it has.
-fn wants_room(error: &ParseError<'_>) -> bool {
+fn wants_room(error: &ParseError) -> bool {
     matches!(error, ParseError::NoRoom)
 }

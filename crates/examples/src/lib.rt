@@ -13,6 +13,7 @@ mod parts;
 mod paths;
 mod patterns;
 mod reading;
+mod refusals;
 mod rewriting;
 mod rules;
 mod ssh;

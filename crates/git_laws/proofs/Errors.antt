@@ -4,4 +4,3 @@ pub mod HostDecisions
 pub mod UrlDecisions
 pub mod FormDecisions
 pub mod ExceptionLemmas
-pub mod WithinLemmas

@@ -1,20 +1,22 @@
 -- What `lines::run` answers: a line for each line.
 use Rattle.std.specs.Prelude.{◌≡◌, ℕ, Bool, true, false, List, ◌++◌, codes, Option, Result, Ok, Err, IfSome, ◌≤◌, ◌&&◌, [], ◌∷◌, All, length, flat_map}
 use Rattle.std.specs.Io.KnownBytes.{Appends, IsAtEnd}
-use Rattle.git_syntax.specs.declared.refusal.Refusal.{Refusal}
+use Rattle.git_refusals.specs.declared.reason.RefusalKind.{RefusalKind}
+use Rattle.git_refusals.specs.declared.reason.RefusalKind.TheVariants as kind
+use Rattle.git_refusals.specs.declared.refusal.Refusal.{Refusal}
 use Rattle.git_lines.specs.declared.lines.RunError.{RunError}
 use Rattle.git_lines.specs.declared.lines.RunError.TheVariants as run
 use Rattle.git_syntax.specs.Location.{Location}
 use Rattle.git_syntax.specs.declared.refusal.UrlFault.{UrlFault}
 use Rattle.git_syntax.specs.declared.refusal.UrlFault.TheVariants as fault
 use Rattle.git_location.specs.declared.write_error.WriteFault.{WriteFault}
-use Rattle.git_syntax.specs.declared.refusal.Refusal.TheVariants as refusal
 use Rattle.git_syntax.specs.Bytes.{tab, newline, FreeOf}
 use Rattle.git_syntax.specs.Schemes.{scheme_text}
 use Rattle.git_syntax.specs.Grammar.{Spells}
 use Rattle.git_location.specs.Text.{text}
 use Rattle.git_location.specs.Settled.{IsSettled}
-use Rattle.git_syntax.specs.Flaws.{NamesFlaw}
+use Rattle.git_refusals.specs.Kinds.{kind_of}
+use Rattle.git_refusals.specs.Reasons.{Refused}
 
 -- lines, each with the line end behind it
 abbrev pub ended_lines : List (List ℕ) → List ℕ
@@ -46,13 +48,17 @@ fault_name fault.BadPort = codes "BadPort"
 fault_name fault.BadCharacter = codes "BadCharacter"
 fault_name fault.HostRequired = codes "HostRequired"
 
+-- the name of the error that a text is refused with
+abbrev pub error_name : RefusalKind → List ℕ
+error_name kind.EmptyLocal = codes "EmptyLocal"
+error_name kind.MissingPath = codes "MissingPath"
+error_name kind.NotUtf8 = codes "NotUtf8"
+error_name kind.TooLong = codes "TooLong"
+error_name (kind.BadUrl named) = codes "BadUrl " ++ fault_name named
+
 -- the name of what a text is refused for
 abbrev pub refusal_name : Refusal → List ℕ
-refusal_name refusal.EmptyLocal = codes "EmptyLocal"
-refusal_name (refusal.MissingPath kind at) = codes "MissingPath"
-refusal_name (refusal.NotUtf8 kind at) = codes "NotUtf8"
-refusal_name (refusal.TooLong shown total at len) = codes "TooLong"
-refusal_name (refusal.BadUrl kind named at len) = codes "BadUrl " ++ fault_name named
+refusal_name r = error_name (kind_of r.reason)
 
 -- a word and what it is said of, on a line
 abbrev pub reported_line : List ℕ → List ℕ → List ℕ
@@ -76,8 +82,8 @@ pub data IsReported (v : Location) (answer : List ℕ) (good : Bool) : Type 0 wh
 pub data IsAnswer (line answer : List ℕ) (good : Bool) : Type 0 where
   -- what is reported of the one location that it spells
   reported : (v : Location) → Spells line v → IsReported v answer good → IsAnswer line answer good
-  -- a refusal whose flaw is in it, so that it spells none (`RefusalExclusive`)
-  refused : (r : Refusal) → NamesFlaw line r → answer ≡ reported_line (codes "refused") (refusal_name r)
+  -- its one refusal, so that it spells none (`RefusedUnspelled`)
+  refused : (r : Refusal) → Refused line r → answer ≡ reported_line (codes "refused") (refusal_name r)
       → good ≡ false → IsAnswer line answer good
 
 -- the answers to lines, in order, and whether each line is settled

@@ -17,8 +17,10 @@ use git_location::parse_error::ParseError;
 use git_location::url_ref::UrlRef;
 use git_location::writer::piece::Pieces;
 use git_location::writer::sink::Output;
+use git_refusals::reason::RefusalKind;
+use git_refusals::refusal::Refusal;
 use git_syntax::bytes;
-use git_syntax::refusal::{Refusal, UrlFault};
+use git_syntax::refusal::UrlFault;
 use itoa::Buffer;
 use std::alloc::{AllocError, Global};
 use std::io::{self, ErrorKind, Read, Write};
@@ -248,7 +250,7 @@ fn report_written(
 }
 
 /// Appends the answer for a line that is refused.
-fn refuse(refusal: &Refusal<'_>, out: &mut Vec<u8>) -> Result<bool, RunError>
+fn refuse(refusal: &Refusal, out: &mut Vec<u8>) -> Result<bool, RunError>
     ensures { ReportsRefusal refusal.now out.old.items out.new.items result }
 {
     put_line(out, "refused", refusal_name(refusal).as_bytes())?;
@@ -256,15 +258,15 @@ fn refuse(refusal: &Refusal<'_>, out: &mut Vec<u8>) -> Result<bool, RunError>
 }
 
 /// The name of what a line is refused for.
-fn refusal_name(refusal: &Refusal<'_>) -> &'static str
+fn refusal_name(refusal: &Refusal) -> &'static str
     ensures { result.now ≡ refusal_name refusal.now }
 {
-    match refusal {
-        Refusal::EmptyLocal => "EmptyLocal",
-        Refusal::MissingPath { .. } => "MissingPath",
-        Refusal::NotUtf8 { .. } => "NotUtf8",
-        Refusal::TooLong { .. } => "TooLong",
-        Refusal::BadUrl { fault, .. } => bad_url_name(*fault),
+    match refusal.reason.kind() {
+        RefusalKind::EmptyLocal => "EmptyLocal",
+        RefusalKind::MissingPath => "MissingPath",
+        RefusalKind::NotUtf8 => "NotUtf8",
+        RefusalKind::TooLong => "TooLong",
+        RefusalKind::BadUrl(fault) => bad_url_name(fault),
     }
 }
 

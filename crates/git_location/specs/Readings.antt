@@ -3,7 +3,6 @@ use Rattle.std.specs.Prelude.{◌≡◌, ◌<◌, ◌≤◌, ◌↔◌, ℕ, len
 use Rattle.std.specs.Io.KnownBytes.{Appends}
 use Rattle.git_location.specs.declared.parse_error.ParseError.{ParseError}
 use Rattle.git_location.specs.declared.parse_error.ParseError.TheVariants as unread
-use Rattle.git_syntax.specs.declared.refusal.Refusal.TheVariants as refusal
 use Rattle.git_location.specs.declared.write_error.WriteFault.{WriteFault}
 use Rattle.git_location.specs.declared.write_error.WriteError.{WriteError}
 use Rattle.git_location.specs.declared.write_error.WriteError.TheVariants.{Fault, Io}
@@ -11,13 +10,14 @@ use Rattle.git_syntax.specs.Location.{Location, fields}
 use Rattle.git_syntax.specs.Grammar.{Spells}
 use Rattle.git_location.specs.Text.{text}
 use Rattle.git_location.specs.Settled.{IsSettled}
-use Rattle.git_syntax.specs.Flaws.{NamesFlaw}
+use Rattle.git_refusals.specs.Kinds.{empty_refusal}
+use Rattle.git_refusals.specs.Reasons.{Refused}
 
--- the bytes spell a location, and the room is shorter than they are; or they spell none, and the flaw that
--- the refusal names is in them
+-- the bytes spell a location, and the room is shorter than they are; or they spell none, and this is their
+-- refusal
 abbrev pub RefusesIn : List ℕ → ℕ → ParseError → Type 0
 RefusesIn b room unread.NoRoom = ((v : Location) × Spells b v) × (room < length b)
-RefusesIn b room (unread.Refused why) = ((v : Location) → ¬ Spells b v) × NamesFlaw b why
+RefusesIn b room (unread.Refused why) = ((v : Location) → ¬ Spells b v) × Refused b why
 
 -- what reading the bytes answers where there is room for so many: no premise speaks of memory
 pub record ReadsIn (b : List ℕ) (room : ℕ) (result : Result Location ParseError) : Type 0 where
@@ -26,7 +26,7 @@ pub record ReadsIn (b : List ℕ) (room : ℕ) (result : Result Location ParseEr
   -- or an error, and then they spell none, or the room is shorter than they are
   pub refused : IfErr result (RefusesIn b room)
   -- the empty text is refused as such
-  pub empty : b ≡ [] → result ≡ Err (unread.Refused refusal.EmptyLocal)
+  pub empty : b ≡ [] → result ≡ Err (unread.Refused empty_refusal)
   -- where there is room for as many bytes, it is answered exactly where they spell it
   pub exact : length b ≤ room → (v : Location) → (result ≡ Ok v) ↔ Spells b v
 

@@ -1,8 +1,9 @@
 //! Reading into a room that the caller lends: the location that a text spells, without memory.
 //!
-//! It uses `git_syntax::find`, which finds slices of the text, and `lend`, which makes the location of them.
+//! It uses `git_syntax::find`, which finds slices of the text, and `lend`, which makes the location of them; of
+//! a text without a location `git_refusals` has the refusal.
 //! Its contract: the answer is the one location that the definitions spell with the bytes, a refusal comes
-//! only where they spell none, and what a refusal names is in the bytes.
+//! only where they spell none, and is the one refusal of the bytes.
 
 ghost use Rattle.std.specs.Prelude.{length};
 ghost use Rattle.git_location.specs.Readings.{ReadsIn};
@@ -10,6 +11,7 @@ ghost use Rattle.git_location.specs.Readings.{ReadsIn};
 use crate::lend::lend;
 use crate::parse_error::ParseError;
 use crate::url_ref::UrlRef;
+use git_refusals::read::refusal;
 use git_syntax::find::find;
 
 impl<'a> UrlRef<'a> {
@@ -22,7 +24,7 @@ impl<'a> UrlRef<'a> {
     ///
     /// # Errors
     ///
-    /// [`ParseError::Refused`] where the bytes spell no location, with a flaw that is in them, and
+    /// [`ParseError::Refused`] where the bytes spell no location, with the first flaw in the order of checks, and
     /// [`ParseError::NoRoom`] where they spell one and the room is shorter than they are.
     ///
     /// ```
@@ -34,11 +36,11 @@ impl<'a> UrlRef<'a> {
     ///     }
     /// }
     /// ```
-    pub fn parse_in(text: &'a [u8], room: &'a mut [u8]) -> Result<UrlRef<'a>, ParseError<'a>>
+    pub fn parse_in(text: &'a [u8], room: &'a mut [u8]) -> Result<UrlRef<'a>, ParseError>
         ensures { ReadsIn text.now (length room.old) result }
     {
         match find(text) {
-            Err(refusal) => Err(ParseError::Refused(refusal)),
+            Err(_) => Err(ParseError::Refused(refusal(text))),
             Ok(found) => {
                 if room.len() < text.len() {
                     return Err(ParseError::NoRoom);

@@ -1,2 +1,3 @@
 -- Bytes spell at most one location.
 pub mod ReaderLemmas
+pub mod RefusalLemmas

@@ -1,20 +1,44 @@
--- Flaws: what is in a text that is refused. Each error names one, and the flaw that it names is there. A flaw
--- has its place: it is the `len` bytes behind the first `at`.
-use Rattle.std.specs.Prelude.{◌≡◌, ℕ, List, [], length, IsUtf8}
-use Rattle.std.specs.Str.{IsValidUpTo}
+-- Flaws: what the errors of reading name and hold.
+use Rattle.std.specs.Prelude.{◌≡◌, ℕ, List, length, Option, Some}
 use Rattle.bstr.specs.Owned.{bstring_bytes}
 use Rattle.gix_url.specs.declared.error.Error.{Error}
 use Rattle.gix_url.specs.declared.error.Error.TheVariants as error
+use Rattle.git_refusals.specs.declared.reason.RefusalKind.TheVariants as kind
+use Rattle.git_refusals.specs.declared.refusal.Refusal.{Refusal}
 pub use Rattle.git_syntax.specs.Flaws.{IsNoPort, HasBadPort, IsPortPlace, IsNoHost, IsNoInner, BracketsAround, HasBadHost, HostPortFlaw, PieceOf, HasBadUser, AuthorityFlaw, UrlForm, OtherUrlForm, UrlCut, UrlFlaw, ScpNameFlaw, ScpHostFlaw, ScpFlaw, MissesPath, HasForm, TooLongAt, IsTooLong, KindFlaw, NamesFlaw}
+pub use Rattle.git_refusals.specs.Characters.{StandsCharacter, is_no_scheme_character, is_no_host_character, unit_len, spelled_len, undecodable_at, undecodable_len}
+pub use Rattle.git_refusals.specs.Fronts.{scheme_length, shown_front}
+pub use Rattle.git_refusals.specs.Kinds.{kind_of, fault_in, fault_of, refusal_of, empty_refusal}
+pub use Rattle.git_refusals.specs.Reasons.{Stands, Behind, Passes, Then, Undecodable, NotText, HasCharacter, HasBackslash, HasBrokenEscape, NoHostText, NoOther, NoInner, NoDigits, PortOutside, WebColons, BadColons, BadHost, BadUser, NoHostBehind, NoHostAtAll, BadParts, BadAuthority, TooLong, BadScheme, NoPath, BadRest, BadUrl, NoFilePath, BadFile, NoScpPath, NoScpHost, BadScpName, BadScpHost, BadFront, BadScp, BadAddressed, Refused}
+pub use Rattle.git_refusals.specs.Promised.{IsOfKind, NamesKind}
 
--- the flaw that the error names is in the bytes, at the place that it reports, and the error holds what it
--- reports of them
+-- the error is that of the refusal, and holds the text, or of one that is too long the front
+abbrev pub IsErrorOf : List ℕ → Refusal → Error → Type 0
+IsErrorOf b r error.EmptyLocal = kind_of r.reason ≡ kind.EmptyLocal
+IsErrorOf b r (error.MissingPath form input) = (kind_of r.reason ≡ kind.MissingPath) × (form ≡ r.form)
+    × (bstring_bytes input ≡ b)
+IsErrorOf b r (error.NotUtf8 form input) = (kind_of r.reason ≡ kind.NotUtf8) × (form ≡ r.form)
+    × (bstring_bytes input ≡ b)
+IsErrorOf b r (error.TooLong shown total) = (kind_of r.reason ≡ kind.TooLong)
+    × (bstring_bytes shown ≡ shown_front b r) × (total ≡ length b)
+IsErrorOf b r (error.BadUrl form fault input) = (kind_of r.reason ≡ kind.BadUrl fault) × (form ≡ r.form)
+    × (bstring_bytes input ≡ b)
+IsErrorOf b r _ = ⊥
+
+-- memory was refused, or the error is that of the bytes' one refusal
 abbrev pub Flaw : List ℕ → Error → Type 0
 Flaw b error.Memory = Unit {0}
-Flaw b error.EmptyLocal = b ≡ []
-Flaw b (error.MissingPath kind input at) = MissesPath b kind × (at ≡ length b) × (bstring_bytes input ≡ b)
-Flaw b (error.NotUtf8 kind input at) = ¬ IsUtf8 b × HasForm b kind × IsValidUpTo b at
-    × (bstring_bytes input ≡ b)
-Flaw b (error.TooLong shown total at len) = IsTooLong b (bstring_bytes shown) total at len
-Flaw b (error.BadUrl kind fault input at len) = KindFlaw b kind fault at len × (bstring_bytes input ≡ b)
-Flaw b _ = ⊥
+Flaw b e = (r : Refusal) × Refused b r × IsErrorOf b r e
+
+-- the error is none of reading
+abbrev pub IsNotOfReading : Error → Type 0
+IsNotOfReading error.EmptyLocal = ⊥
+IsNotOfReading (error.MissingPath form input) = ⊥
+IsNotOfReading (error.NotUtf8 form input) = ⊥
+IsNotOfReading (error.TooLong shown total) = ⊥
+IsNotOfReading (error.BadUrl form fault input) = ⊥
+IsNotOfReading _ = Unit {0}
+
+-- the call returned the refusal of the bytes
+abbrev pub ReturnsRefusal : List ℕ → Option Refusal → Type 0
+ReturnsRefusal b result = (r : Refusal) × (result ≡ Some r) × Refused b r

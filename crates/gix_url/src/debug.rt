@@ -62,46 +62,29 @@ impl fmt::Debug for Error {
     }
 }
 
-/// Shows the fields of an error that reports where a text is wrong; of any other error nothing.
+/// Shows the fields of an error of reading; of any other error nothing.
 fn show_refused<W: fmt::Write>(error: &Error, f: &mut fmt::Formatter<W>) -> fmt::Result {
     match error {
-        Error::MissingPath { kind, input, at } => f
+        Error::MissingPath { kind, input } => f
             .debug_struct("MissingPath")
             .field("kind", kind)
             .field("input", &length_of(input))
-            .field("at", at)
             .finish(),
-        Error::NotUtf8 { kind, input, at } => f
+        Error::NotUtf8 { kind, input } => f
             .debug_struct("NotUtf8")
             .field("kind", kind)
             .field("input", &length_of(input))
-            .field("at", at)
             .finish(),
-        Error::TooLong {
-            shown,
-            total,
-            at,
-            len,
-        } => f
+        Error::TooLong { shown, total } => f
             .debug_struct("TooLong")
             .field("shown", &length_of(shown))
             .field("total", total)
-            .field("at", at)
-            .field("len", len)
             .finish(),
-        Error::BadUrl {
-            kind,
-            fault,
-            input,
-            at,
-            len,
-        } => f
+        Error::BadUrl { kind, fault, input } => f
             .debug_struct("BadUrl")
             .field("kind", kind)
             .field("fault", fault)
             .field("input", &length_of(input))
-            .field("at", at)
-            .field("len", len)
             .finish(),
         _ => Ok(()),
     }

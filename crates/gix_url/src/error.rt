@@ -3,11 +3,15 @@
 //! No call answers an error whose contract doesn't name it. The words of an error hold no byte of the text
 //! that was refused, in which a password may be; those of `TooLong` report its length.
 
-ghost use Rattle.std.specs.Prelude.{◌≡◌, ◌↔◌, IsTrue};
+ghost use Rattle.std.specs.Prelude.{◌≡◌, ◌≢◌, ◌↔◌, ℕ, IsTrue, List, None};
+ghost use Rattle.gix_url.specs.Flaws.{Flaw, IsNotOfReading, ReturnsRefusal};
 
 use crate::home_user::ForUser;
 use bstr::BString;
 use git_location::write_error::WriteFault;
+use git_refusals::front::refusal_of_front;
+use git_refusals::read::refusal_of;
+use git_refusals::refusal::Refusal;
 use git_syntax::refusal::{UrlFault, UrlKind};
 use std::alloc::AllocError;
 use thiserror::Error;
@@ -18,8 +22,7 @@ use thiserror::Error;
 /// may hold a password: `Debug` shows their length, and the user of `NoHome` as it is. The bytes are in the
 /// fields.
 ///
-/// The errors of reading report where the text is wrong, as a [`Refusal`](crate::Refusal) does: `len` bytes
-/// of it, behind its first `at`.
+/// [`Error::refusal`] returns where and why the text of an error of reading is wrong.
 ///
 /// ```
 /// /// Whether the same text can be read at another time: nothing is wrong with it.
@@ -42,8 +45,6 @@ pub enum Error {
         kind: UrlKind,
         /// The text.
         input: BString,
-        /// Where the path would be: the length of the text.
-        at: usize,
     },
     /// The text is not UTF-8.
     #[error("the {kind} is not UTF-8")]
@@ -52,8 +53,6 @@ pub enum Error {
         kind: UrlKind,
         /// The text.
         input: BString,
-        /// How many bytes of it are before the first that is not UTF-8.
-        at: usize,
     },
     /// The scheme or the authority is too long.
     #[error("the scheme or the authority of the URL is longer than 1024 bytes, in a text of {total} bytes")]
@@ -63,10 +62,6 @@ pub enum Error {
         shown: BString,
         /// The length of the text, in bytes.
         total: usize,
-        /// How many bytes are before what is too long: none before a scheme, else the scheme and `://`.
-        at: usize,
-        /// The length of what is too long, in bytes: of the scheme, else of what is shown behind `://`.
-        len: usize,
     },
     /// The text is no URL, or the host of the scp form is none.
     #[error("the {kind} has {fault}")]
@@ -77,10 +72,6 @@ pub enum Error {
         fault: UrlFault,
         /// The text.
         input: BString,
-        /// How many bytes of it are before what is wrong.
-        at: usize,
-        /// The length of what is wrong, in bytes. It is 0 where something is missing.
-        len: usize,
     },
     /// The name of a remote helper is no such name.
     #[error("the remote helper has no valid name")]
@@ -116,6 +107,38 @@ impl Error {
         ensures { IsTrue result ↔ (self.now ≡ Error.Memory) }
     {
         matches!(self, Error::Memory)
+    }
+}
+
+impl Error {
+    /// Why and where the text of an error of reading is refused: the one [`Refusal`] of that text, also of one
+    /// that is too long, of which the error keeps a front alone. None of any other error, and of one that a
+    /// program put together with a text that spells a location. The text is read again, without memory.
+    ///
+    /// ```
+    /// /// How many bytes of a text are before what is wrong with it.
+    /// fn place_of(error: &Error) -> Option<usize> {
+    ///     let refusal = error.refusal()?;
+    ///     Some(refusal.at) // 9 of `http://h:abc/`, whose port is no number
+    /// }
+    /// ```
+    pub fn refusal(&self) -> Option<Refusal>
+        ensures read { (b : List ℕ) → self.now ≢ Error.Memory → Flaw b self.now → ReturnsRefusal b result }
+        ensures none { IsNotOfReading self.now → result ≡ None }
+    {
+        match self {
+            Error::EmptyLocal => refusal_of(b""),
+            Error::MissingPath { input, .. }
+            | Error::NotUtf8 { input, .. }
+            | Error::BadUrl { input, .. } => refusal_of(input.as_bytes()),
+            Error::TooLong { shown, .. } => refusal_of_front(shown.as_bytes()),
+            Error::Memory
+            | Error::HelperName { .. }
+            | Error::Unwritable(_)
+            | Error::NoHome(_)
+            | Error::PathNotUtf8
+            | Error::Unresolved => None,
+        }
     }
 }
 

@@ -6,7 +6,8 @@
 //! `parse`, of the writer, of the settled test and of `lines`, which name the same definitions.
 
 ghost use Rattle.gix_url.specs.Laws.{ReadersAgree, SameWithRoom};
-ghost use Rattle.git_syntax.specs.Refusals.{Decided, Flawless, RefusalExclusive, RefusalWithin};
+ghost use Rattle.git_syntax.specs.Refusals.{Decided, Flawless};
+ghost use Rattle.git_refusals.specs.Laws.{OneRefusal, RefusedFlaw, RefusedUnspelled, RefusedWithin};
 ghost use Rattle.gix_url.specs.Refusals.{Exclusive};
 
 pub use crate::home_law::{law_homes, law_user_order};
@@ -36,17 +37,22 @@ pub fn law_readers()
 ///
 /// - `exclusive`: bytes in which the flaw of an error is spell no location, whichever error it is but lack of
 ///   memory. So no reader that keeps to these definitions takes what [`parse`](crate::parse::parse) refuses.
-/// - `refusal`: so it is with the flaw of a [`Refusal`](crate::Refusal), which reading into a room names, and
-///   the answer to a line.
-/// - `within`: the place that a refusal reports is in its text, so the text can be cut there.
+/// - `refusal`: so it is with a [`Refusal`](crate::Refusal), which reading into a buffer returns, and the
+///   answer to a line.
+/// - `one`: a text has one refusal at most. Of several flaws every call names the same, at the same place: the
+///   first in the order of checks.
+/// - `flaw`: the flaw that the error of a refusal names is in the text.
+/// - `within`: the place of a refusal is in its text, so the text can be cut there.
 /// - `flawless`: no flaw is in bytes that spell a location, whether or not there is an error that holds a
 ///   copy of them.
 /// - `decided`: bytes spell a location, or one of these flaws is in them. There is no third case, and by
 ///   `flawless` none is both: what a text lacks to be read, an error can name.
 pub fn law_refusals()
     ensures exclusive { Exclusive }
-    ensures refusal { RefusalExclusive }
-    ensures within { RefusalWithin }
+    ensures refusal { RefusedUnspelled }
+    ensures one { OneRefusal }
+    ensures flaw { RefusedFlaw }
+    ensures within { RefusedWithin }
     ensures flawless { Flawless }
     ensures decided { Decided }
 {}

@@ -2,8 +2,8 @@
 //!
 //! It uses `git_syntax::find`, which finds the slices of a text, and here `build`, which copies them, and
 //! `refusal`, which makes an error of a refusal. Its contract: the answer is the one location that the
-//! definitions spell with the bytes, a refusal comes only where they spell none, and what a refusal names is
-//! in the bytes.
+//! definitions spell with the bytes, a refusal comes only where they spell none, and its error is that of the
+//! one refusal of the bytes.
 
 ghost use Rattle.std.specs.Prelude.{◌≡◌, [], Err, IfErr, IfOk};
 ghost use Rattle.bstr.specs.BStr.{bstr_bytes};
@@ -21,6 +21,7 @@ use crate::error::Error;
 use crate::location::Url;
 use bstr::BStr;
 use build::build;
+use git_refusals::read;
 use git_syntax::find::find;
 pub use git_syntax::refusal::UrlKind;
 use refusal::error_of;
@@ -101,6 +102,6 @@ fn read(alloc: Global, bytes: &[u8]) -> Result<Url, Error>
 {
     match find(bytes) {
         Ok(found) => Ok(build(alloc, found)?),
-        Err(refusal) => Err(error_of(alloc, bytes, refusal)),
+        Err(_) => Err(error_of(alloc, bytes, read::refusal(bytes))),
     }
 }

@@ -1,5 +1,5 @@
 -- Decisions on URLs: each has a meaning, or a flaw is in it.
-use Rattle.std.proofs.Common.{◌≡◌, ℕ, ◌<◌, Bool, true, false, ◌⊎◌, inl, inr, List, ◌∷◌, ◌++◌, length, take, drop, Option, Some, None, refl, sym, ap, subst, ◌∙◌, codes, bytes_eq, IsUtf8}
+use Rattle.std.proofs.Common.{◌≡◌, ℕ, Bool, true, false, ◌⊎◌, inl, inr, List, ◌∷◌, ◌++◌, length, take, drop, Option, Some, None, refl, sym, ap, subst, ◌∙◌, codes, bytes_eq, IsUtf8}
 use Rattle.std.specs.List.{position_or_len}
 use Rattle.std.proofs.lemmas.Bool.{both_ways, false≢true, cases_Bool}
 use Rattle.std.proofs.lemmas.Slice.Eq.{bytes_eq-Decides}
@@ -7,24 +7,23 @@ use Rattle.percent_encoding.specs.Percent.{percent_decode}
 use Rattle.git_syntax.specs.declared.refusal.UrlKind.TheVariants as kind
 use Rattle.git_syntax.specs.declared.refusal.UrlFault.{UrlFault}
 use Rattle.git_syntax.specs.declared.refusal.UrlFault.TheVariants as fault
-use Rattle.git_syntax.specs.Location.{Scheme, Location, path_alone}
-use Rattle.git_syntax.specs.Location.Scheme.{file, git, ssh, http, https, ext, helper, helper_url}
+use Rattle.git_syntax.specs.Location.{Location, path_alone}
+use Rattle.git_syntax.specs.Location.Scheme.{file}
 use Rattle.git_syntax.specs.Bytes.{slash, colon, at_sign, backslash, FreeOf, LacksWhiteSpace, is_scheme_text, is_path_start}
 use Rattle.git_syntax.specs.Escapes.{is_sound}
 use Rattle.git_syntax.specs.Hosts.{HostSyntax, SpellsHostPort}
 use Rattle.git_syntax.specs.Schemes.{is_web_scheme, scheme_of, host_syntax_of, requires_host, requires_path}
 use Rattle.git_syntax.specs.Authority.{unless_empty, Credentials, Authority, Fits}
-use Rattle.git_syntax.specs.Grammar.{UrlSyntax, HasUrlSyntax, MeansByScheme, MeansAs, Spells}
+use Rattle.git_syntax.specs.Grammar.{UrlSyntax, HasUrlSyntax, Spells}
 use Rattle.git_syntax.specs.Flaws.{UrlForm, OtherUrlForm, UrlCut, PieceOf, AuthorityFlaw, UrlFlaw}
 use Rattle.git_syntax.specs.Internal.UrlPieces.{CutsRest, HasNoText, HoldsHosted}
-use Rattle.git_syntax.specs.Internal.FoundPieces.{url_location}
 use Rattle.git_syntax.specs.Refusals.{HasFlaw}
 use Rattle.git_syntax.proofs.Texts.CutLemmas.{cut_at_first, free_or_cut}
 use Rattle.git_syntax.proofs.Texts.PlaceLemmas.{held_stands, unsound_stands, white_stands}
 use Rattle.git_syntax.proofs.Parsing.ClassifierLemmas.{file_found, file_misses_path}
 use Rattle.git_syntax.proofs.Parsing.UrlLemmas.{nothing_named, bad_user_flaw, path_end, too_long_placed, url_cut, spelled}
 use Rattle.git_syntax.proofs.Parsing.UrlLocationLemmas.{path_missed}
-use Rattle.git_syntax.proofs.Parsing.FoundLemmas.{means_location}
+use Rattle.git_refusals.proofs.Refusing.UrlLemmas.{meaning}
 use Rattle.git_laws.proofs.Errors.TextDecisions.{nil_or_some, free_or_not, white_or_not, utf8_or_not, fits_or_not, free_or_last_cut}
 use Rattle.git_laws.proofs.Errors.HostDecisions.{named_or_flawed}
 
@@ -129,23 +128,6 @@ parts_or_flawed b front rest form fits text =
                 ]
           ]
     ]
-
--- ---- meanings
-
--- the parts of a URL mean a location by a scheme
-by_scheme : (scheme : Scheme) (parts : UrlSyntax) → (requires_path scheme ≡ true → 0 < length parts.path) → (v : Location) × MeansByScheme scheme parts v
-by_scheme scheme parts pathed = (url_location scheme parts, means_location scheme parts pathed)
-
--- the parts of a URL mean a location
-meaning : (scheme : Scheme) (b : List ℕ) (parts : UrlSyntax) → (requires_path scheme ≡ true → 0 < length parts.path) → (v : Location) × MeansAs scheme b parts v
-meaning ext b parts pathed = (path_alone ext true b, refl)
-meaning file b parts pathed = by_scheme file parts pathed
-meaning git b parts pathed = by_scheme git parts pathed
-meaning ssh b parts pathed = by_scheme ssh parts pathed
-meaning http b parts pathed = by_scheme http parts pathed
-meaning https b parts pathed = by_scheme https parts pathed
-meaning (helper name) b parts pathed = by_scheme (helper name) parts pathed
-meaning (helper_url name) b parts pathed = by_scheme (helper_url name) parts pathed
 
 -- ---- URLs
 

@@ -7,14 +7,13 @@ use Rattle.std.proofs.lemmas.Option.{same_Some}
 use Rattle.percent_encoding.specs.Percent.{percent_decode, percent_encode}
 use Rattle.git_syntax.specs.declared.escape.TheConstants.{PATH}
 use Rattle.git_syntax.specs.declared.refusal.UrlFault.{UrlFault}
-use Rattle.git_syntax.specs.declared.refusal.UrlFault.TheVariants as fault
-use Rattle.git_syntax.specs.declared.refusal.Refusal.{Refusal}
-use Rattle.git_syntax.specs.declared.refusal.Refusal.TheVariants as refusal
+use Rattle.git_refusals.specs.declared.refusal.Refusal.{Refusal}
+use Rattle.git_refusals.specs.declared.reason.RefusalKind.{RefusalKind}
+use Rattle.git_refusals.specs.Kinds.{kind_of}
 use Rattle.git_syntax.specs.Location.{Scheme, Location}
 use Rattle.git_syntax.specs.Location.Scheme.{git, ssh, http, https, helper_url}
 use Rattle.git_syntax.specs.Bytes.{tab, newline, colon, at_sign, left_bracket, right_bracket, FreeOf, lowercase}
 use Rattle.git_syntax.specs.Addresses.{Literal}
-use Rattle.git_syntax.specs.Addresses.Literal.{address}
 use Rattle.git_syntax.specs.Hosts.{HostSyntax, Number, SpellsHostPort, is_http_host_byte}
 use Rattle.git_syntax.specs.Schemes.{scheme_of, scheme_text, host_syntax_of}
 use Rattle.git_syntax.specs.Authority.{unless_empty, Authority}
@@ -24,7 +23,7 @@ use Rattle.git_location.specs.Text.{keeps_host, open_host, canonical_host, host_
 use Rattle.git_location.specs.Settled.{HasMatch, IsRawPath, IsWeb, IsWebHost, IsNormalName, IsBareHost, IsBracketedHost, IsScpName, IsNormalAddress, IsSettledUrl, IsSettledWeb, IsSettledSecure, IsSettledGit, IsSettledHelperUrl, IsSettledBy, IsSettled}
 use Rattle.git_location.specs.Settled.IsWebHost.{literal, literal_colon, named, named_colon}
 use Rattle.git_location.specs.Internal.SettledPieces.{IsWrittenAsUrl}
-use Rattle.git_lines.specs.Answers.{ended_lines, last_line, fault_name, refusal_name, reported_line, IsReported, IsAnswer, AnswersEach}
+use Rattle.git_lines.specs.Answers.{ended_lines, last_line, fault_name, error_name, refusal_name, reported_line, IsReported, IsAnswer, AnswersEach}
 use Rattle.git_laws.specs.AnswerLaws.{IsOneLine, OneLine, AreAnswered, LineForLine}
 use Rattle.git_syntax.proofs.Texts.CutLemmas.{free-append, free-cons, free_head_tail, free_of_all, free_parts, helper_name_free, scheme_text_free}
 use Rattle.git_syntax.proofs.Texts.EscapeLemmas.{encode_free, lacks_escaped_percents, no_line}
@@ -264,12 +263,16 @@ scheme_line b v (Spells.scp_form (inl h)) = subst HasSchemeLine (sym (ap (λ (l 
 scheme_line b v (Spells.scp_form (inr h)) = subst HasSchemeLine (sym (ap (λ (l : Location). l.scheme) h.value)) refl
 scheme_line b v (Spells.local_path h) = subst HasSchemeLine (sym (ap (λ (l : Location). l.scheme) h.value)) refl
 
--- the names of refusals hold none
+-- the names of errors hold none
 fault_line : (f : UrlFault) → FreeOf newline (codes "BadUrl " ++ fault_name f)
 fault_line f = grind (arith, nat_tests)
 
+error_line : (k : RefusalKind) → FreeOf newline (error_name k)
+error_line k = grind (arith, nat_tests, fault_line)
+
+-- nor do those of refusals
 refusal_line : (r : Refusal) → FreeOf newline (refusal_name r)
-refusal_line r = grind (arith, nat_tests, fault_line)
+refusal_line r = error_line (kind_of r.reason)
 
 -- ---- answers
 

@@ -4,10 +4,10 @@ use Rattle.std.specs.Prelude.{◌&&◌, ◌==◌, ◌↔◌, Result, Ok, Err}
 use Rattle.std.proofs.lemmas.List.Elements.{All-append, All-cons, All-nil}
 use Rattle.git_syntax.specs.Location.{Location}
 use Rattle.git_syntax.specs.Bytes.{newline, FreeOf}
-use Rattle.git_syntax.specs.declared.refusal.Refusal.{Refusal}
+use Rattle.git_refusals.specs.declared.refusal.Refusal.{Refusal}
 use Rattle.git_lines.specs.declared.lines.RunError.{RunError}
 use Rattle.git_syntax.specs.Grammar.{Spells}
-use Rattle.git_syntax.specs.Flaws.{NamesFlaw}
+use Rattle.git_refusals.specs.Reasons.{Refused}
 use Rattle.git_lines.specs.Answers.{ended_lines, IsAnswer, AnswersEach, Answers, HasLinesWithin}
 use Rattle.git_lines.specs.Answers.{AppendsAnswer, Reports, ReportsRefusal}
 use Rattle.git_lines.specs.Answers.IsAnswer.{reported, refused}
@@ -100,7 +100,7 @@ reported_answer line old new v (Ok good) spelled (answer, is, joined) = (answer,
 reported_answer line old new v (Err fault) spelled memory = memory
 
 -- what is printed for a refusal is the answer to a line that is refused so
-pub refused_answer : (line old new : List ℕ) (refusal : Refusal) (r : Result Bool RunError) → NamesFlaw line refusal → ReportsRefusal refusal old new r → AppendsAnswer line old new r
+pub refused_answer : (line old new : List ℕ) (refusal : Refusal) (r : Result Bool RunError) → Refused line refusal → ReportsRefusal refusal old new r → AppendsAnswer line old new r
 refused_answer line old new refusal (Ok good) flaw (bad, joined) = (_, refused refusal flaw refl bad, joined)
 refused_answer line old new refusal (Err fault) flaw memory = memory
 

@@ -4,8 +4,7 @@ use Rattle.std.proofs.Common.{◌≡◌, ◌≤◌, ℕ, List, [], length, Resul
 use Rattle.std.specs.Prelude.{IfOk, IfErr}
 use Rattle.git_location.specs.declared.parse_error.ParseError.{ParseError}
 use Rattle.git_location.specs.declared.parse_error.ParseError.TheVariants as unread
-use Rattle.git_syntax.specs.declared.refusal.Refusal.{Refusal}
-use Rattle.git_syntax.specs.declared.refusal.Refusal.TheVariants as refusal
+use Rattle.git_refusals.specs.Kinds.{empty_refusal}
 use Rattle.git_syntax.specs.Location.{Location}
 use Rattle.git_syntax.specs.Grammar.{Spells}
 use Rattle.git_location.specs.Readings.{RefusesIn, ReadsIn}
@@ -23,13 +22,8 @@ spelled_answered b room (Ok w) found refused enough v spelled = ap Ok (spells_un
 spelled_answered b room (Err unread.NoRoom) found (some, short) enough v spelled = absurd (omega (arith, short, enough))
 spelled_answered b room (Err (unread.Refused why)) found (none, flaw) enough v spelled = absurd (none v spelled)
 
--- a refusal of what is found, as reading into a buffer answers it
-abbrev pub refused_in : {A : Type 0} → Result A Refusal → Result Location ParseError
-refused_in (Ok found) = Err unread.NoRoom
-refused_in (Err refused) = Err (unread.Refused refused)
-
 -- so such an answer is that of reading into a buffer
-pub reads_in_by : (b : List ℕ) (room : ℕ) (r : Result Location ParseError) → IfOk r (Spells b) → IfErr r (RefusesIn b room) → (b ≡ [] → r ≡ Err (unread.Refused refusal.EmptyLocal)) → ReadsIn b room r
+pub reads_in_by : (b : List ℕ) (room : ℕ) (r : Result Location ParseError) → IfOk r (Spells b) → IfErr r (RefusesIn b room) → (b ≡ [] → r ≡ Err (unread.Refused empty_refusal)) → ReadsIn b room r
 reads_in_by b room r found refused empty = record { found = found; refused = refused; empty = empty; exact = λ enough v. (answer_spelled b r found v, spelled_answered b room r found refused enough v) }
 
 -- ---- both readers

@@ -51,12 +51,12 @@ pub fn names_same_host(a: &UrlRef<'_>, b: &UrlRef<'_>) -> bool
 /// # Errors
 ///
 /// The [`ParseError`] of the first text that isn't read.
-pub fn texts_name_same_host<'a>(
-    a: &'a [u8],
-    buffer: &'a mut [u8],
-    b: &'a [u8],
-    other: &'a mut [u8],
-) -> Result<bool, ParseError<'a>>
+pub fn texts_name_same_host(
+    a: &[u8],
+    buffer: &mut [u8],
+    b: &[u8],
+    other: &mut [u8],
+) -> Result<bool, ParseError>
     ensures { ComparesHosts a.now (length buffer.old) b.now (length other.old) result }
 {
     let first = UrlRef::parse_in(a, buffer)?;

@@ -11,11 +11,11 @@ use Rattle.gix_url.specs.Flaws.{Flaw}
 use Rattle.gix_url.specs.Readings.{Refuses, Reads}
 use Rattle.gix_url.specs.Laws.{ReadersAgree, SameWithRoom}
 use Rattle.git_syntax.proofs.Unique.UniqueLemmas.{spells_unique}
-use Rattle.git_syntax.proofs.Errors.RefusalLemmas.{flawed_unspelled}
+use Rattle.git_refusals.proofs.Refusing.UnspelledLemmas.{refused_unspelled}
+use Rattle.git_refusals.specs.declared.refusal.Refusal.{Refusal}
+use Rattle.git_refusals.specs.Reasons.{Refused}
 use Rattle.git_location.proofs.Unique.AnsweredLemmas.{answer_spelled}
-use Rattle.std.proofs.Common.{◌≢◌, ℕ, List, refl}
-use Rattle.bstr.specs.Owned.{bstring_bytes}
-use Rattle.git_syntax.specs.Refusals.{HasFlaw}
+use Rattle.std.proofs.Common.{◌≢◌, refl}
 use Rattle.gix_url.specs.Refusals.{Exclusive}
 
 -- the location that the bytes spell is the answer, unless memory ran out
@@ -54,16 +54,16 @@ same_with_room b room owned lent enough reads reads_in ample v = (
   λ is. answer_owned b owned reads ample v ((reads_in.exact enough v).0 is),
 )
 
--- each error except `Memory` names a flaw
-named_flaw : (b : List ℕ) (e : Error) → e ≢ error.Memory → Flaw b e → HasFlaw b
-named_flaw b error.Memory other h = absurd (other refl)
-named_flaw b error.EmptyLocal other h = HasFlaw.empty h
-named_flaw b (error.MissingPath k input at) other h = HasFlaw.no_path k h.0
-named_flaw b (error.NotUtf8 k input at) other h = HasFlaw.no_text k h.0 h.1
-named_flaw b (error.TooLong shown total at len) other h = HasFlaw.too_long (bstring_bytes shown) total at len h
-named_flaw b (error.BadUrl k named input at len) other h = HasFlaw.bad_url k named at len h.0
-named_flaw b _ other h = absurd h
+-- each error except `Memory` is that of a refusal
+error_refused : (b : List ℕ) (e : Error) → e ≢ error.Memory → Flaw b e → (r : Refusal) × Refused b r
+error_refused b error.Memory other h = absurd (other refl)
+error_refused b error.EmptyLocal other h = (h.0, h.1)
+error_refused b (error.MissingPath k input) other h = (h.0, h.1)
+error_refused b (error.NotUtf8 k input) other h = (h.0, h.1)
+error_refused b (error.TooLong shown total) other h = (h.0, h.1)
+error_refused b (error.BadUrl k named input) other h = (h.0, h.1)
+error_refused b _ other h = absurd h.2
 
--- and bytes that hold it spell no location
+-- so bytes with such an error spell no location
 pub exclusive : Exclusive
-exclusive b e v other h = flawed_unspelled b v (named_flaw b e other h)
+exclusive b e v other h = let (r, refused) = error_refused b e other h in refused_unspelled b r refused v

@@ -10,7 +10,7 @@ use Rattle.gix_url.specs.Flaws.{Flaw}
 -- an error of a text that misses its path, or that is a bad URL, holds the text
 abbrev pub KeptRows : Type 0
 KeptRows =
-    ((b : List ℕ) (taken_for : UrlKind) (input : BString) (at : ℕ)
-    → Flaw b (error.MissingPath taken_for input at) → bstring_bytes input ≡ b)
-    × ((b : List ℕ) (taken_for : UrlKind) (named : UrlFault) (input : BString) (at len : ℕ)
-    → Flaw b (error.BadUrl taken_for named input at len) → bstring_bytes input ≡ b)
+    ((b : List ℕ) (taken_for : UrlKind) (input : BString)
+    → Flaw b (error.MissingPath taken_for input) → bstring_bytes input ≡ b)
+    × ((b : List ℕ) (taken_for : UrlKind) (named : UrlFault) (input : BString)
+    → Flaw b (error.BadUrl taken_for named input) → bstring_bytes input ≡ b)

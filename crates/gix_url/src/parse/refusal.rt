@@ -1,22 +1,26 @@
 //! The errors of reading: the one place where a refusal becomes an error, which keeps a copy of the text.
 //!
-//! It uses `copies` and the errors. Its contract: the flaw that the refusal names is the one that the error
-//! reports. It asks for memory once, for the copy, and where that is refused the error is `Memory`.
+//! It uses `copies` and the errors. Its contract: the error is that of the refusal. It asks for memory once,
+//! for the copy, and where that is refused the error is `Memory`.
 
-ghost use Rattle.std.specs.Prelude.{◌≡◌, IfOk, Ok};
+ghost use Rattle.std.specs.Prelude.{◌≡◌, ◌+◌, ◌≤◌, IfOk, Ok, length};
+ghost use Rattle.git_refusals.specs.Kinds.{empty_refusal};
+ghost use Rattle.git_refusals.specs.Reasons.{Refused};
 ghost use Rattle.gix_url.specs.Flaws.{Flaw};
-ghost use Rattle.git_syntax.specs.Flaws.{NamesFlaw};
 
 use crate::error::Error;
 use crate::parse::copies::copy;
-use git_syntax::refusal::Refusal;
+use git_refusals::front::shown_front;
+use git_refusals::reason::RefusalKind;
+use git_refusals::refusal::Refusal;
 use std::alloc::{AllocError, Global};
 
 /// The error of a text that is refused.
-pub(super) fn error_of(alloc: Global, input: &[u8], refusal: Refusal<'_>) -> Error
-    requires { NamesFlaw input.now refusal }
+pub(super) fn error_of(alloc: Global, input: &[u8], refusal: Refusal) -> Error
+    requires refused { Refused input.now refusal }
+    requires within { refusal.at + refusal.len ≤ length input.now }
     ensures flaw { Flaw input.now result }
-    ensures empty { refusal.entry ≡ Refusal.EmptyLocal → result ≡ Error.EmptyLocal }
+    ensures empty { refusal ≡ empty_refusal → result ≡ Error.EmptyLocal }
 {
     match error_with_copy(alloc, input, refusal) {
         Ok(error) => error,
@@ -25,45 +29,31 @@ pub(super) fn error_of(alloc: Global, input: &[u8], refusal: Refusal<'_>) -> Err
 }
 
 /// The same, where memory isn't refused.
-fn error_with_copy(alloc: Global, input: &[u8], refusal: Refusal<'_>) -> Result<Error, AllocError>
-    requires { NamesFlaw input.now refusal }
+fn error_with_copy(alloc: Global, input: &[u8], refusal: Refusal) -> Result<Error, AllocError>
+    requires refused { Refused input.now refusal }
+    requires within { refusal.at + refusal.len ≤ length input.now }
     ensures flaw { IfOk result (λ error. Flaw input.now error) }
-    ensures empty { refusal.entry ≡ Refusal.EmptyLocal → result ≡ Ok Error.EmptyLocal }
+    ensures empty { refusal ≡ empty_refusal → result ≡ Ok Error.EmptyLocal }
 {
-    Ok(match refusal {
-        Refusal::EmptyLocal => Error::EmptyLocal,
-        Refusal::MissingPath { kind, at } => Error::MissingPath {
+    let kind = refusal.form;
+    match refusal.reason.kind() {
+        RefusalKind::EmptyLocal => Ok(Error::EmptyLocal),
+        RefusalKind::MissingPath => Ok(Error::MissingPath {
             kind,
             input: copy(alloc, input)?,
-            at,
-        },
-        Refusal::NotUtf8 { kind, at } => Error::NotUtf8 {
+        }),
+        RefusalKind::NotUtf8 => Ok(Error::NotUtf8 {
             kind,
             input: copy(alloc, input)?,
-            at,
-        },
-        Refusal::TooLong {
-            shown,
-            total,
-            at,
-            len,
-        } => Error::TooLong {
-            shown: copy(alloc, shown)?,
-            total,
-            at,
-            len,
-        },
-        Refusal::BadUrl {
-            kind,
-            fault,
-            at,
-            len,
-        } => Error::BadUrl {
+        }),
+        RefusalKind::TooLong => Ok(Error::TooLong {
+            shown: copy(alloc, shown_front(input, &refusal))?,
+            total: input.len(),
+        }),
+        RefusalKind::BadUrl(fault) => Ok(Error::BadUrl {
             kind,
             fault,
             input: copy(alloc, input)?,
-            at,
-            len,
-        },
-    })
+        }),
+    }
 }

@@ -1,9 +1,11 @@
 -- The laws are lemmas.
 use Rattle.gix_url.proofs.Unique.ReaderLemmas.{exclusive}
-use Rattle.git_syntax.proofs.Errors.RefusalLemmas.{flawless, refused_unspelled}
+use Rattle.git_syntax.proofs.Errors.RefusalLemmas.{flawless}
+use Rattle.git_refusals.proofs.Refusing.OneLemmas.{one_refusal}
+use Rattle.git_refusals.proofs.Refusing.UnspelledLemmas.{refused_names, refused_unspelled}
+use Rattle.git_refusals.proofs.Refusing.WithinLemmas.{refused_within}
 use Rattle.git_laws.proofs.Errors.FormDecisions.{decided}
-use Rattle.git_laws.proofs.Errors.WithinLemmas.{refusal_within}
 use Rattle.gix_url.proofs.laws.law_refusals.Goals as goal
 
 pub returns : goal.returns
-returns c = record { exclusive = exclusive; refusal = λ b r v h. refused_unspelled b r h v; within = refusal_within; flawless = flawless; decided = decided }
+returns c = record { exclusive = exclusive; refusal = refused_unspelled; one = one_refusal; flaw = refused_names; within = refused_within; flawless = flawless; decided = decided }

@@ -1,0 +1,21 @@
+//! The specified surface of `gix_url`, item by item in its exact form, so that a change of a name, a field, a
+//! variant or a signature doesn't compile.
+//!
+//! A type whose fields are public is taken apart by a pattern that names all of them, and put together by
+//! functions that take their exact types. A call is made with arguments of its exact types, and its result is
+//! returned as it is. Borrowed byte texts are `BStr<'_>` by value throughout.
+#![tactic(auto)]
+
+pub mod arguments;
+pub mod canonical;
+pub mod components;
+pub mod errors;
+pub mod homes;
+pub mod laws;
+pub mod lines;
+pub mod locations;
+pub mod reading;
+pub mod schemes;
+pub mod stored;
+pub mod traits;
+pub mod writing;
