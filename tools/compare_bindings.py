@@ -33,7 +33,7 @@ def of_explain(said, line):
     """What explain and the rule by hand say of a line, as the bindings' words."""
     it, refusal = said["location"], said["refusal"]
     if refusal:
-        return ["refused", refusal["error"], refusal["fault"], refusal["kind"]]
+        return ["refused", *(refusal[it] for it in ("error", "fault", "kind", "at", "len", "reason"))]
     judged = it["arguments"]
     texts = [it["scheme"], it["user"], "hidden" if it["password"] else None, it["host"], it["port"], it["port_or_default"]]
     paths = [it["path"], it["original_path"], judged["user"], judged["host"], judged["path"]]
@@ -45,9 +45,9 @@ def of_binding(line):
     """What a binding says of a line, in the same form."""
     outcome, *words = line.split(" ")
     if outcome == "refused":
-        error, fault, kind = (None if it == "-" else it for it in words)
+        error, fault, kind, *place, reason = (None if it == "-" else it for it in words)
         # explain leaves a form out that the error can only have been of.
-        return [outcome, error, fault, kind and kind.lower()]
+        return [outcome, error, fault, kind and kind.lower(), *(it and int(it) for it in place), reason]
     scheme, user, password, host, port, default, path, original, *judged, settled, agrees, shown, parts = words
     numbers = [None if it == "-" else int(it) for it in (port, default)]
     front = [text(scheme), text(user), None if password == "-" else password, text(host), *numbers]

@@ -19,13 +19,9 @@ typedef struct made {
 } made;
 
 typedef struct told {
-    uint8_t kind, fault;
-    size_t shown, total;
+    uint8_t kind, fault, reason;
+    size_t shown, total, at, len;
 } told;
-
-typedef struct place {
-    size_t at, len;
-} place;
 
 typedef struct seen {
     uint8_t user, host;
@@ -44,7 +40,6 @@ typedef struct given {
 } given;
 
 uint32_t gix_url_c_read(const char *, size_t, made *, char *, size_t, told *);
-void gix_url_c_place(const char *, size_t, place *);
 uint32_t gix_url_c_from_parts(const given *, made *, char *, size_t, told *);
 uint32_t gix_url_c_is_settled(const given *, bool *);
 uint32_t gix_url_c_agrees_with_git(const given *, bool *);
@@ -52,6 +47,8 @@ uint32_t gix_url_c_write(const given *, char *, size_t, size_t *, told *);
 uint32_t gix_url_c_display(const given *, char *, size_t, size_t *, told *);
 uint32_t gix_url_c_look(const given *, seen *);
 uint32_t gix_url_c_components(const given *, parted *, char *, size_t, size_t *, size_t);
+uint32_t gix_url_c_reason_name(uint8_t, char *, size_t, size_t *);
+uint32_t gix_url_c_reason_words(uint8_t, char *, size_t, size_t *);
 
 /* Somewhere to point to where there are no bytes. */
 static char nowhere[1];
@@ -124,17 +121,11 @@ static void tell(uint32_t error, const told *told, gix_url_problem *problem) {
     problem->kind = (gix_url_kind)told->kind;
     if (error == GIX_URL_UNWRITABLE) problem->write_fault = (gix_url_write_fault)told->fault;
     else problem->fault = (gix_url_fault)told->fault;
+    problem->reason = (gix_url_reason)told->reason;
     problem->shown = told->shown;
     problem->total = told->total;
-}
-
-/* Stores where in an input the fault is that it is refused for. */
-static void locate(const char *input, size_t len, gix_url_error error, gix_url_problem *problem) {
-    if (!problem || error < GIX_URL_MISSING_PATH || error > GIX_URL_BAD_URL) return;
-    place place = {0};
-    gix_url_c_place(input, len, &place);
-    problem->at = place.at;
-    problem->len = place.len;
+    problem->at = told->at;
+    problem->len = told->len;
 }
 
 /* A pointer is null that may not be: an error without details. */
@@ -160,10 +151,8 @@ gix_url_error gix_url_parse(const char *input, size_t len, char *room, size_t ro
     if (!room) room = nowhere, room_len = 0;
     made made = {0};
     told told = {0};
-    uint32_t read = gix_url_c_read(input, len, &made, room, room_len, &told);
-    gix_url_error error = hand_out(read, &made, room, url, needed, &told, problem);
-    locate(input, len, error, problem);
-    return error;
+    uint32_t error = gix_url_c_read(input, len, &made, room, room_len, &told);
+    return hand_out(error, &made, room, url, needed, &told, problem);
 }
 
 gix_url_error gix_url_from_parts(const gix_url *parts, char *room, size_t room_len, gix_url *url, size_t *needed,
@@ -351,6 +340,24 @@ const char *gix_url_kind_name(gix_url_kind kind) {
     case GIX_URL_KIND_LOCAL: return "Local";
     }
     return "?";
+}
+
+/* What one of the two exports over the table of reasons puts. A number that isn't a byte becomes one of no reason. */
+static gix_url_error put_reason(uint32_t (*put)(uint8_t, char *, size_t, size_t *), gix_url_reason reason, char *room,
+                                size_t room_len, size_t *needed) {
+    if (!room) room = nowhere, room_len = 0;
+    size_t len = 0;
+    uint32_t error = put((unsigned)reason < UINT8_MAX ? (uint8_t)reason : UINT8_MAX, room, room_len, &len);
+    if (needed) *needed = len;
+    return (gix_url_error)error;
+}
+
+gix_url_error gix_url_reason_name(gix_url_reason reason, char *room, size_t room_len, size_t *needed) {
+    return put_reason(gix_url_c_reason_name, reason, room, room_len, needed);
+}
+
+gix_url_error gix_url_reason_words(gix_url_reason reason, char *room, size_t room_len, size_t *needed) {
+    return put_reason(gix_url_c_reason_words, reason, room, room_len, needed);
 }
 
 gix_url_text gix_url_scheme_text(const gix_url *url) {

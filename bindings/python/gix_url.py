@@ -8,6 +8,11 @@
 >>> parse(b"http://h:0x/")
 Traceback (most recent call last):
 gix_url.Error: the URL has an invalid port
+>>> try:
+...     parse(b"http://h:0x/")
+... except Error as error:
+...     error.reason, error.at, error.len, error.words
+('PortNotANumber', 9, 2, 'a port must be a decimal number')
 
 The library is the file that the environment names as GIX_URL_LIBRARY, or libgix_url.so.1 where the system looks for
 libraries. `scripts/bindings --install PREFIX` puts it there; man 3 gix_url says more of each call.
@@ -31,7 +36,7 @@ def _struct(**fields):
 
 # The structs of gix_url.h.
 _Text = _struct(at=ctypes.c_void_p, len=_size)
-_Problem = _struct(kind=_int, fault=_int, write_fault=_int, shown=_size, total=_size, at=_size, len=_size)
+_Problem = _struct(kind=_int, fault=_int, reason=_int, write_fault=_int, shown=_size, total=_size, at=_size, len=_size)
 _Url = _struct(scheme=_int, name=_Text, user=_Text, password=_Text, host=_Text, alternative=_bool, has_port=_bool, port=_port, path=_Text, spelling=_Text)
 _Seen = _struct(user=_int, host=_int, path_is_usable=_bool, path_is_root=_bool, original_path=_Text, has_port=_bool, port=_port)
 _Components = _struct(path=_Text, fragment=_Text, query=_Text, pair_count=_size)
@@ -54,7 +59,11 @@ class Argument(enum.IntEnum):
 
 
 class Error(ValueError):
-    """What a call is refused for, by its names, and where in a text that is: it shows no byte of what was refused."""
+    """What a call is refused for, by its names: it shows no byte of what was refused.
+
+    Where a text is refused, `reason` is the one reason by its name and `words` in one sentence, and what is wrong are the
+    `len` bytes of the text behind its first `at`. Of any other error `reason` and `words` are None.
+    """
 
     def __init__(self, error, problem):
         super().__init__(_library.gix_url_error_words(error, _ref(problem)).decode())
@@ -63,6 +72,7 @@ class Error(ValueError):
             number, name_of = getattr(problem, member), getattr(_library, f"gix_url_{member}_name")
             setattr(self, member, name_of(number).decode() if number else None)
         self.shown, self.total, self.at, self.len = problem.shown, problem.total, problem.at, problem.len
+        self.reason, self.words = _said("name", problem.reason), _said("words", problem.reason)
 
 
 class Seen(typing.NamedTuple):
@@ -182,6 +192,17 @@ def _in_room(call, *given, stored=()):
         _check(call(*given, room, needed, *stored, _ref(needed), _ref(problem)), problem)
         room = room or (ctypes.c_char * needed.value)()
     return room
+
+
+def _said(what, reason):
+    """The name or the words of a reason; None where there is no reason."""
+    if not reason:
+        return None
+    call, needed, room = getattr(_library, f"gix_url_reason_{what}"), _size(), None
+    for _ in range(2):
+        _check(call(reason, room, needed, _ref(needed)))
+        room = room or (ctypes.c_char * needed.value)()
+    return bytes(room).decode()
 
 
 def _located(call, *given):

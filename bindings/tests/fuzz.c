@@ -56,6 +56,7 @@ static void is_problem_of(gix_url_error error, const gix_url_problem *problem) {
     HOLDS(strcmp(gix_url_write_fault_name(problem->write_fault), "?") != 0);
     HOLDS((error == GIX_URL_BAD_URL) == (problem->fault != 0));
     HOLDS((error == GIX_URL_UNWRITABLE) == (problem->write_fault != 0));
+    HOLDS(is_refusal(error) == (problem->reason != 0) && (problem->reason != 0 || (problem->at == 0 && problem->len == 0)));
     HOLDS((error == GIX_URL_TOO_LONG) == (problem->total != 0) && problem->shown <= problem->total);
     if (error == GIX_URL_OK || error == GIX_URL_NO_ROOM || error == GIX_URL_NO_LOCATION) HOLDS(has_no_problem(problem));
 }
@@ -185,12 +186,23 @@ static void is_answered(const gix_url *url) {
     HOLDS(gix_url_path_query_fragment(url, NULL, SIZE_MAX, &pair, SIZE_MAX, &parts, NULL, &len) != GIX_URL_OK || len == 0);
 }
 
+/* What refuses parts is what refuses their text, which has none of their spelling. */
+static void is_refused(gix_url parts, gix_url_error error, const gix_url_problem *problem) {
+    size_t len = 0;
+    parts.spelling.at = NULL;
+    char *text = put_of(gix_url_write, &parts, &len);
+    HOLDS(text);
+    is_refused_so((gix_url_text){text, len}, error, problem);
+    free(text);
+}
+
 static void is_made(const gix_url *parts) {
     gix_url url;
     gix_url_error error;
     gix_url_problem problem;
     char *room = make_parts(parts, &url, &error, &problem);
     is_problem_of(error, &problem);
+    if (is_refusal(error)) is_refused(*parts, error, &problem);
     if (error == GIX_URL_OK) is_answered(&url);
     free(room);
 }

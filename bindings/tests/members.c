@@ -68,6 +68,12 @@ static void refusal(line *out, gix_url_error error, const gix_url_problem *probl
     put_word(out, problem->fault ? gix_url_fault_name(problem->fault) : "-");
     put_word(out, " ");
     put_word(out, problem->kind ? gix_url_kind_name(problem->kind) : "-");
+    put_word(out, " "), put_number(out, problem->at);
+    put_word(out, " "), put_number(out, problem->len);
+    char name[64];
+    size_t len;
+    HOLDS(gix_url_reason_name(problem->reason, name, sizeof name, &len) == GIX_URL_OK);
+    put_word(out, " "), put(out, name, len);
 }
 
 int main(void) {

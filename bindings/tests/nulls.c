@@ -93,7 +93,7 @@ typedef struct answer {
 /* The same with this pointer null, in room of this size. */
 static answer answer_with(int call, answer wanted, size_t room, int null) {
     if (null & calls[call].wants) wanted = (answer){.error = GIX_URL_NULL};
-    else if (null == SUBJECT) wanted = (answer){.error = GIX_URL_EMPTY_LOCAL};
+    else if (null == SUBJECT) wanted = (answer){.error = GIX_URL_EMPTY_LOCAL, .problem.reason = GIX_URL_REASON_EMPTY};
     else if (wanted.error == GIX_URL_OK && (room < wanted.len || (null == ROOM && wanted.len) || (null == PAIRS && wanted.count)))
         wanted.error = GIX_URL_NO_ROOM;
     return wanted;
@@ -138,6 +138,10 @@ static void answers(int call, const gix_url *url, answer wanted) {
     if (wanted.len) answers_so(call, url, wanted, wanted.len - 1, 0);
 }
 
+/* The refusal of a URL. */
+#define REFUSED(error, wrong, why, before, length) \
+    {(error), {.kind = GIX_URL_KIND_URL, .fault = (wrong), .reason = (why), .at = (before), .len = (length)}, 0, 0}
+
 /* Inputs, and what reading them answers. */
 static const struct {
     gix_url_text input;
@@ -146,10 +150,10 @@ static const struct {
     {TEXT("/a"), {.len = 2}},
     {TEXT("a\0b"), {.len = 3}},
     {TEXT("http://u:secret@h/a?b=c#d"), {.len = 16}},
-    {TEXT(""), {GIX_URL_EMPTY_LOCAL, {0}, 0, 0}},
-    {TEXT("http://h:x/"), {GIX_URL_BAD_URL, {.kind = GIX_URL_KIND_URL, .fault = GIX_URL_BAD_PORT, .at = 9, .len = 1}, 0, 0}},
-    {TEXT("ssh://h"), {GIX_URL_MISSING_PATH, {.kind = GIX_URL_KIND_URL, .at = 7}, 0, 0}},
-    {TEXT("http://h/\xff"), {GIX_URL_NOT_UTF8, {.kind = GIX_URL_KIND_URL, .at = 9}, 0, 0}},
+    {TEXT(""), {GIX_URL_EMPTY_LOCAL, {.reason = GIX_URL_REASON_EMPTY}, 0, 0}},
+    {TEXT("http://h:x/"), REFUSED(GIX_URL_BAD_URL, GIX_URL_BAD_PORT, GIX_URL_REASON_PORT_NOT_A_NUMBER, 9, 1)},
+    {TEXT("ssh://h"), REFUSED(GIX_URL_MISSING_PATH, GIX_URL_FAULT_NONE, GIX_URL_REASON_PATH_MISSING, 7, 0)},
+    {TEXT("http://h/\xff"), REFUSED(GIX_URL_NOT_UTF8, GIX_URL_FAULT_NONE, GIX_URL_REASON_NOT_UTF8, 9, 1)},
 };
 
 #define NO_LOCATION {GIX_URL_NO_LOCATION, {0}, 0, 0}
@@ -177,6 +181,8 @@ static const struct {
     {{.scheme = GIX_URL_HELPER, .name = TEXT("a"), .password = TEXT("secret"), .path = TEXT("x")},
      UNWRITABLE(GIX_URL_WRITE_HELPER_PARTS), UNWRITABLE(GIX_URL_WRITE_HELPER_PARTS), UNWRITABLE(GIX_URL_WRITE_HELPER_PARTS),
      {.len = 1}},
+    {{.scheme = GIX_URL_HTTP, .host = TEXT("h"), .has_port = true, .path = TEXT("/p")},
+     REFUSED(GIX_URL_BAD_URL, GIX_URL_BAD_PORT, GIX_URL_REASON_PORT_ZERO, 9, 1), {.len = 12}, {.len = 12}, {.len = 2}},
     {{.scheme = GIX_URL_HELPER, .name = TEXT("-a"), .path = TEXT("x")}, {GIX_URL_HELPER_NAME, {0}, 0, 0},
      UNWRITABLE(GIX_URL_WRITE_HELPER_NAME), UNWRITABLE(GIX_URL_WRITE_HELPER_NAME), {.len = 1}},
 };
@@ -230,7 +236,8 @@ static void of_long_parts(void) {
         }
 }
 
-/* The error of a text that is too long has how much of it is shown, its length, and what of it is too long. */
+/* The error of a text that is too long has how much of it is shown, its length, and what of it is too long. Past 256 bytes a
+ * text is read into memory. */
 static void of_length(void) {
     static char input[2000], room[8192];
     gix_url url;
@@ -239,7 +246,55 @@ static void of_length(void) {
     memcpy(input, "http://", 7);
     HOLDS(gix_url_parse(input, sizeof input, room, sizeof room, &url, NULL, &problem) == GIX_URL_TOO_LONG);
     HOLDS(problem.shown == 1031 && problem.total == 2000 && problem.kind == GIX_URL_KIND_NONE);
-    HOLDS(problem.at == 7 && problem.len == 1024);
+    HOLDS(problem.reason == GIX_URL_REASON_AUTHORITY_TOO_LONG && problem.at == 7 && problem.len == 1024);
+    for (size_t len = 255; len <= 257; len++) {
+        input[len - 1] = ' ';
+        HOLDS(gix_url_parse(input, len, room, sizeof room, &url, NULL, &problem) == GIX_URL_BAD_URL);
+        HOLDS(problem.reason == GIX_URL_REASON_WHITE_SPACE && problem.at == len - 1 && problem.len == 1 && problem.total == 0);
+        input[len - 1] = 'a';
+        HOLDS(gix_url_parse(input, len, room, sizeof room, &url, NULL, &problem) == GIX_URL_OK && url.host.len == len - 7);
+    }
+}
+
+/* The reasons by their numbers have the names of the header, and a sentence each; no other number has any. */
+static void of_reasons(void) {
+    static const struct {
+        gix_url_reason reason;
+        const char *name;
+    } reasons[] = {
+        {GIX_URL_REASON_EMPTY, "Empty"}, {GIX_URL_REASON_SCHEME_TOO_LONG, "SchemeTooLong"},
+        {GIX_URL_REASON_AUTHORITY_TOO_LONG, "AuthorityTooLong"}, {GIX_URL_REASON_NOT_UTF8, "NotUtf8"},
+        {GIX_URL_REASON_WHITE_SPACE, "WhiteSpace"}, {GIX_URL_REASON_BROKEN_ESCAPE, "BrokenEscape"},
+        {GIX_URL_REASON_SCHEME_MISSING, "SchemeMissing"}, {GIX_URL_REASON_SCHEME_START, "SchemeStart"},
+        {GIX_URL_REASON_SCHEME_CHARACTER, "SchemeCharacter"}, {GIX_URL_REASON_WHITE_SPACE_IN_HOST, "WhiteSpaceInHost"},
+        {GIX_URL_REASON_BACKSLASH, "Backslash"}, {GIX_URL_REASON_BACKSLASH_IN_HOST, "BackslashInHost"},
+        {GIX_URL_REASON_ESCAPES_NOT_UTF8, "EscapesNotUtf8"}, {GIX_URL_REASON_UNCLOSED_BRACKET, "UnclosedBracket"},
+        {GIX_URL_REASON_BEHIND_BRACKET, "BehindBracket"}, {GIX_URL_REASON_NOT_AN_ADDRESS, "NotAnAddress"},
+        {GIX_URL_REASON_ADDRESS_WITHOUT_BRACKETS, "AddressWithoutBrackets"}, {GIX_URL_REASON_SECOND_COLON, "SecondColon"},
+        {GIX_URL_REASON_HOST_BEFORE_PORT, "HostBeforePort"}, {GIX_URL_REASON_PORT_NOT_A_NUMBER, "PortNotANumber"},
+        {GIX_URL_REASON_HOST_CHARACTER, "HostCharacter"}, {GIX_URL_REASON_PORT_TOO_LARGE, "PortTooLarge"},
+        {GIX_URL_REASON_PORT_ZERO, "PortZero"}, {GIX_URL_REASON_HOST_BEHIND_USER, "HostBehindUser"},
+        {GIX_URL_REASON_HOST_MISSING, "HostMissing"}, {GIX_URL_REASON_PATH_MISSING, "PathMissing"},
+        {GIX_URL_REASON_FILE_PATH_MISSING, "FilePathMissing"}, {GIX_URL_REASON_SCP_PATH_MISSING, "ScpPathMissing"}};
+    const size_t count = sizeof reasons / sizeof *reasons;
+    HOLDS(count == (size_t)GIX_URL_REASON_SCP_PATH_MISSING);
+    for (size_t i = 0; i < count; i++) {
+        size_t len, words_len;
+        HOLDS((size_t)reasons[i].reason == i + 1);
+        char *name = text_of_reason(gix_url_reason_name, reasons[i].reason, &len);
+        char *words = text_of_reason(gix_url_reason_words, reasons[i].reason, &words_len);
+        HOLDS(is_same((gix_url_text){name, len}, text(reasons[i].name)));
+        HOLDS(words_len > len && words_len <= 128 && memchr(words, ' ', words_len));
+        free(name), free(words);
+    }
+    static const int others[] = {GIX_URL_REASON_NONE, 29, 255, 256, 257, -1};
+    for (size_t i = 0; i < sizeof others / sizeof *others; i++) {
+        char room[4] = "abc";
+        size_t len = 77, words_len = 77;
+        HOLDS(gix_url_reason_name((gix_url_reason)others[i], room, sizeof room, &len) == GIX_URL_NO_LOCATION && len == 0);
+        HOLDS(gix_url_reason_words((gix_url_reason)others[i], room, sizeof room, &words_len) == GIX_URL_NO_LOCATION && words_len == 0);
+        HOLDS(strcmp(room, "abc") == 0);
+    }
 }
 
 /* Of a null pointer no length counts; a struct without parts is the file URL of an empty path. */
@@ -308,6 +363,7 @@ int main(void) {
     of_pair_room();
     of_long_parts();
     of_length();
+    of_reasons();
     of_nothing();
     of_spellings();
     of_names();

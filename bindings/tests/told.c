@@ -146,3 +146,30 @@ char *make_parts(const gix_url *parts, gix_url *url, gix_url_error *error, gix_u
     *url = moved(*url, room, needed, own);
     return own;
 }
+
+bool is_refusal(gix_url_error error) { return error >= GIX_URL_EMPTY_LOCAL && error <= GIX_URL_BAD_URL; }
+
+void is_refused_so(gix_url_text text, gix_url_error error, const gix_url_problem *problem) {
+    gix_url url;
+    gix_url_error again;
+    gix_url_problem read;
+    char *room = read_input(text, &url, &again, &read);
+    HOLDS(!room && again == error);
+    HOLDS(read.kind == problem->kind && read.fault == problem->fault && read.reason == problem->reason && !problem->write_fault);
+    HOLDS(read.shown == problem->shown && read.total == problem->total && read.at == problem->at && read.len == problem->len);
+}
+
+char *text_of_reason(reason_putter *call, gix_url_reason reason, size_t *len) {
+    size_t again = 77;
+    HOLDS(call(reason, NULL, SIZE_MAX, len) == GIX_URL_NO_ROOM && *len > 0);
+    char *room = at_wall(1, NULL, *len - 1);
+    memset(room, 0xA5, *len - 1);
+    HOLDS(call(reason, room, *len - 1, &again) == GIX_URL_NO_ROOM && again == *len);
+    for (size_t i = 0; i + 1 < *len; i++) HOLDS((unsigned char)room[i] == 0xA5);
+    room = at_wall(1, NULL, *len);
+    HOLDS(call(reason, room, *len, NULL) == GIX_URL_OK);
+    char *text = malloc(*len);
+    HOLDS(text);
+    memcpy(text, room, *len);
+    return text;
+}

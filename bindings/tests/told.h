@@ -22,6 +22,16 @@ void put_number(line *out, size_t number);
 char *read_input(gix_url_text input, gix_url *url, gix_url_error *error, gix_url_problem *problem);
 char *make_parts(const gix_url *parts, gix_url *url, gix_url_error *error, gix_url_problem *problem);
 
+/* Whether the error refuses a text. */
+bool is_refusal(gix_url_error error);
+
+/* Checks that reading the text is refused with this error and this problem. */
+void is_refused_so(gix_url_text text, gix_url_error error, const gix_url_problem *problem);
+
+/* The name of a reason, or its sentence, in room that is just large enough: a block to be freed. */
+typedef gix_url_error reason_putter(gix_url_reason, char *, size_t, size_t *);
+char *text_of_reason(reason_putter *call, gix_url_reason reason, size_t *len);
+
 /* The text of a location, and what it is shown as: a block to be freed, or null and the error. */
 typedef gix_url_error putter(const gix_url *, char *, size_t, size_t *, gix_url_problem *);
 char *text_of_location(putter *call, const gix_url *url, size_t *len, gix_url_error *error, gix_url_problem *problem);

@@ -142,12 +142,16 @@ static void tell_url(line *out, const gix_url *url) {
     put_word(out, "}");
 }
 
-/* Prints where in a text the fault of an error is. */
+/* Prints where and why a text is refused. */
 static void tell_place(line *out, gix_url_error error, const gix_url_problem *problem) {
-    if (error < GIX_URL_MISSING_PATH || error > GIX_URL_BAD_URL) return;
+    if (!is_refusal(error)) return;
+    gix_url_text name;
+    char *own = text_of_reason(gix_url_reason_name, problem->reason, &name.len);
+    name.at = own;
     put_word(out, ",\"at\":"), put_number(out, problem->at);
-    if (error != GIX_URL_TOO_LONG && error != GIX_URL_BAD_URL) return;
     put_word(out, ",\"len\":"), put_number(out, problem->len);
+    put_member(out, "reason", name);
+    free(own);
 }
 
 /* Prints an error by its names. Of a text that is too long the front is printed that is fit to be shown. */
@@ -183,26 +187,15 @@ static gix_url_text written(const gix_url *url, gix_url_error *error, gix_url_pr
     return text;
 }
 
-/* Takes over where the fault is in the text of parts that were refused, which is read for it. */
-static void place_in(gix_url_text text, gix_url_error error, gix_url_problem *problem) {
-    gix_url url;
-    gix_url_error again;
-    gix_url_problem read;
-    HOLDS(problem->at == 0 && problem->len == 0);
-    if (!text.at) return;
-    char *room = read_input(text, &url, &again, &read);
-    HOLDS(!room && again == error && read.fault == problem->fault && read.kind == problem->kind);
-    *problem = read;
-}
-
 static void from_parts(line *out, const order *order) {
     gix_url url, parts = location(order, "record");
     gix_url_error error;
     gix_url_problem problem;
     gix_url_text text = written(&parts, &error, &problem);
     char *room = make_parts(&parts, &url, &error, &problem);
+    if (is_refusal(error)) is_refused_so(text, error, &problem);
     if (error == GIX_URL_OK) tell_url(out, &url);
-    else place_in(text, error, &problem), tell_error(out, error, &problem, text);
+    else tell_error(out, error, &problem, text);
     free(room);
     free((char *)text.at);
 }

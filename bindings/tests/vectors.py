@@ -53,10 +53,8 @@ def told_error(error, refused=b""):
     members = {"error": " ".join(it for it in (error.name, error.fault, error.write_fault, error.kind) if it)}
     if error.name == "TooLong":
         members.update(kept=told(refused[: error.shown]), total=error.total)
-    if error.name in ("MissingPath", "NotUtf8", "TooLong", "BadUrl"):
-        members["at"] = error.at
-    if error.name in ("TooLong", "BadUrl"):
-        members["len"] = error.len
+    if error.reason:
+        members.update(at=error.at, len=error.len, reason=error.reason)
     return members
 
 
@@ -105,13 +103,11 @@ CALLS = {
 
 
 def refused_parts(parts, error):
-    """The error for which parts are refused; where the fault is in their text, the error of reading that."""
+    """The error for which parts are refused: where they have a text, it is the error of reading that."""
     try:
-        text = bytes(parts)
-        gix_url.parse(text)
-    except gix_url.Error as again:
-        return told_error(error) if again.name == "Unwritable" else told_error(again, text)
-    return {"halt": "the text of the parts is no fault"}
+        return told_error(error, bytes(parts))
+    except gix_url.Error:
+        return told_error(error)
 
 
 def outcome(order):

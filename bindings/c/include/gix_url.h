@@ -7,8 +7,9 @@
  * byte 0 among them, and don't end in one. Nothing here has to be freed: what a call returns goes into the room, a
  * buffer that the caller supplies, and a call allocates memory only for its own work. gix_url_is_settled,
  * gix_url_agrees_with_git, gix_url_write, gix_url_look and gix_url_scheme_text allocate none, and never return
- * GIX_URL_MEMORY. A location that was read points into the room, so the room has to stay as long as the location is
- * used. No call keeps a pointer past its return. Calls may run in several threads, as long as no room is shared.
+ * GIX_URL_MEMORY; nor does gix_url_parse for an input of at most 256 bytes. A location that was read points into the
+ * room, so the room has to stay as long as the location is used. No call keeps a pointer past its return. Calls may run
+ * in several threads, as long as no room is shared.
  *
  * Any pointer may be null: a null part is a part that isn't there, a null input or path is empty, null room has no bytes
  * and null pairs no places, whatever the length beside them; where needed, needed_pairs or problem is null, it is not
@@ -79,6 +80,39 @@ typedef enum gix_url_fault {
     GIX_URL_HOST_REQUIRED = 4  /* a host is required and there is none */
 } gix_url_fault;
 
+/* The one reason for which a text is refused: of several flaws the first in the order of checks. */
+typedef enum gix_url_reason {
+    GIX_URL_REASON_NONE = 0,                      /* none is reported */
+    GIX_URL_REASON_EMPTY = 1,                     /* the text is empty */
+    GIX_URL_REASON_SCHEME_TOO_LONG = 2,           /* the scheme is longer than 1,024 bytes */
+    GIX_URL_REASON_AUTHORITY_TOO_LONG = 3,        /* more than 1,024 bytes follow :// before the path */
+    GIX_URL_REASON_NOT_UTF8 = 4,                  /* the text is not UTF-8 */
+    GIX_URL_REASON_WHITE_SPACE = 5,               /* white space is in a URL */
+    GIX_URL_REASON_BROKEN_ESCAPE = 6,             /* a % begins no escape */
+    GIX_URL_REASON_SCHEME_MISSING = 7,            /* nothing is before :// */
+    GIX_URL_REASON_SCHEME_START = 8,              /* a scheme begins with no letter of ASCII */
+    GIX_URL_REASON_SCHEME_CHARACTER = 9,          /* a character in a scheme isn't a letter, a digit, +, - or . */
+    GIX_URL_REASON_WHITE_SPACE_IN_HOST = 10,      /* white space is in the host of the scp form */
+    GIX_URL_REASON_BACKSLASH = 11,                /* a backslash is in an authority */
+    GIX_URL_REASON_BACKSLASH_IN_HOST = 12,        /* a backslash is in the host of the scp form */
+    GIX_URL_REASON_ESCAPES_NOT_UTF8 = 13,         /* bytes or escapes decode to no UTF-8 */
+    GIX_URL_REASON_UNCLOSED_BRACKET = 14,         /* a bracket is not closed */
+    GIX_URL_REASON_BEHIND_BRACKET = 15,           /* something other than a colon follows a closed bracket */
+    GIX_URL_REASON_NOT_AN_ADDRESS = 16,           /* the text between the brackets of HTTP is not an IPv6 literal */
+    GIX_URL_REASON_ADDRESS_WITHOUT_BRACKETS = 17, /* an IPv6 address of HTTP is not in brackets */
+    GIX_URL_REASON_SECOND_COLON = 18,             /* the host of HTTP has a second colon */
+    GIX_URL_REASON_HOST_BEFORE_PORT = 19,         /* nothing is before the colon of a port of HTTP */
+    GIX_URL_REASON_PORT_NOT_A_NUMBER = 20,        /* a port is not a decimal number */
+    GIX_URL_REASON_HOST_CHARACTER = 21,           /* a character that the host of HTTP may not hold */
+    GIX_URL_REASON_PORT_TOO_LARGE = 22,           /* a port is greater than 65,535 */
+    GIX_URL_REASON_PORT_ZERO = 23,                /* the port of HTTP is 0 */
+    GIX_URL_REASON_HOST_BEHIND_USER = 24,         /* no host follows the user information */
+    GIX_URL_REASON_HOST_MISSING = 25,             /* the scheme, or the scp form, needs a host */
+    GIX_URL_REASON_PATH_MISSING = 26,             /* a URL of Git's own transports has no path */
+    GIX_URL_REASON_FILE_PATH_MISSING = 27,        /* a file URL has no path */
+    GIX_URL_REASON_SCP_PATH_MISSING = 28          /* nothing follows the colon of the scp form */
+} gix_url_reason;
+
 /* Why a location has no text: of GIX_URL_UNWRITABLE. */
 typedef enum gix_url_write_fault {
     GIX_URL_WRITE_FAULT_NONE = 0,
@@ -88,15 +122,20 @@ typedef enum gix_url_write_fault {
     GIX_URL_WRITE_USER_WITHOUT_HOST = 4
 } gix_url_write_fault;
 
-/* The details of an error. What doesn't belong to the error is 0; for GIX_URL_OK it all is. */
+/* The details of an error. What doesn't belong to the error is 0; for GIX_URL_OK it all is.
+ *
+ * EMPTY_LOCAL, MISSING_PATH, NOT_UTF8, TOO_LONG and BAD_URL refuse a text, for one reason and at one place: of
+ * gix_url_parse the text is the input, and of gix_url_from_parts what gix_url_write puts of the parts without their
+ * spelling. */
 typedef struct gix_url_problem {
     gix_url_kind kind;               /* MISSING_PATH, NOT_UTF8, BAD_URL */
     gix_url_fault fault;             /* BAD_URL */
+    gix_url_reason reason;           /* of each refusal of a text */
     gix_url_write_fault write_fault; /* UNWRITABLE */
-    size_t shown;                    /* TOO_LONG: how many bytes of the input's front are fit to be shown */
-    size_t total;                    /* TOO_LONG: the length of the input */
-    size_t at;  /* of gix_url_parse, except EMPTY_LOCAL: how many bytes of the input come before what is wrong */
-    size_t len; /* TOO_LONG, BAD_URL, as at: the length of what is wrong, in bytes; 0 where something is missing */
+    size_t shown;                    /* TOO_LONG: how many bytes of the text's front are fit to be shown */
+    size_t total;                    /* TOO_LONG: the length of the text */
+    size_t at;                       /* of each refusal of a text: how many bytes of it come before what is wrong */
+    size_t len;                      /* as at: the length of what is wrong, in bytes; 0 where something is missing */
 } gix_url_problem;
 
 /* What a location is reached by. */
@@ -236,6 +275,13 @@ const char *gix_url_error_name(gix_url_error error);
 const char *gix_url_fault_name(gix_url_fault fault);
 const char *gix_url_write_fault_name(gix_url_write_fault fault);
 const char *gix_url_kind_name(gix_url_kind kind);
+
+/* Puts the name of a reason into the room, as PortZero, or the reason in one sentence, as "the port of HTTP must not be
+ * 0", which holds no byte of a text; neither has more than 128 bytes. No byte 0 is added. needed is the length, on
+ * GIX_URL_NO_ROOM too. A number that stands for no reason, as GIX_URL_REASON_NONE, returns GIX_URL_NO_LOCATION, and
+ * needed is 0 then. Neither call allocates. */
+gix_url_error gix_url_reason_name(gix_url_reason reason, char *room, size_t room_len, size_t *needed);
+gix_url_error gix_url_reason_words(gix_url_reason reason, char *room, size_t room_len, size_t *needed);
 
 /* The text of a scheme: file, git, ssh, http, https, ext, or the name of the location. */
 gix_url_text gix_url_scheme_text(const gix_url *url);

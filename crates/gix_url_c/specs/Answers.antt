@@ -1,9 +1,11 @@
 -- What the calls answer: which answer of the library was reported, and how.
 use Rattle.std.specs.Prelude.{◌≡◌, ℕ, ◌-◌, ◌^◌, min, Bool, IsTrue, ◌↔◌, List, length, Option, Some, None, Result, Ok, Err}
 use Rattle.gix_url.specs.declared.error.Error.{Error}
+use Rattle.git_location.specs.declared.parse_error.ParseError.{ParseError}
+use Rattle.git_location.specs.declared.parse_error.ParseError.TheVariants as unread
 use Rattle.git_location.specs.declared.write_error.WriteFault.{WriteFault}
 use Rattle.gix_url.specs.Location.{Location}
-use Rattle.gix_url.specs.Readings.{Reads}
+use Rattle.gix_url.specs.Readings.{ReadsIn}
 use Rattle.gix_url.specs.FromParts.{MadeOf}
 use Rattle.gix_url.specs.Settled.{IsSettled}
 use Rattle.gix_url.specs.GitClass.{AgreesWithGit}
@@ -11,17 +13,25 @@ use Rattle.gix_url.specs.Text.{text}
 use Rattle.gix_url.specs.Display.{display}
 use Rattle.gix_url_c.specs.declared.codes.Problem.{Problem}
 use Rattle.gix_url_c.specs.declared.handed.Made.{Made}
-use Rattle.gix_url_c.specs.Codes.{ok, unwritable, error_code, problem_of, problem_numbered, write_fault_number}
+use Rattle.gix_url_c.specs.Codes.{ok, unwritable, error_code, Tells, refusal_code, problem_of_refusal, no_problem, write_problem}
 use Rattle.gix_url_c.specs.Handed.{Returns, Puts}
 
--- an answer is reported: a location returned, or an error by its numbers
+-- an answer is reported: a location returned, or an error by its number and what is told of it
 abbrev pub Reports : Result Location Error → Made → List ℕ → List ℕ → Problem → ℕ → Type 0
 Reports (Ok v) made old new problem code = Returns v made old new code
-Reports (Err e) made old new problem code = (code ≡ error_code e) × (problem ≡ problem_of e)
+Reports (Err e) made old new problem code = (code ≡ error_code e) × Tells e problem
 
--- what reading the bytes answers is reported
+-- what was read of the bytes with room enough is reported: a location returned, or their refusal
+abbrev pub ReportsAnswer : List ℕ → Result Location ParseError → Made → List ℕ → List ℕ → Problem → ℕ → Type 0
+ReportsAnswer b (Ok v) made old new problem code = (problem ≡ no_problem) × Returns v made old new code
+ReportsAnswer b (Err unread.NoRoom) made old new problem code = ⊥
+ReportsAnswer b (Err (unread.Refused why)) made old new problem code =
+    (code ≡ refusal_code why) × (problem ≡ problem_of_refusal b why)
+
+-- what reading the bytes answers, with room for as many, is reported
 abbrev pub ReportsRead : List ℕ → Made → List ℕ → List ℕ → Problem → ℕ → Type 0
-ReportsRead input made old new problem code = (answer : Result Location Error) × Reads input answer × Reports answer made old new problem code
+ReportsRead b made old new problem code = (answer : Result Location ParseError) × ReadsIn b (length b) answer
+    × ReportsAnswer b answer made old new problem code
 
 -- what making a location of parts answers is reported
 abbrev pub ReportsMade : Location → Made → List ℕ → List ℕ → Problem → ℕ → Type 0
@@ -37,7 +47,7 @@ ReportsAgreement v agrees code = (code ≡ ok) × (IsTrue agrees ↔ AgreesWithG
 
 -- a fault of writing is reported
 abbrev pub ReportsFault : WriteFault → Problem → ℕ → Type 0
-ReportsFault f problem code = (code ≡ unwritable) × (problem ≡ problem_numbered 0 (write_fault_number f) 0 0)
+ReportsFault f problem code = (code ≡ unwritable) × (problem ≡ write_problem f)
 
 -- a text is reported
 abbrev pub PutsText : List ℕ → List ℕ → List ℕ → ℕ → ℕ → Type 0

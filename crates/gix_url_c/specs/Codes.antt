@@ -1,16 +1,23 @@
 -- The numbers by which C gets what a call returns.
-use Rattle.std.specs.Prelude.{◌≡◌, ℕ, ◌⊎◌, Bool, not, nat_lt, ◌&&◌, length}
+use Rattle.std.specs.Prelude.{◌≡◌, ℕ, ◌⊎◌, Bool, not, nat_lt, ◌&&◌, List, length}
 use Rattle.bstr.specs.Owned.{bstring_bytes}
 use Rattle.git_syntax.specs.declared.refusal.UrlKind.{UrlKind}
 use Rattle.git_syntax.specs.declared.refusal.UrlKind.TheVariants as kind
 use Rattle.git_syntax.specs.declared.refusal.UrlFault.{UrlFault}
 use Rattle.git_syntax.specs.declared.refusal.UrlFault.TheVariants as fault
-use Rattle.git_syntax.specs.declared.refusal.Refusal.{Refusal}
-use Rattle.git_syntax.specs.declared.refusal.Refusal.TheVariants as refusal
+use Rattle.git_refusals.specs.declared.reason.Reason.{Reason}
+use Rattle.git_refusals.specs.declared.reason.Reason.TheVariants as reason
+use Rattle.git_refusals.specs.declared.reason.RefusalKind.{RefusalKind}
+use Rattle.git_refusals.specs.declared.reason.RefusalKind.TheVariants as refusal
+use Rattle.git_refusals.specs.declared.refusal.Refusal.{Refusal}
+use Rattle.git_refusals.specs.Kinds.{kind_of}
+use Rattle.git_refusals.specs.Fronts.{shown_front}
+use Rattle.git_refusals.specs.Reasons.{Refused}
 use Rattle.git_location.specs.declared.write_error.WriteFault.{WriteFault}
 use Rattle.git_location.specs.declared.write_error.WriteFault.TheVariants as unwritten
 use Rattle.gix_url.specs.declared.error.Error.{Error}
 use Rattle.gix_url.specs.declared.error.Error.TheVariants as error
+use Rattle.gix_url.specs.Flaws.{IsErrorOf, IsNotOfReading}
 use Rattle.gix_url_c.specs.declared.codes.Problem.{Problem}
 
 -- the call was answered
@@ -37,10 +44,10 @@ no_room = 102
 abbrev pub error_code : Error → ℕ
 error_code error.Memory = memory
 error_code error.EmptyLocal = 2
-error_code (error.MissingPath kind input at) = 3
-error_code (error.NotUtf8 kind input at) = 4
-error_code (error.TooLong shown total at len) = 5
-error_code (error.BadUrl kind fault input at len) = 6
+error_code (error.MissingPath kind input) = 3
+error_code (error.NotUtf8 kind input) = 4
+error_code (error.TooLong shown total) = 5
+error_code (error.BadUrl kind fault input) = 6
 error_code (error.HelperName name) = 7
 error_code (error.Unwritable fault) = unwritable
 error_code (error.NoHome user) = 9
@@ -67,44 +74,121 @@ write_fault_number unwritten.HelperParts = 2
 write_fault_number unwritten.RelativeSsh = 3
 write_fault_number unwritten.UserWithoutHost = 4
 
--- what is reported of an error beside its number
-abbrev pub problem_numbered : ℕ → ℕ → ℕ → ℕ → Problem
-problem_numbered kind fault shown total = record { kind = kind; fault = fault; shown = shown; total = total }
+-- the number of a reason: its place in the order of the header
+abbrev pub reason_number : Reason → ℕ
+reason_number reason.Empty = 1
+reason_number reason.SchemeTooLong = 2
+reason_number reason.AuthorityTooLong = 3
+reason_number reason.NotUtf8 = 4
+reason_number reason.WhiteSpace = 5
+reason_number reason.BrokenEscape = 6
+reason_number reason.SchemeMissing = 7
+reason_number reason.SchemeStart = 8
+reason_number reason.SchemeCharacter = 9
+reason_number reason.WhiteSpaceInHost = 10
+reason_number reason.Backslash = 11
+reason_number reason.BackslashInHost = 12
+reason_number reason.EscapesNotUtf8 = 13
+reason_number reason.UnclosedBracket = 14
+reason_number reason.BehindBracket = 15
+reason_number reason.NotAnAddress = 16
+reason_number reason.AddressWithoutBrackets = 17
+reason_number reason.SecondColon = 18
+reason_number reason.HostBeforePort = 19
+reason_number reason.PortNotANumber = 20
+reason_number reason.HostCharacter = 21
+reason_number reason.PortTooLarge = 22
+reason_number reason.PortZero = 23
+reason_number reason.HostBehindUser = 24
+reason_number reason.HostMissing = 25
+reason_number reason.PathMissing = 26
+reason_number reason.FilePathMissing = 27
+reason_number reason.ScpPathMissing = 28
+
+-- a reason has this number
+abbrev pub IsReason : ℕ → Type 0
+IsReason n = (r : Reason) × (reason_number r ≡ n)
+
+-- the number of a refusal: that of the error which it becomes where the text is copied
+abbrev pub kind_code : RefusalKind → ℕ
+kind_code refusal.EmptyLocal = 2
+kind_code refusal.MissingPath = 3
+kind_code refusal.NotUtf8 = 4
+kind_code refusal.TooLong = 5
+kind_code (refusal.BadUrl fault) = 6
+
+abbrev pub refusal_code : Refusal → ℕ
+refusal_code r = kind_code (kind_of r.reason)
+
+-- the number of the form that is reported of a refusal, or 0
+abbrev pub kind_told : UrlKind → RefusalKind → ℕ
+kind_told form refusal.EmptyLocal = 0
+kind_told form refusal.MissingPath = kind_number form
+kind_told form refusal.NotUtf8 = kind_number form
+kind_told form refusal.TooLong = 0
+kind_told form (refusal.BadUrl fault) = kind_number form
+
+-- the number of the fault that is reported of a refusal, or 0
+abbrev pub fault_told : RefusalKind → ℕ
+fault_told (refusal.BadUrl fault) = fault_number fault
+fault_told refusal.EmptyLocal = 0
+fault_told refusal.MissingPath = 0
+fault_told refusal.NotUtf8 = 0
+fault_told refusal.TooLong = 0
+
+-- what is reported of a refusal, with these lengths of the front and of the text
+abbrev pub refusal_problem : Refusal → ℕ → ℕ → Problem
+refusal_problem r shown total = record {
+  kind = kind_told r.form (kind_of r.reason);
+  fault = fault_told (kind_of r.reason);
+  reason = reason_number r.reason;
+  shown = shown;
+  total = total;
+  at = r.at;
+  len = r.len;
+}
+
+-- a length that is reported of a text that is too long, and 0 of any other
+abbrev pub if_too_long : RefusalKind → ℕ → ℕ
+if_too_long refusal.TooLong n = n
+if_too_long refusal.EmptyLocal n = 0
+if_too_long refusal.MissingPath n = 0
+if_too_long refusal.NotUtf8 n = 0
+if_too_long (refusal.BadUrl fault) n = 0
+
+-- what is reported of the refusal of a text
+abbrev pub problem_of_refusal : List ℕ → Refusal → Problem
+problem_of_refusal b r = refusal_problem r (if_too_long (kind_of r.reason) (length (shown_front b r)))
+    (if_too_long (kind_of r.reason) (length b))
 
 -- what is reported where the number says all
 abbrev pub no_problem : Problem
-no_problem = problem_numbered 0 0 0 0
+no_problem = record { kind = 0; fault = 0; reason = 0; shown = 0; total = 0; at = 0; len = 0 }
 
--- what is reported of an error: the form, the fault, the length of the front that it shows, and that of the
--- whole
-abbrev pub problem_of : Error → Problem
-problem_of error.Memory = no_problem
-problem_of error.EmptyLocal = no_problem
-problem_of (error.MissingPath kind input at) = problem_numbered (kind_number kind) 0 0 0
-problem_of (error.NotUtf8 kind input at) = problem_numbered (kind_number kind) 0 0 0
-problem_of (error.TooLong shown total at len) = problem_numbered 0 0 (length (bstring_bytes shown)) total
-problem_of (error.BadUrl kind fault input at len) = problem_numbered (kind_number kind) (fault_number fault) 0 0
-problem_of (error.HelperName name) = no_problem
-problem_of (error.Unwritable fault) = problem_numbered 0 (write_fault_number fault) 0 0
-problem_of (error.NoHome user) = no_problem
-problem_of error.PathNotUtf8 = no_problem
-problem_of error.Unresolved = no_problem
+-- what is reported of a location without a text
+abbrev pub write_problem : WriteFault → Problem
+write_problem fault = record { kind = 0; fault = write_fault_number fault; reason = 0; shown = 0; total = 0; at = 0; len = 0 }
 
--- the number of a refusal: that of the error which it becomes where the text is copied
-abbrev pub refusal_code : Refusal → ℕ
-refusal_code refusal.EmptyLocal = 2
-refusal_code (refusal.MissingPath kind at) = 3
-refusal_code (refusal.NotUtf8 kind at) = 4
-refusal_code (refusal.TooLong shown total at len) = 5
-refusal_code (refusal.BadUrl kind fault at len) = 6
+-- what is reported of an error that is none of reading
+abbrev pub problem_of_other : Error → Problem
+problem_of_other (error.Unwritable fault) = write_problem fault
+problem_of_other _ = no_problem
 
--- what is reported of a refusal
-abbrev pub problem_of_refusal : Refusal → Problem
-problem_of_refusal refusal.EmptyLocal = no_problem
-problem_of_refusal (refusal.MissingPath kind at) = problem_numbered (kind_number kind) 0 0 0
-problem_of_refusal (refusal.NotUtf8 kind at) = problem_numbered (kind_number kind) 0 0 0
-problem_of_refusal (refusal.TooLong shown total at len) = problem_numbered 0 0 (length shown.now) total
-problem_of_refusal (refusal.BadUrl kind fault at len) = problem_numbered (kind_number kind) (fault_number fault) 0 0
+-- the lengths of the front and of the text that an error holds
+abbrev pub error_shown : Error → ℕ
+error_shown (error.TooLong shown total) = length (bstring_bytes shown)
+error_shown _ = 0
+
+abbrev pub error_total : Error → ℕ
+error_total (error.TooLong shown total) = total
+error_total _ = 0
+
+-- this is reported of an error
+pub record Tells (e : Error) (problem : Problem) : Type 0 where
+  -- of one of reading, whatever text it is of, what is reported of the refusal of that text
+  pub refused : (b : List ℕ) (r : Refusal) → Refused b r → IsErrorOf b r e → problem ≡ problem_of_refusal b r
+  -- of any other what it holds
+  pub other : IsNotOfReading e → problem ≡ problem_of_other e
 
 -- the number is that of an error of reading or of writing, of which more may be reported
 abbrev pub has_problem : ℕ → Bool

@@ -19,13 +19,13 @@ pub record IsLent (v : Location) (lent : Given) : Type 0 where
   pub path : lent.path.now ≡ v.path
   pub spelling : lent.spelling.now ≡ or_nothing v.spelling
 
--- an answer is reported: a location that is lent, or by its number why there is none, with what is reported
--- of that
-abbrev pub ReportsLent : Result Location ParseError → Given → Problem → ℕ → Type 0
-ReportsLent (Ok v) lent problem code = (code ≡ ok) × (problem ≡ no_problem) × IsLent v lent
-ReportsLent (Err unread.NoRoom) lent problem code = (code ≡ no_room) × (problem ≡ no_problem)
-ReportsLent (Err (unread.Refused why)) lent problem code = (code ≡ refusal_code why) × (problem ≡ problem_of_refusal why)
+-- what was read of the bytes is reported: a location that is lent, or by its number why there is none, with
+-- what is reported of that
+abbrev pub ReportsLent : List ℕ → Result Location ParseError → Given → Problem → ℕ → Type 0
+ReportsLent b (Ok v) lent problem code = (code ≡ ok) × (problem ≡ no_problem) × IsLent v lent
+ReportsLent b (Err unread.NoRoom) lent problem code = (code ≡ no_room) × (problem ≡ no_problem)
+ReportsLent b (Err (unread.Refused why)) lent problem code = (code ≡ refusal_code why) × (problem ≡ problem_of_refusal b why)
 
 -- what reading the bytes answers, where there is room for so many, is reported
 abbrev pub ReportsReadIn : List ℕ → ℕ → Given → Problem → ℕ → Type 0
-ReportsReadIn b room lent problem code = (answer : Result Location ParseError) × ReadsIn b room answer × ReportsLent answer lent problem code
+ReportsReadIn b room lent problem code = (answer : Result Location ParseError) × ReadsIn b room answer × ReportsLent b answer lent problem code

@@ -5,5 +5,5 @@ pub mod Handed
 pub mod Answers
 pub mod Lent
 pub mod Looks
-pub mod Place
+pub mod ReasonTexts
 pub mod ComponentNumbers

@@ -1,13 +1,17 @@
 //! The numbers that C gets for what a call returns.
 //!
-//! It uses the library's errors alone. Its contract: the numbers are those of the definitions, which the
-//! header repeats.
+//! It uses the library's errors and refusals alone. Its contract: the numbers are those of the definitions,
+//! which the header repeats; what is reported of an error of reading is that of the refusal of the text.
 
 ghost use Rattle.std.specs.Prelude.{◌≡◌};
-ghost use Rattle.gix_url_c.specs.Codes.{error_code, fault_number, kind_number, no_problem, problem_numbered, problem_of, problem_of_refusal, refusal_code, write_fault_number};
+ghost use Rattle.git_refusals.specs.Kinds.{kind_of};
+ghost use Rattle.git_refusals.specs.Reasons.{Refused};
+ghost use Rattle.gix_url.specs.Flaws.{IsNotOfReading};
+ghost use Rattle.gix_url_c.specs.Codes.{Tells, error_code, error_shown, error_total, fault_number, fault_told, kind_number, kind_told, no_problem, problem_of_other, problem_of_refusal, reason_number, refusal_code, refusal_problem, write_fault_number, write_problem};
 
+use git_refusals::front::shown_front;
 use gix_url::parse::UrlKind;
-use gix_url::{Error, Refusal, UrlFault, WriteFault};
+use gix_url::{Error, Reason, Refusal, RefusalKind, UrlFault, WriteFault};
 
 /// The call was answered.
 pub const OK: u32 = 0;
@@ -28,10 +32,17 @@ pub struct Problem {
     pub kind: u8,
     /// The fault of a URL, or the fault of writing: 1 to 4; 0 where none is reported.
     pub fault: u8,
+    /// The reason for which a text is refused: 1 to 28, in the order of [`gix_url::Reason`]; 0 where the error
+    /// is none of reading.
+    pub reason: u8,
     /// Of a text that is too long, the length of the front that is shown.
     pub shown: usize,
     /// Of a text that is too long, its length.
     pub total: usize,
+    /// How many bytes of a refused text are before the flaw.
+    pub at: usize,
+    /// The length of the flaw, in bytes.
+    pub len: usize,
 }
 
 /// The number of an error.
@@ -53,54 +64,82 @@ pub(crate) fn error_code(error: &Error) -> u32
     }
 }
 
-/// What is reported of an error.
+/// What is reported of an error: of one of reading, where and why its text is refused.
 pub(crate) fn problem_of(error: &Error) -> Problem
-    ensures { result ≡ problem_of error.now }
+    ensures { Tells error.now result }
+{
+    match error.refusal() {
+        Some(refusal) => told(&refusal, shown_of(error), total_of(error)),
+        None => problem_of_other(error),
+    }
+}
+
+/// What is reported of an error that is none of reading.
+fn problem_of_other(error: &Error) -> Problem
+    ensures { result ≡ problem_of_other error.now }
 {
     match error {
-        Error::MissingPath { kind, .. } | Error::NotUtf8 { kind, .. } => {
-            problem_of_numbers(kind_number(*kind), 0, 0, 0)
-        }
-        Error::TooLong { shown, total, .. } => problem_of_numbers(0, 0, shown.len(), *total),
-        Error::BadUrl { kind, fault, .. } => {
-            problem_of_numbers(kind_number(*kind), fault_number(*fault), 0, 0)
-        }
         Error::Unwritable(fault) => unwritable(*fault),
-        Error::Memory
-        | Error::EmptyLocal
-        | Error::HelperName { .. }
-        | Error::NoHome(_)
-        | Error::PathNotUtf8
-        | Error::Unresolved => no_problem(),
+        _ => no_problem(),
+    }
+}
+
+/// The length of the front that an error shows.
+fn shown_of(error: &Error) -> usize
+    ensures { result ≡ error_shown error.now }
+{
+    match error {
+        Error::TooLong { shown, .. } => shown.len(),
+        _ => 0,
+    }
+}
+
+/// The length of a text that is too long.
+fn total_of(error: &Error) -> usize
+    ensures { result ≡ error_total error.now }
+{
+    match error {
+        Error::TooLong { total, .. } => *total,
+        _ => 0,
     }
 }
 
 /// The number of a refusal: that of the error which it becomes where the text is copied.
-pub(crate) fn refusal_code(refusal: Refusal<'_>) -> u32
-    ensures { result ≡ refusal_code refusal.entry }
+pub(crate) fn refusal_code(refusal: &Refusal) -> u32
+    ensures { result ≡ refusal_code refusal.now }
 {
-    match refusal {
-        Refusal::EmptyLocal => 2,
-        Refusal::MissingPath { .. } => 3,
-        Refusal::NotUtf8 { .. } => 4,
-        Refusal::TooLong { .. } => 5,
-        Refusal::BadUrl { .. } => 6,
+    match refusal.reason.kind() {
+        RefusalKind::EmptyLocal => 2,
+        RefusalKind::MissingPath => 3,
+        RefusalKind::NotUtf8 => 4,
+        RefusalKind::TooLong => 5,
+        RefusalKind::BadUrl(_) => 6,
     }
 }
 
-/// What is reported of a refusal.
-pub(crate) fn problem_of_refusal(refusal: Refusal<'_>) -> Problem
-    ensures { result ≡ problem_of_refusal refusal.entry }
+/// What is reported of the refusal of a text.
+pub(crate) fn problem_of_refusal(text: &[u8], refusal: &Refusal) -> Problem
+    requires { Refused text.now refusal.now }
+    ensures { result ≡ problem_of_refusal text.now refusal.now }
 {
-    match refusal {
-        Refusal::EmptyLocal => no_problem(),
-        Refusal::MissingPath { kind, .. } | Refusal::NotUtf8 { kind, .. } => {
-            problem_of_numbers(kind_number(kind), 0, 0, 0)
-        }
-        Refusal::TooLong { shown, total, .. } => problem_of_numbers(0, 0, shown.len(), total),
-        Refusal::BadUrl { kind, fault, .. } => {
-            problem_of_numbers(kind_number(kind), fault_number(fault), 0, 0)
-        }
+    match refusal.reason.kind() {
+        RefusalKind::TooLong => told(refusal, shown_front(text, refusal).len(), text.len()),
+        _ => told(refusal, 0, 0),
+    }
+}
+
+/// What is reported of a refusal, with these lengths of the front and of the text.
+fn told(refusal: &Refusal, shown: usize, total: usize) -> Problem
+    ensures { result ≡ refusal_problem refusal.now shown total }
+{
+    Problem {
+        kind: kind_told(refusal),
+        fault: fault_told(refusal),
+        reason: reason_number(refusal.reason),
+        shown,
+        total,
+        at: refusal.at,
+        len: refusal.len,
     }
 }
 
@@ -108,25 +147,82 @@ pub(crate) fn problem_of_refusal(refusal: Refusal<'_>) -> Problem
 pub(crate) fn no_problem() -> Problem
     ensures { result ≡ no_problem }
 {
-    problem_of_numbers(0, 0, 0, 0)
+    Problem {
+        kind: 0,
+        fault: 0,
+        reason: 0,
+        shown: 0,
+        total: 0,
+        at: 0,
+        len: 0,
+    }
 }
 
 /// What is reported of a location without a text.
 pub(crate) fn unwritable(fault: WriteFault) -> Problem
-    ensures { result ≡ problem_numbered 0 (write_fault_number fault) 0 0 }
-{
-    problem_of_numbers(0, write_fault_number(fault), 0, 0)
-}
-
-/// These numbers.
-fn problem_of_numbers(kind: u8, fault: u8, shown: usize, total: usize) -> Problem
-    ensures { result ≡ problem_numbered kind fault shown total }
+    ensures { result ≡ write_problem fault }
 {
     Problem {
-        kind,
-        fault,
-        shown,
-        total,
+        fault: write_fault_number(fault),
+        ..no_problem()
+    }
+}
+
+/// The number of the form that a refusal reports, or 0.
+fn kind_told(refusal: &Refusal) -> u8
+    ensures { result ≡ kind_told refusal.now.form (kind_of refusal.now.reason) }
+{
+    match refusal.reason.kind() {
+        RefusalKind::EmptyLocal | RefusalKind::TooLong => 0,
+        RefusalKind::MissingPath | RefusalKind::NotUtf8 | RefusalKind::BadUrl(_) => {
+            kind_number(refusal.form)
+        }
+    }
+}
+
+/// The number of the fault that a refusal reports, or 0.
+fn fault_told(refusal: &Refusal) -> u8
+    ensures { result ≡ fault_told (kind_of refusal.now.reason) }
+{
+    match refusal.reason.kind() {
+        RefusalKind::BadUrl(fault) => fault_number(fault),
+        _ => 0,
+    }
+}
+
+/// The number of a reason.
+pub(crate) fn reason_number(reason: Reason) -> u8
+    ensures { result ≡ reason_number reason }
+{
+    match reason {
+        Reason::Empty => 1,
+        Reason::SchemeTooLong => 2,
+        Reason::AuthorityTooLong => 3,
+        Reason::NotUtf8 => 4,
+        Reason::WhiteSpace => 5,
+        Reason::BrokenEscape => 6,
+        Reason::SchemeMissing => 7,
+        Reason::SchemeStart => 8,
+        Reason::SchemeCharacter => 9,
+        Reason::WhiteSpaceInHost => 10,
+        Reason::Backslash => 11,
+        Reason::BackslashInHost => 12,
+        Reason::EscapesNotUtf8 => 13,
+        Reason::UnclosedBracket => 14,
+        Reason::BehindBracket => 15,
+        Reason::NotAnAddress => 16,
+        Reason::AddressWithoutBrackets => 17,
+        Reason::SecondColon => 18,
+        Reason::HostBeforePort => 19,
+        Reason::PortNotANumber => 20,
+        Reason::HostCharacter => 21,
+        Reason::PortTooLarge => 22,
+        Reason::PortZero => 23,
+        Reason::HostBehindUser => 24,
+        Reason::HostMissing => 25,
+        Reason::PathMissing => 26,
+        Reason::FilePathMissing => 27,
+        Reason::ScpPathMissing => 28,
     }
 }
 

@@ -40,8 +40,8 @@ pub extern "C" fn gix_url_c_read_in<'a>(
         }
         Err(ParseError::NoRoom) => NO_ROOM,
         Err(ParseError::Refused(refusal)) => {
-            *reported = problem_of_refusal(refusal);
-            refusal_code(refusal)
+            *reported = problem_of_refusal(input, &refusal);
+            refusal_code(&refusal)
         }
     }
 }

@@ -1,31 +1,33 @@
 //! The exports that make a location: of bytes that are read, and of parts.
 //!
-//! They use `given` and `handed`. Their contracts: what is reported is what the library's call returns. With
-//! an error the room is as it was, and the numbers are, except with 102; the problem is that of the error,
-//! and all 0 where there is none.
+//! They use `given`, `handed` and the reader that takes no memory. Their contracts: what is reported is what
+//! the library's call returns. With an error the room is as it was, and the numbers are, except with 102; the
+//! problem is that of the error, and all 0 where there is none.
 
-ghost use Rattle.std.specs.Prelude.{◌≡◌, ◌⊎◌, Err, IfOk, [], option_map, string_bytes};
+ghost use Rattle.std.specs.Prelude.{◌≡◌, ◌≤◌, ◌⊎◌, Err, IfOk, [], length, option_map, string_bytes};
 ghost use Rattle.gix_url.specs.FromParts.{MadeOf};
 ghost use Rattle.gix_url.specs.Location.{fields};
 ghost use Rattle.gix_url.specs.Views.{lent_scheme, owned_scheme};
 ghost use Rattle.gix_url_c.specs.Answers.{Reports, ReportsMade, ReportsRead};
-ghost use Rattle.gix_url_c.specs.Codes.{UnlessMemory, UnlessNone, no_problem};
+ghost use Rattle.gix_url_c.specs.Codes.{UnlessMemory, UnlessNone, memory, no_problem};
 ghost use Rattle.gix_url_c.specs.Given.{IsNone, location_of};
 ghost use Rattle.gix_url_c.specs.Left.{LeavesLengths, LeavesProblem, LeavesRoom};
 
-use crate::codes::{NO_LOCATION, Problem, error_code, no_problem, problem_of};
+use crate::codes::{
+    MEMORY, NO_LOCATION, NO_ROOM, Problem, error_code, no_problem, problem_of, problem_of_refusal,
+    refusal_code,
+};
 use crate::given::{Given, location_of};
 use crate::handed::{Made, put_location};
-use bstr::{BStr, BString};
-use gix_url::parse::parse;
-use gix_url::{Error, Scheme, SchemeRef, Url, UrlRef};
+use bstr::BString;
+use gix_url::{Error, ParseError, Scheme, SchemeRef, Url, UrlRef};
 use std::alloc::{AllocError, Global};
 
-/// How long a text is at most whose location is read without memory.
+/// How long a text is at most that is read without memory.
 const NEAR: usize = 256;
 
-/// Reads the one location that the bytes spell, and hands it out: [`gix_url::parse::parse`]. Memory is only
-/// taken where the text is longer than 256 bytes, or is refused.
+/// Reads the one location that the bytes spell, and hands it out: [`gix_url::UrlRef::parse_in`]. Memory is
+/// only taken where the text is longer than 256 bytes.
 ///
 /// It answers 0, or why there is no location: 1 to 6, with what is reported of it. 102 says that there is a
 /// location, and that its parts don't fit into the room; their lengths are reported.
@@ -37,27 +39,57 @@ pub extern "C" fn gix_url_c_read(
     room: &mut [u8],
     reported: &mut Problem,
 ) -> u32
-    ensures reported { ReportsRead input.now made.new room.old room.new reported.new result }
+    ensures reported { UnlessMemory result (ReportsRead input.now made.new room.old room.new reported.new result) }
+    ensures near { length input.now ≤ 256 → ¬ (result ≡ memory) }
     ensures room { LeavesRoom result room.old room.new }
     ensures lengths { LeavesLengths result made.old made.new }
     ensures problem { LeavesProblem result no_problem reported.new }
 {
     if input.len() <= NEAR {
-        let mut near = [0; NEAR];
-        if let Ok(url) = UrlRef::parse_in(input, &mut near) {
+        return read_in(input, &mut [0; NEAR], made, room, reported);
+    }
+    match vec![in alloc; 0u8; input.len()] {
+        Ok(mut buffer) => read_in(input, buffer.as_mut_slice(), made, room, reported),
+        Err(_) => {
             *reported = no_problem();
-            return put_location(&url, made, room);
+            MEMORY
         }
     }
-    report(parse(alloc, BStr::new(input)), made, room, reported)
+}
+
+/// Reads the bytes into a buffer that is long enough, and hands the location out.
+fn read_in(
+    input: &[u8],
+    buffer: &mut [u8],
+    made: &mut Made,
+    room: &mut [u8],
+    reported: &mut Problem,
+) -> u32
+    requires { length input.now ≤ length buffer.old }
+    ensures reported { ReportsRead input.now made.new room.old room.new reported.new result }
+    ensures room { LeavesRoom result room.old room.new }
+    ensures lengths { LeavesLengths result made.old made.new }
+    ensures problem { LeavesProblem result no_problem reported.new }
+    ensures no_memory { ¬ (result ≡ memory) }
+{
+    *reported = no_problem();
+    match UrlRef::parse_in(input, buffer) {
+        Ok(url) => put_location(&url, made, room),
+        // The buffer is long enough.
+        Err(ParseError::NoRoom) => NO_ROOM,
+        Err(ParseError::Refused(refusal)) => {
+            *reported = problem_of_refusal(input, &refusal);
+            refusal_code(&refusal)
+        }
+    }
 }
 
 /// Makes the location that the text of these parts means, and hands it out: [`gix_url::Url::from_parts`]. The
 /// spelling is not looked at.
 ///
-/// It answers 0, or why there is no location: 1 to 8, with what is reported of it; 101 where the parts are
-/// none. 102 says that there is a location, and that its parts don't fit into the room; their lengths are
-/// reported.
+/// It answers 0, or why there is no location: 1 to 8, with what is reported of it, whose place is in the text
+/// of the parts; 101 where the parts are none. 102 says that there is a location, and that its parts don't fit
+/// into the room; their lengths are reported.
 #[unsafe(no_mangle)]
 pub extern "C" fn gix_url_c_from_parts(
     alloc: Global,

@@ -18,7 +18,7 @@ fn main() -> io::Result<()> {
         match parse(line?) {
             Ok(url) => println!("{}", lead(&url)),
             // The words show no byte of the text, which may hold a password.
-            Err(error) => println!("refused: {error}"),
+            Err(error) => println!("refused at byte {}: {error}", error.refusal().map_or(0, |it| it.at)),
         }
     }
     Ok(())

@@ -67,16 +67,18 @@ fn members(url: &Url) -> String {
     words.iter().fold("read".to_string(), |told, word| told + " " + word)
 }
 
-/// The names of the error, of its fault and of its kind.
+/// The names of the error, of its fault and of its kind, the place of the flaw and the name of the reason.
 fn refusal(error: &Error) -> String {
-    match error {
-        Error::EmptyLocal => "refused EmptyLocal - -".to_string(),
-        Error::MissingPath { kind, .. } => format!("refused MissingPath - {kind:?}"),
-        Error::NotUtf8 { kind, .. } => format!("refused NotUtf8 - {kind:?}"),
-        Error::TooLong { .. } => "refused TooLong - -".to_string(),
-        Error::BadUrl { fault, kind, .. } => format!("refused BadUrl {fault:?} {kind:?}"),
-        other => format!("refused {other:?} - -"),
-    }
+    let names = match error {
+        Error::EmptyLocal => "EmptyLocal - -".to_string(),
+        Error::MissingPath { kind, .. } => format!("MissingPath - {kind:?}"),
+        Error::NotUtf8 { kind, .. } => format!("NotUtf8 - {kind:?}"),
+        Error::TooLong { .. } => "TooLong - -".to_string(),
+        Error::BadUrl { fault, kind, .. } => format!("BadUrl {fault:?} {kind:?}"),
+        other => format!("{other:?} - -"),
+    };
+    let place = error.refusal().map_or("- - -".to_string(), |it| format!("{} {} {}", it.at, it.len, it.reason.name()));
+    format!("refused {names} {place}")
 }
 
 fn main() {

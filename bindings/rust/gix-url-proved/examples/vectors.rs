@@ -177,7 +177,15 @@ fn told_error(error: &Error) -> String {
         }
         Error::Unresolved => ("Unresolved".to_owned(), None, None),
     };
-    object([("error", Some(quoted(name))), ("kept", kept.map(quoted)), ("total", total.map(usize::to_string))])
+    let refusal = error.refusal();
+    object([
+        ("error", Some(quoted(name))),
+        ("kept", kept.map(quoted)),
+        ("total", total.map(usize::to_string)),
+        ("at", refusal.map(|it| it.at.to_string())),
+        ("len", refusal.map(|it| it.len.to_string())),
+        ("reason", refusal.map(|it| quoted(it.reason.name()))),
+    ])
 }
 
 /// A user by the sign of a home folder, with the name behind it.

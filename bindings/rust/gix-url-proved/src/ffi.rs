@@ -9,11 +9,12 @@
 use crate::bstr::BString;
 use crate::lent::lent;
 use crate::parse::{Error, UrlFault, UrlKind, WriteFault};
-use crate::{ArgumentSafety, PathComponents, Scheme, Url};
+use crate::{ArgumentSafety, PathComponents, Reason, Refusal, Scheme, Url};
 use std::marker::PhantomData;
 use std::mem::MaybeUninit;
 
 const OK: u32 = 0;
+const TOO_LONG: u32 = 5;
 const NO_ROOM: u32 = 102;
 /// What a buffer holds before a call in a debug build, which checks it after each error: a rarely written byte.
 const BLANK: u8 = 0xA5;
@@ -55,8 +56,11 @@ struct Made {
 struct Problem {
     kind: u8,
     fault: u8,
+    reason: u8,
     shown: usize,
     total: usize,
+    at: usize,
+    len: usize,
 }
 
 /// The numbers of components.
@@ -117,6 +121,8 @@ unsafe extern "C" {
     fn gix_url_c_path_is_root(path: *const u8, len: usize) -> u32;
     fn gix_url_c_is_spelled(path: *const u8, len: usize, spelling: *const u8, spelling_len: usize) -> u32;
     fn gix_url_c_port_or_default(scheme: u8, has_port: bool, port: u16) -> u32;
+    fn gix_url_c_reason_name(reason: u8, room: *mut u8, room_len: usize, len: &mut usize) -> u32;
+    fn gix_url_c_reason_words(reason: u8, room: *mut u8, room_len: usize, len: &mut usize) -> u32;
 }
 
 impl<'a> Given<'a> {
@@ -350,7 +356,7 @@ fn error(code: u32, told: &Problem, input: impl FnOnce() -> BString, name: &[u8]
         2 => Error::EmptyLocal,
         3 => Error::MissingPath { kind: kind(told.kind), input: input() },
         4 => Error::NotUtf8 { kind: kind(told.kind), input: input() },
-        5 => {
+        TOO_LONG => {
             let mut shown = input();
             shown.truncate(told.shown);
             Error::TooLong { shown, total: told.total }
@@ -384,6 +390,36 @@ pub(crate) fn read(input: &[u8]) -> Result<Url, Error> {
         OK => Ok(located(&lent)),
         code => Err(error(code, &told, || input.into(), &[])),
     }
+}
+
+/// Why the bytes are refused, and where; none where they spell a location. They are read without room, which takes no
+/// memory.
+pub(crate) fn refusal(input: &[u8]) -> Option<Refusal> {
+    let (mut lent, mut told) = (Given::none(), Problem::default());
+    let code = call!(gix_url_c_read_in, input.as_ptr(), input.len(), [].as_mut_ptr(), 0, &mut lent, &mut told);
+    // Of a text that is too long no form is reported, since only a URL can be.
+    let form = if code == TOO_LONG { UrlKind::Url } else { kind(told.kind) };
+    Some(Refusal { form, reason: Reason::numbered(told.reason)?, at: told.at, len: told.len })
+}
+
+/// The name of the reason of this number.
+pub(crate) fn reason_name(reason: u8) -> String {
+    said(|room, room_len, len| call!(gix_url_c_reason_name, reason, room, room_len, len))
+}
+
+/// The reason of this number in words.
+pub(crate) fn reason_words(reason: u8) -> String {
+    said(|room, room_len, len| call!(gix_url_c_reason_words, reason, room, room_len, len))
+}
+
+/// What a call says of a reason.
+fn said(call: impl Fn(*mut u8, usize, &mut usize) -> u32) -> String {
+    let (code, said) = filled(128, |room, room_len| {
+        let mut len = 0;
+        (call(room, room_len, &mut len), len)
+    });
+    assert!(code == OK, "every reason has a name and words");
+    String::from_utf8(said).expect("names and words are UTF-8")
 }
 
 /// What the text of these parts means.

@@ -35,6 +35,7 @@ mod ffi;
 pub mod ipv6;
 mod lent;
 pub mod parse;
+mod refusal;
 mod scheme;
 #[cfg(feature = "serde")]
 mod stored;
@@ -43,5 +44,6 @@ mod url;
 
 pub use expand_path::expand_path;
 pub use parse::parse;
+pub use refusal::{Reason, Refusal};
 pub use scheme::Scheme;
 pub use url::{ArgumentSafety, PathComponents, QueryPair, Url};

@@ -3,7 +3,7 @@
 use crate::bstr::BString;
 use crate::expand_path::ForUser;
 use crate::ffi;
-use crate::Url;
+use crate::{Refusal, Url};
 use std::fmt;
 
 /// The one location that the bytes spell, which may come as a text, as bytes or as a byte string. It allocates the parts,
@@ -21,7 +21,7 @@ use std::fmt;
 ///
 /// # Errors
 ///
-/// Exactly where the bytes spell no location; the error names a flaw in them.
+/// Exactly where the bytes spell no location; the error names a flaw in them, and [`Error::refusal`] the place of it.
 pub fn parse(input: impl AsRef<[u8]>) -> Result<Url, Error> {
     ffi::read(input.as_ref())
 }
@@ -112,6 +112,31 @@ pub enum Error {
     NoHome(ForUser),
     /// The path has no resolution on this file system: of [`Url::canonicalize`] alone.
     Unresolved,
+}
+
+impl Error {
+    /// Why and where the text of an error of reading is refused, also of one that is too long, of which the error keeps
+    /// a front alone. None of any other error, and of one that a program put together with a text that spells a
+    /// location. The text is read again, without memory.
+    ///
+    /// ```
+    /// use gix_url_proved::{parse, Reason};
+    ///
+    /// let refusal = parse("https://user@/repo").unwrap_err().refusal().unwrap();
+    /// assert_eq!((refusal.reason, refusal.at, refusal.len), (Reason::HostBehindUser, 13, 0));
+    /// ```
+    pub fn refusal(&self) -> Option<Refusal> {
+        match self {
+            Error::EmptyLocal => ffi::refusal(b""),
+            Error::MissingPath { input, .. } | Error::NotUtf8 { input, .. } | Error::BadUrl { input, .. } => {
+                ffi::refusal(input)
+            }
+            Error::TooLong { shown, .. } => Refusal::of_front(shown),
+            Error::Memory | Error::HelperName { .. } | Error::Unwritable(_) | Error::NoHome(_) | Error::Unresolved => {
+                None
+            }
+        }
+    }
 }
 
 impl fmt::Display for UrlKind {

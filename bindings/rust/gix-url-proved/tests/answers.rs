@@ -1,7 +1,7 @@
 //! The short inputs and the remotes that the binding for C is tested with too, whose answers are those of the program
 //! `locations`: `scripts/bindings` writes those of the remotes. What errors keep, the order, and a spelling that lapses.
 
-use gix_url_proved::parse::{parse, Error};
+use gix_url_proved::parse::{parse, Error, UrlKind};
 use gix_url_proved::Url;
 use std::fs;
 
@@ -28,11 +28,27 @@ fn told_error(error: &Error) -> String {
     }
 }
 
+/// The refusal of an error has its form and its fault, and its place is in the line.
+fn is_placed(error: &Error, line: &[u8]) {
+    let refusal = error.refusal().unwrap();
+    let told = match error {
+        Error::MissingPath { kind, .. } | Error::NotUtf8 { kind, .. } => (*kind, None),
+        Error::BadUrl { kind, fault, .. } => (*kind, Some(*fault)),
+        Error::TooLong { .. } => (UrlKind::Url, None),
+        _ => (UrlKind::Local, None),
+    };
+    assert_eq!((refusal.form, refusal.fault()), told, "{}", lossy(line));
+    assert!(refusal.at + refusal.len <= line.len(), "{}", lossy(line));
+}
+
 /// The answer of the program `locations` to a line.
 fn answer(line: &[u8]) -> Vec<u8> {
     let url = match parse(line) {
         Ok(url) => url,
-        Err(error) => return format!("refused\t{}", told_error(&error)).into_bytes(),
+        Err(error) => {
+            is_placed(&error, line);
+            return format!("refused\t{}", told_error(&error)).into_bytes();
+        }
     };
     comes_back(&url);
     assert!(url.is_settled() || !url.agrees_with_git());

@@ -20,14 +20,9 @@ fn printed(example: &str) -> String {
     String::from_utf8(ran.stdout).unwrap()
 }
 
-/// What the example in C prints, except the place of a fault, which this crate doesn't report.
+/// What the example in C prints.
 fn wanted(example: &str) -> String {
-    let wanted = fs::read_to_string(file(&format!("c/{example}.wanted"))).unwrap();
-    let line = |line: &str| match line.strip_prefix("refused at byte ").and_then(|it| it.split_once(": ")) {
-        Some((_, words)) => format!("refused: {words}\n"),
-        None => format!("{line}\n"),
-    };
-    wanted.lines().map(line).collect()
+    fs::read_to_string(file(&format!("c/{example}.wanted"))).unwrap()
 }
 
 #[test]

@@ -33,12 +33,15 @@ fn hides(shown: &str) {
 #[test]
 fn errors_of_reading_hide_the_text() {
     for text in REFUSED {
-        hides(&shown(&parse(text).unwrap_err()));
+        let error = parse(text).unwrap_err();
+        hides(&shown(&error));
+        hides(&shown(&error.refusal().unwrap()));
     }
     let long = [b"https://secret".as_slice(), &[b'a'; 3000]].concat();
     let error = parse(&long).unwrap_err();
     assert!(matches!(error, Error::TooLong { .. }));
     hides(&shown(&error));
+    hides(&shown(&error.refusal().unwrap()));
 }
 
 #[test]

@@ -1,8 +1,10 @@
 -- For an error without details the problem is all 0.
 use Rattle.std.proofs.Common.{◌∙◌, ap, sym}
 use Rattle.gix_url_c.specs.Codes.{has_problem}
-use Rattle.gix_url_c.proofs.ProblemLemmas.{unreported}
+use Rattle.gix_url_c.proofs.ProblemLemmas.{other_error}
 use Rattle.gix_url_c.proofs.reading.report.Goals as goal
 
 pub returns-in-Err-clause-problem : goal.returns-in-Err-clause-problem
-returns-in-Err-clause-problem c = λ plain. c.problem_of.ensures ∙ unreported c.in-Err.error (ap has_problem (sym c.error_code.ensures) ∙ plain)
+returns-in-Err-clause-problem c = λ plain.
+    let (other, nothing) = other_error c.in-Err.error (ap has_problem (sym c.error_code.ensures) ∙ plain) in
+    c.problem_of.ensures.other other ∙ nothing

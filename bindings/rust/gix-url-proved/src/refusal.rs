@@ -1,0 +1,217 @@
+//! Why a text is refused, and where it is wrong.
+
+use crate::ffi;
+use crate::parse::{UrlFault, UrlKind};
+use std::fmt;
+use std::sync::OnceLock;
+
+/// How many bytes a scheme has at most, and what follows `://` before the path.
+const LIMIT: usize = 1024;
+
+/// For which reason a text spells no location. `Display` says it in one sentence, which holds no byte of the text.
+///
+/// ```
+/// use gix_url_proved::{parse, Reason};
+///
+/// let refusal = parse("http://h:abc/").unwrap_err().refusal().unwrap();
+/// assert_eq!(refusal.reason, Reason::PortNotANumber);
+/// assert_eq!(refusal.reason.name(), "PortNotANumber");
+/// assert_eq!(refusal.reason.words(), "a port must be a decimal number");
+/// ```
+#[derive(Clone, Copy, Debug, PartialEq, Eq)]
+pub enum Reason {
+    /// The text is empty.
+    Empty,
+    /// The scheme is longer than 1,024 bytes.
+    SchemeTooLong,
+    /// More than 1,024 bytes follow `://` before the path.
+    AuthorityTooLong,
+    /// The text is not UTF-8.
+    NotUtf8,
+    /// White space is in a URL.
+    WhiteSpace,
+    /// A `%` begins no escape.
+    BrokenEscape,
+    /// Nothing is before `://`.
+    SchemeMissing,
+    /// A scheme begins with no letter of ASCII.
+    SchemeStart,
+    /// A character in a scheme isn't a letter, a digit, `+`, `-` or `.`.
+    SchemeCharacter,
+    /// White space is in the host of the scp form.
+    WhiteSpaceInHost,
+    /// A backslash is in an authority.
+    Backslash,
+    /// A backslash is in the host of the scp form.
+    BackslashInHost,
+    /// Bytes or escapes decode to no UTF-8.
+    EscapesNotUtf8,
+    /// A bracket is not closed.
+    UnclosedBracket,
+    /// Something other than a colon follows a closed bracket.
+    BehindBracket,
+    /// The text between the brackets of HTTP isn't an IPv6 literal.
+    NotAnAddress,
+    /// An IPv6 address of HTTP is not in brackets.
+    AddressWithoutBrackets,
+    /// The host of HTTP has a second colon.
+    SecondColon,
+    /// Nothing is before the colon of a port of HTTP.
+    HostBeforePort,
+    /// A port isn't a decimal number.
+    PortNotANumber,
+    /// A character that the host of HTTP may not hold.
+    HostCharacter,
+    /// A port is greater than 65,535.
+    PortTooLarge,
+    /// The port of HTTP is 0.
+    PortZero,
+    /// No host follows the user information.
+    HostBehindUser,
+    /// The scheme, or the scp form, needs a host.
+    HostMissing,
+    /// A URL of Git's own transports has no path.
+    PathMissing,
+    /// A file URL has no path.
+    FilePathMissing,
+    /// Nothing follows the colon of the scp form.
+    ScpPathMissing,
+}
+
+impl Reason {
+    /// The reasons in the order of their numbers in the library, which begin at 1.
+    const ALL: [Reason; 28] = [
+        Reason::Empty,
+        Reason::SchemeTooLong,
+        Reason::AuthorityTooLong,
+        Reason::NotUtf8,
+        Reason::WhiteSpace,
+        Reason::BrokenEscape,
+        Reason::SchemeMissing,
+        Reason::SchemeStart,
+        Reason::SchemeCharacter,
+        Reason::WhiteSpaceInHost,
+        Reason::Backslash,
+        Reason::BackslashInHost,
+        Reason::EscapesNotUtf8,
+        Reason::UnclosedBracket,
+        Reason::BehindBracket,
+        Reason::NotAnAddress,
+        Reason::AddressWithoutBrackets,
+        Reason::SecondColon,
+        Reason::HostBeforePort,
+        Reason::PortNotANumber,
+        Reason::HostCharacter,
+        Reason::PortTooLarge,
+        Reason::PortZero,
+        Reason::HostBehindUser,
+        Reason::HostMissing,
+        Reason::PathMissing,
+        Reason::FilePathMissing,
+        Reason::ScpPathMissing,
+    ];
+
+    /// The reason of a number; none of 0.
+    pub(crate) fn numbered(number: u8) -> Option<Reason> {
+        Reason::ALL.get(usize::from(number).checked_sub(1)?).copied()
+    }
+
+    /// The name of the reason, as programs show it to programs: that of its variant.
+    pub fn name(self) -> &'static str {
+        &self.said().0
+    }
+
+    /// The reason in one sentence, which holds no byte of the text.
+    pub fn words(self) -> &'static str {
+        &self.said().1
+    }
+
+    /// The name and the words of the library, which is asked once for those of all reasons.
+    fn said(self) -> &'static (String, String) {
+        static SAID: OnceLock<Vec<(String, String)>> = OnceLock::new();
+        let said =
+            SAID.get_or_init(|| (1..=28).map(|number| (ffi::reason_name(number), ffi::reason_words(number))).collect());
+        &said[self as usize]
+    }
+}
+
+impl fmt::Display for Reason {
+    fn fmt(&self, f: &mut fmt::Formatter<'_>) -> fmt::Result {
+        f.write_str(self.words())
+    }
+}
+
+/// Why a text spells no location, and where: what is wrong are the `len` bytes of the text behind its first `at`. Of
+/// several flaws it is the first in the order of checks, so a text has one refusal. It holds no byte of the text, and
+/// `Display` shows the words of the reason.
+///
+/// ```
+/// let text = "http://h:abc/";
+/// let refusal = gix_url_proved::parse(text).unwrap_err().refusal().unwrap();
+/// assert_eq!(&text[refusal.at..refusal.at + refusal.len], "abc");
+/// assert_eq!(refusal.to_string(), "a port must be a decimal number");
+/// ```
+#[derive(Clone, Copy, Debug, PartialEq, Eq)]
+pub struct Refusal {
+    /// The form that the text was taken for: of the empty text a local path.
+    pub form: UrlKind,
+    /// The reason.
+    pub reason: Reason,
+    /// How many bytes of the text are before what is wrong.
+    pub at: usize,
+    /// The length of what is wrong, in bytes. It is 0 where something is missing.
+    pub len: usize,
+}
+
+impl Refusal {
+    /// What is wrong with the URL, or with the host of the scp form: none where the error is another one than `BadUrl`.
+    pub fn fault(&self) -> Option<UrlFault> {
+        match self.reason {
+            Reason::Empty
+            | Reason::SchemeTooLong
+            | Reason::AuthorityTooLong
+            | Reason::NotUtf8
+            | Reason::PathMissing
+            | Reason::FilePathMissing
+            | Reason::ScpPathMissing => None,
+            Reason::SchemeMissing | Reason::SchemeStart | Reason::SchemeCharacter => Some(UrlFault::NoScheme),
+            Reason::PortNotANumber | Reason::PortTooLarge | Reason::PortZero => Some(UrlFault::BadPort),
+            Reason::HostMissing => Some(UrlFault::HostRequired),
+            Reason::WhiteSpace
+            | Reason::BrokenEscape
+            | Reason::WhiteSpaceInHost
+            | Reason::Backslash
+            | Reason::BackslashInHost
+            | Reason::EscapesNotUtf8
+            | Reason::UnclosedBracket
+            | Reason::BehindBracket
+            | Reason::NotAnAddress
+            | Reason::AddressWithoutBrackets
+            | Reason::SecondColon
+            | Reason::HostBeforePort
+            | Reason::HostCharacter
+            | Reason::HostBehindUser => Some(UrlFault::BadCharacter),
+        }
+    }
+
+    /// The refusal of a text that is too long, of which an error shows this front: the front itself may be short enough,
+    /// so it can't be read again.
+    pub(crate) fn of_front(shown: &[u8]) -> Option<Refusal> {
+        let scheme = shown.windows(3).position(|mark| mark == b"://")?;
+        let behind = scheme + 3;
+        let (reason, at, len) = if scheme > LIMIT {
+            (Reason::SchemeTooLong, 0, scheme)
+        } else {
+            (Reason::AuthorityTooLong, behind, (shown.len() - behind).min(LIMIT))
+        };
+        Some(Refusal { form: UrlKind::Url, reason, at, len })
+    }
+}
+
+impl fmt::Display for Refusal {
+    fn fmt(&self, f: &mut fmt::Formatter<'_>) -> fmt::Result {
+        f.write_str(self.reason.words())
+    }
+}
+
+impl std::error::Error for Refusal {}

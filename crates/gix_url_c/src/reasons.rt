@@ -1,0 +1,88 @@
+//! The exports over the table of reasons: a reason's name, and its sentence.
+//!
+//! They use `codes` and `room`. Their contract: what is put into the room is what the library's table has for
+//! the reason of the number; unless it is put there the room is as it was, and the length is 0 where there is
+//! no such reason. They take no memory.
+
+ghost use Rattle.std.specs.Prelude.{◌≡◌, IfSome, None};
+ghost use Rattle.git_refusals.specs.Words.{reason_name, reason_words};
+ghost use Rattle.gix_url_c.specs.Codes.{IsReason, no_location, reason_number};
+ghost use Rattle.gix_url_c.specs.Left.{LeavesRoom};
+ghost use Rattle.gix_url_c.specs.ReasonTexts.{PutsReason};
+
+use crate::codes::NO_LOCATION;
+use crate::room::put_text;
+use gix_url::Reason;
+
+/// Puts the name of the reason of this number into the room, and reports its length: [`gix_url::Reason::name`].
+///
+/// It answers 0; 101, and a length of 0, where no reason has this number; 102 where the name doesn't fit.
+#[unsafe(no_mangle)]
+pub extern "C" fn gix_url_c_reason_name(reason: u8, room: &mut [u8], len: &mut usize) -> u32
+    ensures reported { PutsReason reason_name reason room.old room.new len.new result }
+    ensures room { LeavesRoom result room.old room.new }
+{
+    match reason_numbered(reason) {
+        Some(reason) => put_text(reason.name().as_bytes(), room, len),
+        None => no_reason(len),
+    }
+}
+
+/// The same with the reason in one sentence: [`gix_url::Reason::words`].
+#[unsafe(no_mangle)]
+pub extern "C" fn gix_url_c_reason_words(reason: u8, room: &mut [u8], len: &mut usize) -> u32
+    ensures reported { PutsReason reason_words reason room.old room.new len.new result }
+    ensures room { LeavesRoom result room.old room.new }
+{
+    match reason_numbered(reason) {
+        Some(reason) => put_text(reason.words().as_bytes(), room, len),
+        None => no_reason(len),
+    }
+}
+
+/// Answers that no reason has the number.
+fn no_reason(len: &mut usize) -> u32
+    ensures code { result ≡ no_location }
+    ensures length { len.new ≡ 0 }
+{
+    *len = 0;
+    NO_LOCATION
+}
+
+/// The reason of this number.
+fn reason_numbered(number: u8) -> Option<Reason>
+    ensures found { IfSome result (λ reason. reason_number reason ≡ number) }
+    ensures none { result ≡ None → ¬ IsReason number }
+{
+    match number {
+        1 => Some(Reason::Empty),
+        2 => Some(Reason::SchemeTooLong),
+        3 => Some(Reason::AuthorityTooLong),
+        4 => Some(Reason::NotUtf8),
+        5 => Some(Reason::WhiteSpace),
+        6 => Some(Reason::BrokenEscape),
+        7 => Some(Reason::SchemeMissing),
+        8 => Some(Reason::SchemeStart),
+        9 => Some(Reason::SchemeCharacter),
+        10 => Some(Reason::WhiteSpaceInHost),
+        11 => Some(Reason::Backslash),
+        12 => Some(Reason::BackslashInHost),
+        13 => Some(Reason::EscapesNotUtf8),
+        14 => Some(Reason::UnclosedBracket),
+        15 => Some(Reason::BehindBracket),
+        16 => Some(Reason::NotAnAddress),
+        17 => Some(Reason::AddressWithoutBrackets),
+        18 => Some(Reason::SecondColon),
+        19 => Some(Reason::HostBeforePort),
+        20 => Some(Reason::PortNotANumber),
+        21 => Some(Reason::HostCharacter),
+        22 => Some(Reason::PortTooLarge),
+        23 => Some(Reason::PortZero),
+        24 => Some(Reason::HostBehindUser),
+        25 => Some(Reason::HostMissing),
+        26 => Some(Reason::PathMissing),
+        27 => Some(Reason::FilePathMissing),
+        28 => Some(Reason::ScpPathMissing),
+        _ => None,
+    }
+}
