@@ -11,7 +11,7 @@ use crate::shown;
 use crate::style::{Layout, Style};
 use bstr::BStr;
 use explain_advice::hint::{self, Hint, Reading};
-use explain_report::location_report::{Report, both, fields_of};
+use explain_report::location_report::{Report, both};
 use explain_report::refusal::Refusal;
 use explain_rules::rules::Rules;
 use explain_text::line::SeenLine;
@@ -35,8 +35,8 @@ pub struct Line<'a> {
 struct Answer<'b, 'a: 'b> {
     /// The number of the line, from 1.
     line: u64,
-    /// The line itself, if it may be shown.
-    input: Option<&'b str>,
+    /// The line as it may be shown.
+    input: &'b str,
     /// What the line is read as.
     location: Option<&'b Report<'a>>,
     /// Why it is read as nothing.
@@ -72,7 +72,7 @@ impl<'l> Line<'l> {
 
     /// What is reported of a location, and whether it is settled.
     fn location(self, alloc: Global, url: &Url) -> Result<(String, bool), AllocError> {
-        let seen = SeenLine::located(alloc, self.bytes, &fields_of(url))?;
+        let seen = SeenLine::of(alloc, self.bytes)?;
         let (seen, report) = both(seen, Report::of(alloc, url))?;
         let found = hint::find(alloc, self.bytes, Some(Reading::of(url, &report)));
         let ((seen, report), found) = both((seen, report), found)?;
@@ -141,8 +141,8 @@ impl<'l> Line<'l> {
 
     /// What is reported of a line that is refused.
     fn refusal(self, alloc: Global, error: &Error) -> Result<String, AllocError> {
-        let seen = SeenLine::refused(alloc, self.bytes)?;
-        let (seen, refusal) = both(seen, Refusal::of_line(alloc, self.bytes, error))?;
+        let seen = SeenLine::of(alloc, self.bytes)?;
+        let (seen, refusal) = both(seen, Refusal::of_line(alloc, error))?;
         let found = hint::find(alloc, self.bytes, None);
         let ((seen, refusal), found) = both((seen, refusal), found)?;
         let (((seen, refusal), found), rules) = both(

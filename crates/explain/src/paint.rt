@@ -1,7 +1,7 @@
 //! A line shown on a terminal: its pieces, coloured if wanted, with their names underneath, or a caret under
 //! what is wrong.
 //!
-//! A line over 200 columns is shown by the ends of its pieces. It uses `line` and `split`, `names` for what
+//! A line over 200 columns is shown by the ends of its pieces. It uses `line` and `cut`, `names` for what
 //! is underneath, `marks` for carets and `short` for the ends, and has no contract but that it can't abort.
 
 pub mod marks;
@@ -10,8 +10,8 @@ pub mod short;
 
 use crate::paint::names::{NO_SPAN, Span, part_touching, span_of, write_names};
 use crate::paint::short::{INDENT, Keep, is_long, write_kept};
+use explain_text::cut::{Cut, PIECES, Part, Piece};
 use explain_text::line::is_hidden;
-use explain_text::split::{Cut, PIECES, Part, Piece};
 use std::alloc::AllocError;
 
 /// Whether colours are shown.
@@ -56,7 +56,7 @@ pub(crate) fn is_empty(cut: &Cut<'_>) -> bool {
 }
 
 /// Appends the line, and below it the names of its pieces.
-pub fn split(out: &mut String, cut: &Cut<'_>, colors: Colors) -> Result<(), AllocError> {
+pub fn named(out: &mut String, cut: &Cut<'_>, colors: Colors) -> Result<(), AllocError> {
     let mut spans = [NO_SPAN; PIECES];
     write_pieces(out, cut, colors, &mut spans)?;
     write_names(out, &spans)
@@ -86,13 +86,13 @@ fn write_pieces(
 
 /// Whether the scheme or the helper is `ext`, which runs a command.
 fn runs_command(cut: &Cut<'_>) -> bool {
-    match cut.pieces() {
-        [first, ..] => {
+    match cut.pieces().iter().find(|piece| 0 < piece.len()) {
+        Some(first) => {
             is_program(first.part())
                 && first.shown().starts_with(b"ext")
                 && matches!(first.shown(), [_, _, _] | [_, _, _, b':', ..])
         }
-        [] => false,
+        None => false,
     }
 }
 

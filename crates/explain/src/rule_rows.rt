@@ -25,13 +25,8 @@ fn route(out: &mut String, name: &str, route: &Route) -> Result<(), AllocError> 
         Some(false) => ", on another host than the line's",
         _ => "",
     };
-    match &route.text {
-        None => row(out, name, format_args!("a text that is not shown{warning}")),
-        Some(text) => {
-            let text = Quoted(text.as_str().as_bytes());
-            row(out, name, format_args!("{text}{warning}"))
-        }
-    }
+    let text = Quoted(route.text.as_str().as_bytes());
+    row(out, name, format_args!("{text}{warning}"))
 }
 
 /// The rows of entries.

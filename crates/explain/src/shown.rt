@@ -15,8 +15,8 @@ use explain_report::git_report::is_of_web;
 use explain_report::location_report::{Report, reading_of_git};
 use explain_report::path::{Components, Field, Home};
 use explain_report::refusal::Refusal;
+use explain_text::cut::Cut;
 use explain_text::line::{Quoted, SeenLine};
-use explain_text::split::Cut;
 use gix_url::Url;
 use std::alloc::{AllocError, Global};
 use std::fmt::{Display, Write};
@@ -32,9 +32,7 @@ pub fn location(
 ) -> Result<String, AllocError> {
     let mut out = String::new(alloc);
     heading(&mut out, line.number, url, report)?;
-    if let Some(cut) = &seen.cut {
-        paint::split(&mut out, cut, line.style.colors)?;
-    }
+    paint::named(&mut out, &seen.cut, line.style.colors)?;
     text(&mut out, url, report, seen)?;
     parts(&mut out, url, report)?;
     components(&mut out, &report.components)?;
@@ -82,10 +80,7 @@ fn text(
 
 /// Whether the line was shown whole, and is this text.
 fn is_shown(seen: &SeenLine<'_>, text: &str) -> bool {
-    match (&seen.cut, seen.text()) {
-        (Some(cut), Some(line)) => line == text && !is_long(cut),
-        _ => false,
-    }
+    seen.text() == text && !is_long(&seen.cut)
 }
 
 /// A refusal: its heading, the line with the fault marked, and its hints.
@@ -98,9 +93,7 @@ pub fn refusal(
 ) -> Result<String, AllocError> {
     let mut out = String::new(alloc);
     writeln!(out, "line {}: refused: {}", line.number, refusal.words)?;
-    if let Some(cut) = &seen.cut {
-        refused_line(&mut out, cut, refusal, line.style.colors)?;
-    }
+    refused_line(&mut out, &seen.cut, refusal, line.style.colors)?;
     noted(alloc, &mut out, notes)?;
     Ok(out)
 }

@@ -1,12 +1,12 @@
 //! Slips of those who type or paste a location: a closed list of hints, each with a name and a sentence.
 //!
 //! It decides by the bytes of a line and by what the line is read as, and shows neither. It uses
-//! `location_report` for the form, and has no contract but that it can't abort: the stored run shows which
+//! `explain_report` for the form, and has no contract but that it can't abort: the stored run shows which
 //! hints are found, and `scripts/hostile golden` their sentences, and that no plain remote gets one.
 
 use bstr::ByteSlice;
+use explain_report::form::Form;
 use explain_report::location_report::Report;
-use explain_text::split::Form;
 use gix_url::Url;
 use serde::Serialize;
 use std::alloc::{AllocError, Global};

@@ -9,11 +9,11 @@ use crate::markup::Markup;
 use crate::{cuts, pieces, readers};
 use explain_advice::danger::dangers;
 use explain_advice::hint::Hint;
+use explain_report::form::Form;
 use explain_report::location_report::{Arguments, Report, Safety};
 use explain_report::path::{Components, Field, Home};
 use explain_report::refusal::Refusal;
 use explain_text::line::SeenLine;
-use explain_text::split::Form;
 use gix_url::Url;
 use std::alloc::{AllocError, Global};
 
@@ -219,10 +219,10 @@ fn arguments(out: &mut Markup, report: Arguments) -> Result<(), AllocError> {
 
 /// Appends the row of the location's own text, unless it is the line as it is shown.
 fn text(out: &mut Markup, report: &Report<'_>, seen: &SeenLine<'_>) -> Result<(), AllocError> {
-    match (&report.text, seen.text()) {
-        (None, _) => out.push_template("<dt>own text<dd class=n data-m=text>none"),
-        (Some(text), Some(line)) if text.as_str() == line => Ok(()),
-        (Some(text), _) => out.push_row("<dt>own text<dd data-m=text>", text.as_bytes()),
+    match &report.text {
+        None => out.push_template("<dt>own text<dd class=n data-m=text>none"),
+        Some(text) if text.as_str() == seen.text() => Ok(()),
+        Some(text) => out.push_row("<dt>own text<dd data-m=text>", text.as_bytes()),
     }
 }
 

@@ -4,8 +4,8 @@
 //! abort.
 
 use crate::markup::Markup;
+use explain_report::form::Form;
 use explain_report::location_report::Report;
-use explain_text::split::Form;
 use std::alloc::{AllocError, Global};
 use std::cmp::Reverse;
 use std::collections::BTreeMap;

@@ -3,16 +3,16 @@
 //! both are over the same bytes.
 //!
 //! Nothing is cut here of a location with a password, which another reading may have in another part. It uses
-//! `split` for the cuts and `git` for what Git reads, and has no contract but that it can't abort.
+//! `cut` for the pieces, `git` for what Git reads and `git_pieces` for where that is, and has no contract but
+//! that it can't abort.
 
 use crate::markup::Markup;
-use crate::pieces;
-use bstr::ByteSlice;
-use explain_report::location_report::{Report, fields_of};
-use explain_text::git::{self, GitReading, Protocol, Room};
-use explain_text::line::located;
-use explain_text::split::{Cut, Fields, Form, split};
-use gix_url::{Error, Url};
+use crate::{git_pieces, pieces};
+use bstr::BString;
+use explain_report::location_report::Report;
+use explain_text::cut::Cut;
+use explain_text::git::{self, Room};
+use gix_url::{Error, Url, parts_of};
 use std::alloc::{AllocError, Global};
 
 /// Pieces of at most so many bytes are on one line where the page is wide.
@@ -25,32 +25,36 @@ pub fn reread(
     url: &Url,
     report: &Report<'_>,
 ) -> Result<(), AllocError> {
-    let text = match &report.text {
-        Some(text) if !report.settled && report.password.is_none() => text.as_bytes(),
-        _ => return Ok(()),
+    if report.settled || report.password.is_some() {
+        return Ok(());
+    }
+    let Some(text) = text_of(alloc, url)? else {
+        return Ok(());
     };
-    match url.reread(alloc) {
-        Ok(other) => {
-            let cut = located(text, &fields_of(&other));
-            let written = own_text(out, &cut);
-            drop(other);
-            written
-        }
+    let written = own_text(out, text.as_bytes());
+    drop(text);
+    written
+}
+
+/// The own text of a location, if it has one.
+fn text_of(alloc: Global, url: &Url) -> Result<Option<BString>, AllocError> {
+    match url.to_bstring(alloc) {
+        Ok(text) => Ok(Some(text)),
+        Err(Error::Memory) => Err(AllocError),
         Err(error) => {
-            let is_memory = matches!(error, Error::Memory);
             drop(error);
-            if is_memory { Err(AllocError) } else { Ok(()) }
+            Ok(None)
         }
     }
 }
 
-/// Appends a text in its pieces, if it may be shown.
-fn own_text(out: &mut Markup, cut: &Option<Cut<'_>>) -> Result<(), AllocError> {
-    let Some(cut) = cut else {
+/// Appends a text in its pieces, if it is read.
+fn own_text(out: &mut Markup, text: &[u8]) -> Result<(), AllocError> {
+    let Ok(parts) = parts_of(text) else {
         return Ok(());
     };
     out.push_template("<h4>Its own text</h4><p class=t>")?;
-    pieces::all(out, cut)?;
+    pieces::all(out, &Cut::of_parts(text, &parts))?;
     out.push_template("</p>")
 }
 
@@ -62,61 +66,40 @@ pub fn with_git(
     url: &Url,
     report: &Report<'_>,
 ) -> Result<(), AllocError> {
-    let text = match (&report.git_reads, &report.text) {
-        (Some(reads), Some(text)) if reads.why.is_none() && !reads.same => text.as_bytes(),
+    match &report.git_reads {
+        Some(reads) if reads.why.is_none() && !reads.same => {}
         _ => return Ok(()),
-    };
+    }
     if report.password.is_some() || !report.settled {
         return Ok(());
     }
+    let Some(text) = text_of(alloc, url)? else {
+        return Ok(());
+    };
     let mut room = Room::new(alloc);
-    let written = match git::reading(text, &mut room) {
-        Ok(found) => beside(
-            alloc,
-            out,
-            text,
-            split(text, &fields_of(url)),
-            cut_of(text, &found),
-        ),
+    let written = match git::reading(text.as_bytes(), &mut room) {
+        Ok(found) => {
+            let other = git_pieces::cut_of(text.as_bytes(), &found);
+            beside(alloc, out, text.as_bytes(), other)
+        }
         Err(_) => Ok(()),
     };
     drop(room);
+    drop(text);
     written
 }
 
-/// The text in the pieces that Git reads, if they are pieces of it.
-fn cut_of<'a>(text: &'a [u8], found: &GitReading<'_>) -> Option<Cut<'a>> {
-    let (scheme, form) = match found.protocol {
-        Protocol::Ssh => (b"ssh".as_slice(), Form::Scp),
-        Protocol::Git => (b"git".as_slice(), Form::Url),
-        Protocol::File => (b"file".as_slice(), Form::Local),
-    };
-    let is_url = text.contains_str(b"://");
-    split(
-        text,
-        &Fields {
-            form: if is_url { Form::Url } else { form },
-            scheme,
-            user: found.user,
-            password: None,
-            host: found.host,
-            port: found.port,
-            path: found.path,
-        },
-    )
-}
-
-/// Appends the table of a text in two cuts, if there are both.
+/// Appends the table of a text in its own pieces and in others, if there are both.
 fn beside(
     alloc: Global,
     out: &mut Markup,
     text: &[u8],
-    own: Option<Cut<'_>>,
     other: Option<Cut<'_>>,
 ) -> Result<(), AllocError> {
-    let (Some(own), Some(other)) = (own, other) else {
+    let (Ok(parts), Some(other)) = (parts_of(text), other) else {
         return Ok(());
     };
+    let own = Cut::of_parts(text, &parts);
     let mut ends = Vec::new(alloc);
     let found = all_ends(&mut ends, &own, &other);
     let written = table(out, text, ends.as_slice(), &own, &other);

@@ -8,6 +8,7 @@
 mod article;
 mod counts;
 mod cuts;
+mod git_pieces;
 pub mod markup;
 pub mod page;
 mod pieces;

@@ -11,7 +11,7 @@ use crate::rank::Rank;
 use crate::template::{PAGE, Part, Slot};
 use bstr::BStr;
 use explain_advice::hint::{self, Reading};
-use explain_report::location_report::{Report, both, fields_of};
+use explain_report::location_report::{Report, both};
 use explain_report::refusal::Refusal;
 use explain_text::line::SeenLine;
 use gix_url::lines::RunError;
@@ -70,7 +70,7 @@ impl Page {
     /// Adds a line that is read as a location.
     fn add_location(&mut self, number: u64, line: &[u8], url: &Url) -> Result<bool, AllocError> {
         let alloc = self.alloc;
-        let seen = SeenLine::located(alloc, line, &fields_of(url))?;
+        let seen = SeenLine::of(alloc, line)?;
         let (seen, report) = both(seen, Report::of(alloc, url))?;
         let found = hint::find(alloc, line, Some(Reading::of(url, &report)));
         let ((seen, report), found) = both((seen, report), found)?;
@@ -102,8 +102,8 @@ impl Page {
     /// Adds a line that is refused.
     fn add_refused(&mut self, number: u64, line: &[u8], error: &Error) -> Result<bool, AllocError> {
         let alloc = self.alloc;
-        let seen = SeenLine::refused(alloc, line)?;
-        let (seen, refusal) = both(seen, Refusal::of_line(alloc, line, error))?;
+        let seen = SeenLine::of(alloc, line)?;
+        let (seen, refusal) = both(seen, Refusal::of_line(alloc, error))?;
         let found = hint::find(alloc, line, None);
         let ((seen, refusal), found) = both((seen, refusal), found)?;
         let out = &mut self.refused;

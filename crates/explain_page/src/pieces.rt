@@ -1,12 +1,12 @@
 //! A line in named pieces, as the page has it, and the fault of a refused line marked.
 //!
-//! It uses `split` for the pieces and `line` for where characters begin, and has no contract but that it
+//! It uses `cut` for the pieces and `line` for where characters begin, and has no contract but that it
 //! can't abort.
 
 use crate::markup::Markup;
 use explain_report::refusal::Refusal;
+use explain_text::cut::{Cut, Part, Piece};
 use explain_text::line::{SeenLine, halves, is_hidden};
-use explain_text::split::{Cut, Part, Piece};
 use std::alloc::AllocError;
 
 /// Bytes of a line, counted from where a piece begins.
@@ -16,16 +16,10 @@ struct Region {
     len: usize,
 }
 
-/// What is in place of a line that may not be shown.
-const NOT_SHOWN: &str = "<p class=x>Not shown: it is not sure which part is the password.</p>";
-
-/// Appends the line in its pieces, if it may be shown.
+/// Appends the line in its pieces.
 pub fn line(out: &mut Markup, seen: &SeenLine<'_>) -> Result<(), AllocError> {
-    let Some(cut) = &seen.cut else {
-        return out.push_template(NOT_SHOWN);
-    };
     out.push_template("<p class=t data-m=input>")?;
-    all(out, cut)?;
+    all(out, &seen.cut)?;
     out.push_template("</p>")
 }
 
@@ -39,15 +33,12 @@ pub fn all(out: &mut Markup, cut: &Cut<'_>) -> Result<(), AllocError> {
 
 /// Appends a refused line, with its fault marked where the place of that is known.
 pub fn refused(out: &mut Markup, seen: &SeenLine<'_>, refusal: &Refusal) -> Result<(), AllocError> {
-    let Some(cut) = &seen.cut else {
-        return out.push_template(NOT_SHOWN);
-    };
     out.push_template("<p class=t data-m=input>")?;
     let mut left = match (refusal.at, refusal.len) {
         (Some(at), Some(len)) => Some(Region { at, len }),
         _ => None,
     };
-    for piece in cut.pieces() {
+    for piece in seen.cut.pieces() {
         marked(out, piece, left)?;
         left = left.and_then(|region| behind(region, piece.len()));
     }

@@ -1,7 +1,7 @@
 //! What curl reads in the text of a location of HTTP: the host and the port that it connects to, and the path
 //! that it asks for.
 //!
-//! It uses `bstr`, the addresses of `std::net`, `git` of `explain_text` for escapes and digits, and a
+//! It uses `bstr`, `percent_encoding`, the addresses of `std::net`, `git` of `explain_text` for escapes and digits, and a
 //! location of `gix_url` to compare with. What libcurl reads has no definition: each function is a step of
 //! libcurl 7.88.1, and has no contract but that it can't abort. The stored run has what `curl_reads` of
 //! `tools/web_reads.py` says, a rule by hand that `scripts/web_witness` compares with libcurl itself.
@@ -9,8 +9,8 @@
 use crate::location_report::both;
 use bstr::{BStr, ByteSlice};
 use explain_text::git::bytes;
-use explain_text::split::spelling;
 use gix_url::Url;
+use percent_encoding::percent_decode;
 use serde::Serialize;
 use std::alloc::{AllocError, Global};
 use std::fmt::Write;
@@ -61,7 +61,7 @@ impl Curl {
 
     /// Whether it asks for the path of the location, as an escape of it or not.
     pub fn has_own_path(&self, url: &Url) -> bool {
-        spelling::decodes_to(self.path.as_str().as_bytes(), url.path.as_bytes())
+        decodes_to(self.path.as_str().as_bytes(), url.path.as_bytes())
     }
 }
 
@@ -277,6 +277,18 @@ fn write_literal(
 }
 
 // ---- paths
+
+/// Whether a text is this one, once its escapes are decoded.
+fn decodes_to(text: &[u8], decoded: &[u8]) -> bool {
+    let mut rest = decoded;
+    for byte in percent_decode(text) {
+        match rest.split_first() {
+            Some((first, tail)) if byte == *first => rest = tail,
+            _ => return false,
+        }
+    }
+    rest.is_empty()
+}
 
 /// The path and the query that curl asks for.
 fn target(alloc: Global, pieces: Pieces<'_>, room: &mut Vec<u8>) -> Result<String, AllocError> {

@@ -13,11 +13,11 @@ ghost use Rattle.gix_url.specs.Settled.{IsSettled};
 use crate::credential::Credential;
 use crate::curl::Curl;
 use crate::difference::Reread;
+use crate::form::Form;
 use crate::git_report::{GitReads, HANDED, is_of_web};
 use crate::path::{Components, Home, Meaning};
 use bstr::ByteSlice;
-use explain_text::split::{Fields, Form};
-use gix_url::{ArgumentSafety, Error, Scheme, Url};
+use gix_url::{ArgumentSafety, Error, Url};
 use serde::Serialize;
 use std::alloc::{AllocError, Global};
 use std::borrow::CowStr;
@@ -128,7 +128,7 @@ impl<'a> Report<'a> {
         ensures agrees { IsTrue result.agrees_with_git ↔ AgreesWithGit url.now }
     {
         Report {
-            form: form_of(url),
+            form: Form::of(url),
             scheme: url.scheme.as_str(),
             user: url.user(),
             password: hidden_password(url),
@@ -246,42 +246,6 @@ fn is_read_alike(url: &Url) -> bool
     ensures { IsTrue result ↔ AgreesWithGit url.now }
 {
     url.agrees_with_git()
-}
-
-/// The form that the location is written in.
-fn form_of(url: &Url) -> Form {
-    match &url.scheme {
-        Scheme::Ext | Scheme::Helper(_) => Form::RemoteHelper,
-        Scheme::File if url.serialize_alternative_form => Form::Local,
-        Scheme::Ssh if url.serialize_alternative_form => Form::Scp,
-        Scheme::File
-        | Scheme::Git
-        | Scheme::Ssh
-        | Scheme::Http
-        | Scheme::Https
-        | Scheme::HelperUrl(_) => Form::Url,
-    }
-}
-
-/// What is read of the location, for the pieces of its line.
-pub fn fields_of(url: &Url) -> Fields<'_> {
-    Fields {
-        form: form_of(url),
-        scheme: url.scheme.as_str().as_bytes(),
-        user: bytes_of(url.user()),
-        password: bytes_of(url.password()),
-        host: bytes_of(url.host()),
-        port: url.port,
-        path: url.path.as_bytes(),
-    }
-}
-
-/// The bytes of a part.
-fn bytes_of(part: Option<&str>) -> Option<&[u8]> {
-    match part {
-        None => None,
-        Some(text) => Some(text.as_bytes()),
-    }
 }
 
 /// What the parts of the location are to a command line.

@@ -1,10 +1,14 @@
 //! Why a line, or the text of a location, is refused: by name, for programs, and in words; and where in a
 //! line.
 //!
-//! It uses the errors of `gix_url`, and `place` of `explain_text`. It has no contract: the stored run shows
-//! its answers.
+//! It uses the errors of `gix_url`, and their refusals. Its contract, memory permitting: of a line that is
+//! refused the place, the reason and the words are those of its one refusal. The names of the error, of the
+//! form and of the fault are no part of it: the stored run shows them.
 
-use explain_text::place::{Form, Place, Refused, find_place};
+ghost use Rattle.std.specs.Prelude.{◌≡◌, ◌≢◌, ℕ, IfOk, List};
+ghost use Rattle.gix_url.specs.Flaws.{Flaw};
+ghost use Rattle.explain_report.specs.Refusals.{ReportsRefusal};
+
 use gix_url::parse::UrlKind;
 use gix_url::{Error, UrlFault, WriteFault};
 use serde::Serialize;
@@ -24,7 +28,7 @@ pub struct Refusal {
     pub at: Option<usize>,
     /// How many bytes are wrong, none where something is missing.
     pub len: Option<usize>,
-    /// The name of the very fault that has this place.
+    /// The name of the reason that has this place.
     pub reason: Option<&'static str>,
     /// The same in words, which show nothing of the text.
     pub words: String,
@@ -33,68 +37,40 @@ pub struct Refusal {
 impl Refusal {
     /// The refusal that an error reports.
     pub fn of(alloc: Global, error: &Error) -> Result<Refusal, AllocError> {
-        Ok(Refusal::with_place(error, None, error.to_string(alloc)?))
+        Ok(Refusal::in_words(error, error.to_string(alloc)?))
     }
 
-    /// The refusal of a line, with the place and the words of its fault.
-    pub fn of_line(alloc: Global, line: &[u8], error: &Error) -> Result<Refusal, AllocError> {
-        match reason_of(error).and_then(|it| find_place(line, it)) {
-            None => Refusal::of(alloc, error),
-            Some(place) => {
-                let words = place.reason.to_string(alloc)?;
-                Ok(Refusal::with_place(error, Some(place), words))
-            }
-        }
+    /// The refusal of the line that was read with this error, with the place and the words of its reason.
+    pub fn of_line(alloc: Global, error: &Error) -> Result<Refusal, AllocError>
+        ensures { (line : List ℕ) → error.now ≢ Error.Memory → Flaw line error.now
+            → IfOk result (ReportsRefusal line) }
+    {
+        let Some(refusal) = error.refusal() else {
+            return Refusal::of(alloc, error);
+        };
+        let words = String::from_str(alloc, refusal.reason.words())?;
+        Ok(Refusal {
+            at: Some(refusal.at),
+            len: Some(refusal.len),
+            reason: Some(refusal.reason.name()),
+            ..Refusal::in_words(error, words)
+        })
     }
 
-    /// The refusal with this place and these words.
-    fn with_place(error: &Error, place: Option<Place>, words: String) -> Refusal {
+    /// The refusal without a place, in these words.
+    fn in_words(error: &Error, words: String) -> Refusal
+        ensures { result.words ≡ words }
+    {
         let (name, kind, fault) = names(error);
         Refusal {
             error: name,
             kind,
             fault,
-            at: place.map(|it| it.at),
-            len: place.map(|it| it.len),
-            reason: place.map(|it| it.reason.name()),
+            at: None,
+            len: None,
+            reason: None,
             words,
         }
-    }
-}
-
-/// What a line is refused for, if the error is one of reading.
-fn reason_of(error: &Error) -> Option<Refused> {
-    match error {
-        Error::EmptyLocal => Some(Refused::Empty),
-        Error::MissingPath { kind, .. } => Some(Refused::NoPath(form(*kind)?)),
-        Error::NotUtf8 { .. } => Some(Refused::NotUtf8),
-        Error::TooLong { .. } => Some(Refused::TooLong),
-        Error::BadUrl { kind, fault, .. } => Some(refused_url(form(*kind)?, *fault)),
-        Error::Memory
-        | Error::HelperName { .. }
-        | Error::Unwritable(_)
-        | Error::NoHome(_)
-        | Error::PathNotUtf8
-        | Error::Unresolved => None,
-    }
-}
-
-/// What a URL, or the scp form, is refused for.
-fn refused_url(form: Form, fault: UrlFault) -> Refused {
-    match fault {
-        UrlFault::NoScheme => Refused::NoScheme,
-        UrlFault::BadPort => Refused::BadPort(form),
-        UrlFault::BadCharacter => Refused::BadCharacter(form),
-        UrlFault::HostRequired => Refused::NoHost(form),
-    }
-}
-
-/// The form, if it is one that is refused.
-fn form(kind: UrlKind) -> Option<Form> {
-    match kind {
-        UrlKind::Url => Some(Form::Url),
-        UrlKind::Scp => Some(Form::Scp),
-        UrlKind::Local => None,
     }
 }
 

@@ -11,9 +11,8 @@ use crate::settings::settings_for;
 use crate::transports::Transport;
 use bstr::BString;
 use explain_report::git_report::is_of_web;
-use explain_report::location_report::{both, fields_of};
-use explain_text::line;
-use explain_text::split::Cut;
+use explain_report::location_report::both;
+use explain_text::line::{input, pieces_of};
 use git_rules::protocols::transport;
 use git_rules::rewrite::host::names_same_host;
 use git_rules::rewrite::outcome::Rewritten;
@@ -38,8 +37,8 @@ pub struct Rules {
 /// Where Git goes.
 #[derive(Drop, Serialize)]
 pub struct Route {
-    /// The text, with `redacted` for its password, unless it may not be shown.
-    pub text: Option<String>,
+    /// The text, with `redacted` for its password.
+    pub text: String,
     /// Whether a rule has rewritten it.
     pub rewritten: bool,
     /// Whether it names the host that the line names, where both are locations.
@@ -152,20 +151,9 @@ fn is_same_host(line: Option<&Url>, goal: &Goal) -> Option<bool> {
     }
 }
 
-/// The text of a goal with its password hidden, unless it may not be shown.
-fn shown_text(alloc: Global, goal: &Goal) -> Result<Option<String>, AllocError> {
-    match shown_cut(goal) {
-        None => Ok(None),
-        Some(cut) => Ok(Some(line::input(alloc, &cut)?)),
-    }
-}
-
-/// The pieces of the text of a goal, unless they may not be shown.
-fn shown_cut(goal: &Goal) -> Option<Cut<'_>> {
-    match &goal.url {
-        Some(url) => line::located(goal.text.as_bytes(), &fields_of(url)),
-        None => Some(line::refused(goal.text.as_bytes())),
-    }
+/// The text of a goal with its password hidden.
+fn shown_text(alloc: Global, goal: &Goal) -> Result<String, AllocError> {
+    input(alloc, &pieces_of(goal.text.as_bytes()))
 }
 
 /// The transport to a goal that is a location.

@@ -1,13 +1,14 @@
 //! What may be shown of a line, and how its text is spelled for a terminal.
 //!
-//! A line with a password is shown with the word `redacted` in its place, and not at all where it isn't sure
-//! which piece that is. Of a refused line all that may be a password is hidden. Text goes out with `\`
-//! doubled and each control character, each byte that is no UTF-8 and each character that isn't seen or takes
-//! no column escaped as `Debug` of a byte string spells them; quotes are as they are. So what is shown is one
-//! text's alone, and speaks to no terminal. It uses `split` and the crates `bstr` and `unicode_width`.
+//! A line with a password is shown with the word `redacted` in its place. Of a refused line all that may be a
+//! password is hidden. Text goes out with `\` doubled and each control character, each byte that is no UTF-8
+//! and each character that isn't seen or takes no column escaped as `Debug` of a byte string spells them;
+//! quotes are as they are. So what is shown is one text's alone, and speaks to no terminal. It uses `cut`, the
+//! library's `parts_of`, and the crates `bstr` and `unicode_width`.
 
-use crate::split::{Cut, Fields, Part, Piece, split};
+use crate::cut::{Cut, Part, Piece};
 use bstr::{BStr, ByteSlice};
+use git_refusals::parts::parts_of;
 use std::alloc::{AllocError, Global};
 use std::fmt::{self, Write};
 use unicode_width::UnicodeWidthChar;
@@ -15,60 +16,40 @@ use unicode_width::UnicodeWidthChar;
 /// A line as it may be shown.
 #[derive(Drop)]
 pub struct SeenLine<'a> {
-    /// Its pieces; none where they may not be shown.
-    pub cut: Option<Cut<'a>>,
+    /// Its pieces.
+    pub cut: Cut<'a>,
     /// The line as one text, with the word for a password and U+FFFD for bytes that are no UTF-8.
-    pub input: Option<String>,
+    pub input: String,
 }
 
 impl<'a> SeenLine<'a> {
-    /// A line that is read as a location with these fields.
-    pub fn located(
-        alloc: Global,
-        line: &'a [u8],
-        fields: &Fields<'_>,
-    ) -> Result<SeenLine<'a>, AllocError> {
-        SeenLine::of(alloc, located(line, fields))
-    }
-
-    /// A line that is refused.
-    pub fn refused(alloc: Global, line: &'a [u8]) -> Result<SeenLine<'a>, AllocError> {
-        SeenLine::of(alloc, Some(refused(line)))
-    }
-
-    /// A line in these pieces.
-    fn of(alloc: Global, cut: Option<Cut<'a>>) -> Result<SeenLine<'a>, AllocError> {
-        let input = match &cut {
-            None => None,
-            Some(cut) => Some(input(alloc, cut)?),
-        };
+    /// The line as it may be shown.
+    pub fn of(alloc: Global, line: &'a [u8]) -> Result<SeenLine<'a>, AllocError> {
+        let cut = pieces_of(line);
+        let input = input(alloc, &cut)?;
         Ok(SeenLine { cut, input })
     }
 
-    /// The line as one text, if it may be shown.
-    pub fn text(&self) -> Option<&str> {
-        match &self.input {
-            None => None,
-            Some(text) => Some(text.as_str()),
-        }
+    /// The line as one text.
+    pub fn text(&self) -> &str {
+        self.input.as_str()
     }
 }
 
-/// The pieces of a line that is read as a location; none where it has a password and they aren't sure.
-pub fn located<'a>(line: &'a [u8], fields: &Fields<'_>) -> Option<Cut<'a>> {
-    match split(line, fields) {
-        Some(cut) => Some(cut),
-        None if fields.password.is_some() => None,
-        None => Some(Cut::whole(Part::Unknown, line)),
+/// The pieces of a line: the parts of its location, or of a refused line what is around a secret.
+pub fn pieces_of(line: &[u8]) -> Cut<'_> {
+    match parts_of(line) {
+        Ok(parts) => Cut::of_parts(line, &parts),
+        Err(_) => refused(line),
     }
 }
 
 /// The pieces of a line that is refused: what is between the first `:` behind its first `://` and its last
 /// `@` may be a password.
-pub fn refused(line: &[u8]) -> Cut<'_> {
+fn refused(line: &[u8]) -> Cut<'_> {
     match around_secret(line) {
         Some(cut) => cut,
-        None => Cut::whole(Part::Unknown, line),
+        None => Cut::unknown(line),
     }
 }
 

@@ -1,11 +1,11 @@
 //! A refused line, with a caret under what is wrong.
 //!
-//! It uses `line`, `split` and `short`, and has no contract but that it can't abort.
+//! It uses `line`, `cut` and `short`, and has no contract but that it can't abort.
 
 use crate::paint::short::{INDENT, Keep, fill, is_long, write_kept};
 use crate::paint::{Colors, DANGER, PLAIN, is_empty};
+use explain_text::cut::{Cut, Piece};
 use explain_text::line::{halves, is_hidden};
-use explain_text::split::{Cut, Piece};
 use std::alloc::AllocError;
 
 /// The columns between some bytes of a line.

@@ -1,11 +1,11 @@
 //! The names of pieces below a line.
 //!
 //! They are laid out as compilers lay them out: each begins at the column of its piece, in the first row
-//! where it fits, with `|` in the rows above. It uses `split` and `short`, and has no contract but that it
+//! where it fits, with `|` in the rows above. It uses `cut` and `short`, and has no contract but that it
 //! can't abort.
 
 use crate::paint::short::{INDENT, fill};
-use explain_text::split::{PIECES, Part, Piece};
+use explain_text::cut::{PIECES, Part, Piece};
 use std::alloc::AllocError;
 
 /// The columns that a named piece takes.
