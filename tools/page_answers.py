@@ -54,7 +54,7 @@ def is_dangerous(answer):
 
 def piece_faults(article, answer, line):
     """What is wrong with the pieces of the line, by the second reading, or with the mark of its fault."""
-    if answer["input"] is None or len(line) > MOST_READ:
+    if len(line) > MOST_READ:
         return
     v = grammar.spells(line)
     if v is None:
@@ -64,7 +64,7 @@ def piece_faults(article, answer, line):
             yield f"{marked} is marked, and not {at, size}"
         return
     names = {name: unescaped(shown) for classes, shown, name in article.pieces if classes}
-    if names and not is_of_fields(v, names, line):
+    if not is_of_fields(v, names, line):
         yield f"the pieces {names} are not those of {v}"
 
 

@@ -9,8 +9,7 @@ with the byte added; so outcomes are compared by the bytes that their texts stan
 
 No binding reports whether a name or a value of a query is owned: `{"owned": text}` is compared as the text. An error of
 C keeps no bytes, so `kept` is left out, except for a text that is too long, of which it reports how much is to be
-shown; so it is in Python, which uses C. Rust doesn't report where in a text the fault is: `at` and `len` of an error
-are left out, and so they are of what `Debug` shows of it (`PLACES`).
+shown; so it is in Python, which uses C.
 """
 import os
 import re
@@ -38,9 +37,6 @@ ONLY_RUST = {
 MEMBERS = {
     "call", "text", "url", "other", "record", "scheme", "user", "password", "alternative", "style", "kind", "fault",
     "error"}
-# Members of an error that Rust doesn't report, and how `Debug` shows them.
-PLACES = {"at", "len"}
-SHOWN_PLACES = re.compile(r", (?:at|len): \d+|\n    (?:at|len): \d+,")
 # Members that an order for Rust may have as well.
 MEMBERS_RUST = {"path", "home"}
 # Errors of calls that C doesn't have, and one that Rust doesn't have either: a path is any bytes there.
@@ -122,13 +118,11 @@ class Binding(Answers):
             return outcome
         if set(outcome) == {"owned"}:
             return self.seen(outcome["owned"])
-        if isinstance(outcome.get("shown"), str):
-            outcome = {**outcome, "shown": SHOWN_PLACES.sub("", outcome["shown"])}
         return {name: self.seen(it) for name, it in outcome.items() if self.tells(name, outcome)}
 
-    def tells(self, name, _outcome):
+    def tells(self, _name, _outcome):
         """Whether the binding reports a member of an outcome."""
-        return name not in PLACES
+        return True
 
     def built(self):
         """The program, which is built over the library of `scripts/bindings`."""

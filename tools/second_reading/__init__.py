@@ -8,9 +8,10 @@ Its modules, each of which uses only those above it:
 
   octets, hosts, grammar               bytes and escapes; addresses, hosts and ports; which location a text spells
   writing, settled_class, git_class    the text of a location; whether it comes back; whether Git reads the same
-  records, errors, line_answers        components and records; why a text is refused; the answers of `locations`
+  records, fault_places                components and records; where a refused text is wrong, and for which reason
+  errors, line_answers                 why a text is refused; the answers of `locations`
   laws, worked_rows, short_inputs      laws that all this has to meet; rows in a file; the stored run of `locations`
-  fault_places, plain_paths            where in a refused text the fault is; paths of URLs and of home folders
+  plain_paths                          paths of URLs and of home folders
   row_outcomes                         the outcomes of rows in `vectors/`
   explain_lines, explain, hints, explain_tables, stored_run    the stored run of `explain`, and the tables of the documents
 

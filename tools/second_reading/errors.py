@@ -1,14 +1,12 @@
-"""Why a text is refused: each flaw as (name, form, fault), and the one that is reported, by the order of the checks.
-
-The second half searches as a reader of the bytes does, since the order of the checks is that of a reader.
+"""Why a text is refused: each flaw as (name, form, fault), and the one that is reported, which is that of the first place
+in the order of checks.
 """
+from second_reading.fault_places import place
 from second_reading.grammar import (
-    NEED_HOST, address_scp_shapes, fits, has_helper_form, is_helper_name, is_scheme_text, path_cuts,
-    path_starts, plain_scp_shapes, scheme_of, scp_hosts)
+    NEED_HOST, address_scp_shapes, fits, has_helper_form, is_scheme_text, path_cuts, plain_scp_shapes, scheme_of, scp_hosts)
 from second_reading.hosts import (
-    BARE, STRICT, has_odd_colons, hosttext, inner, ip6, is_bare_address, is_plain_front, mode_of, num,
-    user_informations)
-from second_reading.octets import DIGITS, cuts, dec, has_white_space, is_utf8, sound
+    BARE, STRICT, has_odd_colons, hosttext, inner, is_bare_address, is_plain_front, mode_of, num, user_informations)
+from second_reading.octets import cuts, dec, has_white_space, is_utf8, sound
 
 
 def refused(name, kind=None, fault=None):
@@ -111,107 +109,26 @@ def flaws(b):
     return ({refused("EmptyLocal")} if b == b"" else set()) | url_flaws(b) | scp_flaws(b)
 
 
-def refused_host(mode, piece):
-    """The first fault of the piece that names host and port, None where it is fine."""
-    if piece == b"" or (mode == BARE and is_bare_address(piece)):
-        return None
-    if piece.startswith(b"["):
-        end = piece.find(b"]")
-        if end < 0 or piece[end + 1:end + 2] not in (b"", b":") or inner(mode, piece[1:end]) is None:
-            return "BadCharacter"
-        port = piece[end + 2:]
-        return "BadPort" if port != b"" and num(mode, port) is None else None
-    if piece.startswith(b":") or piece.count(b":") > 1:
-        return "BadCharacter" if mode == STRICT or hosttext(mode, piece) is None else None
-    host, _, port = piece.partition(b":")
-    if any(b not in DIGITS for b in port):
-        return "BadPort"
-    if hosttext(mode, host) is None:
-        return "BadCharacter"
-    return "BadPort" if port != b"" and num(mode, port) is None else None
-
-
-def refused_url(b, s, rest):
-    def bad(fault):
-        return refused("BadUrl", "Url", fault)
-
-    if not fits(s, rest):
-        return refused("TooLong")
-    if not is_utf8(b):
-        return refused("NotUtf8", "Url")
-    if has_white_space(b) or not sound(b):
-        return bad("BadCharacter")
-    if not is_scheme_text(s):
-        return bad("NoScheme")
-    end = min([rest.find(bytes([c])) for c in path_starts(s) if bytes([c]) in rest] or [len(rest)])
-    a, p = rest[:end], rest[end:]
-    if b"\\" in a or not is_utf8(dec(p)):
-        return bad("BadCharacter")
-    information, at, piece = a.rpartition(b"@")
-    user, _, password = information.partition(b":")
-    if not is_utf8(dec(password)) or not is_utf8(dec(user)):
-        return bad("BadCharacter")
-    fault = refused_host(mode_of(s), piece)
-    if fault is not None:
-        return bad(fault)
-    if at and piece == b"":
-        return bad("BadCharacter")
-    if piece == b"" and s in NEED_HOST:
-        return bad("HostRequired")
-    if p == b"" and scheme_of(s) in (("Ssh",), ("Git",)):
-        return refused("MissingPath", "Url")
-    return None
-
-
-def refused_file(b):
-    if not is_utf8(b):
-        return refused("NotUtf8", "Url")
-    return None if b"/" in b[len(b"file://"):] else refused("MissingPath", "Url")
-
-
-def bracketed_address(b):
-    """(user, address, path) where the bytes are a user, a bracketed address, a colon and a path."""
-    user, opening, _ = b.partition(b":")[0].rpartition(b"@[")
-    address, closing, path = b[len(user) + len(opening):].partition(b"]:")
-    return (user, address, path) if opening and closing and b"/" not in user and ip6(address) else None
-
-
-def scp_colon(b):
-    """Where the colon of the scp form would be, -1 where nowhere."""
-    closing = b.find(b"]") if b.startswith(b"[") else -1
-    return b.find(b":", closing + 1) if closing >= 0 else b.find(b":")
-
-
-def refused_scp(b, front, path):
-    if not is_utf8(b):
-        return refused("NotUtf8", "Scp")
-    if path == b"":
-        return refused("MissingPath", "Scp")
-    if front is None:
-        return None
-    host = front.rpartition(b"@")[2]
-    if has_white_space(host) or b"\\" in host:
-        return refused("BadUrl", "Scp", "BadCharacter")
-    fault = refused_host(BARE, host.replace(b"%", b"%25"))
-    if fault is None and host == b"":
-        fault = "HostRequired"
-    return None if fault is None else refused("BadUrl", "Scp", fault)
+# The errors of reading, and the reasons of each; every other reason is of `BadUrl BadCharacter`.
+REASONS = {
+    ("EmptyLocal", None): {"Empty"},
+    ("TooLong", None): {"SchemeTooLong", "AuthorityTooLong"},
+    ("NotUtf8", None): {"NotUtf8"},
+    ("MissingPath", None): {"PathMissing", "FilePathMissing", "ScpPathMissing"},
+    ("BadUrl", "NoScheme"): {"SchemeMissing", "SchemeStart", "SchemeCharacter"},
+    ("BadUrl", "BadPort"): {"PortNotANumber", "PortTooLarge", "PortZero"},
+    ("BadUrl", "HostRequired"): {"HostMissing"},
+}
 
 
 def refusal(b):
     """The error that is answered for the bytes, None where they are read."""
-    if is_helper_name(b.partition(b"::")[0]) and b"::" in b:
+    found = place(b)
+    if found is None:
         return None
-    scheme, mark, rest = b.partition(b"://")
-    if mark:
-        return refused_file(b) if scheme == b"file" else refused_url(b, scheme, rest)
-    shaped = bracketed_address(b)
-    if shaped is not None:
-        return refused_scp(b, None, shaped[2])
-    colon = scp_colon(b)
-    if colon >= 0 and b"/" not in b[:colon]:
-        return refused_scp(b, b[:colon], b[colon + 1:])
-    return refused("EmptyLocal") if b == b"" else None
+    name, fault = next((error for error, reasons in REASONS.items() if found.reason in reasons), ("BadUrl", "BadCharacter"))
+    form = "Url" if b"://" in b else "Scp"
+    return refused(name, None if name in ("EmptyLocal", "TooLong") else form, fault)
 
 
 def shown(b):

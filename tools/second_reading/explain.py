@@ -188,18 +188,6 @@ def curl(v):
     return found and {"host": lossy(found.host), "port": found.port and int(found.port), "path": lossy(found.path)}
 
 
-def host_spellings(place):
-    """The texts that may spell the host in what follows the `@`: with and without a port, a colon and brackets."""
-    fronts = [place] + ([place.rpartition(b":")[0]] if b":" in place else [])
-    return fronts + [it[1:-1] for it in fronts if len(it) > 1 and it.startswith(b"[") and it.endswith(b"]")]
-
-
-def is_spelled_by_a_piece(v, place):
-    """Whether a piece of the text spells the host, case aside; none does where brackets or a colon that go are escapes."""
-    decoded = (lambda it: it) if v.scheme in grammar.HTTP_SCHEMES else octets.dec
-    return any(decoded(it).lower() == v.host.lower() for it in host_spellings(place))
-
-
 def secret_of_refused(line):
     """What may be a password in a refused line: from the first `:` behind `://` to the last `@`; its place, or None."""
     begin = line.find(b"://") + 3
@@ -207,23 +195,19 @@ def secret_of_refused(line):
     return (colon + 1, at) if 3 <= begin <= colon < at else None
 
 
-def secret_of_url(v, line):
-    """The place of the password that is read, or None where no piece of the line is sure to be it."""
+def secret_of_url(line):
+    """The place of the password that is read: from the first `:` behind `://` to the last `@` before the path."""
     begin = line.find(b"://") + 3
     ends = [it for it in (line.find(bytes([mark]), begin) for mark in grammar.path_starts(line[:begin - 3])) if it >= 0]
-    end = min(ends, default=len(line))
-    at = line.rfind(b"@", begin, end)
-    return (line.find(b":", begin) + 1, at) if is_spelled_by_a_piece(v, line[at + 1:end]) else None
+    return line.find(b":", begin) + 1, line.rfind(b"@", begin, min(ends, default=len(line)))
 
 
 def shown_line(line):
-    """The line with the word in place of its password; None where it has one and it isn't sure which piece that is."""
+    """The line with the word in place of its password, or of what may be one in a refused line."""
     v = grammar.spells(line)
-    if v is not None and v.password is None:
-        return lossy(line)
-    place = secret_of_refused(line) if v is None else secret_of_url(v, line)
+    place = secret_of_refused(line) if v is None else None if v.password is None else secret_of_url(line)
     if place is None:
-        return lossy(line) if v is None else None
+        return lossy(line)
     hidden = b"redacted" if place[0] < place[1] else b""
     return lossy(line[:place[0]] + hidden + line[place[1]:])
 

@@ -22,9 +22,9 @@ LOCALS = [b"/srv/repo.git", b"./a:b", b"[::1]", b"/~bob/r", b"~bob/r", b"./~/r",
 REFUSED = [b"", b"file://host", b"ssh://h", b"host:", b"http://h/\xff", b"h:\xff", b"file://\xff/p", b"x:///" + b"a" * 1024, b"./a://b",
            b"http://h:0/", b"[a@b:22]:p", b"http://", b"::address", b"http://h/%2", b"a b:p", b"http://u:secret@h:x/", b"http://u:p@ss@h:x/",
            b"http://u:secret/x@h/p", b"http://u:@h:x/", b"http://u@h:x/", b"a b://u@h:p@x", b"http://u:secret\xff@h/\xff", b"a@b://h:x/"]
-# Where the fault is: the first of several, a whole character, a part behind others, and what the table can't show.
+# Where the fault is: the first in the order of checks, a whole character, a part behind others, and what the table can't show.
 PLACED = [b"x" * 1025 + b"://h/p", b"http://" + b"a" * 1025 + b"/p", b"http://u:p@a\\b/ %2", b"ssh://u:%C3%A9%E2%82@h:1/p",
-          "\u00e9://h/".encode(), "http://b\u00fc\u2003/".encode(), b"ssh://h/\xe2\x82", b"http://[::1%25e%FF]/", b"http://u@:22/",
+          "\u00e9://h/".encode(), "http://b\u00fc\u2003/".encode(), "http://b\u00fc\"/".encode(), b"ssh://h/\xe2\x82", b"http://[::1%25e%FF]/", b"http://u@:22/",
           b"http://::1:/", b"[a]b:p", b"user@::1:p", b"git://[a%FFb]:x/p", b"git://[::1]:99999/p", b"http://h/%zz?a b"]
 # The first is written as another text, in which Git reads the same; of each other one part of the rule alone says no.
 GIT = [b"ssh://@h/p", b"@h:p", b"ssh://u:p@h/p", b"git://u@h/p", b"h:a~u/p", b"h:-p", b"rsync:p", b"/a[b", b"/a]b", b"~/r"]

@@ -45,22 +45,14 @@ def told_parts(of, spelling):
     return {name: text_of(it) if isinstance(it, bytes) else it for name, it in parts.items() if it is not None}
 
 
-def place_of(given):
-    """The place of the fault in bytes that are refused: `at`, and `len` where the error has it."""
-    name, place = errors.refusal(given)[0], fault_places.library_place(given)
-    if name == "EmptyLocal":
-        return {}
-    return {"at": place.at} if name in ("MissingPath", "NotUtf8") else {"at": place.at, "len": place.len}
-
-
 def refused(given):
-    """The error that bytes are refused with, what it keeps of them, and where they are wrong."""
+    """The error that bytes are refused with, what it keeps of them, and where and why they are wrong."""
     name, kind, fault = errors.refusal(given)
-    place = place_of(given)
+    place = fault_places.place(given)._asdict()
     if name == "TooLong":
         return {"error": name, "kept": text_of(errors.shown(given)), "total": len(given), **place}
     error = {"error": " ".join(it for it in (name, fault, kind) if it)}
-    return error if kind is None else {**error, "kept": text_of(given), **place}
+    return {**error, **place} if kind is None else {**error, "kept": text_of(given), **place}
 
 
 def read(given):
@@ -69,13 +61,28 @@ def read(given):
 
 
 def read_in(row):
-    """What reading a text into a buffer gives; an error keeps of the text only the front of one that is too long."""
+    """What reading a text into a buffer gives; an error keeps nothing of the text."""
     given = bytes_of(row["text"])
     found = grammar.spells(given)
     if found is None:
-        error = refused(given)
-        return {name: it for name, it in error.items() if name != "kept" or error["error"] == "TooLong"}
+        return {name: it for name, it in refused(given).items() if name not in ("kept", "total")}
     return {"error": "NoRoom"} if row.get("room", len(given)) < len(given) else record(found)
+
+
+def refusal(given):
+    """The refusal of bytes, by the members that it has."""
+    at, size, reason = fault_places.place(given)
+    form = errors.refusal(given)[1] or ("Url" if given else "Local")
+    return {"form": form, "reason": reason, "at": at, "len": size}
+
+
+def words(given):
+    return {"shown": fault_places.SENTENCES[fault_places.place(given).reason]}
+
+
+def debug_of_refusal(given):
+    members = ", ".join(f"{name}: {it}" for name, it in refusal(given).items())
+    return {"shown": f"Refusal {{ {members} }}"}
 
 
 def written(of, call=text_of):
@@ -189,6 +196,17 @@ CALLS = {
     "Scheme::as_ref": over_scheme(told_scheme),
     "Scheme:fmt": over_scheme(lambda it: {"shown": text_of(grammar.as_str(it))}),
     "ipv6::is_ipv6": over_text(hosts.ip6),
+    "Error::refusal": over_text(refusal),
+    "Refusal::fault": over_text(lambda text: errors.refusal(text)[2]),
+    "Refusal:fmt": over_text(words),
+    "Refusal:fmt{:?}": over_text(debug_of_refusal),
+    "ParseError:fmt": over_text(words),
+    "ParseError:fmt{:?}": over_text(lambda text: {"shown": f"Refused({debug_of_refusal(text)['shown']})"}),
+    "Reason::kind": over_text(lambda text: " ".join(it for it in errors.refusal(text)[::2] if it)),
+    "Reason::name": over_text(lambda text: fault_places.place(text).reason),
+    "Reason::words": over_text(lambda text: words(text)["shown"]),
+    "Reason:fmt": over_text(words),
+    "Reason:fmt{:?}": over_text(lambda text: {"shown": fault_places.place(text).reason}),
     "lines::run": over_text(run),
 }
 

@@ -55,7 +55,7 @@ pub fn make(alloc: Global, order: &Order<'_>, out: &mut Out) -> Result<(), Halt>
 
 /// Whether a call is over an error, which may be reported by the text that is refused with it.
 fn is_over_error(name: &str) -> bool {
-    name == "Error:fmt" || name == "Error::is_memory"
+    matches!(name, "Error:fmt" | "Error::is_memory" | "Error::refusal")
 }
 
 /// Calls over an error, a form or a fault; and what is over nothing.
@@ -82,6 +82,7 @@ fn look_at_error(alloc: Global, order: Order<'_>, out: &mut Out) -> Result<(), H
     let error = errors::error(alloc, order)?;
     let outcome = match order.call() {
         "Error::is_memory" => report_lent(out, &error.is_memory()),
+        "Error::refusal" => report_lent(out, &error.refusal()),
         "Error:fmt" => show(out, order.style(), &error),
         call => unknown(call),
     };

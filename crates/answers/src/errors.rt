@@ -6,7 +6,7 @@ use crate::report::{Out, Report, report_member, report_name};
 use bstr::{BStr, BString};
 use gix_url::lines::RunError;
 use gix_url::parse::{UrlKind, parse};
-use gix_url::{Error, ParseError, Refusal, UrlFault, WriteError, WriteFault};
+use gix_url::{Error, ParseError, Refusal, RefusalKind, UrlFault, WriteError, WriteFault};
 use std::alloc::Global;
 use std::io::{self, ErrorKind, Write};
 
@@ -14,7 +14,9 @@ impl Report for Error {
     fn report(&self, out: &mut Out) -> io::Result<()> {
         out.write_all(b"{\"error\":\"")?;
         report_fields(out, self)?;
-        report_error_place(out, self)?;
+        if let Some(refusal) = self.refusal() {
+            report_place(out, ",", &refusal)?;
+        }
         out.write_all(b"}")
     }
 }
@@ -22,24 +24,19 @@ impl Report for Error {
 /// Reports the name of an error of reading, with the form and the fault, and the text that it keeps.
 fn report_fields(out: &mut Out, error: &Error) -> io::Result<()> {
     match error {
-        Error::MissingPath { kind, input, .. } => {
+        Error::MissingPath { kind, input } => {
             write!(out, "MissingPath {kind:?}\"")?;
             report_kept(out, input)
         }
-        Error::NotUtf8 { kind, input, .. } => {
+        Error::NotUtf8 { kind, input } => {
             write!(out, "NotUtf8 {kind:?}\"")?;
             report_kept(out, input)
         }
-        Error::BadUrl {
-            kind,
-            fault,
-            input,
-            ..
-        } => {
+        Error::BadUrl { kind, fault, input } => {
             write!(out, "BadUrl {fault:?} {kind:?}\"")?;
             report_kept(out, input)
         }
-        Error::TooLong { shown, total, .. } => {
+        Error::TooLong { shown, total } => {
             out.write_all(b"TooLong\"")?;
             report_kept(out, shown)?;
             write!(out, ",\"total\":{total}")
@@ -48,26 +45,13 @@ fn report_fields(out: &mut Out, error: &Error) -> io::Result<()> {
     }
 }
 
-/// Prints the place of what is wrong with the text, which errors of reading have.
-fn report_error_place(out: &mut Out, error: &Error) -> io::Result<()> {
-    match error {
-        Error::MissingPath { at, .. } | Error::NotUtf8 { at, .. } => report_at(out, *at),
-        Error::TooLong { at, len, .. } | Error::BadUrl { at, len, .. } => {
-            report_at(out, *at)?;
-            report_len(out, *len)
-        }
-        _ => Ok(()),
-    }
-}
-
-/// Prints how many bytes are before what is wrong.
-fn report_at(out: &mut Out, at: usize) -> io::Result<()> {
-    write!(out, ",\"at\":{at}")
-}
-
-/// Prints the length of what is wrong.
-fn report_len(out: &mut Out, len: usize) -> io::Result<()> {
-    write!(out, ",\"len\":{len}")
+/// Reports where and why a text is wrong, behind a `{` or a `,`.
+fn report_place(out: &mut Out, before: &str, refusal: &Refusal) -> io::Result<()> {
+    let (at, len, reason) = (refusal.at, refusal.len, refusal.reason.name());
+    write!(
+        out,
+        "{before}\"at\":{at},\"len\":{len},\"reason\":\"{reason}\""
+    )
 }
 
 /// Reports the bytes that an error keeps.
@@ -92,44 +76,52 @@ fn report_other(out: &mut Out, error: &Error) -> io::Result<()> {
     }
 }
 
-impl Report for ParseError<'_> {
+impl Report for ParseError {
     fn report(&self, out: &mut Out) -> io::Result<()> {
-        out.write_all(b"{\"error\":\"")?;
         match self {
-            ParseError::NoRoom => out.write_all(b"NoRoom\"")?,
+            ParseError::NoRoom => out.write_all(b"{\"error\":\"NoRoom\"}"),
             ParseError::Refused(refusal) => {
+                out.write_all(b"{\"error\":\"")?;
                 report_refusal(out, refusal)?;
-                report_refusal_place(out, refusal)?;
+                report_place(out, "\",", refusal)?;
+                out.write_all(b"}")
             }
         }
+    }
+}
+
+/// Reports the name of the error that a refusal is, with the fault and the form.
+fn report_refusal(out: &mut Out, refusal: &Refusal) -> io::Result<()> {
+    let form = refusal.form;
+    match refusal.reason.kind() {
+        RefusalKind::EmptyLocal => out.write_all(b"EmptyLocal"),
+        RefusalKind::MissingPath => write!(out, "MissingPath {form:?}"),
+        RefusalKind::NotUtf8 => write!(out, "NotUtf8 {form:?}"),
+        RefusalKind::TooLong => out.write_all(b"TooLong"),
+        RefusalKind::BadUrl(fault) => write!(out, "BadUrl {fault:?} {form:?}"),
+    }
+}
+
+impl Report for Refusal {
+    fn report(&self, out: &mut Out) -> io::Result<()> {
+        write!(out, "{{\"form\":\"{:?}\"", self.form)?;
+        report_place(out, ",", self)?;
         out.write_all(b"}")
     }
 }
 
-/// Reports the name of a refusal, with the form and the fault, and the front that it shows.
-fn report_refusal(out: &mut Out, refusal: &Refusal<'_>) -> io::Result<()> {
-    match refusal {
-        Refusal::EmptyLocal => out.write_all(b"EmptyLocal\""),
-        Refusal::MissingPath { kind, .. } => write!(out, "MissingPath {kind:?}\""),
-        Refusal::NotUtf8 { kind, .. } => write!(out, "NotUtf8 {kind:?}\""),
-        Refusal::BadUrl { kind, fault, .. } => write!(out, "BadUrl {fault:?} {kind:?}\""),
-        Refusal::TooLong { shown, total, .. } => {
-            out.write_all(b"TooLong\"")?;
-            report_member(out, "kept", &Some(BStr::new(shown)))?;
-            write!(out, ",\"total\":{total}")
+impl Report for RefusalKind {
+    fn report(&self, out: &mut Out) -> io::Result<()> {
+        match self {
+            RefusalKind::BadUrl(fault) => write!(out, "\"BadUrl {fault:?}\""),
+            _ => write!(out, "\"{self:?}\""),
         }
     }
 }
 
-/// Prints the place of what is wrong with the text that is refused.
-fn report_refusal_place(out: &mut Out, refusal: &Refusal<'_>) -> io::Result<()> {
-    match refusal {
-        Refusal::EmptyLocal => Ok(()),
-        Refusal::MissingPath { at, .. } | Refusal::NotUtf8 { at, .. } => report_at(out, *at),
-        Refusal::TooLong { at, len, .. } | Refusal::BadUrl { at, len, .. } => {
-            report_at(out, *at)?;
-            report_len(out, *len)
-        }
+impl Report for UrlFault {
+    fn report(&self, out: &mut Out) -> io::Result<()> {
+        write!(out, "\"{self:?}\"")
     }
 }
 
@@ -216,18 +208,14 @@ fn error_of(alloc: Global, given: Order<'_>) -> Result<Error, Halt> {
         "MissingPath" => Ok(Error::MissingPath {
             kind: kind(rest)?,
             input: kept,
-            at: number(given, "at"),
         }),
         "NotUtf8" => Ok(Error::NotUtf8 {
             kind: kind(rest)?,
             input: kept,
-            at: number(given, "at"),
         }),
         "TooLong" => Ok(Error::TooLong {
             shown: kept,
             total: 2016,
-            at: number(given, "at"),
-            len: number(given, "len"),
         }),
         "HelperName" => Ok(Error::HelperName { name: kept }),
         "BadUrl" => bad_url(given, rest, kept),
@@ -245,14 +233,7 @@ fn bad_url(given: Order<'_>, names: &str, input: BString) -> Result<Error, Halt>
         kind: kind(kind_name)?,
         fault: fault(fault_name)?,
         input,
-        at: number(given, "at"),
-        len: number(given, "len"),
     })
-}
-
-/// The number in this member of an error's object, or 0 if there is none.
-fn number(given: Order<'_>, name: &str) -> usize {
-    usize::try_from(given.number(name).unwrap_or(0)).unwrap_or(0)
 }
 
 /// The error that no home is known for a user.

@@ -7,7 +7,7 @@ use crate::shown::show;
 use bstr::BStr;
 use gix_url::lines::{run, status};
 use gix_url::parse::parse;
-use gix_url::{ParseError, Scheme, Url, UrlRef, expand_path, ipv6};
+use gix_url::{ParseError, Refusal, Scheme, Url, UrlRef, expand_path, ipv6};
 use std::alloc::Global;
 use std::io::Write;
 
@@ -25,7 +25,12 @@ pub fn over_text(alloc: Global, order: Order<'_>, out: &mut Out) -> Result<(), H
 
 /// Whether a call reads into a room, or shows what such a call refuses.
 fn is_in_room(name: &str) -> bool {
-    name == "UrlRef::parse_in" || name == "ParseError:fmt" || name == "Refusal:fmt"
+    name == "UrlRef::parse_in" || name == "ParseError:fmt" || is_over_refusal(name)
+}
+
+/// Whether a call is over the refusal of a text, or over its reason.
+fn is_over_refusal(name: &str) -> bool {
+    name == "Refusal:fmt" || name == "Refusal::fault" || name.starts_with("Reason:")
 }
 
 /// Calls over a text and a room: of as many bytes as the order says, and else as the text has. It isn't
@@ -41,20 +46,23 @@ fn over_room(alloc: Global, order: Order<'_>, text: &[u8], out: &mut Out) -> Res
     outcome
 }
 
-/// Reads a text into a room, and reports the location or shows the error.
+/// Reads a text into a room, and reports the location or the error, or looks at the refusal.
 fn read_in(order: Order<'_>, text: &[u8], room: &mut [u8], out: &mut Out) -> Result<(), Halt> {
     match order.call() {
+        "" => Ok(()),
         "UrlRef::parse_in" => report_owned(out, UrlRef::parse_in(text, room)),
         "ParseError:fmt" => show_unread(order, UrlRef::parse_in(text, room), out),
-        "Refusal:fmt" => show_refused(order, UrlRef::parse_in(text, room), out),
-        call => unknown(call),
+        _ => match UrlRef::parse_in(text, room) {
+            Err(ParseError::Refused(refusal)) => look_at_refusal(order, refusal, out),
+            _ => Err(Halt::Unprepared),
+        },
     }
 }
 
 /// Shows why a text was not read.
 fn show_unread(
     order: Order<'_>,
-    outcome: Result<UrlRef<'_>, ParseError<'_>>,
+    outcome: Result<UrlRef<'_>, ParseError>,
     out: &mut Out,
 ) -> Result<(), Halt> {
     match outcome {
@@ -63,15 +71,17 @@ fn show_unread(
     }
 }
 
-/// Shows why a text spells no location.
-fn show_refused(
-    order: Order<'_>,
-    outcome: Result<UrlRef<'_>, ParseError<'_>>,
-    out: &mut Out,
-) -> Result<(), Halt> {
-    match outcome {
-        Err(ParseError::Refused(refusal)) => show(out, order.style(), &refusal),
-        _ => Err(Halt::Unprepared),
+/// Calls that look at a refusal or at its reason, or show one of them.
+fn look_at_refusal(order: Order<'_>, refusal: Refusal, out: &mut Out) -> Result<(), Halt> {
+    let reason = refusal.reason;
+    match order.call() {
+        "Refusal::fault" => report_lent(out, &refusal.fault()),
+        "Refusal:fmt" => show(out, order.style(), &refusal),
+        "Reason::kind" => report_lent(out, &reason.kind()),
+        "Reason::name" => report_lent(out, &reason.name()),
+        "Reason::words" => report_lent(out, &reason.words()),
+        "Reason:fmt" => show(out, order.style(), &reason),
+        call => unknown(call),
     }
 }
 
