@@ -23,6 +23,7 @@ mod rewriting;
 mod rule_outcomes;
 mod rules;
 mod shown;
+mod text_parts;
 
 use halt::Halt;
 use order::Order;

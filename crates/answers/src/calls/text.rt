@@ -7,7 +7,7 @@ use crate::shown::show;
 use bstr::BStr;
 use gix_url::lines::{run, status};
 use gix_url::parse::parse;
-use gix_url::{ParseError, Refusal, Scheme, Url, UrlRef, expand_path, ipv6};
+use gix_url::{ParseError, Refusal, Scheme, Url, UrlRef, expand_path, ipv6, parts_of};
 use std::alloc::Global;
 use std::io::Write;
 
@@ -25,7 +25,10 @@ pub fn over_text(alloc: Global, order: Order<'_>, out: &mut Out) -> Result<(), H
 
 /// Whether a call reads into a room, or shows what such a call refuses.
 fn is_in_room(name: &str) -> bool {
-    name == "UrlRef::parse_in" || name == "ParseError:fmt" || is_over_refusal(name)
+    name == "UrlRef::parse_in"
+        || name == "crate::parts_of"
+        || name == "ParseError:fmt"
+        || is_over_refusal(name)
 }
 
 /// Whether a call is over the refusal of a text, or over its reason.
@@ -51,6 +54,10 @@ fn read_in(order: Order<'_>, text: &[u8], room: &mut [u8], out: &mut Out) -> Res
     match order.call() {
         "" => Ok(()),
         "UrlRef::parse_in" => report_owned(out, UrlRef::parse_in(text, room)),
+        "crate::parts_of" => match parts_of(text) {
+            Ok(parts) => report_lent(out, &parts),
+            Err(refusal) => report_lent(out, &ParseError::Refused(refusal)),
+        },
         "ParseError:fmt" => show_unread(order, UrlRef::parse_in(text, room), out),
         _ => match UrlRef::parse_in(text, room) {
             Err(ParseError::Refused(refusal)) => look_at_refusal(order, refusal, out),
