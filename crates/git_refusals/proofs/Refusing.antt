@@ -1,6 +1,7 @@
 -- Characters and escapes, the checks that find nothing, and the flaws that the others find in hosts and authorities.
 pub mod CharacterLemmas
 pub mod EscapeLemmas
+pub mod PlaceLemmas
 pub mod PassLemmas
 pub mod FlawLemmas
 -- What each check finds, or else what the piece holds.

@@ -1,11 +1,29 @@
--- Where in a piece a character is that may not be there, and where it stops decoding to UTF-8.
+-- Where in a piece a byte, an escape or a character is that may not be there, and where it stops decoding to
+-- UTF-8.
 use Rattle.std.specs.Prelude.{◌≡◌, ℕ, zero, suc, ◌+◌, Bool, true, false, not, ◌&&◌, ◌==◌, List, [], ◌∷◌, ◌++◌, length, drop, chars, encode_utf8, encode_utf8_all, if◌then◌else◌}
 use Rattle.std.specs.List.{list_any}
 use Rattle.std.specs.Str.Lossy.{utf8_valid_len, utf8_invalid_len}
 use Rattle.percent_encoding.specs.Percent.{percent_decode}
-use Rattle.git_syntax.specs.Bytes.{percent_sign, is_name_byte}
-use Rattle.git_syntax.specs.Escapes.{begins_with_digits}
+use Rattle.git_syntax.specs.Bytes.{percent_sign, FreeOf, is_name_byte}
+use Rattle.git_syntax.specs.Escapes.{is_sound, begins_with_digits}
 use Rattle.git_syntax.specs.Hosts.{is_http_host_byte}
+
+-- the first c of the text is behind its first `at` bytes
+pub record StandsFirst (c : ℕ) (text : List ℕ) (at : ℕ) : Type 0 where
+  pub before : List ℕ
+  pub behind : List ℕ
+  pub first : FreeOf c before
+  pub joined : text ≡ before ++ c ∷ behind
+  pub offset : at ≡ length before
+
+-- the first `%` that no two hexadecimal digits follow is behind the first `at` bytes
+pub record StandsBroken (text : List ℕ) (at : ℕ) : Type 0 where
+  pub before : List ℕ
+  pub behind : List ℕ
+  pub first : is_sound before ≡ true
+  pub joined : text ≡ before ++ percent_sign ∷ behind
+  pub broken : begins_with_digits behind ≡ false
+  pub offset : at ≡ length before
 
 -- the first character of the text that passes the test is the `len` bytes behind its first `at`
 pub record StandsCharacter (wrong : ℕ → Bool) (text : List ℕ) (at len : ℕ) : Type 0 where

@@ -1,5 +1,4 @@
--- What the error of a refusal says of the text, as `git_syntax` has flaws: coarser than the reason, and
--- without its place.
+-- What the error of a refusal says of the text, as `git_syntax` has flaws: coarser than the reason.
 use Rattle.std.specs.Prelude.{◌≡◌, ℕ, List, [], IsUtf8}
 use Rattle.git_syntax.specs.declared.refusal.UrlKind.{UrlKind}
 use Rattle.git_syntax.specs.Flaws.{MissesPath, HasForm, IsTooLong, KindFlaw}
@@ -13,9 +12,8 @@ abbrev pub IsOfKind : List ℕ → UrlKind → RefusalKind → Type 0
 IsOfKind b form kind.EmptyLocal = b ≡ []
 IsOfKind b form kind.MissingPath = MissesPath b form
 IsOfKind b form kind.NotUtf8 = ¬ IsUtf8 b × HasForm b form
-IsOfKind b form kind.TooLong = (shown : List ℕ) × (total : ℕ) × (at : ℕ) × (len : ℕ)
-    × IsTooLong b shown total at len
-IsOfKind b form (kind.BadUrl fault) = (at : ℕ) × (len : ℕ) × KindFlaw b form fault at len
+IsOfKind b form kind.TooLong = IsTooLong b
+IsOfKind b form (kind.BadUrl fault) = KindFlaw b form fault
 
 -- the flaw that the error of a refusal names is in the bytes
 abbrev pub NamesKind : List ℕ → Refusal → Type 0

@@ -9,7 +9,6 @@ use Rattle.percent_encoding.specs.Percent.{percent_decode}
 use Rattle.git_syntax.specs.declared.refusal.UrlKind.TheVariants.{Url, Scp, Local}
 use Rattle.git_syntax.specs.Bytes.{slash, colon, at_sign, left_bracket, backslash, right_bracket, Lacks, FreeOf, begins_with, is_path_start, StartsPath}
 use Rattle.git_syntax.specs.Addresses.{IsIpv6Text}
-use Rattle.git_syntax.specs.Places.{StandsFirst, StandsBroken}
 use Rattle.git_syntax.specs.Hosts.{HostSyntax, IsLiteral, IsDigits, IsAddressPiece, ReadsAddress, IsManyColoned, IsPlainHost}
 use Rattle.git_syntax.specs.Hosts.HostSyntax.{http_hosts, git_hosts, other_hosts}
 use Rattle.git_syntax.specs.Schemes.{is_web_scheme, scheme_of, host_syntax_of, requires_host, requires_path}
@@ -21,7 +20,7 @@ use Rattle.git_refusals.specs.declared.reason.Reason.{Reason}
 use Rattle.git_refusals.specs.declared.reason.Reason.TheVariants as reason
 use Rattle.git_refusals.specs.declared.refusal.Refusal.{Refusal}
 use Rattle.git_refusals.specs.Kinds.{refusal_of}
-use Rattle.git_refusals.specs.Characters.{StandsCharacter, is_no_scheme_character, is_no_host_character, undecodable_at, undecodable_len}
+use Rattle.git_refusals.specs.Characters.{StandsFirst, StandsBroken, StandsCharacter, is_no_scheme_character, is_no_host_character, undecodable_at, undecodable_len}
 
 -- ---- places, and the order of checks
 

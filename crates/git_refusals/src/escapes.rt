@@ -1,16 +1,33 @@
-//! Where bytes, or what they decode to, stop being UTF-8.
+//! Where an escape is broken, and where bytes, or what they decode to, stop being UTF-8.
 
-ghost use Rattle.std.specs.Prelude.{◌≡◌, IsUtf8, drop};
+ghost use Rattle.std.specs.Prelude.{◌≡◌, IsUtf8, drop, false};
 ghost use Rattle.percent_encoding.specs.Percent.{percent_decode};
+ghost use Rattle.git_syntax.specs.Escapes as escape;
 ghost use Rattle.git_refusals.specs.Characters as spec;
-ghost use Rattle.git_refusals.specs.Characters.{spelled_len, undecodable_at};
+ghost use Rattle.git_refusals.specs.Characters.{StandsBroken, spelled_len, undecodable_at};
 ghost use Rattle.git_refusals.specs.Internal.Readable.{Checks};
 ghost use Rattle.git_refusals.specs.Reasons.{NotText, Undecodable};
 
 use crate::place::Place;
 use crate::reason::Reason;
 use bstr::{ByteSlice, decode_utf8};
+use git_syntax::bytes::cut;
 use git_syntax::escape::{begins_with_digits, decodes_to_utf8, front, split_decoded};
+
+/// How many bytes are before the first `%` without two hexadecimal digits behind it.
+pub(crate) fn broken_escape(bytes: &[u8]) -> usize
+    requires { escape.is_sound bytes.now ≡ false }
+    ensures { StandsBroken bytes.now result }
+{
+    let mut rest = bytes;
+    while let Some((_, behind)) = cut(rest, b'%') {
+        if !begins_with_digits(behind) {
+            return bytes.len() - behind.len() - 1;
+        }
+        rest = behind;
+    }
+    0
+}
 
 /// The first bytes that are not UTF-8.
 pub(crate) fn not_text(bytes: &[u8]) -> Option<Place>

@@ -13,13 +13,12 @@ ghost use Rattle.git_refusals.specs.Reasons.{BadFile, BadRest, BadScheme, BadUrl
 
 use crate::authority::bad_authority;
 use crate::characters::{Wrong, first_wrong};
-use crate::escapes::{not_text, undecodable};
+use crate::escapes::{broken_escape, not_text, undecodable};
 use crate::place::Place;
 use crate::reason::Reason;
 use git_syntax::bytes::{cut_before_path, is_free_of};
 use git_syntax::escape::is_sound;
 use git_syntax::length::fits;
-use git_syntax::places::broken_escape;
 use git_syntax::rules::{Rules, rules_of};
 use git_syntax::text::as_text;
 

@@ -6,4 +6,3 @@ pub mod PlainLemmas
 pub mod AsciiLemmas
 pub mod DecodingLemmas
 pub mod LookLemmas
-pub mod PlaceLemmas

@@ -111,6 +111,10 @@ begins_by test (b ∷ bs) = test b
 abbrev pub begins_with : ℕ → List ℕ → Bool
 begins_with c bs = begins_by (λ b. b == c) bs
 
+-- a text that begins with `-` may be taken for an option
+abbrev pub is_option_like : List ℕ → Bool
+is_option_like text = begins_with hyphen text
+
 -- the mark is somewhere in the text
 abbrev pub Holds : List ℕ → List ℕ → Type 0
 Holds mark bs = (front : List ℕ) × (rest : List ℕ) × (bs ≡ front ++ (mark ++ rest))

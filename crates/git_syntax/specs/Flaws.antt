@@ -1,7 +1,5 @@
--- Flaws: what is in a text that is refused. Each error names one, and the flaw that it names is there. A flaw
--- has its place: it is the `len` bytes behind the first `at`.
-use Rattle.std.specs.Prelude.{◌≡◌, ℕ, ◌+◌, ◌<◌, ◌≤◌, Bool, true, false, ◌⊎◌, List, [], ◌∷◌, ◌++◌, length, take, codes, bytes_eq, Option, IsUtf8}
-use Rattle.std.specs.Str.{IsValidUpTo}
+-- Flaws: what is in a text that is refused. Each refusal names one, and the flaw that it names is there.
+use Rattle.std.specs.Prelude.{◌≡◌, ℕ, ◌<◌, Bool, true, false, ◌⊎◌, List, [], ◌∷◌, ◌++◌, length, codes, bytes_eq, Option, IsUtf8}
 use Rattle.percent_encoding.specs.Percent.{percent_decode}
 use Rattle.git_syntax.specs.declared.refusal.UrlKind.{UrlKind}
 use Rattle.git_syntax.specs.declared.refusal.UrlKind.TheVariants as kind
@@ -11,7 +9,6 @@ use Rattle.git_syntax.specs.declared.refusal.Refusal.{Refusal}
 use Rattle.git_syntax.specs.declared.refusal.Refusal.TheVariants as refusal
 use Rattle.git_syntax.specs.Bytes.{slash, colon, at_sign, left_bracket, backslash, right_bracket, Lacks, FreeOf, begins_with, Holds, LacksWhiteSpace, is_scheme_text, is_path_start, StartsPath}
 use Rattle.git_syntax.specs.Escapes.{is_sound, escaped_percents}
-use Rattle.git_syntax.specs.Places.{StandsFirst, StandsBroken, StandsWhite}
 use Rattle.git_syntax.specs.Hosts.{HostSyntax, HostText, Inner, Number, ReadsAddress, IsManyColoned, IsPlainHost}
 use Rattle.git_syntax.specs.Hosts.HostSyntax.{http_hosts, git_hosts}
 use Rattle.git_syntax.specs.Schemes.{is_web_scheme, scheme_of, host_syntax_of, requires_host, requires_path}
@@ -25,15 +22,14 @@ abbrev pub IsNoPort : HostSyntax → List ℕ → Type 0
 IsNoPort syntax text = (0 < length text) × ((port : ℕ) → ¬ Number syntax text port)
 
 -- something is in a port's place that is no port: all that follows the colon
-pub data HasBadPort (syntax : HostSyntax) (piece : List ℕ) (at len : ℕ) : Type 0 where
+pub data HasBadPort (syntax : HostSyntax) (piece : List ℕ) : Type 0 where
   -- behind a host outside brackets
   plain : (text digits : List ℕ) → IsPlainHost text → FreeOf colon digits
-      → piece ≡ text ++ colon ∷ digits → IsNoPort syntax digits
-      → at ≡ length text + 1 → len ≡ length digits → HasBadPort syntax piece at len
+      → piece ≡ text ++ colon ∷ digits → IsNoPort syntax digits → HasBadPort syntax piece
   -- behind brackets
   bracketed : (x digits : List ℕ) → FreeOf right_bracket x
       → piece ≡ left_bracket ∷ (x ++ right_bracket ∷ (colon ∷ digits)) → IsNoPort syntax digits
-      → at ≡ length x + 3 → len ≡ length digits → HasBadPort syntax piece at len
+      → HasBadPort syntax piece
 
 -- nothing follows, or a colon and what is free of colons
 abbrev pub IsPortPlace : List ℕ → Type 0
@@ -54,80 +50,70 @@ pub record BracketsAround (piece x rest : List ℕ) : Type 0 where
   pub followed : (rest ≡ []) ⊎ (begins_with colon rest ≡ true)
 
 -- a byte or an escape in the host's place is not allowed
-pub data HasBadHost (syntax : HostSyntax) (piece : List ℕ) (at len : ℕ) : Type 0 where
+pub data HasBadHost (syntax : HostSyntax) (piece : List ℕ) : Type 0 where
   -- the text before the port's place stands for no host
   plain : (text rest : List ℕ) → IsPlainHost text → IsPortPlace rest → piece ≡ text ++ rest
-      → IsNoHost syntax text → at ≡ 0 → len ≡ length text → HasBadHost syntax piece at len
+      → IsNoHost syntax text → HasBadHost syntax piece
   -- colons that mark no port are refused by HTTP
   colons_on_the_web : syntax ≡ http_hosts → begins_with left_bracket piece ≡ false → IsManyColoned piece
-      → at ≡ 0 → len ≡ length piece → HasBadHost syntax piece at len
+      → HasBadHost syntax piece
   -- a piece with such colons stands for no host
   colons : ¬ (syntax ≡ http_hosts) → ¬ ReadsAddress syntax piece → begins_with left_bracket piece ≡ false
-      → IsManyColoned piece → IsNoHost syntax piece
-      → at ≡ 0 → len ≡ length piece → HasBadHost syntax piece at len
+      → IsManyColoned piece → IsNoHost syntax piece → HasBadHost syntax piece
   -- a bracket is not closed
-  open_bracket : (behind : List ℕ) → FreeOf right_bracket behind
-      → piece ≡ left_bracket ∷ behind → at ≡ 0 → len ≡ 1 → HasBadHost syntax piece at len
+  open_bracket : (behind : List ℕ) → FreeOf right_bracket behind → piece ≡ left_bracket ∷ behind
+      → HasBadHost syntax piece
   -- what follows a closed bracket begins with another byte than a colon
   behind_bracket : (x rest : List ℕ) → FreeOf right_bracket x
       → piece ≡ left_bracket ∷ (x ++ right_bracket ∷ rest) → 0 < length rest
-      → begins_with colon rest ≡ false
-      → at ≡ length x + 2 → len ≡ length rest → HasBadHost syntax piece at len
+      → begins_with colon rest ≡ false → HasBadHost syntax piece
   -- the text between brackets stands for nothing
-  brackets : (x rest : List ℕ) → BracketsAround piece x rest → IsNoInner syntax x
-      → at ≡ 1 → len ≡ length x → HasBadHost syntax piece at len
+  brackets : (x rest : List ℕ) → BracketsAround piece x rest → IsNoInner syntax x → HasBadHost syntax piece
 
--- what is wrong with the piece behind the user information, and where
-abbrev pub HostPortFlaw : HostSyntax → List ℕ → UrlFault → ℕ → ℕ → Type 0
-HostPortFlaw syntax piece fault.BadPort at len = HasBadPort syntax piece at len
-HostPortFlaw syntax piece fault.BadCharacter at len = HasBadHost syntax piece at len
-HostPortFlaw syntax piece fault.NoScheme at len = ⊥
-HostPortFlaw syntax piece fault.HostRequired at len = ⊥
+-- what is wrong with the piece behind the user information
+abbrev pub HostPortFlaw : HostSyntax → List ℕ → UrlFault → Type 0
+HostPortFlaw syntax piece fault.BadPort = HasBadPort syntax piece
+HostPortFlaw syntax piece fault.BadCharacter = HasBadHost syntax piece
+HostPortFlaw syntax piece fault.NoScheme = ⊥
+HostPortFlaw syntax piece fault.HostRequired = ⊥
 
 -- ---- authorities
 
--- the piece of an authority behind the user information, of which so many bytes are before it
-pub data PieceOf (authority piece : List ℕ) (start : ℕ) : Type 0 where
-  whole : FreeOf at_sign authority → piece ≡ authority → start ≡ 0 → PieceOf authority piece start
-  behind : (information : List ℕ) → FreeOf at_sign piece
-      → authority ≡ information ++ at_sign ∷ piece → start ≡ length information + 1
-      → PieceOf authority piece start
+-- the piece of an authority behind the user information
+pub data PieceOf (authority piece : List ℕ) : Type 0 where
+  whole : FreeOf at_sign authority → piece ≡ authority → PieceOf authority piece
+  behind : (information : List ℕ) → FreeOf at_sign piece → authority ≡ information ++ at_sign ∷ piece
+      → PieceOf authority piece
 
 -- a part of user information that decodes to no text
-pub data HasBadUser (authority : List ℕ) (at len : ℕ) : Type 0 where
+pub data HasBadUser (authority : List ℕ) : Type 0 where
   -- user information without a colon is the user
   user : (u piece : List ℕ) → FreeOf at_sign piece → FreeOf colon u
-      → authority ≡ u ++ at_sign ∷ piece → ¬ IsUtf8 (percent_decode u)
-      → at ≡ 0 → len ≡ length u → HasBadUser authority at len
+      → authority ≡ u ++ at_sign ∷ piece → ¬ IsUtf8 (percent_decode u) → HasBadUser authority
   -- what is before its first colon is
   user_before_password : (u w piece : List ℕ) → FreeOf at_sign piece → FreeOf colon u
       → authority ≡ (u ++ colon ∷ w) ++ at_sign ∷ piece → ¬ IsUtf8 (percent_decode u)
-      → at ≡ 0 → len ≡ length u → HasBadUser authority at len
+      → HasBadUser authority
   -- what is behind that colon is the password
   password : (u w piece : List ℕ) → FreeOf at_sign piece → FreeOf colon u
       → authority ≡ (u ++ colon ∷ w) ++ at_sign ∷ piece → ¬ IsUtf8 (percent_decode w)
-      → at ≡ length u + 1 → len ≡ length w → HasBadUser authority at len
+      → HasBadUser authority
 
--- what is wrong with an authority, and where, for a scheme that needs a host or doesn't
-pub data AuthorityFlaw (syntax : HostSyntax) (needed : Bool) (authority : List ℕ) (at len : ℕ)
-    : UrlFault → Type 0 where
-  -- the first backslash
-  holds_backslash : StandsFirst backslash authority at → len ≡ 1
-      → AuthorityFlaw syntax needed authority at len fault.BadCharacter
+-- what is wrong with an authority, for a scheme that needs a host or doesn't
+pub data AuthorityFlaw (syntax : HostSyntax) (needed : Bool) (authority : List ℕ) : UrlFault → Type 0 where
+  -- it holds a backslash
+  holds_backslash : ¬ FreeOf backslash authority
+      → AuthorityFlaw syntax needed authority fault.BadCharacter
   -- a user or a password that is no text
-  bad_user : HasBadUser authority at len
-      → AuthorityFlaw syntax needed authority at len fault.BadCharacter
+  bad_user : HasBadUser authority → AuthorityFlaw syntax needed authority fault.BadCharacter
   -- the piece behind the user information
-  bad_name : (piece : List ℕ) (named : UrlFault) (start place : ℕ)
-      → PieceOf authority piece start → HostPortFlaw syntax piece named place len
-      → at ≡ start + place → AuthorityFlaw syntax needed authority at len named
-  -- user information without a host, which would be at the end
+  bad_name : (piece : List ℕ) (named : UrlFault) → PieceOf authority piece
+      → HostPortFlaw syntax piece named → AuthorityFlaw syntax needed authority named
+  -- user information without a host
   no_host : (information : List ℕ) → authority ≡ information ++ at_sign ∷ []
-      → at ≡ length authority → len ≡ 0
-      → AuthorityFlaw syntax needed authority at len fault.BadCharacter
+      → AuthorityFlaw syntax needed authority fault.BadCharacter
   -- nothing where a host is needed
-  host_required : needed ≡ true → authority ≡ [] → at ≡ 0 → len ≡ 0
-      → AuthorityFlaw syntax needed authority at len fault.HostRequired
+  host_required : needed ≡ true → authority ≡ [] → AuthorityFlaw syntax needed authority fault.HostRequired
 
 -- ---- URLs
 
@@ -149,54 +135,41 @@ pub record UrlCut (b scheme authority path : List ℕ) : Type 0 where
   pub before_path : Lacks (is_path_start (is_web_scheme scheme)) authority
   pub path_starts : StartsPath (is_web_scheme scheme) path
 
--- what is wrong with a URL, and where
-pub data UrlFlaw (b : List ℕ) (at len : ℕ) : UrlFault → Type 0 where
+-- what is wrong with a URL
+pub data UrlFlaw (b : List ℕ) : UrlFault → Type 0 where
   -- what is before `://` is no scheme
   no_scheme : (front rest : List ℕ) → OtherUrlForm b front rest → is_scheme_text front ≡ false
-      → at ≡ 0 → len ≡ length front → UrlFlaw b at len fault.NoScheme
+      → UrlFlaw b fault.NoScheme
   -- white space, or a `%` that begins no escape
   white_space : (front rest : List ℕ) → OtherUrlForm b front rest → IsUtf8 b → ¬ LacksWhiteSpace b
-      → StandsWhite b at len → UrlFlaw b at len fault.BadCharacter
+      → UrlFlaw b fault.BadCharacter
   unsound : (front rest : List ℕ) → OtherUrlForm b front rest → is_sound b ≡ false
-      → StandsBroken b at → len ≡ 1 → UrlFlaw b at len fault.BadCharacter
+      → UrlFlaw b fault.BadCharacter
   -- the path, which is the end of the text, decodes to no text
   bad_path : (scheme authority path : List ℕ) → UrlCut b scheme authority path
-      → ¬ IsUtf8 (percent_decode path)
-      → at + len ≡ length b → len ≡ length path → UrlFlaw b at len fault.BadCharacter
+      → ¬ IsUtf8 (percent_decode path) → UrlFlaw b fault.BadCharacter
   -- the authority, behind `://`
-  bad_authority : (scheme authority path : List ℕ) (named : UrlFault) (place : ℕ)
-      → UrlCut b scheme authority path
-      → AuthorityFlaw (host_syntax_of scheme) (requires_host scheme) authority place len named
-      → at ≡ length scheme + 3 + place → UrlFlaw b at len named
+  bad_authority : (scheme authority path : List ℕ) (named : UrlFault) → UrlCut b scheme authority path
+      → AuthorityFlaw (host_syntax_of scheme) (requires_host scheme) authority named → UrlFlaw b named
 
 -- ---- the scp form
 
--- a host of the scp form names none where each `%` is read as its own escape: the place of the flaw in the
--- host is the one whose text, so read, has the flaw
-pub record ScpNameFlaw (host : List ℕ) (at len : ℕ) (named : UrlFault) : Type 0 where
-  pub before : List ℕ
-  pub here : List ℕ
-  pub behind : List ℕ
-  pub joined : host ≡ before ++ (here ++ behind)
-  pub flaw : HostPortFlaw git_hosts (escaped_percents host) named (length (escaped_percents before))
-      (length (escaped_percents here))
-  pub offset : at ≡ length before
-  pub size : len ≡ length here
+-- a host of the scp form names none where each `%` is read as its own escape
+abbrev pub ScpNameFlaw : List ℕ → UrlFault → Type 0
+ScpNameFlaw host named = HostPortFlaw git_hosts (escaped_percents host) named
 
--- what is wrong with the host of the scp form, and where
-pub data ScpHostFlaw (host : List ℕ) (at len : ℕ) : UrlFault → Type 0 where
+-- what is wrong with the host of the scp form
+pub data ScpHostFlaw (host : List ℕ) : UrlFault → Type 0 where
   -- there is none
-  empty : host ≡ [] → at ≡ 0 → len ≡ 0 → ScpHostFlaw host at len fault.HostRequired
+  empty : host ≡ [] → ScpHostFlaw host fault.HostRequired
   -- it holds a byte or a character that no host does
-  holds_backslash : StandsFirst backslash host at → len ≡ 1
-      → ScpHostFlaw host at len fault.BadCharacter
-  white_space : IsUtf8 host → ¬ LacksWhiteSpace host → StandsWhite host at len
-      → ScpHostFlaw host at len fault.BadCharacter
+  holds_backslash : ¬ FreeOf backslash host → ScpHostFlaw host fault.BadCharacter
+  white_space : IsUtf8 host → ¬ LacksWhiteSpace host → ScpHostFlaw host fault.BadCharacter
   -- it names none
-  bad_name : (named : UrlFault) → ScpNameFlaw host at len named → ScpHostFlaw host at len named
+  bad_name : (named : UrlFault) → ScpNameFlaw host named → ScpHostFlaw host named
 
--- what is wrong with the scp form, and where, if it isn't `user@[address]:path`
-pub record ScpFlaw (b : List ℕ) (named : UrlFault) (at len : ℕ) : Type 0 where
+-- what is wrong with the scp form, if it isn't `user@[address]:path`
+pub record ScpFlaw (b : List ℕ) (named : UrlFault) : Type 0 where
   pub not_addressed : ¬ IsAddressed b
   pub front : List ℕ
   pub path : List ℕ
@@ -205,10 +178,7 @@ pub record ScpFlaw (b : List ℕ) (named : UrlFault) (at len : ℕ) : Type 0 whe
   pub form : ScpForm b front path
   pub split : ScpUser front user host
   pub no_at : FreeOf at_sign host
-  pub place : ℕ
-  pub flaw : ScpHostFlaw host place len named
-  -- the host is the end of the front
-  pub offset : at + length host ≡ length front + place
+  pub flaw : ScpHostFlaw host named
 
 -- ---- all errors
 
@@ -232,33 +202,23 @@ HasForm b kind.Url = (front : List ℕ) × (rest : List ℕ) × UrlForm b front 
 HasForm b kind.Scp = HasScpForm b
 HasForm b kind.Local = ⊥
 
--- what is too long of a URL: the scheme, or what is shown behind `://`
-pub data TooLongAt (scheme shown : List ℕ) (at len : ℕ) : Type 0 where
-  scheme : 1024 < length scheme → at ≡ 0 → len ≡ length scheme → TooLongAt scheme shown at len
-  behind_mark : length scheme ≤ 1024 → at ≡ length scheme + 3 → at + len ≡ length shown
-      → TooLongAt scheme shown at len
-
--- a URL is too long; its front is shown
-pub record IsTooLong (b shown : List ℕ) (total at len : ℕ) : Type 0 where
+-- a URL is too long: its scheme is, or what follows `://`
+pub record IsTooLong (b : List ℕ) : Type 0 where
   pub front : List ℕ
   pub rest : List ℕ
   pub form : OtherUrlForm b front rest
   pub unfit : ¬ Fits front rest
-  pub front_shown : shown ≡ take (length front + 1027) b
-  pub length_reported : total ≡ length b
-  pub place : TooLongAt front shown at len
 
--- what is wrong with a text of this kind, and where
-abbrev pub KindFlaw : List ℕ → UrlKind → UrlFault → ℕ → ℕ → Type 0
-KindFlaw b kind.Url named at len = UrlFlaw b at len named
-KindFlaw b kind.Scp named at len = ScpFlaw b named at len
-KindFlaw b kind.Local named at len = ⊥
+-- what is wrong with a text of this kind
+abbrev pub KindFlaw : List ℕ → UrlKind → UrlFault → Type 0
+KindFlaw b kind.Url named = UrlFlaw b named
+KindFlaw b kind.Scp named = ScpFlaw b named
+KindFlaw b kind.Local named = ⊥
 
--- the flaw that the refusal names is in the bytes, at the place that it reports: a missing path would be at
--- the end, and what is no UTF-8 is reported by its first byte
+-- the flaw that the refusal names is in the bytes
 abbrev pub NamesFlaw : List ℕ → Refusal → Type 0
 NamesFlaw b refusal.EmptyLocal = b ≡ []
-NamesFlaw b (refusal.MissingPath kind at) = MissesPath b kind × (at ≡ length b)
-NamesFlaw b (refusal.NotUtf8 kind at) = ¬ IsUtf8 b × HasForm b kind × IsValidUpTo b at
-NamesFlaw b (refusal.TooLong shown total at len) = IsTooLong b shown.now total at len
-NamesFlaw b (refusal.BadUrl kind fault at len) = KindFlaw b kind fault at len
+NamesFlaw b (refusal.MissingPath kind) = MissesPath b kind
+NamesFlaw b (refusal.NotUtf8 kind) = ¬ IsUtf8 b × HasForm b kind
+NamesFlaw b refusal.TooLong = IsTooLong b
+NamesFlaw b (refusal.BadUrl kind fault) = KindFlaw b kind fault

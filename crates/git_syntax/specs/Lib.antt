@@ -8,7 +8,6 @@ pub mod Schemes
 pub mod Authority
 pub mod Grammar
 pub mod AddressTest
-pub mod Places
 pub mod Flaws
 pub mod ErrorText
 pub mod Refusals

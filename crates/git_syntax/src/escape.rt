@@ -145,7 +145,7 @@ pub(crate) fn decoding_is_utf8(text: &[u8]) -> bool
 }
 
 /// What is left of a text behind the first character of its decoding, if that begins with one.
-pub fn past_character(text: &[u8]) -> Option<&[u8]>
+fn past_character(text: &[u8]) -> Option<&[u8]>
     requires { 0 < length (percent.percent_decode text.now) }
     ensures { PassesCharacter text.now result }
 {
@@ -178,7 +178,7 @@ pub fn front(text: &[u8]) -> ([u8; 4], usize)
 }
 
 /// What is left of a text behind the next `count` bytes of its decoding.
-pub fn skip(text: &[u8], count: usize) -> &[u8]
+fn skip(text: &[u8], count: usize) -> &[u8]
     ensures { percent.percent_decode result.now ≡ drop count (percent.percent_decode text.now) }
 {
     let mut rest = text;

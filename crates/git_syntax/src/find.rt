@@ -17,7 +17,7 @@ use crate::scp::{find_addressed, find_scp};
 use crate::url::find_url;
 
 /// The slices of the one location that the bytes spell.
-pub fn find(bytes: &[u8]) -> Result<Found<'_>, Refusal<'_>>
+pub fn find(bytes: &[u8]) -> Result<Found<'_>, Refusal>
     ensures found { IfOk result (λ found. Spells bytes.now (meant found)) }
     ensures ready { IfOk result (λ found. IsReady found) }
     ensures room { IfOk result (λ found. room_for found ≤ length bytes.now) }

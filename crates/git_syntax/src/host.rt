@@ -19,7 +19,7 @@ mod port;
 use crate::bytes::{after, before, cut, is_free_of};
 use crate::escape::decodes_to_utf8;
 use crate::ipv6::is_address;
-use crate::refusal::{Fault, UrlFault};
+use crate::refusal::UrlFault;
 use bytes::{are_http_host_bytes, are_simple_bytes, is_literal};
 use port::{are_digits, ends_host, with_port, with_rest};
 
@@ -65,7 +65,7 @@ pub struct HostPort<'a> {
 }
 
 /// Reads a host and a port: none where the piece is empty.
-pub(crate) fn read_host(syntax: HostSyntax, piece: &[u8]) -> Result<Option<HostPort<'_>>, Fault>
+pub(crate) fn read_host(syntax: HostSyntax, piece: &[u8]) -> Result<Option<HostPort<'_>>, UrlFault>
     ensures named { IfOk result
         (λ named. SpellsHostPort (host_syntax syntax) piece.now (host_of named) (port_of named)) }
     ensures text { IfOk result (λ named. IfSome named (λ host. IsUtf8 (named_text host))) }
@@ -73,7 +73,7 @@ pub(crate) fn read_host(syntax: HostSyntax, piece: &[u8]) -> Result<Option<HostP
         (λ fault. (host : Option (List ℕ)) (port : Option ℕ)
         → ¬ SpellsHostPort (host_syntax syntax) piece.now host port) }
     ensures flaw { IfErr result
-        (λ fault. HostPortFlaw (host_syntax syntax) piece.now fault.kind fault.at fault.len) }
+        (λ fault. HostPortFlaw (host_syntax syntax) piece.now fault) }
 {
     if piece.is_empty() {
         return Ok(None);
@@ -116,7 +116,7 @@ pub fn is_simple_host(text: &[u8]) -> bool
 }
 
 /// Reads a host and a port, where there is something to read.
-fn read_some(syntax: HostSyntax, piece: &[u8]) -> Result<HostPort<'_>, Fault>
+fn read_some(syntax: HostSyntax, piece: &[u8]) -> Result<HostPort<'_>, UrlFault>
     requires { 0 < length piece.now }
     ensures { ReadsHostPort (host_syntax syntax) piece.now result }
 {
@@ -127,16 +127,12 @@ fn read_some(syntax: HostSyntax, piece: &[u8]) -> Result<HostPort<'_>, Fault>
 }
 
 /// Reads what is behind an opening bracket.
-fn read_bracketed(syntax: HostSyntax, behind: &[u8]) -> Result<HostPort<'_>, Fault>
+fn read_bracketed(syntax: HostSyntax, behind: &[u8]) -> Result<HostPort<'_>, UrlFault>
     ensures { ReadsHostPort (host_syntax syntax) (left_bracket ∷ behind.now) result }
 {
     match cut(behind, b']') {
         Some((inner, rest)) => read_brackets(syntax, inner, rest),
-        None => Err(Fault {
-            kind: UrlFault::BadCharacter,
-            at: 0,
-            len: 1,
-        }),
+        None => Err(UrlFault::BadCharacter),
     }
 }
 
@@ -145,37 +141,25 @@ fn read_brackets<'a>(
     syntax: HostSyntax,
     inner: &'a [u8],
     rest: &'a [u8],
-) -> Result<HostPort<'a>, Fault>
+) -> Result<HostPort<'a>, UrlFault>
     requires { FreeOf right_bracket inner.now }
     ensures { ReadsHostPort (host_syntax syntax)
         (left_bracket ∷ (inner.now ++ right_bracket ∷ rest.now)) result }
 {
     if !ends_host(rest) {
-        return Err(Fault {
-            kind: UrlFault::BadCharacter,
-            at: inner.len() + 2,
-            len: rest.len(),
-        });
+        return Err(UrlFault::BadCharacter);
     }
     let Some(host) = read_inner(syntax, inner) else {
-        return Err(Fault {
-            kind: UrlFault::BadCharacter,
-            at: 1,
-            len: inner.len(),
-        });
+        return Err(UrlFault::BadCharacter);
     };
     match with_rest(syntax, host, rest) {
         Some(named) => Ok(named),
-        None => Err(Fault {
-            kind: UrlFault::BadPort,
-            at: inner.len() + 3,
-            len: rest.len() - 1,
-        }),
+        None => Err(UrlFault::BadPort),
     }
 }
 
 /// Reads a piece without an opening bracket.
-fn read_unbracketed(syntax: HostSyntax, piece: &[u8]) -> Result<HostPort<'_>, Fault>
+fn read_unbracketed(syntax: HostSyntax, piece: &[u8]) -> Result<HostPort<'_>, UrlFault>
     requires some { 0 < length piece.now }
     requires no_bracket { begins_with left_bracket piece.now ≡ false }
     ensures { ReadsHostPort (host_syntax syntax) piece.now result }
@@ -187,67 +171,43 @@ fn read_unbracketed(syntax: HostSyntax, piece: &[u8]) -> Result<HostPort<'_>, Fa
         return read_colons(syntax, piece);
     }
     if !are_digits(digits) {
-        return Err(Fault {
-            kind: UrlFault::BadPort,
-            at: text.len() + 1,
-            len: digits.len(),
-        });
+        return Err(UrlFault::BadPort);
     }
     let Some(host) = read_text(syntax, text) else {
-        return Err(Fault {
-            kind: UrlFault::BadCharacter,
-            at: 0,
-            len: text.len(),
-        });
+        return Err(UrlFault::BadCharacter);
     };
     match with_port(syntax, host, digits) {
         Some(named) => Ok(named),
-        None => Err(Fault {
-            kind: UrlFault::BadPort,
-            at: text.len() + 1,
-            len: digits.len(),
-        }),
+        None => Err(UrlFault::BadPort),
     }
 }
 
 /// Reads a piece without a colon.
-fn read_plain(syntax: HostSyntax, piece: &[u8]) -> Result<HostPort<'_>, Fault>
+fn read_plain(syntax: HostSyntax, piece: &[u8]) -> Result<HostPort<'_>, UrlFault>
     requires { spec.IsPlainHost piece.now }
     ensures { ReadsHostPort (host_syntax syntax) piece.now result }
 {
     match read_text(syntax, piece) {
         Some(host) => Ok(alone(host)),
-        None => Err(Fault {
-            kind: UrlFault::BadCharacter,
-            at: 0,
-            len: piece.len(),
-        }),
+        None => Err(UrlFault::BadCharacter),
     }
 }
 
 /// Reads a piece whose colons mark no port.
-fn read_colons(syntax: HostSyntax, piece: &[u8]) -> Result<HostPort<'_>, Fault>
+fn read_colons(syntax: HostSyntax, piece: &[u8]) -> Result<HostPort<'_>, UrlFault>
     requires no_bracket { begins_with left_bracket piece.now ≡ false }
     requires colons { IsManyColoned piece.now }
     ensures { ReadsHostPort (host_syntax syntax) piece.now result }
 {
     if is_http_syntax(syntax) {
-        return Err(Fault {
-            kind: UrlFault::BadCharacter,
-            at: 0,
-            len: piece.len(),
-        });
+        return Err(UrlFault::BadCharacter);
     }
     if reads_address(syntax, piece) {
         return Ok(alone(HostPiece::Address(piece)));
     }
     match read_text(syntax, piece) {
         Some(host) => Ok(alone(host)),
-        None => Err(Fault {
-            kind: UrlFault::BadCharacter,
-            at: 0,
-            len: piece.len(),
-        }),
+        None => Err(UrlFault::BadCharacter),
     }
 }
 

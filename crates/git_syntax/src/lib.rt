@@ -19,7 +19,6 @@ pub mod host;
 pub mod ipv6;
 pub mod length;
 mod look;
-pub mod places;
 pub mod refusal;
 mod refusal_law;
 pub mod rules;

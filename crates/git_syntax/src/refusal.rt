@@ -1,6 +1,6 @@
 //! Refusals: why a text spells no location, the form that it was taken for, and what is wrong with it.
 //!
-//! What these report of a text are numbers, names and a slice of it, so making one takes no memory.
+//! These hold nothing of a text, so making one takes no memory.
 //! `error_text` says forms and faults to people.
 
 /// The form that a text was taken for. `Display` names it, as in `the URL has no path`.
@@ -51,58 +51,29 @@ pub enum UrlFault {
     HostRequired,
 }
 
-/// What is wrong with a text, and where: `len` bytes of it, behind the first `at`.
+/// Why a text spells no location: a flaw that is in it. Of several it is the one that `find` came upon; the one
+/// reason and the one place of a text are those of `git_refusals`.
 #[derive(Clone, Copy)]
-pub struct Fault {
-    /// What is wrong.
-    pub kind: UrlFault,
-    /// How many bytes are before what is wrong.
-    pub at: usize,
-    /// The length of what is wrong, in bytes.
-    pub len: usize,
-}
-
-/// Why a text spells no location: a flaw that is in it, and where. Of several it is the one that `find` came
-/// upon; the one reason and the one place of a text are those of `git_refusals`.
-#[derive(Clone, Copy)]
-pub enum Refusal<'a> {
+pub enum Refusal {
     /// The text is empty.
     EmptyLocal,
     /// A path is wanted and there is none.
     MissingPath {
         /// The form that the text was taken for.
         kind: UrlKind,
-        /// Where the path would be: the length of the text.
-        at: usize,
     },
     /// The text is not UTF-8.
     NotUtf8 {
         /// The form that the text was taken for.
         kind: UrlKind,
-        /// How many bytes are before the first that is not UTF-8.
-        at: usize,
     },
     /// The scheme or the authority is too long.
-    TooLong {
-        /// The front of the text: the scheme, `://` and the 1,024 bytes behind it, or the whole where it is
-        /// shorter.
-        shown: &'a [u8],
-        /// The length of the text, in bytes.
-        total: usize,
-        /// How many bytes are before what is too long: none before a scheme, else the scheme and `://`.
-        at: usize,
-        /// The length of what is too long, in bytes: of the scheme, else of what is shown behind `://`.
-        len: usize,
-    },
+    TooLong,
     /// The text is no URL, or the host of the scp form is none.
     BadUrl {
         /// The form that the text was taken for.
         kind: UrlKind,
         /// What is wrong.
         fault: UrlFault,
-        /// How many bytes are before what is wrong.
-        at: usize,
-        /// The length of what is wrong, in bytes. It is 0 where something is missing.
-        len: usize,
     },
 }

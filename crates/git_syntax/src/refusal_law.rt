@@ -3,10 +3,9 @@
 //! It has no code and uses nothing: the contract of its function is the law, which users have from `gix_url`.
 //! It is here too, so that a wrong definition of a flaw is refused in its own layer.
 
-ghost use Rattle.git_syntax.specs.Refusals.{Flawless, RefusalExclusive};
+ghost use Rattle.git_syntax.specs.Refusals.{Flawless};
 
-/// Bytes in which the flaw of a refusal is spell no location, and no flaw is in bytes that spell one.
+/// No flaw is in bytes that spell a location.
 fn law_refusal()
-    ensures refusal { RefusalExclusive }
-    ensures flawless { Flawless }
+    ensures { Flawless }
 {}

@@ -8,9 +8,9 @@ ghost use Rattle.std.specs.Prelude.{◌≡◌, ◌↔◌, ◌∷◌, IfErr, IfOk
 ghost use Rattle.git_syntax.specs.Addresses.{IsZone};
 ghost use Rattle.git_syntax.specs.Bytes.{FreeOf, LacksWhiteSpace, at_sign, begins_with, left_bracket};
 ghost use Rattle.git_syntax.specs.Escapes as spec;
-ghost use Rattle.git_syntax.specs.Flaws.{MissesPath, NamesFlaw};
+ghost use Rattle.git_syntax.specs.Flaws.{NamesFlaw};
 ghost use Rattle.git_syntax.specs.Internal.FoundPieces.{IsReady, meant, room_for, scp_slice};
-ghost use Rattle.git_syntax.specs.Grammar.{AddressedForm, HasScpForm, SpellsScpAddressed, SpellsScpBefore};
+ghost use Rattle.git_syntax.specs.Grammar.{AddressedForm, SpellsScpAddressed, SpellsScpBefore};
 ghost use Rattle.git_syntax.specs.Hosts.{IsLiteral};
 ghost use Rattle.git_syntax.specs.Internal.Forms.{PlainScp};
 ghost use Rattle.git_syntax.specs.Internal.ScpPieces.{ColonsInside, CutsUser, ReadsScpHost, ReadsScpPiece};
@@ -21,8 +21,7 @@ use crate::found::{Found, ScpHost};
 use crate::host::bytes::are_zone_bytes;
 use crate::host::is_simple_host;
 use crate::ipv6::is_address;
-use crate::places::{first_byte, not_utf8, white_space};
-use crate::refusal::{Fault, Refusal, UrlFault, UrlKind};
+use crate::refusal::{Refusal, UrlFault, UrlKind};
 use crate::text::{as_text, is_plain, is_text};
 
 /// Finds the slices of the scp form: a host, perhaps behind a user, a colon and a path.
@@ -30,7 +29,7 @@ pub(crate) fn find_scp<'a>(
     input: &'a [u8],
     front: &'a [u8],
     path: &'a [u8],
-) -> Result<Found<'a>, Refusal<'a>>
+) -> Result<Found<'a>, Refusal>
     requires { PlainScp input.now front.now path.now }
     ensures found { IfOk result (λ found. SpellsScpBefore input.now (meant found)) }
     ensures ready { IfOk result (λ found. IsReady found) }
@@ -39,43 +38,18 @@ pub(crate) fn find_scp<'a>(
 {
     let plain = is_plain(input);
     if !is_utf8(plain, input) {
-        return Err(no_text(input));
+        return Err(Refusal::NotUtf8 { kind: UrlKind::Scp });
     }
     if path.is_empty() {
-        return Err(no_path(input));
+        return Err(Refusal::MissingPath { kind: UrlKind::Scp });
     }
     let (user, host) = cut_front_user(front);
     match find_host(plain, host) {
         Ok(host) => Ok(Found::Scp { user, host, path }),
         Err(fault) => Err(Refusal::BadUrl {
             kind: UrlKind::Scp,
-            fault: fault.kind,
-            at: front.len() - host.len() + fault.at,
-            len: fault.len,
+            fault,
         }),
-    }
-}
-
-/// The refusal of a text in the scp form that is not UTF-8.
-fn no_text(input: &[u8]) -> Refusal<'_>
-    requires text { ¬ IsUtf8 input.now }
-    requires form { HasScpForm input.now }
-    ensures { NamesFlaw input.now result }
-{
-    Refusal::NotUtf8 {
-        kind: UrlKind::Scp,
-        at: not_utf8(input),
-    }
-}
-
-/// The refusal of a text in the scp form that misses its path.
-fn no_path(input: &[u8]) -> Refusal<'_>
-    requires { MissesPath input.now UrlKind.Scp }
-    ensures { NamesFlaw input.now result }
-{
-    Refusal::MissingPath {
-        kind: UrlKind::Scp,
-        at: input.len(),
     }
 }
 
@@ -93,7 +67,7 @@ pub(crate) fn find_addressed<'a>(
     user: &'a [u8],
     address: &'a [u8],
     path: &'a [u8],
-) -> Result<Found<'a>, Refusal<'a>>
+) -> Result<Found<'a>, Refusal>
     requires { AddressedForm input.now user.now address.now path.now }
     ensures found { IfOk result (λ found. SpellsScpAddressed input.now (meant found)) }
     ensures ready { IfOk result (λ found. IsReady found) }
@@ -101,10 +75,10 @@ pub(crate) fn find_addressed<'a>(
     ensures flaw { IfErr result (λ refusal. NamesFlaw input.now refusal) }
 {
     if !is_text(input) {
-        return Err(no_text(input));
+        return Err(Refusal::NotUtf8 { kind: UrlKind::Scp });
     }
     if path.is_empty() {
-        return Err(no_path(input));
+        return Err(Refusal::MissingPath { kind: UrlKind::Scp });
     }
     Ok(Found::Scp {
         user: Some(user),
@@ -124,7 +98,7 @@ fn cut_front_user(front: &[u8]) -> (Option<&[u8]>, &[u8])
 }
 
 /// Finds the host of the scp form. What is known to be plain isn't looked at again for white space.
-fn find_host(plain: bool, host: &[u8]) -> Result<ScpHost<'_>, Fault>
+fn find_host(plain: bool, host: &[u8]) -> Result<ScpHost<'_>, UrlFault>
     requires plain { plain ≡ true → spec.is_plain host.now ≡ true }
     requires text { IsUtf8 host.now }
     requires no_at { FreeOf at_sign host.now }
@@ -136,21 +110,13 @@ fn find_host(plain: bool, host: &[u8]) -> Result<ScpHost<'_>, Fault>
         return Ok(ScpHost::Kept(host));
     }
     if !has_no_white_space(plain, host) {
-        return Err(white_space(as_text(host)));
+        return Err(UrlFault::BadCharacter);
     }
     if !is_free_of(host, b'\\') {
-        return Err(Fault {
-            kind: UrlFault::BadCharacter,
-            at: first_byte(host, b'\\'),
-            len: 1,
-        });
+        return Err(UrlFault::BadCharacter);
     }
     if host.is_empty() {
-        return Err(Fault {
-            kind: UrlFault::HostRequired,
-            at: 0,
-            len: 0,
-        });
+        return Err(UrlFault::HostRequired);
     }
     match after(host, b'[') {
         Some(behind) => find_in_brackets(behind),
@@ -169,7 +135,7 @@ fn has_no_white_space(plain: bool, text: &[u8]) -> bool
 
 /// Finds a host that has no bracket in front. Where it holds a colon, a bracket is behind that, so that no
 /// port follows.
-fn find_name(host: &[u8]) -> Result<ScpHost<'_>, Fault>
+fn find_name(host: &[u8]) -> Result<ScpHost<'_>, UrlFault>
     requires some { 0 < length host.now }
     requires open_front { begins_with left_bracket host.now ≡ false }
     requires text { IsUtf8 host.now }
@@ -183,33 +149,21 @@ fn find_name(host: &[u8]) -> Result<ScpHost<'_>, Fault>
     if front.is_empty() || !is_free_of(behind, b':') {
         return Ok(ScpHost::Name(host));
     }
-    Err(Fault {
-        kind: UrlFault::BadPort,
-        at: front.len() + 1,
-        len: behind.len(),
-    })
+    Err(UrlFault::BadPort)
 }
 
 /// Finds the host that has this behind a bracket in front: the bracket that closes it is the last byte.
-fn find_in_brackets(behind: &[u8]) -> Result<ScpHost<'_>, Fault>
+fn find_in_brackets(behind: &[u8]) -> Result<ScpHost<'_>, UrlFault>
     requires text { IsUtf8 (left_bracket ∷ behind.now) }
     requires colons { ColonsInside (left_bracket ∷ behind.now) }
     ensures read { ReadsScpPiece (left_bracket ∷ behind.now) result }
     ensures within { IfOk result (λ found. length (scp_slice found) ≤ length behind.now) }
 {
     let Some((inner, rest)) = cut(behind, b']') else {
-        return Err(Fault {
-            kind: UrlFault::BadCharacter,
-            at: 0,
-            len: 1,
-        });
+        return Err(UrlFault::BadCharacter);
     };
     if !rest.is_empty() {
-        return Err(Fault {
-            kind: UrlFault::BadCharacter,
-            at: inner.len() + 2,
-            len: rest.len(),
-        });
+        return Err(UrlFault::BadCharacter);
     }
     if is_literal(inner) {
         Ok(ScpHost::Literal(inner))

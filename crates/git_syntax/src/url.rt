@@ -4,8 +4,9 @@
 //! the slices of a location are found exactly where the definitions spell one, and each refusal has its flaw.
 //! It takes no memory. The scheme is looked at once, here, and what it says of the rest is passed on.
 
-ghost use Rattle.std.specs.Prelude.{◌≡◌, ◌+◌, ◌<◌, ◌≤◌, ◌↔◌, IfErr, IfOk, IsTrue, codes, length, take};
+ghost use Rattle.std.specs.Prelude.{◌≡◌, ◌≤◌, ◌↔◌, ◌++◌, IfErr, IfOk, IsTrue, MatchOption, codes, length, true};
 ghost use Rattle.git_syntax.specs.Authority.{Fits};
+ghost use Rattle.git_syntax.specs.Bytes.{FreeOf, begins_with, slash};
 ghost use Rattle.git_syntax.specs.Escapes.{has_percent};
 ghost use Rattle.git_syntax.specs.Flaws.{NamesFlaw, OtherUrlForm, UrlForm};
 ghost use Rattle.git_syntax.specs.Internal.FoundPieces.{IsReady, meant, room_for};
@@ -14,11 +15,10 @@ ghost use Rattle.git_syntax.specs.Internal.Looks.{Looks};
 ghost use Rattle.git_syntax.specs.Internal.SchemeRules.{AreRulesOf};
 ghost use Rattle.git_syntax.specs.Internal.UrlPieces.{syntax_of};
 
-use crate::bytes::cut;
+use crate::bytes::{cut, starts_with_byte};
 use crate::found::Found;
 use crate::length::fits;
 use crate::look::{Look, look_at};
-use crate::places::not_utf8;
 use crate::refusal::{Refusal, UrlKind};
 use crate::rules::{Rules, rules_of};
 use crate::scheme::KnownScheme;
@@ -30,7 +30,7 @@ pub(crate) fn find_url<'a>(
     input: &'a [u8],
     scheme: &'a [u8],
     rest: &'a [u8],
-) -> Result<Found<'a>, Refusal<'a>>
+) -> Result<Found<'a>, Refusal>
     requires { UrlForm input.now scheme.now rest.now }
     ensures found { IfOk result (λ found. Spells input.now (meant found)) }
     ensures ready { IfOk result (λ found. IsReady found) }
@@ -60,7 +60,7 @@ fn is_ext(known: KnownScheme) -> bool
 }
 
 /// Finds what a file URL is made of: the host ends at the first `/`, where the path begins.
-fn find_file<'a>(input: &'a [u8], rest: &'a [u8]) -> Result<Found<'a>, Refusal<'a>>
+fn find_file<'a>(input: &'a [u8], rest: &'a [u8]) -> Result<Found<'a>, Refusal>
     requires { UrlForm input.now (codes "file") rest.now }
     ensures found { IfOk result (λ found. SpellsFile input.now (meant found)) }
     ensures ready { IfOk result (λ found. IsReady found) }
@@ -68,21 +68,26 @@ fn find_file<'a>(input: &'a [u8], rest: &'a [u8]) -> Result<Found<'a>, Refusal<'
     ensures flaw { IfErr result (λ refusal. NamesFlaw input.now refusal) }
 {
     if !is_text(input) {
-        return Err(Refusal::NotUtf8 {
-            kind: UrlKind::Url,
-            at: not_utf8(input),
-        });
+        return Err(Refusal::NotUtf8 { kind: UrlKind::Url });
     }
-    match cut(rest, b'/') {
-        None => Err(Refusal::MissingPath {
-            kind: UrlKind::Url,
-            at: input.len(),
-        }),
-        Some((host, _)) => Ok(Found::File {
-            host,
-            path: rest.split_at(host.len()).1,
-        }),
+    match cut_at_path(rest) {
+        None => Err(Refusal::MissingPath { kind: UrlKind::Url }),
+        Some((host, path)) => Ok(Found::File { host, path }),
     }
+}
+
+/// The host and the path of a file URL, of what follows its `://`. Most such URLs have no host.
+fn cut_at_path(rest: &[u8]) -> Option<(&[u8], &[u8])>
+    ensures { MatchOption result (FreeOf slash rest.now)
+        (λ p. FreeOf slash p.0.now
+        × (rest.now ≡ p.0.now ++ p.1.now)
+        × (begins_with slash p.1.now ≡ true)) }
+{
+    if starts_with_byte(rest, b'/') {
+        return Some(rest.split_at(0));
+    }
+    let (host, _) = cut(rest, b'/')?;
+    Some(rest.split_at(host.len()))
 }
 
 /// Finds what a URL is made of that is no file URL, of whose scheme these are the rules.
@@ -91,7 +96,7 @@ fn find_other<'a>(
     rules: Rules,
     scheme: &'a [u8],
     rest: &'a [u8],
-) -> Result<Found<'a>, Refusal<'a>>
+) -> Result<Found<'a>, Refusal>
     requires form { OtherUrlForm input.now scheme.now rest.now }
     requires rules { AreRulesOf scheme.now rules }
     ensures found { IfOk result (λ found. SpellsUrl input.now (meant found)) }
@@ -100,7 +105,7 @@ fn find_other<'a>(
     ensures flaw { IfErr result (λ refusal. NamesFlaw input.now refusal) }
 {
     if !fits(rules.web, scheme, rest) {
-        return Err(too_long(input, scheme, rest));
+        return Err(Refusal::TooLong);
     }
     let look = look_at(input);
     if look.is_printable() {
@@ -115,7 +120,7 @@ fn find_in_text<'a>(
     rules: Rules,
     scheme: &'a [u8],
     rest: &'a [u8],
-) -> Result<Found<'a>, Refusal<'a>>
+) -> Result<Found<'a>, Refusal>
     requires form { OtherUrlForm input.now scheme.now rest.now }
     requires rules { AreRulesOf scheme.now rules }
     requires fits { Fits scheme.now rest.now }
@@ -126,46 +131,8 @@ fn find_in_text<'a>(
 {
     match str::from_utf8(input) {
         Ok(text) => find_parts(text, Look::Other, rules, scheme, rest),
-        Err(error) => Err(Refusal::NotUtf8 {
-            kind: UrlKind::Url,
-            at: error.valid_up_to(),
-        }),
+        Err(_) => Err(Refusal::NotUtf8 { kind: UrlKind::Url }),
     }
-}
-
-/// The refusal of a URL of which the scheme is too long, or what follows its `://`.
-fn too_long<'a>(input: &'a [u8], scheme: &[u8], rest: &[u8]) -> Refusal<'a>
-    requires form { OtherUrlForm input.now scheme.now rest.now }
-    requires unfit { ¬ Fits scheme.now rest.now }
-    ensures { NamesFlaw input.now result }
-{
-    let shown = shown_front(input, scheme);
-    if scheme.len() > 1024 {
-        return Refusal::TooLong {
-            shown,
-            total: input.len(),
-            at: 0,
-            len: scheme.len(),
-        };
-    }
-    Refusal::TooLong {
-        shown,
-        total: input.len(),
-        at: scheme.len() + 3,
-        len: shown.len() - (scheme.len() + 3),
-    }
-}
-
-/// The front of the text that is as long as the scheme, `://` and 1,024 bytes, or the whole.
-fn shown_front<'a>(input: &'a [u8], scheme: &[u8]) -> &'a [u8]
-    requires { length scheme.now < length input.now }
-    ensures { result.now ≡ take (length scheme.now + 1027) input.now }
-{
-    let behind = input.split_at(scheme.len()).1;
-    if behind.len() <= 1027 {
-        return input;
-    }
-    input.split_at(scheme.len() + 1027).0
 }
 
 /// Finds the parts of a URL that is text and no file URL, of which this is known.
@@ -175,7 +142,7 @@ fn find_parts<'a>(
     rules: Rules,
     scheme: &'a [u8],
     rest: &'a [u8],
-) -> Result<Found<'a>, Refusal<'a>>
+) -> Result<Found<'a>, Refusal>
     requires look { Looks look text.now }
     requires form { OtherUrlForm text.now scheme.now rest.now }
     requires rules { AreRulesOf scheme.now rules }
@@ -189,19 +156,13 @@ fn find_parts<'a>(
         Ok(url) => found_of_url(text.as_bytes(), rules, url),
         Err(fault) => Err(Refusal::BadUrl {
             kind: UrlKind::Url,
-            fault: fault.kind,
-            at: fault.at,
-            len: fault.len,
+            fault,
         }),
     }
 }
 
 /// What a URL is made of whose parts were read. That of the helper `ext` has the whole text for its path.
-fn found_of_url<'a>(
-    input: &'a [u8],
-    rules: Rules,
-    url: ParsedUrl<'a>,
-) -> Result<Found<'a>, Refusal<'a>>
+fn found_of_url<'a>(input: &'a [u8], rules: Rules, url: ParsedUrl<'a>) -> Result<Found<'a>, Refusal>
     requires spelled { HasUrlSyntax input.now (syntax_of url) }
     requires rules { AreRulesOf url.scheme.now rules }
     requires escaped { url.escaped ≡ has_percent url.path.now }
@@ -214,10 +175,7 @@ fn found_of_url<'a>(
         return Ok(Found::Ext { text: input });
     }
     if rules.needs_path && url.path.is_empty() {
-        return Err(Refusal::MissingPath {
-            kind: UrlKind::Url,
-            at: input.len(),
-        });
+        return Err(Refusal::MissingPath { kind: UrlKind::Url });
     }
     Ok(Found::Url { rules, url })
 }

@@ -21,8 +21,7 @@ use crate::bytes::{cut, cut_before_path, is_free_of, is_scheme_text, last_cut};
 use crate::escape::{decodes_to_utf8, decoding_is_utf8, has_percent, is_sound, lacks_white_space};
 use crate::host::{HostPort, HostSyntax, read_host, simple_host};
 use crate::look::Look;
-use crate::places::{broken_escape, first_byte, white_space};
-use crate::refusal::{Fault, UrlFault};
+use crate::refusal::UrlFault;
 use crate::rules::Rules;
 
 /// The parts of a URL, as slices of its text: nothing is decoded, nothing is copied.
@@ -68,7 +67,7 @@ pub(crate) fn read_url_syntax<'a>(
     rules: Rules,
     scheme: &'a [u8],
     rest: &'a [u8],
-) -> Result<ParsedUrl<'a>, Fault>
+) -> Result<ParsedUrl<'a>, UrlFault>
     requires look { Looks look text.now }
     requires form { OtherUrlForm text.now scheme.now rest.now }
     requires rules { AreRulesOf scheme.now rules }
@@ -77,41 +76,23 @@ pub(crate) fn read_url_syntax<'a>(
     ensures same_scheme { IfOk result (λ url. url.scheme.now ≡ scheme.now) }
     ensures escaped { IfOk result (λ url. url.escaped ≡ escape.has_percent url.path.now) }
     ensures refused { IfErr result (λ fault. (parts : UrlSyntax) → ¬ HasUrlSyntax text.now parts) }
-    ensures flaw { IfErr result (λ fault. UrlFlaw text.now fault.at fault.len fault.kind) }
+    ensures flaw { IfErr result (λ fault. UrlFlaw text.now fault) }
 {
     if !has_no_white_space(look, text) {
-        return Err(white_space(text));
+        return Err(UrlFault::BadCharacter);
     }
     if !has_sound_escapes(look, text) {
-        return Err(Fault {
-            kind: UrlFault::BadCharacter,
-            at: broken_escape(text.as_bytes()),
-            len: 1,
-        });
+        return Err(UrlFault::BadCharacter);
     }
     if !is_scheme_text(scheme) {
-        return Err(Fault {
-            kind: UrlFault::NoScheme,
-            at: 0,
-            len: scheme.len(),
-        });
+        return Err(UrlFault::NoScheme);
     }
     let (authority, path) = cut_before_path(rest, rules.web);
     if !means_text(look, path) {
-        return Err(Fault {
-            kind: UrlFault::BadCharacter,
-            at: text.len() - path.len(),
-            len: path.len(),
-        });
+        return Err(UrlFault::BadCharacter);
     }
-    match read_authority(rules.syntax, rules.needs_host, authority) {
-        Ok(parts) => Ok(join_parts(scheme, parts, path, holds_escape(look, path))),
-        Err(fault) => Err(Fault {
-            kind: fault.kind,
-            at: scheme.len() + 3 + fault.at,
-            len: fault.len,
-        }),
-    }
+    let parts = read_authority(rules.syntax, rules.needs_host, authority)?;
+    Ok(join_parts(scheme, parts, path, holds_escape(look, path)))
 }
 
 /// The parts of a URL, from those of its authority.
@@ -184,13 +165,13 @@ fn read_authority(
     syntax: HostSyntax,
     needed: bool,
     authority: &[u8],
-) -> Result<AuthoritySlices<'_>, Fault>
+) -> Result<AuthoritySlices<'_>, UrlFault>
     ensures read { IfOk result (λ parts. HoldsAuthority (host_syntax syntax) needed authority.now parts) }
     ensures clean { IfOk result (λ parts. FreeOf backslash authority.now) }
     ensures refused { IfErr result (λ fault. (¬ FreeOf backslash authority.now)
         ⊎ IsNoAuthority (host_syntax syntax) needed authority.now) }
     ensures flaw { IfErr result
-        (λ fault. AuthorityFlaw (host_syntax syntax) needed authority.now fault.at fault.len fault.kind) }
+        (λ fault. AuthorityFlaw (host_syntax syntax) needed authority.now fault) }
 {
     if let Some(host) = simple_host(authority) {
         return Ok(AuthoritySlices {
@@ -202,11 +183,7 @@ fn read_authority(
         });
     }
     if !is_free_of(authority, b'\\') {
-        return Err(Fault {
-            kind: UrlFault::BadCharacter,
-            at: first_byte(authority, b'\\'),
-            len: 1,
-        });
+        return Err(UrlFault::BadCharacter);
     }
     read_marked(syntax, needed, authority)
 }
@@ -216,32 +193,21 @@ fn read_marked(
     syntax: HostSyntax,
     needed: bool,
     authority: &[u8],
-) -> Result<AuthoritySlices<'_>, Fault>
+) -> Result<AuthoritySlices<'_>, UrlFault>
     ensures read { IfOk result (λ parts. HoldsAuthority (host_syntax syntax) needed authority.now parts) }
     ensures refused { IfErr result (λ fault. IsNoAuthority (host_syntax syntax) needed authority.now) }
     ensures flaw { IfErr result
-        (λ fault. AuthorityFlaw (host_syntax syntax) needed authority.now fault.at fault.len fault.kind) }
+        (λ fault. AuthorityFlaw (host_syntax syntax) needed authority.now fault) }
 {
     let Some((information, piece)) = last_cut(authority, b'@') else {
         return read_host_alone(syntax, needed, authority);
     };
     let credentials = read_credentials(information)?;
-    match read_host(syntax, piece) {
-        Ok(Some(host)) => Ok(AuthoritySlices {
-            credentials,
-            host: Some(host),
-        }),
-        Ok(None) => Err(Fault {
-            kind: UrlFault::BadCharacter,
-            at: authority.len(),
-            len: 0,
-        }),
-        Err(fault) => Err(Fault {
-            kind: fault.kind,
-            at: information.len() + 1 + fault.at,
-            len: fault.len,
-        }),
+    let host = read_host(syntax, piece)?;
+    if host.is_none() {
+        return Err(UrlFault::BadCharacter);
     }
+    Ok(AuthoritySlices { credentials, host })
 }
 
 /// Reads an authority without user information.
@@ -249,20 +215,16 @@ fn read_host_alone(
     syntax: HostSyntax,
     needed: bool,
     authority: &[u8],
-) -> Result<AuthoritySlices<'_>, Fault>
+) -> Result<AuthoritySlices<'_>, UrlFault>
     requires { FreeOf at_sign authority.now }
     ensures read { IfOk result (λ parts. HoldsAuthority (host_syntax syntax) needed authority.now parts) }
     ensures refused { IfErr result (λ fault. IsNoAuthority (host_syntax syntax) needed authority.now) }
     ensures flaw { IfErr result
-        (λ fault. AuthorityFlaw (host_syntax syntax) needed authority.now fault.at fault.len fault.kind) }
+        (λ fault. AuthorityFlaw (host_syntax syntax) needed authority.now fault) }
 {
     let host = read_host(syntax, authority)?;
     if needed && host.is_none() {
-        return Err(Fault {
-            kind: UrlFault::HostRequired,
-            at: 0,
-            len: 0,
-        });
+        return Err(UrlFault::HostRequired);
     }
     Ok(AuthoritySlices {
         credentials: CredentialSlices {
@@ -274,25 +236,17 @@ fn read_host_alone(
 }
 
 /// Reads user information: a user, or a user and a password, which decode to text.
-fn read_credentials(information: &[u8]) -> Result<CredentialSlices<'_>, Fault>
+fn read_credentials(information: &[u8]) -> Result<CredentialSlices<'_>, UrlFault>
     ensures { ReadsCredentials information.now result }
 {
     let Some((user, password)) = cut(information, b':') else {
         return read_user(information);
     };
     if !decodes_to_utf8(password) {
-        return Err(Fault {
-            kind: UrlFault::BadCharacter,
-            at: user.len() + 1,
-            len: password.len(),
-        });
+        return Err(UrlFault::BadCharacter);
     }
     if !decodes_to_utf8(user) {
-        return Err(Fault {
-            kind: UrlFault::BadCharacter,
-            at: 0,
-            len: user.len(),
-        });
+        return Err(UrlFault::BadCharacter);
     }
     let password = unless_empty(password);
     Ok(CredentialSlices {
@@ -302,16 +256,12 @@ fn read_credentials(information: &[u8]) -> Result<CredentialSlices<'_>, Fault>
 }
 
 /// Reads user information without a password.
-fn read_user(information: &[u8]) -> Result<CredentialSlices<'_>, Fault>
+fn read_user(information: &[u8]) -> Result<CredentialSlices<'_>, UrlFault>
     requires { FreeOf colon information.now }
     ensures { ReadsCredentials information.now result }
 {
     if !decodes_to_utf8(information) {
-        return Err(Fault {
-            kind: UrlFault::BadCharacter,
-            at: 0,
-            len: information.len(),
-        });
+        return Err(UrlFault::BadCharacter);
     }
     Ok(CredentialSlices {
         user: unless_empty(information),

@@ -40,13 +40,13 @@ user_checked text u w (Some p) free e good h = record {
 
 -- nothing is wrong with user information that holds a user and a password
 pub user_passes : (text : List ℕ) → HoldsUser text → Passes (BadUser text)
-user_passes text (user, password, c) p bad = let (at, len, none, _) = bad_user_kind text p bad in no_text_refutes text at len user password none c
+user_passes text (user, password, c) p bad = no_text_refutes text user password (bad_user_kind text p bad).0 c
 
 -- ---- hosts
 
 -- nothing is wrong with a piece that names a host, or is empty
 pub named_passes : (syntax : HostSyntax) (piece : List ℕ) → NamesHost syntax piece → Passes (BadHost syntax piece)
-named_passes syntax piece (host, port, h) p bad = let flaw = bad_host_flaw syntax piece p bad in flawed_unnamed syntax piece flaw.named flaw.at flaw.len flaw.there host port h
+named_passes syntax piece (host, port, h) p bad = let flaw = bad_host_flaw syntax piece p bad in flawed_unnamed syntax piece flaw.named flaw.there host port h
 
 -- so nothing is wrong with one that is empty
 pub nothing_wrong : (syntax : HostSyntax) (piece : List ℕ) → piece ≡ [] → Passes (BadHost syntax piece)
@@ -131,4 +131,4 @@ parts_checked syntax needed text r clean h =
 pub parts_pass : (syntax : HostSyntax) (needed : Bool) (authority : List ℕ) → HoldsParts syntax needed authority → Passes (BadAuthority syntax needed authority)
 parts_pass syntax needed authority h p bad =
     let flaw = bad_authority_flaw syntax needed authority p bad in
-    flawed_authority syntax needed authority flaw.at flaw.len flaw.named h.clean flaw.there h.user h.password h.host h.port h.held
+    flawed_authority syntax needed authority flaw.named h.clean flaw.there h.user h.password h.host h.port h.held

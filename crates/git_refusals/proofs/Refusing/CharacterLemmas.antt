@@ -2,11 +2,16 @@
 use Rattle.std.proofs.Common.{◌≡◌, ◌∙◌, ◌+◌, ◌<◌, ◌≤◌, ℕ, Bool, true, false, not, ◌||◌, inl, inr, List, [], ◌∷◌, ◌++◌, length, refl, sym, ap, subst, arith, append_assoc, length-append, IsUtf8, chars, encode_utf8, encode_utf8_all}
 use Rattle.std.specs.List.{list_any, list_all}
 use Rattle.std.proofs.lemmas.Bool.{cases_Bool, both_ways, false≢true, not-true, not-false, and_from}
-use Rattle.std.proofs.lemmas.Str.{chars_from_encodes, chars-IsAscii, cons_from_encodes, encodes-chars, encodes-IsAscii}
+use Rattle.std.proofs.lemmas.List.{append-nil}
+use Rattle.std.proofs.lemmas.Str.{chars_from_encodes, chars-IsAscii, cons_from_encodes, encodes-append, encodes-chars, encodes-IsAscii}
 use Rattle.git_syntax.specs.Bytes.{FreeOf}
 use Rattle.git_syntax.proofs.Texts.CutLemmas.{free_of_all, lacks-cons, lacks_parts, lacks_head_tail, not_free}
 use Rattle.git_syntax.proofs.Texts.EscapeLemmas.{ascii_class}
 use Rattle.git_refusals.specs.Characters.{StandsCharacter}
+
+-- one more character
+pub encodes_push : (seen : List ℕ) (c : ℕ) → encode_utf8_all (seen ++ c ∷ []) ≡ encode_utf8_all seen ++ encode_utf8 c
+encodes_push seen c = encodes-append seen (c ∷ []) ∙ ap (λ t. encode_utf8_all seen ++ t) (append-nil (encode_utf8 c))
 
 -- characters whose bytes begin with those of others begin with these
 cut_from_encodes : (cs seen rest : List ℕ) → encode_utf8_all cs ≡ encode_utf8_all seen ++ rest → (behind : List ℕ) × (cs ≡ seen ++ behind) × (encode_utf8_all behind ≡ rest)

@@ -1,10 +1,10 @@
 -- What the checks find in hosts, ports and authorities: the flaw of `git_syntax` that belongs to the reason is there.
-use Rattle.std.proofs.Common.{◌≡◌, ℕ, ◌+◌, Bool, false, inl, inr, List, [], ◌∷◌, ◌++◌, length, refl, sym, ap, subst, ◌∙◌, arith, length-append, IsUtf8}
+use Rattle.std.proofs.Common.{◌≡◌, ℕ, Bool, false, inl, inr, List, [], ◌∷◌, ◌++◌, refl, sym, ap, subst, ◌∙◌, arith, length-append, IsUtf8}
 use Rattle.std.proofs.lemmas.List.{append-nil}
 use Rattle.percent_encoding.specs.Percent.{percent_decode}
 use Rattle.git_syntax.specs.declared.refusal.UrlFault.{UrlFault}
 use Rattle.git_syntax.specs.declared.refusal.UrlFault.TheVariants as fault
-use Rattle.git_syntax.specs.Bytes.{colon, at_sign, left_bracket, begins_with}
+use Rattle.git_syntax.specs.Bytes.{colon, at_sign, left_bracket, backslash, begins_with}
 use Rattle.git_syntax.specs.Hosts.{HostSyntax, IsLiteral, Bracketed, IsManyColoned, ReadsAddress, AllowsPort, is_http_host_byte}
 use Rattle.git_syntax.specs.Hosts.HostSyntax.{http_hosts, git_hosts, other_hosts}
 use Rattle.git_syntax.specs.Flaws.{IsNoPort, HasBadPort, IsNoHost, IsNoInner, HasBadHost, HostPortFlaw, PieceOf, AuthorityFlaw}
@@ -18,20 +18,19 @@ use Rattle.git_refusals.specs.declared.reason.RefusalKind.TheVariants as kind
 use Rattle.git_refusals.specs.Kinds.{kind_of}
 use Rattle.git_refusals.specs.Reasons.{Then, NoHostText, NoInner, NoDigits, PortOutside, WebColons, BadColons, BadHost, BadUser, BadParts, BadAuthority}
 use Rattle.git_refusals.proofs.Refusing.CharacterLemmas.{class_stands}
+use Rattle.git_refusals.proofs.Refusing.PlaceLemmas.{stands_not_free}
 
 -- ---- reasons and faults
 
--- the error of the reason names a fault, and a flaw of that fault is there, at some place
-pub record Flawed (flaw : UrlFault → ℕ → ℕ → Type 0) (why : Reason) : Type 0 where
+-- the error of the reason names a fault, and a flaw of that fault is there
+pub record Flawed (flaw : UrlFault → Type 0) (why : Reason) : Type 0 where
   pub named : UrlFault
-  pub at : ℕ
-  pub len : ℕ
   pub of_kind : kind_of why ≡ kind.BadUrl named
-  pub there : flaw named at len
+  pub there : flaw named
 
 -- such a flaw, by the reason
-pub flawed : {flaw : UrlFault → ℕ → ℕ → Type 0} {why : Reason} (named : UrlFault) (at len : ℕ) → kind_of why ≡ kind.BadUrl named → flaw named at len → Flawed flaw why
-flawed named at len k h = record { named = named; at = at; len = len; of_kind = k; there = h }
+pub flawed : {flaw : UrlFault → Type 0} {why : Reason} (named : UrlFault) → kind_of why ≡ kind.BadUrl named → flaw named → Flawed flaw why
+flawed named k h = record { named = named; of_kind = k; there = h }
 
 -- ---- ports and hosts
 
@@ -76,75 +75,57 @@ web_colons_kind piece p (WebColons.second_colon _ _ _ _ _ _ _ s) = ap kind_of s.
 
 -- colons that mark no port, in a piece that stands for no host
 colons_flaw : (syntax : HostSyntax) (piece : List ℕ) (p : Place) → begins_with left_bracket piece ≡ false → IsManyColoned piece → ¬ ReadsAddress syntax piece → BadColons syntax piece p → Flawed (HostPortFlaw syntax piece) p.reason
-colons_flaw http_hosts piece p front many _ h = flawed fault.BadCharacter 0 (length piece) (web_colons_kind piece p h) (HasBadHost.colons_on_the_web refl front many refl refl)
-colons_flaw git_hosts piece p front many none h =
-    flawed fault.BadCharacter 0 (length piece) (ap kind_of h.stands.named) (HasBadHost.colons bare_not_strict none front many (λ host k. h.undecodable k.0) refl refl)
-colons_flaw other_hosts piece p front many none h =
-    flawed fault.BadCharacter 0 (length piece) (ap kind_of h.stands.named) (HasBadHost.colons loose_not_strict none front many (λ host k. h.undecodable k.0) refl refl)
+colons_flaw http_hosts piece p front many _ h = flawed fault.BadCharacter (web_colons_kind piece p h) (HasBadHost.colons_on_the_web refl front many)
+colons_flaw git_hosts piece p front many none h = flawed fault.BadCharacter (ap kind_of h.stands.named) (HasBadHost.colons bare_not_strict none front many (λ host k. h.undecodable k.0))
+colons_flaw other_hosts piece p front many none h = flawed fault.BadCharacter (ap kind_of h.stands.named) (HasBadHost.colons loose_not_strict none front many (λ host k. h.undecodable k.0))
 
 -- what is wrong with a host and a port
 pub bad_host_flaw : (syntax : HostSyntax) (piece : List ℕ) (p : Place) → BadHost syntax piece p → Flawed (HostPortFlaw syntax piece) p.reason
-bad_host_flaw syntax piece p (BadHost.unclosed behind free e s) =
-    flawed fault.BadCharacter 0 1 (ap kind_of s.named) (HasBadHost.open_bracket behind free e refl refl)
+bad_host_flaw syntax piece p (BadHost.unclosed behind free e s) = flawed fault.BadCharacter (ap kind_of s.named) (HasBadHost.open_bracket behind free e)
 bad_host_flaw syntax piece p (BadHost.behind_bracket x wrong rest closed free some _ e s) =
-    flawed fault.BadCharacter (length x + 2) (length (wrong ++ rest)) (ap kind_of s.named)
-    (HasBadHost.behind_bracket x (wrong ++ rest) closed e (omega (arith, some, length-append wrong rest)) (begins-append colon wrong rest some ∙ free_begins colon wrong free) refl refl)
+    flawed fault.BadCharacter (ap kind_of s.named)
+    (HasBadHost.behind_bracket x (wrong ++ rest) closed e (omega (arith, some, length-append wrong rest)) (begins-append colon wrong rest some ∙ free_begins colon wrong free))
 bad_host_flaw syntax piece p (BadHost.between x rest around b) =
-    let (k, none) = no_inner_kind syntax x b.inside b.found in
-    flawed fault.BadCharacter 1 (length x) (ap kind_of b.stands.named ∙ k) (HasBadHost.brackets x rest around none refl refl)
+    let (k, none) = no_inner_kind syntax x b.inside b.found in flawed fault.BadCharacter (ap kind_of b.stands.named ∙ k) (HasBadHost.brackets x rest around none)
 bad_host_flaw syntax piece p (BadHost.port_behind x digits closed _ e b) =
-    let (k, none) = port_kind syntax digits b.inside b.found in
-    flawed fault.BadPort (length x + 3) (length digits) (ap kind_of b.stands.named ∙ k) (HasBadPort.bracketed x digits closed e none refl refl)
+    let (k, none) = port_kind syntax digits b.inside b.found in flawed fault.BadPort (ap kind_of b.stands.named ∙ k) (HasBadPort.bracketed x digits closed e none)
 bad_host_flaw syntax piece p (BadHost.colons front many none h) = colons_flaw syntax piece p front many none h
 bad_host_flaw syntax piece p (BadHost.plain h bad) =
-    let (k, none) = no_host_kind syntax piece p bad in
-    flawed fault.BadCharacter 0 (length piece) k (HasBadHost.plain piece [] h (inl refl) (sym (append-nil piece)) none refl refl)
+    let (k, none) = no_host_kind syntax piece p bad in flawed fault.BadCharacter k (HasBadHost.plain piece [] h (inl refl) (sym (append-nil piece)) none)
 bad_host_flaw syntax piece p (BadHost.with_port text digits h free e (Then.at_first b)) =
-    let (k, none) = no_digits_kind syntax digits b.inside b.found in
-    flawed fault.BadPort (length text + 1) (length digits) (ap kind_of b.stands.named ∙ k) (HasBadPort.plain text digits h free e none refl refl)
+    let (k, none) = no_digits_kind syntax digits b.inside b.found in flawed fault.BadPort (ap kind_of b.stands.named ∙ k) (HasBadPort.plain text digits h free e none)
 bad_host_flaw syntax piece p (BadHost.with_port text digits h free e (Then.at_second _ (Then.at_first bad))) =
-    let (k, none) = no_host_kind syntax text p bad in
-    flawed fault.BadCharacter 0 (length text) k (HasBadHost.plain text (colon ∷ digits) h (inr (digits, free, refl)) e none refl refl)
+    let (k, none) = no_host_kind syntax text p bad in flawed fault.BadCharacter k (HasBadHost.plain text (colon ∷ digits) h (inr (digits, free, refl)) e none)
 bad_host_flaw syntax piece p (BadHost.with_port text digits h free e (Then.at_second _ (Then.at_second _ b))) =
-    let (k, none) = outside_kind syntax digits b.inside b.found in
-    flawed fault.BadPort (length text + 1) (length digits) (ap kind_of b.stands.named ∙ k) (HasBadPort.plain text digits h free e none refl refl)
+    let (k, none) = outside_kind syntax digits b.inside b.found in flawed fault.BadPort (ap kind_of b.stands.named ∙ k) (HasBadPort.plain text digits h free e none)
 
 -- ---- authorities
 
--- what is wrong with an authority, by its fault first
-abbrev pub AuthorityFlawOf : HostSyntax → Bool → List ℕ → UrlFault → ℕ → ℕ → Type 0
-AuthorityFlawOf syntax needed authority named at len = AuthorityFlaw syntax needed authority at len named
-
 -- what is wrong with user information is a part of it that is not text
-pub bad_user_kind : (information : List ℕ) (p : Place) → BadUser information p → (at : ℕ) × (len : ℕ) × HasNoText information at len × (kind_of p.reason ≡ kind.BadUrl fault.BadCharacter)
-bad_user_kind information p (BadUser.alone free h) = (0, length information, HasNoText.user free h.undecodable refl refl, ap kind_of h.stands.named)
+pub bad_user_kind : (information : List ℕ) (p : Place) → BadUser information p → HasNoText information × (kind_of p.reason ≡ kind.BadUrl fault.BadCharacter)
+bad_user_kind information p (BadUser.alone free h) = (HasNoText.user free h.undecodable, ap kind_of h.stands.named)
 bad_user_kind information p (BadUser.with_password u w free e (Then.at_first b)) =
-    (length u + 1, length w, HasNoText.password u w free e b.found.undecodable refl refl, ap kind_of b.stands.named ∙ ap kind_of b.found.stands.named)
-bad_user_kind information p (BadUser.with_password u w free e (Then.at_second _ h)) =
-    (0, length u, HasNoText.user_before_password u w free e h.undecodable refl refl, ap kind_of h.stands.named)
+    (HasNoText.password u w free e b.found.undecodable, ap kind_of b.stands.named ∙ ap kind_of b.found.stands.named)
+bad_user_kind information p (BadUser.with_password u w free e (Then.at_second _ h)) = (HasNoText.user_before_password u w free e h.undecodable, ap kind_of h.stands.named)
 
 -- the piece behind the user information
-bad_piece_flaw : (syntax : HostSyntax) (needed : Bool) (authority piece : List ℕ) (start : ℕ) (why : Reason) → PieceOf authority piece start → Flawed (HostPortFlaw syntax piece) why → Flawed (AuthorityFlawOf syntax needed authority) why
-bad_piece_flaw syntax needed authority piece start why of h =
-    flawed h.named (start + h.at) h.len h.of_kind (AuthorityFlaw.bad_name piece h.named start h.at of h.there refl)
+bad_piece_flaw : (syntax : HostSyntax) (needed : Bool) (authority piece : List ℕ) (why : Reason) → PieceOf authority piece → Flawed (HostPortFlaw syntax piece) why → Flawed (AuthorityFlaw syntax needed authority) why
+bad_piece_flaw syntax needed authority piece why of h = flawed h.named h.of_kind (AuthorityFlaw.bad_name piece h.named of h.there)
 
 -- an authority without a backslash
-bad_parts_flaw : (syntax : HostSyntax) (needed : Bool) (authority : List ℕ) (p : Place) → BadParts syntax needed authority p → Flawed (AuthorityFlawOf syntax needed authority) p.reason
-bad_parts_flaw syntax needed authority p (BadParts.alone free (Then.at_first h)) =
-    bad_piece_flaw syntax needed authority authority 0 p.reason (PieceOf.whole free refl refl) (bad_host_flaw syntax authority p h)
-bad_parts_flaw syntax needed authority p (BadParts.alone free (Then.at_second _ h)) =
-    flawed fault.HostRequired 0 0 (ap kind_of h.stands.named) (AuthorityFlaw.host_required h.wanted h.empty refl refl)
+bad_parts_flaw : (syntax : HostSyntax) (needed : Bool) (authority : List ℕ) (p : Place) → BadParts syntax needed authority p → Flawed (AuthorityFlaw syntax needed authority) p.reason
+bad_parts_flaw syntax needed authority p (BadParts.alone free (Then.at_first h)) = bad_piece_flaw syntax needed authority authority p.reason (PieceOf.whole free refl) (bad_host_flaw syntax authority p h)
+bad_parts_flaw syntax needed authority p (BadParts.alone free (Then.at_second _ h)) = flawed fault.HostRequired (ap kind_of h.stands.named) (AuthorityFlaw.host_required h.wanted h.empty)
 bad_parts_flaw syntax needed authority p (BadParts.with_user information piece free e (Then.at_first h)) =
-    let (at, len, none, k) = bad_user_kind information p h in flawed fault.BadCharacter at len k (bad_user_flaw syntax needed authority information piece at len free e none)
+    let (none, k) = bad_user_kind information p h in flawed fault.BadCharacter k (bad_user_flaw syntax needed authority information piece free e none)
 bad_parts_flaw syntax needed authority p (BadParts.with_user information piece free e (Then.at_second _ (Then.at_first b))) =
     let h = bad_host_flaw syntax piece b.inside b.found in
-    bad_piece_flaw syntax needed authority piece (length information + 1) p.reason (PieceOf.behind information free e refl) (subst (λ why. Flawed (HostPortFlaw syntax piece) why) (sym b.stands.named) h)
+    bad_piece_flaw syntax needed authority piece p.reason (PieceOf.behind information free e) (subst (λ why. Flawed (HostPortFlaw syntax piece) why) (sym b.stands.named) h)
 bad_parts_flaw syntax needed authority p (BadParts.with_user information piece free e (Then.at_second _ (Then.at_second _ h))) =
-    flawed fault.BadCharacter (length authority) 0 (ap kind_of h.stands.named)
-    (AuthorityFlaw.no_host information (e ∙ ap (λ t. information ++ at_sign ∷ t) h.empty) refl refl)
+    flawed fault.BadCharacter (ap kind_of h.stands.named) (AuthorityFlaw.no_host information (e ∙ ap (λ t. information ++ at_sign ∷ t) h.empty))
 
 -- any authority
-pub bad_authority_flaw : (syntax : HostSyntax) (needed : Bool) (authority : List ℕ) (p : Place) → BadAuthority syntax needed authority p → Flawed (AuthorityFlawOf syntax needed authority) p.reason
+pub bad_authority_flaw : (syntax : HostSyntax) (needed : Bool) (authority : List ℕ) (p : Place) → BadAuthority syntax needed authority p → Flawed (AuthorityFlaw syntax needed authority) p.reason
 bad_authority_flaw syntax needed authority p (Then.at_first h) =
-    flawed fault.BadCharacter p.at 1 (ap kind_of h.stands.named) (AuthorityFlaw.holds_backslash h.first refl)
+    flawed fault.BadCharacter (ap kind_of h.stands.named) (AuthorityFlaw.holds_backslash (stands_not_free backslash authority p.at h.first))
 bad_authority_flaw syntax needed authority p (Then.at_second _ h) = bad_parts_flaw syntax needed authority p h

@@ -74,7 +74,7 @@ unfit_names b scheme rest r form unfit h = elim (cases_lt 1024 (length scheme)) 
 -- so does the shown front of each URL that is too long
 front_names : (front b : List ℕ) (r : Refusal) → Refused b r → kind_of r.reason ≡ kind.TooLong → front ≡ shown_front b r → NamesRefusal front r
 front_names front b r h k e =
-    let (shown, total, at, len, flaw) = subst (λ x. IsOfKind b r.form x) k (refused_names b r h) in
+    let flaw = subst (λ x. IsOfKind b r.form x) k (refused_names b r h) in
     subst (λ x. NamesRefusal x r) (sym e) (unfit_names b flaw.front flaw.rest r flaw.form flaw.unfit h)
 
 -- the shown front of a URL that is too long holds the mark

@@ -4,12 +4,11 @@ use Rattle.std.proofs.Common.{◌≡◌, ℕ, ◌+◌, Bool, true, false, inr, L
 use Rattle.std.proofs.lemmas.Bool.{both_ways}
 use Rattle.git_syntax.specs.Bytes.{percent_sign, backslash, FreeOf}
 use Rattle.git_syntax.specs.Escapes.{is_sound, begins_with_digits}
-use Rattle.git_syntax.specs.Places.{StandsFirst, StandsBroken}
 use Rattle.git_syntax.proofs.Texts.CutLemmas.{heads, tails, class_cut_unique, cut_unique, not_free}
 use Rattle.git_syntax.proofs.Texts.EscapeLemmas.{digits-append, sound_head, sound_tail}
 use Rattle.git_refusals.specs.declared.place.Place.{Place}
 use Rattle.git_refusals.specs.declared.reason.Reason.{Reason}
-use Rattle.git_refusals.specs.Characters.{StandsCharacter}
+use Rattle.git_refusals.specs.Characters.{StandsFirst, StandsBroken, StandsCharacter}
 use Rattle.git_refusals.specs.Reasons.{Stands, Behind, Then, Undecodable, NotText, HasCharacter, HasBackslash, HasBrokenEscape}
 
 -- ---- checks one behind the other

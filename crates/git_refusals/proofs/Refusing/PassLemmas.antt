@@ -12,7 +12,6 @@ use Rattle.git_syntax.specs.Escapes.{is_sound}
 use Rattle.git_syntax.specs.Authority.{Fits}
 use Rattle.git_syntax.proofs.Texts.CutLemmas.{helper_name_bytes, scheme_helper_name}
 use Rattle.git_syntax.proofs.Texts.EscapeLemmas.{sound_head, sound_parts}
-use Rattle.git_syntax.proofs.Texts.PlaceLemmas.{stands_not_free}
 use Rattle.git_syntax.proofs.Parsing.ClassifierLemmas.{name_byte_ascii}
 use Rattle.git_refusals.specs.declared.place.Place.{Place}
 use Rattle.git_refusals.specs.declared.reason.Reason.{Reason}
@@ -20,6 +19,7 @@ use Rattle.git_refusals.specs.declared.reason.Reason.TheVariants as reason
 use Rattle.git_refusals.specs.Reasons.{Behind, Passes, Then, Undecodable, NotText, HasCharacter, HasBackslash, HasBrokenEscape, NoDigits, TooLong, BadScheme, NoScpPath, NoScpHost}
 use Rattle.git_refusals.specs.Internal.Readable.{Checks}
 use Rattle.git_refusals.proofs.Refusing.CharacterLemmas.{no_character_stands, class_stands}
+use Rattle.git_refusals.proofs.Refusing.PlaceLemmas.{stands_not_free}
 
 -- ---- the order of checks
 

@@ -1,5 +1,5 @@
 -- Schemes, the lengths of URLs, and file URLs: what the checks find, and what holds where they find nothing.
-use Rattle.std.proofs.Common.{◌≡◌, ℕ, true, false, List, [], ◌∷◌, length, drop, Some, None, inl, inr, refl, sym, ap, subst, ◌∙◌, codes}
+use Rattle.std.proofs.Common.{◌≡◌, ℕ, true, false, List, [], ◌∷◌, length, Some, None, inl, inr, refl, sym, ap, subst, ◌∙◌, codes}
 use Rattle.std.specs.Prelude.{IsUtf8, chars, slice_get}
 use Rattle.std.specs.List.{list_any, list_all}
 use Rattle.std.specs.Char.{is_ascii_alphabetic}
@@ -25,8 +25,8 @@ file_read b rest form text held =
     elim (free_or_cut slash rest) [
       | inl free ↦ absurd (held free)
       | inr (host, behind, free, e) ↦
-          let path = drop (length host) rest in
-          (record (path_alone file false path) { host = unless_empty host }, file_found b rest host behind path _ form text free e refl refl)
+          let path = slash ∷ behind in
+          (record (path_alone file false path) { host = unless_empty host }, file_found b rest host path _ form text free e refl refl)
     ]
 
 -- ---- schemes

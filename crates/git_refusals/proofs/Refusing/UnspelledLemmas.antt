@@ -1,6 +1,6 @@
 -- Each check finds what its error names: the flaw of `git_syntax` that belongs to the reason is in the text.
 -- So a text that is refused spells no location.
-use Rattle.std.proofs.Common.{◌≡◌, ℕ, ◌+◌, ◌<◌, ◌==◌, true, false, inl, inr, List, [], ◌∷◌, ◌++◌, length, take, Option, Some, None, refl, sym, ap, subst, ◌∙◌, arith, length-append, codes, IsUtf8}
+use Rattle.std.proofs.Common.{◌≡◌, ℕ, ◌<◌, ◌==◌, true, false, inl, inr, List, [], ◌∷◌, ◌++◌, length, Option, Some, None, refl, sym, ap, subst, ◌∙◌, arith, codes, IsUtf8}
 use Rattle.std.specs.Str.{chars}
 use Rattle.std.specs.List.{list_any}
 use Rattle.std.specs.Char.{is_whitespace, is_ascii_alphabetic}
@@ -9,20 +9,18 @@ use Rattle.std.proofs.lemmas.Bool.Decides.{nat_tests}
 use Rattle.std.proofs.lemmas.List.{append-nil}
 use Rattle.git_syntax.specs.declared.refusal.UrlKind.{UrlKind}
 use Rattle.git_syntax.specs.declared.refusal.UrlKind.TheVariants.{Url, Scp, Local}
-use Rattle.git_syntax.specs.declared.refusal.UrlFault.{UrlFault}
 use Rattle.git_syntax.specs.declared.refusal.UrlFault.TheVariants as fault
-use Rattle.git_syntax.specs.Bytes.{slash, colon, at_sign, left_bracket, right_bracket, FreeOf, begins_with, LacksWhiteSpace, is_scheme_text, is_path_start}
+use Rattle.git_syntax.specs.declared.refusal.Refusal.TheVariants as found
+use Rattle.git_syntax.specs.Bytes.{slash, colon, at_sign, left_bracket, backslash, right_bracket, FreeOf, begins_with, is_scheme_text, is_path_start}
 use Rattle.git_syntax.specs.Schemes.{is_web_scheme, host_syntax_of, requires_host}
 use Rattle.git_syntax.specs.Grammar.{ScpForm, AddressedForm, IsAddressed, ScpUser}
 use Rattle.git_syntax.specs.Flaws.{UrlForm, OtherUrlForm, UrlCut, UrlFlaw, ScpNameFlaw, ScpHostFlaw, MissesPath}
 use Rattle.git_syntax.specs.Internal.ScpPieces.{ColonsInside}
 use Rattle.git_syntax.specs.Refusals.{HasFlaw}
 use Rattle.git_syntax.proofs.Texts.CutLemmas.{begins-append, free_of_lacked}
-use Rattle.git_syntax.proofs.Texts.PlaceLemmas.{white_stands}
-use Rattle.git_syntax.proofs.Parsing.UrlLemmas.{path_end, too_long_placed}
 use Rattle.git_syntax.proofs.Parsing.ClassifierLemmas.{file_misses_path}
 use Rattle.git_syntax.proofs.Parsing.ScpLemmas.{colons_inside_front, colons_inside_host, no_port_found, open_found, rest_found, scp_host_utf8}
-use Rattle.git_syntax.proofs.Errors.RefusalLemmas.{flawed_unspelled}
+use Rattle.git_syntax.proofs.Errors.RefusalLemmas.{flawless}
 use Rattle.git_refusals.specs.declared.place.Place.{Place}
 use Rattle.git_refusals.specs.declared.reason.Reason.{Reason}
 use Rattle.git_refusals.specs.declared.reason.Reason.TheVariants as reason
@@ -34,6 +32,7 @@ use Rattle.git_refusals.specs.Reasons.{Passes, Then, TooLong, BadScheme, BadRest
 use Rattle.git_refusals.specs.Promised.{IsOfKind, NamesKind}
 use Rattle.git_refusals.specs.Laws.{RefusedFlaw, RefusedUnspelled}
 use Rattle.git_refusals.proofs.Refusing.CharacterLemmas.{no_character_stands, character_stands}
+use Rattle.git_refusals.proofs.Refusing.PlaceLemmas.{stands_not_free}
 use Rattle.git_refusals.proofs.Refusing.PassLemmas.{passes_text, sound_passes, fits_passes, scheme_passes}
 use Rattle.git_refusals.proofs.Refusing.FlawLemmas.{Flawed, flawed, bad_authority_flaw}
 use Rattle.git_refusals.proofs.Refusing.SchemeLemmas.{scheme_read, no_character, first_at_front}
@@ -79,15 +78,7 @@ of_kind b form why error e h = subst (λ k. IsOfKind b form k) (sym e) h
 
 -- a text that is too long
 too_long_of : (b scheme rest : List ℕ) (p : Place) → OtherUrlForm b scheme rest → TooLong scheme rest p → IsOfKind b Url (kind_of p.reason)
-too_long_of b scheme rest p form h =
-    let (at, len, placed) = too_long_placed b scheme rest form.form.joined in
-    of_kind b Url p.reason kind.TooLong (named h) (
-      take (length scheme + 1027) b,
-      length b,
-      at,
-      len,
-      record { front = scheme; rest = rest; form = form; unfit = λ fits. fits_passes scheme rest fits p h; front_shown = refl; length_reported = refl; place = placed },
-    )
+too_long_of b scheme rest p form h = of_kind b Url p.reason kind.TooLong (named h) (record { front = scheme; rest = rest; form = form; unfit = λ fits. fits_passes scheme rest fits p h })
   where
     named : TooLong scheme rest p → kind_of p.reason ≡ kind.TooLong
     named (TooLong.long_scheme _ s) = ap kind_of s.named
@@ -106,11 +97,11 @@ bad_rest_of b scheme rest p form is h = found h.found
     found : FoundBehind b scheme h.authority h.path p → IsOfKind b Url (kind_of p.reason)
     found (Then.at_first k) =
         of_kind b Url p.reason (kind.BadUrl fault.BadCharacter) (ap kind_of k.stands.named ∙ ap kind_of k.found.stands.named)
-        (length (scheme ++ (codes "://" ++ h.authority)), length h.path, UrlFlaw.bad_path scheme h.authority h.path cut k.found.undecodable (path_end b scheme h.authority h.path joined) refl)
+        (UrlFlaw.bad_path scheme h.authority h.path cut k.found.undecodable)
     found (Then.at_second _ (Then.at_first k)) =
         let flaw = bad_authority_flaw (host_syntax_of scheme) (requires_host scheme) h.authority k.inside k.found in
         of_kind b Url p.reason (kind.BadUrl flaw.named) (ap kind_of k.stands.named ∙ flaw.of_kind)
-        (length scheme + 3 + flaw.at, flaw.len, UrlFlaw.bad_authority scheme h.authority h.path flaw.named flaw.at cut flaw.there refl)
+        (UrlFlaw.bad_authority scheme h.authority h.path flaw.named cut flaw.there)
     found (Then.at_second _ (Then.at_second _ k)) =
         of_kind b Url p.reason kind.MissingPath (ap kind_of k.stands.named)
         (MissesPath.in_url scheme h.authority k.wanted (free_of_lacked (is_path_start (is_web_scheme scheme)) slash h.authority h.before_path refl)
@@ -122,14 +113,13 @@ bad_url_of b scheme rest p form (Then.at_first h) = too_long_of b scheme rest p 
 bad_url_of b scheme rest p form (Then.at_second _ (Then.at_first h)) =
     of_kind b Url p.reason kind.NotUtf8 (ap kind_of h.stands.named) (h.no_text, (scheme, rest, form.form))
 bad_url_of b scheme rest p form (Then.at_second _ (Then.at_second text (Then.at_first h))) =
-    let held : ¬ LacksWhiteSpace b = λ none. no_character_stands is_whitespace b p.at p.len none h.stands in
-    let (at, len, white) = white_stands b (passes_text b text) held in
-    of_kind b Url p.reason (kind.BadUrl fault.BadCharacter) (ap kind_of h.named) (at, len, UrlFlaw.white_space scheme rest form (passes_text b text) held white)
+    of_kind b Url p.reason (kind.BadUrl fault.BadCharacter) (ap kind_of h.named)
+    (UrlFlaw.white_space scheme rest form (passes_text b text) (λ none. no_character_stands is_whitespace b p.at p.len none h.stands))
 bad_url_of b scheme rest p form (Then.at_second _ (Then.at_second _ (Then.at_second _ (Then.at_first h)))) =
-    of_kind b Url p.reason (kind.BadUrl fault.BadCharacter) (ap kind_of h.stands.named) (p.at, 1, UrlFlaw.unsound scheme rest form (false_from_ne_true _ (λ sound. sound_passes b sound p h)) h.first refl)
+    of_kind b Url p.reason (kind.BadUrl fault.BadCharacter) (ap kind_of h.stands.named) (UrlFlaw.unsound scheme rest form (false_from_ne_true _ (λ sound. sound_passes b sound p h)))
 bad_url_of b scheme rest p form (Then.at_second _ (Then.at_second _ (Then.at_second _ (Then.at_second _ (Then.at_first h))))) =
     of_kind b Url p.reason (kind.BadUrl fault.NoScheme) (bad_scheme_kind scheme p h)
-    (0, length scheme, UrlFlaw.no_scheme scheme rest form (false_from_ne_true _ (λ named. scheme_passes scheme named p h)) refl refl)
+    (UrlFlaw.no_scheme scheme rest form (false_from_ne_true _ (λ named. scheme_passes scheme named p h)))
 bad_url_of b scheme rest p form (Then.at_second _ (Then.at_second text (Then.at_second _ (Then.at_second _ (Then.at_second scheme_text h))))) =
     let (utf8, _) = url_pieces_utf8 b scheme rest form.form.joined (passes_text b text) in bad_rest_of b scheme rest p form (passes_scheme scheme utf8 scheme_text) h
 
@@ -141,65 +131,52 @@ bad_file_of b rest p form (Then.at_second _ h) = of_kind b Url p.reason kind.Mis
 
 -- ---- the scp form
 
--- what is wrong with a host of the scp form, by its fault first
-abbrev pub ScpHostFlawOf : List ℕ → UrlFault → ℕ → ℕ → Type 0
-ScpHostFlawOf host named at len = ScpHostFlaw host at len named
-
 -- a text of some length isn't of length 0
 some_length : (t : List ℕ) → 0 < length t → false ≡ (length t == 0)
 some_length t h = grind (arith, nat_tests)
 
 -- brackets, or what is in a port's place
-bad_scp_name_flaw : (host : List ℕ) (p : Place) → ColonsInside host → BadScpName host p → Flawed (ScpHostFlawOf host) p.reason
+bad_scp_name_flaw : (host : List ℕ) (p : Place) → ColonsInside host → BadScpName host p → Flawed (ScpHostFlaw host) p.reason
 bad_scp_name_flaw host p colons (BadScpName.unclosed behind free e s) =
-    flawed fault.BadCharacter 0 1 (ap kind_of s.named) (ScpHostFlaw.bad_name fault.BadCharacter (subst (λ t. ScpNameFlaw t 0 1 fault.BadCharacter) (sym e) (open_found behind free)))
+    flawed fault.BadCharacter (ap kind_of s.named) (ScpHostFlaw.bad_name fault.BadCharacter (subst (λ t. ScpNameFlaw t fault.BadCharacter) (sym e) (open_found behind free)))
 bad_scp_name_flaw host p colons (BadScpName.behind_bracket x rest free some e s) =
-    flawed fault.BadCharacter (length x + 2) (length rest) (ap kind_of s.named)
-    (ScpHostFlaw.bad_name fault.BadCharacter (subst (λ t. ScpNameFlaw t (length x + 2) (length rest) fault.BadCharacter) (sym e) (rest_found (x ++ right_bracket ∷ rest) x rest (subst ColonsInside e colons) free refl (some_length rest some))))
+    flawed fault.BadCharacter (ap kind_of s.named)
+    (ScpHostFlaw.bad_name fault.BadCharacter (subst (λ t. ScpNameFlaw t fault.BadCharacter) (sym e) (rest_found (x ++ right_bracket ∷ rest) x rest (subst ColonsInside e colons) free refl (some_length rest some))))
 bad_scp_name_flaw host p colons (BadScpName.port_place text digits h free e s) =
-    flawed fault.BadPort (length text + 1) (length digits) (ap kind_of s.named)
+    flawed fault.BadPort (ap kind_of s.named)
     (ScpHostFlaw.bad_name fault.BadPort (no_port_found host text digits (ap (begins_with left_bracket) e ∙ begins-append left_bracket text (colon ∷ digits) h.nonempty ∙ h.no_bracket) colons h.no_colon e (some_length text h.nonempty) free))
 
 -- a host that is text
-bad_scp_host_flaw : (host : List ℕ) (p : Place) → IsUtf8 host → ColonsInside host → BadScpHost host p → Flawed (ScpHostFlawOf host) p.reason
+bad_scp_host_flaw : (host : List ℕ) (p : Place) → IsUtf8 host → ColonsInside host → BadScpHost host p → Flawed (ScpHostFlaw host) p.reason
 bad_scp_host_flaw host p utf8 colons (Then.at_first h) =
-    let held : ¬ LacksWhiteSpace host = λ none. no_character_stands is_whitespace host p.at p.len none h.stands in
-    let (at, len, white) = white_stands host utf8 held in
-    flawed fault.BadCharacter at len (ap kind_of h.named) (ScpHostFlaw.white_space utf8 held white)
+    flawed fault.BadCharacter (ap kind_of h.named) (ScpHostFlaw.white_space utf8 (λ none. no_character_stands is_whitespace host p.at p.len none h.stands))
 bad_scp_host_flaw host p utf8 colons (Then.at_second _ (Then.at_first h)) =
-    flawed fault.BadCharacter p.at 1 (ap kind_of h.stands.named) (ScpHostFlaw.holds_backslash h.first refl)
+    flawed fault.BadCharacter (ap kind_of h.stands.named) (ScpHostFlaw.holds_backslash (stands_not_free backslash host p.at h.first))
 bad_scp_host_flaw host p utf8 colons (Then.at_second _ (Then.at_second _ (Then.at_first h))) =
-    flawed fault.HostRequired 0 0 (ap kind_of h.stands.named) (ScpHostFlaw.empty h.empty refl refl)
+    flawed fault.HostRequired (ap kind_of h.stands.named) (ScpHostFlaw.empty h.empty)
 bad_scp_host_flaw host p utf8 colons (Then.at_second _ (Then.at_second _ (Then.at_second _ h))) = bad_scp_name_flaw host p colons h
 
 -- a front, cut at its last `@`
-bad_split_of : (b front path : List ℕ) (user : Option (List ℕ)) (host : List ℕ) (start : ℕ) (why : Reason) (q : Place) → ScpForm b front path → ¬ IsAddressed b → IsUtf8 b → ScpUser front user host → FreeOf at_sign host → start + length host ≡ length front → why ≡ q.reason → BadScpHost host q → IsOfKind b Scp (kind_of why)
-bad_split_of b front path user host start why q form other text split last offset e h =
+bad_split_of : (b front path : List ℕ) (user : Option (List ℕ)) (host : List ℕ) (why : Reason) (q : Place) → ScpForm b front path → ¬ IsAddressed b → IsUtf8 b → ScpUser front user host → FreeOf at_sign host → why ≡ q.reason → BadScpHost host q → IsOfKind b Scp (kind_of why)
+bad_split_of b front path user host why q form other text split last e h =
     let flaw = bad_scp_host_flaw host q (scp_host_utf8 b front path user host form text split) (colons_inside_host front user host split (colons_inside_front b front form.form)) h in
-    of_kind b Scp why (kind.BadUrl flaw.named) (ap kind_of e ∙ flaw.of_kind) (
-      start + flaw.at,
-      flaw.len,
-      record {
-        not_addressed = other;
-        front = front;
-        path = path;
-        user = user;
-        host = host;
-        form = form;
-        split = split;
-        no_at = last;
-        place = flaw.at;
-        flaw = flaw.there;
-        offset = omega (arith, offset);
-      },
-    )
+    of_kind b Scp why (kind.BadUrl flaw.named) (ap kind_of e ∙ flaw.of_kind) (record {
+      not_addressed = other;
+      front = front;
+      path = path;
+      user = user;
+      host = host;
+      form = form;
+      split = split;
+      no_at = last;
+      flaw = flaw.there;
+    })
 
 -- a front
 bad_front_of : (b front path : List ℕ) (p : Place) → ScpForm b front path → ¬ IsAddressed b → IsUtf8 b → BadFront front p → IsOfKind b Scp (kind_of p.reason)
-bad_front_of b front path p form other text (BadFront.alone last h) =
-    bad_split_of b front path None front 0 p.reason p form other text (ScpUser.host_alone refl refl) last (omega arith) refl h
+bad_front_of b front path p form other text (BadFront.alone last h) = bad_split_of b front path None front p.reason p form other text (ScpUser.host_alone refl refl) last refl h
 bad_front_of b front path p form other text (BadFront.with_user user host last e k) =
-    bad_split_of b front path (Some user) host (length user + 1) p.reason k.inside form other text (ScpUser.with_user user e refl) last (omega (arith, ap length e, length-append user (at_sign ∷ host))) k.stands.named k.found
+    bad_split_of b front path (Some user) host p.reason k.inside form other text (ScpUser.with_user user e refl) last k.stands.named k.found
 
 -- what is wrong with the scp form
 bad_scp_of : (b front path : List ℕ) (p : Place) → ScpForm b front path → ¬ IsAddressed b → BadScp b front path p → IsOfKind b Scp (kind_of p.reason)
@@ -228,12 +205,12 @@ refused_names b r (Refused.scp front path p form other h is) = subst (λ x. Name
 
 -- a text of which an error names a flaw has it
 named_flaw : (b : List ℕ) (form : UrlKind) (error : RefusalKind) → IsOfKind b form error → HasFlaw b
-named_flaw b form kind.EmptyLocal h = HasFlaw.empty h
-named_flaw b form kind.MissingPath h = HasFlaw.no_path form h
-named_flaw b form kind.NotUtf8 h = HasFlaw.no_text form h.0 h.1
-named_flaw b form kind.TooLong (shown, total, at, len, h) = HasFlaw.too_long shown total at len h
-named_flaw b form (kind.BadUrl named) (at, len, h) = HasFlaw.bad_url form named at len h
+named_flaw b form kind.EmptyLocal h = (found.EmptyLocal, h)
+named_flaw b form kind.MissingPath h = (found.MissingPath form, h)
+named_flaw b form kind.NotUtf8 h = (found.NotUtf8 form, h)
+named_flaw b form kind.TooLong h = (found.TooLong, h)
+named_flaw b form (kind.BadUrl named) h = (found.BadUrl form named, h)
 
 -- so a text that is refused spells no location
 pub refused_unspelled : RefusedUnspelled
-refused_unspelled b r h v = flawed_unspelled b v (named_flaw b r.form (kind_of r.reason) (refused_names b r h))
+refused_unspelled b r h v s = flawless b v s (named_flaw b r.form (kind_of r.reason) (refused_names b r h))

@@ -10,7 +10,6 @@ use Rattle.git_syntax.specs.Hosts.HostSyntax.{http_hosts, git_hosts, other_hosts
 use Rattle.git_syntax.specs.Schemes.{is_web_scheme, host_syntax_of, requires_host}
 use Rattle.git_syntax.specs.Grammar.{ScpForm, ScpUser}
 use Rattle.git_syntax.proofs.Texts.EscapeLemmas.{utf8_parts}
-use Rattle.git_syntax.proofs.Texts.PlaceLemmas.{stands_within}
 use Rattle.git_syntax.proofs.Parsing.ScpLemmas.{scp_host_utf8}
 use Rattle.git_refusals.specs.declared.place.Place.{Place}
 use Rattle.git_refusals.specs.declared.reason.Reason.{Reason}
@@ -19,6 +18,7 @@ use Rattle.git_refusals.specs.Reasons.{Stands, Then, Undecodable, NotText, HasBa
 use Rattle.git_refusals.specs.Laws.{RefusedWithin}
 use Rattle.git_refusals.proofs.Refusing.CharacterLemmas.{character_within}
 use Rattle.git_refusals.proofs.Refusing.EscapeLemmas.{spelled_within}
+use Rattle.git_refusals.proofs.Refusing.PlaceLemmas.{stands_within}
 use Rattle.git_refusals.proofs.Refusing.PassLemmas.{passes_text}
 use Rattle.git_refusals.proofs.Refusing.UrlLemmas.{url_pieces_utf8, authority_utf8, FoundBehind}
 

@@ -17,9 +17,8 @@ use Rattle.git_syntax.specs.Schemes.{is_web_scheme, scheme_of, host_syntax_of, r
 use Rattle.git_syntax.specs.Grammar.{ScpForm, AddressedForm, ScpHost, SpellsUrl, Spells}
 use Rattle.git_syntax.specs.Flaws.{IsTooLong, MissesPath, HasForm, OtherUrlForm, UrlCut, HostPortFlaw, PieceOf, HasBadUser, AuthorityFlaw, UrlFlaw, ScpHostFlaw, ScpFlaw, KindFlaw, NamesFlaw}
 use Rattle.git_syntax.specs.Internal.UrlPieces.{HasNoText, IsNoAuthority}
-use Rattle.git_syntax.specs.Refusals.{HasFlaw, Flawless}
+use Rattle.git_syntax.specs.Refusals.{Flawless}
 use Rattle.git_syntax.proofs.Texts.CutLemmas.{not_free}
-use Rattle.git_syntax.proofs.Texts.PlaceLemmas.{stands_not_free}
 use Rattle.git_syntax.proofs.Parsing.HostLemmas.{flawed_unnamed}
 use Rattle.git_syntax.proofs.Parsing.FormLemmas.{address_cut, addressed_joined}
 use Rattle.git_syntax.proofs.Parsing.ClassifierLemmas.{empty_unspelled, url_has_form, no_file_path, unfit_url, spelled_as_file, spelled_as_url, spelled_as_scp, spelled_as_addressed, url_pieces}
@@ -32,68 +31,67 @@ use Rattle.git_syntax.proofs.Parsing.ScpFrontLemmas.{front_of_addressed}
 -- ---- authorities
 
 -- user information with a part that isn't text holds nothing
-pub bad_user_refutes : (syntax : HostSyntax) (needed : Bool) (authority : List ℕ) (at len : ℕ) → HasBadUser authority at len → IsNoAuthority syntax needed authority
-bad_user_refutes syntax needed authority at len (HasBadUser.user u piece f g e bad a l) =
-    no_text_before syntax needed authority u piece at len f e (HasNoText.user g bad a l)
-bad_user_refutes syntax needed authority at len (HasBadUser.user_before_password u w piece f g e bad a l) =
-    no_text_before syntax needed authority (u ++ colon ∷ w) piece at len f e (HasNoText.user_before_password u w g refl bad a l)
-bad_user_refutes syntax needed authority at len (HasBadUser.password u w piece f g e bad a l) =
-    no_text_before syntax needed authority (u ++ colon ∷ w) piece at len f e (HasNoText.password u w g refl bad a l)
+bad_user_refutes : (syntax : HostSyntax) (needed : Bool) (authority : List ℕ) → HasBadUser authority → IsNoAuthority syntax needed authority
+bad_user_refutes syntax needed authority (HasBadUser.user u piece f g e bad) = no_text_before syntax needed authority u piece f e (HasNoText.user g bad)
+bad_user_refutes syntax needed authority (HasBadUser.user_before_password u w piece f g e bad) =
+    no_text_before syntax needed authority (u ++ colon ∷ w) piece f e (HasNoText.user_before_password u w g refl bad)
+bad_user_refutes syntax needed authority (HasBadUser.password u w piece f g e bad) =
+    no_text_before syntax needed authority (u ++ colon ∷ w) piece f e (HasNoText.password u w g refl bad)
 
 -- an authority whose piece behind the user information is flawed holds nothing
-bad_name_refutes : (syntax : HostSyntax) (needed : Bool) (authority piece : List ℕ) (named : UrlFault) (start at len : ℕ) → PieceOf authority piece start → HostPortFlaw syntax piece named at len → IsNoAuthority syntax needed authority
-bad_name_refutes syntax needed authority piece named start at len (PieceOf.whole free e _) h =
-    no_name_alone syntax needed authority free (subst (λ t. (host : Option (List ℕ)) (port : Option ℕ) → ¬ SpellsHostPort syntax t host port) e (flawed_unnamed syntax piece named at len h))
-bad_name_refutes syntax needed authority piece named start at len (PieceOf.behind information free e _) h =
-    no_name_behind syntax needed authority information piece free e (flawed_unnamed syntax piece named at len h)
+bad_name_refutes : (syntax : HostSyntax) (needed : Bool) (authority piece : List ℕ) (named : UrlFault) → PieceOf authority piece → HostPortFlaw syntax piece named → IsNoAuthority syntax needed authority
+bad_name_refutes syntax needed authority piece named (PieceOf.whole free e) h =
+    no_name_alone syntax needed authority free (subst (λ t. (host : Option (List ℕ)) (port : Option ℕ) → ¬ SpellsHostPort syntax t host port) e (flawed_unnamed syntax piece named h))
+bad_name_refutes syntax needed authority piece named (PieceOf.behind information free e) h =
+    no_name_behind syntax needed authority information piece free e (flawed_unnamed syntax piece named h)
 
 -- a flawed authority without a backslash holds nothing, or not the host that is needed
-pub flawed_authority : (syntax : HostSyntax) (needed : Bool) (authority : List ℕ) (at len : ℕ) (named : UrlFault) → FreeOf backslash authority → AuthorityFlaw syntax needed authority at len named → IsNoAuthority syntax needed authority
-flawed_authority syntax needed authority at len named free (AuthorityFlaw.holds_backslash h _) = absurd (stands_not_free backslash authority at h free)
-flawed_authority syntax needed authority at len named free (AuthorityFlaw.bad_user bad) = bad_user_refutes syntax needed authority at len bad
-flawed_authority syntax needed authority at len named free (AuthorityFlaw.bad_name piece n start place of bad _) = bad_name_refutes syntax needed authority piece n start place len of bad
-flawed_authority syntax needed authority at len named free (AuthorityFlaw.no_host information e _ _) = no_host_behind syntax needed authority information [] refl e refl
-flawed_authority syntax needed authority at len named free (AuthorityFlaw.host_required need e _ _) =
+pub flawed_authority : (syntax : HostSyntax) (needed : Bool) (authority : List ℕ) (named : UrlFault) → FreeOf backslash authority → AuthorityFlaw syntax needed authority named → IsNoAuthority syntax needed authority
+flawed_authority syntax needed authority named free (AuthorityFlaw.holds_backslash held) = absurd (held free)
+flawed_authority syntax needed authority named free (AuthorityFlaw.bad_user bad) = bad_user_refutes syntax needed authority bad
+flawed_authority syntax needed authority named free (AuthorityFlaw.bad_name piece n of bad) = bad_name_refutes syntax needed authority piece n of bad
+flawed_authority syntax needed authority named free (AuthorityFlaw.no_host information e) = no_host_behind syntax needed authority information [] refl e refl
+flawed_authority syntax needed authority named free (AuthorityFlaw.host_required need e) =
     no_host_alone syntax needed authority need (ap (λ t. list_any (λ c. c == at_sign) t) e) e
 
 -- ---- URLs
 
 -- a flawed authority makes no URL
-authority_flaw_refutes : (b scheme authority path : List ℕ) (at len : ℕ) (named : UrlFault) (v : Location) → UrlCut b scheme authority path → AuthorityFlaw (host_syntax_of scheme) (requires_host scheme) authority at len named → ¬ SpellsUrl b v
-authority_flaw_refutes b scheme authority path at len named v cut bad h =
+authority_flaw_refutes : (b scheme authority path : List ℕ) (named : UrlFault) (v : Location) → UrlCut b scheme authority path → AuthorityFlaw (host_syntax_of scheme) (requires_host scheme) authority named → ¬ SpellsUrl b v
+authority_flaw_refutes b scheme authority path named v cut bad h =
     let free : FreeOf backslash authority = subst (λ a. FreeOf backslash a) (parts_cut b scheme authority path h.parts cut h.spelled).1 h.spelled.no_backslash in
-    no_authority_refutes b scheme authority path h.parts cut (flawed_authority (host_syntax_of scheme) (requires_host scheme) authority at len named free bad) h.spelled
+    no_authority_refutes b scheme authority path h.parts cut (flawed_authority (host_syntax_of scheme) (requires_host scheme) authority named free bad) h.spelled
 
 -- a flawed URL is none
-url_flaw_refutes : (b : List ℕ) (at len : ℕ) (named : UrlFault) (v : Location) → UrlFlaw b at len named → ¬ Spells b v
-url_flaw_refutes b at len named v (UrlFlaw.no_scheme front rest form bad _ _) k =
+url_flaw_refutes : (b : List ℕ) (named : UrlFault) (v : Location) → UrlFlaw b named → ¬ Spells b v
+url_flaw_refutes b named v (UrlFlaw.no_scheme front rest form bad) k =
     let h = spelled_as_url b front rest form v k in no_scheme_refutes b front rest h.parts form bad h.spelled
-url_flaw_refutes b at len named v (UrlFlaw.white_space front rest form text held _) k = held (spelled_as_url b front rest form v k).spelled.no_white_space
-url_flaw_refutes b at len named v (UrlFlaw.unsound front rest form bad _ _) k = both_ways _ bad (spelled_as_url b front rest form v k).spelled.sound
-url_flaw_refutes b at len named v (UrlFlaw.bad_path scheme authority path cut bad _ _) k =
+url_flaw_refutes b named v (UrlFlaw.white_space front rest form text held) k = held (spelled_as_url b front rest form v k).spelled.no_white_space
+url_flaw_refutes b named v (UrlFlaw.unsound front rest form bad) k = both_ways _ bad (spelled_as_url b front rest form v k).spelled.sound
+url_flaw_refutes b named v (UrlFlaw.bad_path scheme authority path cut bad) k =
     let h = spelled_as_url b scheme (authority ++ path) cut.form v k in bad_path_refutes b scheme authority path h.parts cut bad h.spelled
-url_flaw_refutes b at len named v (UrlFlaw.bad_authority scheme authority path n place cut bad _) k =
-    authority_flaw_refutes b scheme authority path place len n v cut bad (spelled_as_url b scheme (authority ++ path) cut.form v k)
+url_flaw_refutes b named v (UrlFlaw.bad_authority scheme authority path n cut bad) k =
+    authority_flaw_refutes b scheme authority path n v cut bad (spelled_as_url b scheme (authority ++ path) cut.form v k)
 
 -- a URL that is too long is none
-too_long_refutes : (b shown : List ℕ) (total at len : ℕ) (v : Location) → IsTooLong b shown total at len → ¬ Spells b v
-too_long_refutes b shown total at len v h k = unfit_url b h.front h.rest h.form h.unfit v (spelled_as_url b h.front h.rest h.form v k)
+too_long_refutes : (b : List ℕ) (v : Location) → IsTooLong b → ¬ Spells b v
+too_long_refutes b v h k = unfit_url b h.front h.rest h.form h.unfit v (spelled_as_url b h.front h.rest h.form v k)
 
 -- ---- the scp form
 
 -- a flawed host of the scp form stands for none
-pub scp_host_flaw_refutes : (host : List ℕ) (at len : ℕ) (named : UrlFault) → ScpHostFlaw host at len named → (meant : List ℕ) → ¬ ScpHost host meant
-scp_host_flaw_refutes host at len named (ScpHostFlaw.empty e _ _) meant h =
+scp_host_flaw_refutes : (host : List ℕ) (named : UrlFault) → ScpHostFlaw host named → (meant : List ℕ) → ¬ ScpHost host meant
+scp_host_flaw_refutes host named (ScpHostFlaw.empty e) meant h =
     none_not_some (Some h.named) (empty_names_nothing git_hosts (escaped_percents host) (Some h.named) None (ap escaped_percents e) h.names) refl
-scp_host_flaw_refutes host at len named (ScpHostFlaw.holds_backslash first _) meant h = stands_not_free backslash host at first h.no_backslash
-scp_host_flaw_refutes host at len named (ScpHostFlaw.white_space text held _) meant h = held h.no_white_space
-scp_host_flaw_refutes host at len named (ScpHostFlaw.bad_name n bad) meant h = flawed_unnamed git_hosts (escaped_percents host) n _ _ bad.flaw (Some h.named) None h.names
+scp_host_flaw_refutes host named (ScpHostFlaw.holds_backslash held) meant h = held h.no_backslash
+scp_host_flaw_refutes host named (ScpHostFlaw.white_space text held) meant h = held h.no_white_space
+scp_host_flaw_refutes host named (ScpHostFlaw.bad_name n bad) meant h = flawed_unnamed git_hosts (escaped_percents host) n bad (Some h.named) None h.names
 
 -- a flawed scp form spells nothing
-scp_flaw_refutes : (b : List ℕ) (named : UrlFault) (at len : ℕ) (v : Location) → ScpFlaw b named at len → ¬ Spells b v
-scp_flaw_refutes b named at len v h k =
+scp_flaw_refutes : (b : List ℕ) (named : UrlFault) (v : Location) → ScpFlaw b named → ¬ Spells b v
+scp_flaw_refutes b named v h k =
     elim (spelled_as_scp b h.form.neither (inl (h.front, h.path, h.form)) v k) [
-      | inl s ↦ scp_no_host b h.front h.path h.user h.host h.form h.split h.no_at (scp_host_flaw_refutes h.host h.place len named h.flaw) v s
+      | inl s ↦ scp_no_host b h.front h.path h.user h.host h.form h.split h.no_at (scp_host_flaw_refutes h.host named h.flaw) v s
       | inr s ↦ h.not_addressed (s.user, s.address, s.path, s.form)
     ]
 
@@ -151,31 +149,19 @@ no_text_spelled : (b : List ℕ) (k : UrlKind) (v : Location) → ¬ IsUtf8 b �
 no_text_spelled b k v bad form s = grind arith
 
 -- a flawed text of any kind spells nothing
-kind_flaw_refutes : (b : List ℕ) (k : UrlKind) (named : UrlFault) (at len : ℕ) (v : Location) → KindFlaw b k named at len → ¬ Spells b v
-kind_flaw_refutes b kind.Url named at len v h = url_flaw_refutes b at len named v h
-kind_flaw_refutes b kind.Scp named at len v h = scp_flaw_refutes b named at len v h
-kind_flaw_refutes b kind.Local named at len v h = absurd h
+kind_flaw_refutes : (b : List ℕ) (k : UrlKind) (named : UrlFault) (v : Location) → KindFlaw b k named → ¬ Spells b v
+kind_flaw_refutes b kind.Url named v h = url_flaw_refutes b named v h
+kind_flaw_refutes b kind.Scp named v h = scp_flaw_refutes b named v h
+kind_flaw_refutes b kind.Local named v h = absurd h
 
--- bytes that hold a flaw spell no location
-pub flawed_unspelled : (b : List ℕ) (v : Location) → HasFlaw b → ¬ Spells b v
-flawed_unspelled b v (HasFlaw.empty e) = subst (λ t. ¬ Spells t v) (sym e) (empty_unspelled v)
-flawed_unspelled b v (HasFlaw.no_path k h) = no_path_spelled b k v h
-flawed_unspelled b v (HasFlaw.no_text k bad form) = no_text_spelled b k v bad form
-flawed_unspelled b v (HasFlaw.too_long shown total at len h) = too_long_refutes b shown total at len v h
-flawed_unspelled b v (HasFlaw.bad_url k named at len h) = kind_flaw_refutes b k named at len v h
-
--- so bytes that spell one hold none
-pub flawless : Flawless
-flawless b v s h = flawed_unspelled b v h s
-
--- each refusal names a flaw
-refusal_flaw : (b : List ℕ) (r : Refusal) → NamesFlaw b r → HasFlaw b
-refusal_flaw b refusal.EmptyLocal h = HasFlaw.empty h
-refusal_flaw b (refusal.MissingPath k at) h = HasFlaw.no_path k h.0
-refusal_flaw b (refusal.NotUtf8 k at) h = HasFlaw.no_text k h.0 h.1
-refusal_flaw b (refusal.TooLong shown total at len) h = HasFlaw.too_long shown.now total at len h
-refusal_flaw b (refusal.BadUrl k named at len) h = HasFlaw.bad_url k named at len h
-
--- so bytes that are refused spell no location
+-- bytes that are refused spell no location
 pub refused_unspelled : (b : List ℕ) (r : Refusal) → NamesFlaw b r → (v : Location) → ¬ Spells b v
-refused_unspelled b r h v = flawed_unspelled b v (refusal_flaw b r h)
+refused_unspelled b refusal.EmptyLocal e v = subst (λ t. ¬ Spells t v) (sym e) (empty_unspelled v)
+refused_unspelled b (refusal.MissingPath k) h v = no_path_spelled b k v h
+refused_unspelled b (refusal.NotUtf8 k) h v = no_text_spelled b k v h.0 h.1
+refused_unspelled b refusal.TooLong h v = too_long_refutes b v h
+refused_unspelled b (refusal.BadUrl k named) h v = kind_flaw_refutes b k named v h
+
+-- so bytes that spell one hold no flaw
+pub flawless : Flawless
+flawless b v s (r, h) = refused_unspelled b r h v s

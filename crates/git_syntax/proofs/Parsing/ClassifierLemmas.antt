@@ -243,14 +243,15 @@ unfolding encode
 file_mark_utf8 = (codes "file://", (refl, refl))
 
 -- the host is UTF-8
-pub file_host_utf8 : (b rest host behind : List ℕ) → UrlForm b (codes "file") rest → IsUtf8 b → rest ≡ host ++ slash ∷ behind → IsUtf8 host
-file_host_utf8 b rest host behind s text e =
+pub file_host_utf8 : (b rest host path : List ℕ) → UrlForm b (codes "file") rest → IsUtf8 b → rest ≡ host ++ path → begins_with slash path ≡ true → IsUtf8 host
+file_host_utf8 b rest host path s text e rooted =
     let tail = utf8_behind (codes "file://") rest (subst IsUtf8 s.joined text) file_mark_utf8 in
-    (utf8_parts host behind slash (subst IsUtf8 e tail) (omega arith)).0
+    let cut = begins_cut slash path rooted in
+    (utf8_parts host cut.0 slash (subst IsUtf8 (e ∙ ap (λ x. host ++ x) cut.1) tail) (omega arith)).0
 
 -- the host and the path of a file URL
-pub file_found : (b rest host behind path : List ℕ) (v : Location) → UrlForm b (codes "file") rest → IsUtf8 b → FreeOf slash host → rest ≡ host ++ slash ∷ behind → path ≡ drop (length host) rest → v ≡ record (path_alone file false path) { host = unless_empty host } → SpellsFile b v
-file_found b rest host behind path v s text free e is value = grind (arith, nat_tests, drop_at)
+pub file_found : (b rest host path : List ℕ) (v : Location) → UrlForm b (codes "file") rest → IsUtf8 b → FreeOf slash host → rest ≡ host ++ path → begins_with slash path ≡ true → v ≡ record (path_alone file false path) { host = unless_empty host } → SpellsFile b v
+file_found b rest host path v s text free e rooted value = grind (arith, nat_tests)
 
 -- ---- one form alone
 

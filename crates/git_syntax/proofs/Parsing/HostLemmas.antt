@@ -1,6 +1,6 @@
 -- Hosts and ports: what a piece of an authority looks like, that it names at
 -- most one host and port, and none where it has a flaw.
-use Rattle.std.proofs.Common.{◌≡◌, ℕ, ◌+◌, ◌<◌, ◌≤◌, true, false, ◌==◌, ◌⊎◌, inl, inr, List, [], ◌∷◌, ◌++◌, length, take, drop, Option, Some, None, Err, ◌^◌, rules, refl, sym, ap, subst, ◌∙◌, arith, append_assoc, length-append}
+use Rattle.std.proofs.Common.{◌≡◌, ℕ, ◌<◌, true, false, ◌==◌, ◌⊎◌, inl, inr, List, [], ◌∷◌, ◌++◌, length, take, drop, Option, Some, None, Err, ◌^◌, rules, refl, sym, ap, subst, ◌∙◌, arith, append_assoc, length-append}
 use Rattle.std.specs.List.{list_all}
 use Rattle.std.specs.Char.{is_ascii_digit, to_ascii_lowercase}
 use Rattle.std.specs.Str.Parse.{IsNumeral, digits_value, without_leading_plus}
@@ -46,7 +46,7 @@ loose_not_bare e = cc
 -- ---- ports
 
 -- a text of decimal digits, as std defines them
-digits_model : IsNumeralModel (λ ds. list_all is_ascii_digit ds ≡ true) (digits_value 10)
+pub digits_model : IsNumeralModel (λ ds. list_all is_ascii_digit ds ≡ true) (digits_value 10)
 digits_model = numerals_by_value (λ ds. list_all is_ascii_digit ds ≡ true) (search rules)
 
 -- digits that std reads as no number of 16 bits spell no port
@@ -335,64 +335,54 @@ pub strict_not_bare : ¬ (http_hosts ≡ git_hosts)
 strict_not_bare e = cc
 
 -- where no port is in its place, nothing is named
-bad_port_unnamed : (syntax : HostSyntax) (piece : List ℕ) (host : Option (List ℕ)) (port : Option ℕ) → (at len : ℕ) → HasBadPort syntax piece at len → Form syntax piece host port → ⊥
-bad_port_unnamed syntax piece host port at len (HasBadPort.plain front digits h free e none _ _) s =
+bad_port_unnamed : (syntax : HostSyntax) (piece : List ℕ) (host : Option (List ℕ)) (port : Option ℕ) → HasBadPort syntax piece → Form syntax piece host port → ⊥
+bad_port_unnamed syntax piece host port (HasBadPort.plain front digits h free e none) s =
     let place : IsPortPlace (colon ∷ digits) = inr (digits, free, refl) in
     let n = named_outside syntax piece host port (front, colon ∷ digits, h, place, e) s in
     let parts = plain_unique n.front front n.rest (colon ∷ digits) n.is_plain h (follows_place n.follows) place (sym n.joined ∙ e) in
     no_port_follows none parts.1 n.follows
-bad_port_unnamed syntax piece host port at len (HasBadPort.bracketed x digits free e none _ _) s =
+bad_port_unnamed syntax piece host port (HasBadPort.bracketed x digits free e none) s =
     let n = named_in_brackets syntax piece host port (bracket_begins piece _ e) s in
     let parts = bracket_cut n.x x n.rest (colon ∷ digits) piece n.around.closed free n.around.joined e in
     no_port_follows none parts.1 n.follows
 
 -- nor where a byte is not allowed
-bad_host_unnamed : (syntax : HostSyntax) (piece : List ℕ) (host : Option (List ℕ)) (port : Option ℕ) → (at len : ℕ) → HasBadHost syntax piece at len → Form syntax piece host port → ⊥
-bad_host_unnamed syntax piece host port at len (HasBadHost.plain front rest h place e none _ _) s =
+bad_host_unnamed : (syntax : HostSyntax) (piece : List ℕ) (host : Option (List ℕ)) (port : Option ℕ) → HasBadHost syntax piece → Form syntax piece host port → ⊥
+bad_host_unnamed syntax piece host port (HasBadHost.plain front rest h place e none) s =
     let n = named_outside syntax piece host port (front, rest, h, place, e) s in
     let parts = plain_unique n.front front n.rest rest n.is_plain h (follows_place n.follows) place (sym n.joined ∙ e) in
     none n.named (subst (λ t. HostText syntax t n.named) parts.0 n.stands)
-bad_host_unnamed syntax piece host port at len (HasBadHost.colons_on_the_web e b m _ _) s =
+bad_host_unnamed syntax piece host port (HasBadHost.colons_on_the_web e b m) s =
     elim (named_whole syntax piece host port (b, m) s) [
       | ManyNames.unbracketed r h ↦ strict_not_bare (sym e ∙ r.0)
       | ManyNames.other_host n w r t h ↦ w e
     ]
-bad_host_unnamed syntax piece host port at len (HasBadHost.colons w r b m none _ _) s =
+bad_host_unnamed syntax piece host port (HasBadHost.colons w r b m none) s =
     elim (named_whole syntax piece host port (b, m) s) [
       | ManyNames.unbracketed q h ↦ r q
       | ManyNames.other_host n v q t h ↦ none n t
     ]
-bad_host_unnamed syntax piece host port at len (HasBadHost.open_bracket behind free e _ _) s =
+bad_host_unnamed syntax piece host port (HasBadHost.open_bracket behind free e) s =
     let n = named_in_brackets syntax piece host port (bracket_begins piece behind e) s in
     not_free right_bracket n.x n.rest (subst (λ t. FreeOf right_bracket t) (tails (sym e ∙ n.around.joined)) free)
-bad_host_unnamed syntax piece host port at len (HasBadHost.behind_bracket x rest free e some other _ _) s =
+bad_host_unnamed syntax piece host port (HasBadHost.behind_bracket x rest free e some other) s =
     let n = named_in_brackets syntax piece host port (bracket_begins piece _ e) s in
     let ends = (bracket_cut n.x x n.rest rest piece n.around.closed free n.around.joined e).1 in
     elim n.around.followed [
       | inl none ↦ omega (arith, some, ap length (sym ends ∙ none))
       | inr begins ↦ both_ways _ other (ap (begins_with colon) (sym ends) ∙ begins)
     ]
-bad_host_unnamed syntax piece host port at len (HasBadHost.brackets x rest a none _ _) s =
+bad_host_unnamed syntax piece host port (HasBadHost.brackets x rest a none) s =
     let n = named_in_brackets syntax piece host port (bracket_begins piece _ a.joined) s in
     let parts = bracket_cut n.x x n.rest rest piece n.around.closed a.closed n.around.joined a.joined in
     none n.inner (subst (λ t. Inner syntax t n.inner) parts.0 n.stands)
 
 -- a piece with a flaw names nothing
-pub flawed_unnamed : (syntax : HostSyntax) (piece : List ℕ) (named : UrlFault) (at len : ℕ) → HostPortFlaw syntax piece named at len → (host : Option (List ℕ)) (port : Option ℕ) → ¬ SpellsHostPort syntax piece host port
-flawed_unnamed syntax piece fault.BadPort at len h host port n = bad_port_unnamed syntax piece host port at len h (name_form n)
-flawed_unnamed syntax piece fault.BadCharacter at len h host port n = bad_host_unnamed syntax piece host port at len h (name_form n)
-flawed_unnamed syntax piece fault.NoScheme at len h host port n = h
-flawed_unnamed syntax piece fault.HostRequired at len h host port n = h
-
--- ---- the places of flaws
-
--- a bad host is within its piece
-bad_host_within : (syntax : HostSyntax) (piece : List ℕ) (at len : ℕ) → HasBadHost syntax piece at len → at + len ≤ length piece
-bad_host_within syntax piece at len h = grind (arith, nat_tests, length-append)
-
--- the flaw of a piece is within it
-pub name_flaw_within : (syntax : HostSyntax) (piece : List ℕ) (named : UrlFault) (at len : ℕ) → HostPortFlaw syntax piece named at len → at + len ≤ length piece
-name_flaw_within syntax piece named at len h = grind (arith, nat_tests, bad_host_within, length-append)
+pub flawed_unnamed : (syntax : HostSyntax) (piece : List ℕ) (named : UrlFault) → HostPortFlaw syntax piece named → (host : Option (List ℕ)) (port : Option ℕ) → ¬ SpellsHostPort syntax piece host port
+flawed_unnamed syntax piece fault.BadPort h host port n = bad_port_unnamed syntax piece host port h (name_form n)
+flawed_unnamed syntax piece fault.BadCharacter h host port n = bad_host_unnamed syntax piece host port h (name_form n)
+flawed_unnamed syntax piece fault.NoScheme h host port n = h
+flawed_unnamed syntax piece fault.HostRequired h host port n = h
 
 -- ---- ASCII and UTF-8
 
@@ -500,20 +490,16 @@ no_end_begins : (rest : List ℕ) → ¬ EndsHost rest → (0 < length rest) × 
 no_end_begins rest h = grind arith
 
 -- a closing bracket that another byte than a colon follows
-pub not_ended : (syntax : HostSyntax) (behind x rest : List ℕ) → FreeOf right_bracket x → behind ≡ x ++ right_bracket ∷ rest → ¬ EndsHost rest → HasBadHost syntax (left_bracket ∷ behind) (length x + 2) (length rest)
-not_ended syntax behind x rest free e open_end =
-    let ends = no_end_begins rest open_end in
-    HasBadHost.behind_bracket x rest free (ap (λ t. left_bracket ∷ t) e) ends.0 ends.1 refl refl
+pub not_ended : (syntax : HostSyntax) (behind x rest : List ℕ) → FreeOf right_bracket x → behind ≡ x ++ right_bracket ∷ rest → ¬ EndsHost rest → HasBadHost syntax (left_bracket ∷ behind)
+not_ended syntax behind x rest free e open_end = let ends = no_end_begins rest open_end in HasBadHost.behind_bracket x rest free (ap (λ t. left_bracket ∷ t) e) ends.0 ends.1
 
 -- brackets around what stands for nothing
-pub not_inner : (syntax : HostSyntax) (behind x rest : List ℕ) → FreeOf right_bracket x → behind ≡ x ++ right_bracket ∷ rest → EndsHost rest → IsNoInner syntax x → HasBadHost syntax (left_bracket ∷ behind) 1 (length x)
-not_inner syntax behind x rest free e ended none =
-    HasBadHost.brackets x rest record { closed = free; joined = ap (λ t. left_bracket ∷ t) e; followed = ended } none refl refl
+pub not_inner : (syntax : HostSyntax) (behind x rest : List ℕ) → FreeOf right_bracket x → behind ≡ x ++ right_bracket ∷ rest → EndsHost rest → IsNoInner syntax x → HasBadHost syntax (left_bracket ∷ behind)
+not_inner syntax behind x rest free e ended none = HasBadHost.brackets x rest record { closed = free; joined = ap (λ t. left_bracket ∷ t) e; followed = ended } none
 
 -- brackets with a colon and no port behind them
-pub no_port_behind : (syntax : HostSyntax) (behind x rest digits : List ℕ) (len : ℕ) → FreeOf right_bracket x → behind ≡ x ++ right_bracket ∷ rest → rest ≡ colon ∷ digits → IsNoPort syntax digits → len + 1 ≡ length rest → HasBadPort syntax (left_bracket ∷ behind) (length x + 3) len
-no_port_behind syntax behind x rest digits len free e f none size =
-    HasBadPort.bracketed x digits free (ap (λ t. left_bracket ∷ t) (e ∙ ap (λ t. x ++ right_bracket ∷ t) f)) none refl (omega (arith, size, ap length f))
+pub no_port_behind : (syntax : HostSyntax) (behind x rest digits : List ℕ) → FreeOf right_bracket x → behind ≡ x ++ right_bracket ∷ rest → rest ≡ colon ∷ digits → IsNoPort syntax digits → HasBadPort syntax (left_bracket ∷ behind)
+no_port_behind syntax behind x rest digits free e f none = HasBadPort.bracketed x digits free (ap (λ t. left_bracket ∷ t) (e ∙ ap (λ t. x ++ right_bracket ∷ t) f)) none
 
 -- ---- hosts are text
 

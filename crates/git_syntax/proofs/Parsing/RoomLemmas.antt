@@ -20,7 +20,7 @@ use Rattle.git_syntax.specs.declared.host.HostPiece.{HostPiece}
 use Rattle.git_syntax.specs.declared.host.HostPiece.TheVariants.{Simple, Address, Kept, Decoded, Literal, DecodedLiteral, Bracketed}
 use Rattle.git_syntax.specs.Internal.HostPieces.{in_brackets, is_bracketed, lowercase_address, meant_host, named_text, normal_case, slice_text, unescaped_host}
 use Rattle.git_syntax.specs.Authority.{Authority, Credentials, user_beside}
-use Rattle.git_syntax.specs.Grammar.{AddressedCut, ScpUser, HasUrlSyntax, UrlSyntax}
+use Rattle.git_syntax.specs.Grammar.{AddressedCut, HasUrlSyntax, UrlSyntax}
 use Rattle.git_syntax.specs.Internal.FoundPieces.{optional_length, parts_length}
 use Rattle.git_syntax.proofs.Texts.CutLemmas.{heads, tails}
 use Rattle.git_syntax.proofs.Parsing.HostLemmas.{literal_normal}
@@ -154,10 +154,6 @@ parts_within {b} {parts} h =
     omega (arith, authority_length h.named, (length-percent_decode parts.path).0, ap length h.joined, length-append parts.scheme (codes "://" ++ (h.authority ++ parts.path)), length-append (codes "://") (h.authority ++ parts.path), length-append h.authority parts.path)
 
 -- ---- the scp form
-
--- the host is no longer than the front
-pub scp_user_length : {front host : List ℕ} {user : Option (List ℕ)} → ScpUser front user host → length host ≤ length front
-scp_user_length h = grind (arith, nat_tests, length-append)
 
 -- an address between brackets is no longer than the text
 pub address_within : {b user address path : List ℕ} → AddressedCut b user address path → length address ≤ length b

@@ -1,11 +1,9 @@
 -- The scp form: its colons, the piece that its host is read from, and what is refused.
-use Rattle.std.proofs.Common.{◌≡◌, ℕ, ◌+◌, ◌<◌, ◌≤◌, Bool, false, ◌==◌, ◌&&◌, ◌⊎◌, inl, inr, List, [], ◌∷◌, ◌++◌, length, Option, Some, None, Result, Ok, Err, true, refl, sym, ap, subst, ◌∙◌, arith, append_assoc, length-append, eq-eqb, lit<, IsUtf8, IfSome}
-use Rattle.std.proofs.lemmas.List.{append-nil}
+use Rattle.std.proofs.Common.{◌≡◌, ℕ, ◌<◌, Bool, false, ◌==◌, ◌&&◌, ◌⊎◌, inl, inr, List, [], ◌∷◌, ◌++◌, length, Option, Some, None, Result, Ok, Err, true, refl, sym, ap, subst, ◌∙◌, arith, append_assoc, eq-eqb, lit<, IsUtf8, IfSome}
 use Rattle.std.proofs.lemmas.Bool.{both_ways, cases_Bool, false≢true, eqb-true}
 use Rattle.std.proofs.lemmas.Bool.Decides.{nat_tests}
 use Rattle.std.specs.List.{list_all}
 use Rattle.std.specs.Char.{is_ascii_digit, is_whitespace}
-use Rattle.git_syntax.specs.declared.refusal.Fault.{Fault}
 use Rattle.git_syntax.specs.declared.refusal.UrlFault.{UrlFault}
 use Rattle.git_syntax.specs.declared.refusal.UrlFault.TheVariants as fault
 use Rattle.git_syntax.specs.declared.found.ScpHost as rust
@@ -19,12 +17,11 @@ use Rattle.git_syntax.specs.Hosts.HostSyntax.{git_hosts}
 use Rattle.git_syntax.specs.Grammar.{IsBracketed, ScpFront, ScpForm, AddressedForm, ScpUser, ScpHost, Unbrackets, SpellsScpBefore, SpellsScp}
 use Rattle.git_syntax.specs.Grammar.ScpFront.{plain, bracketed}
 use Rattle.git_syntax.specs.Grammar.ScpUser.{host_alone, with_user}
-use Rattle.git_syntax.specs.Flaws.{HasBadHost, HasBadPort, HostPortFlaw, ScpNameFlaw, ScpHostFlaw}
+use Rattle.git_syntax.specs.Flaws.{HasBadHost, HasBadPort, ScpNameFlaw, ScpHostFlaw}
 use Rattle.git_syntax.specs.Internal.FoundPieces.{scp_host_of}
 use Rattle.git_syntax.specs.Internal.ScpPieces.{ColonsInside, SpellsHost, ReadsScpPiece, ReadsScpHost}
 use Rattle.git_syntax.proofs.Texts.CutLemmas.{heads, tails, not_free, free-append, free_parts, free_head_tail, free_of_all, free_begins, free_or_cut, lacks_of_all, cut_unique}
 use Rattle.git_syntax.proofs.Texts.EscapeLemmas.{ascii_class, decode_escaped_percents, lacks_escaped_percents, escaped_percents-append, escaped_percents_kept, sound_kept, utf8_class, utf8_parts, white_space_ascii}
-use Rattle.git_syntax.proofs.Texts.PlaceLemmas.{stands_within, white_within}
 use Rattle.git_syntax.proofs.Addresses.AddressLemmas.{address_free}
 use Rattle.git_syntax.proofs.Parsing.HostLemmas.{bare_not_strict, colon_first, literal_inner, literal_parts, names_utf8, not_digits, not_ended, simple_named, some_tested, zone_byte_ascii}
 use Rattle.git_syntax.proofs.Parsing.ClassifierLemmas.{nil_tested, same_front}
@@ -204,18 +201,11 @@ colons_found host front behind open_front text colons e many = record {
               inr (escaped_percents front, escaped_percents y, escaped_percents z, escaped ∙ ap (λ t. escaped_percents front ++ colon ∷ t) (ap escaped_percents k ∙ escaped_percents-append y (colon ∷ z)))
         ]
 
--- a flaw of a host where each `%` is read as its own escape, for the host as it is
-escaped_flaw : (host before here behind : List ℕ) (named : UrlFault) (at len start size : ℕ) → host ≡ before ++ (here ++ behind) → HostPortFlaw git_hosts (escaped_percents host) named start size → start ≡ length (escaped_percents before) → size ≡ length (escaped_percents here) → at ≡ length before → len ≡ length here → ScpNameFlaw host at len named
-escaped_flaw host before here behind named at len start size e h first second offset reported = grind arith
-
 -- what is in a port's place behind one colon isn't a port
-pub no_port_found : (host front behind : List ℕ) → begins_with left_bracket host ≡ false → ColonsInside host → FreeOf colon front → host ≡ front ++ colon ∷ behind → false ≡ (length front == 0) → FreeOf colon behind → ScpNameFlaw host (length front + 1) (length behind) fault.BadPort
+pub no_port_found : (host front behind : List ℕ) → begins_with left_bracket host ≡ false → ColonsInside host → FreeOf colon front → host ≡ front ++ colon ∷ behind → false ≡ (length front == 0) → FreeOf colon behind → ScpNameFlaw host fault.BadPort
 no_port_found host front behind open_front colons first e some last =
-    escaped_flaw host (front ++ colon ∷ []) behind [] fault.BadPort (length front + 1) (length behind) (length (escaped_percents front) + 1) (length (escaped_percents behind))
-    (e ∙ ap (λ t. front ++ colon ∷ t) (sym (append-nil behind)) ∙ sym (append_assoc front (colon ∷ []) (behind ++ [])))
-    (HasBadPort.plain (escaped_percents front) (escaped_percents behind) (record { nonempty = escaped_some front (some_tested front some); no_colon = lacks_escaped_percents (λ b. b == colon) front refl refl refl first; no_bracket = escaped_front left_bracket front refl (front_open front e some) }) (lacks_escaped_percents (λ b. b == colon) behind refl refl refl last)
-    (ap escaped_percents e ∙ escaped_percents-append front (colon ∷ behind)) (not_digits git_hosts (escaped_percents behind) (no_digits (list_all is_ascii_digit (escaped_percents behind)) refl)) refl refl)
-    (omega (arith, ap length (escaped_percents-append front (colon ∷ [])), length-append (escaped_percents front) (colon ∷ []))) refl (omega (arith, length-append front (colon ∷ []))) refl
+    HasBadPort.plain (escaped_percents front) (escaped_percents behind) (record { nonempty = escaped_some front (some_tested front some); no_colon = lacks_escaped_percents (λ b. b == colon) front refl refl refl first; no_bracket = escaped_front left_bracket front refl (front_open front e some) }) (lacks_escaped_percents (λ b. b == colon) behind refl refl refl last)
+    (ap escaped_percents e ∙ escaped_percents-append front (colon ∷ behind)) (not_digits git_hosts (escaped_percents behind) (no_digits (list_all is_ascii_digit (escaped_percents behind)) refl))
   where
     front_open : (t : List ℕ) → host ≡ t ++ colon ∷ behind → false ≡ (length t == 0) → begins_with left_bracket t ≡ false
     front_open [] k none = absurd (false≢true none)
@@ -230,10 +220,8 @@ no_port_found host front behind open_front colons first e some last =
 -- ---- brackets
 
 -- no bracket closes
-pub open_found : (behind : List ℕ) → FreeOf right_bracket behind → ScpNameFlaw (left_bracket ∷ behind) 0 1 fault.BadCharacter
-open_found behind free =
-    escaped_flaw (left_bracket ∷ behind) [] (left_bracket ∷ []) behind fault.BadCharacter 0 1 0 1 refl
-    (HasBadHost.open_bracket (escaped_percents behind) (lacks_escaped_percents (λ b. b == right_bracket) behind refl refl refl free) refl refl refl) refl refl refl refl
+pub open_found : (behind : List ℕ) → FreeOf right_bracket behind → ScpNameFlaw (left_bracket ∷ behind) fault.BadCharacter
+open_found behind free = HasBadHost.open_bracket (escaped_percents behind) (lacks_escaped_percents (λ b. b == right_bracket) behind refl refl refl free) refl
 
 -- the text between brackets and what follows them, where each `%` is escaped
 brackets_escaped : (behind inner rest : List ℕ) → behind ≡ inner ++ right_bracket ∷ rest → escaped_percents behind ≡ escaped_percents inner ++ right_bracket ∷ escaped_percents rest
@@ -249,17 +237,14 @@ no_colon_behind behind inner rest (inr (inside, last, first, free, k)) closed e 
     subst (λ t. FreeOf colon t) (sym pieces.1) free
 
 -- so anything that follows is refused
-pub rest_found : (behind inner rest : List ℕ) → ColonsInside (left_bracket ∷ behind) → FreeOf right_bracket inner → behind ≡ inner ++ right_bracket ∷ rest → false ≡ (length rest == 0) → ScpNameFlaw (left_bracket ∷ behind) (length inner + 2) (length rest) fault.BadCharacter
+pub rest_found : (behind inner rest : List ℕ) → ColonsInside (left_bracket ∷ behind) → FreeOf right_bracket inner → behind ≡ inner ++ right_bracket ∷ rest → false ≡ (length rest == 0) → ScpNameFlaw (left_bracket ∷ behind) fault.BadCharacter
 rest_found behind inner rest colons closed e some =
-    escaped_flaw (left_bracket ∷ behind) (left_bracket ∷ (inner ++ right_bracket ∷ [])) rest [] fault.BadCharacter (length inner + 2) (length rest) (length (escaped_percents inner) + 2) (length (escaped_percents rest))
-    (ap (λ t. left_bracket ∷ t) (e ∙ ap (λ t. inner ++ right_bracket ∷ t) (sym (append-nil rest)) ∙ sym (append_assoc inner (right_bracket ∷ []) (rest ++ []))))
-    (not_ended git_hosts (escaped_percents behind) (escaped_percents inner) (escaped_percents rest) (lacks_escaped_percents (λ b. b == right_bracket) inner refl refl refl closed) (brackets_escaped behind inner rest e)
+    not_ended git_hosts (escaped_percents behind) (escaped_percents inner) (escaped_percents rest) (lacks_escaped_percents (λ b. b == right_bracket) inner refl refl refl closed) (brackets_escaped behind inner rest e)
     (λ ends. elim ends [
       | inl none ↦ absurd (omega (arith, ap length none, escaped_some rest (some_tested rest some)))
       | inr begins ↦
           both_ways _ (free_begins colon (escaped_percents rest) (lacks_escaped_percents (λ b. b == colon) rest refl refl refl (no_colon_behind behind inner rest colons closed e))) begins
-    ]))
-    (omega (arith, ap length (escaped_percents-append inner (right_bracket ∷ [])), length-append (escaped_percents inner) (right_bracket ∷ []))) refl (omega (arith, length-append inner (right_bracket ∷ []))) refl
+    ])
 
 -- a host between brackets
 inner_found : (behind inner rest shown : List ℕ) → FreeOf right_bracket inner → behind ≡ inner ++ right_bracket ∷ rest → true ≡ (length rest == 0) → Inner git_hosts (escaped_percents inner) shown → SpellsHost (escaped_percents (left_bracket ∷ behind)) shown
@@ -334,13 +319,9 @@ zone_parts t a z free e h =
 -- ---- the location
 
 -- what is found in a host that isn't empty is found for the host
-pub scp_host_read : (host : List ℕ) (r : Result rust.ScpHost Fault) → FreeOf at_sign host → FreeOf backslash host → LacksWhiteSpace host → ReadsScpPiece host r → ReadsScpHost host r
+pub scp_host_read : (host : List ℕ) (r : Result rust.ScpHost UrlFault) → FreeOf at_sign host → FreeOf backslash host → LacksWhiteSpace host → ReadsScpPiece host r → ReadsScpHost host r
 scp_host_read host (Ok found) at back white h = scp_host_found host (escaped_percents host) (scp_host_of found) at back white refl h
-scp_host_read host (Err fault) at back white h = ScpHostFlaw.bad_name fault.kind h
-
--- the flaw of a host is within it
-pub scp_host_flaw_within : (host : List ℕ) (at len : ℕ) (named : UrlFault) → ScpHostFlaw host at len named → at + len ≤ length host
-scp_host_flaw_within host at len named h = grind (arith, nat_tests, length-append, stands_within, white_within)
+scp_host_read host (Err fault) at back white h = ScpHostFlaw.bad_name fault h
 
 -- the host without brackets around it is text
 unbracketed_utf8 : (host inner : List ℕ) → Unbrackets host inner → IsUtf8 host → IsUtf8 inner

@@ -1,11 +1,10 @@
 -- URLs: what their text determines of their pieces, and what leaves no reading.
-use Rattle.std.proofs.Common.{◌≡◌, ℕ, ◌+◌, ◌-◌, ◌<◌, ◌≤◌, ◌⊎◌, Bool, true, false, List, [], ◌∷◌, ◌++◌, length, take, Option, Some, None, Result, inl, inr, refl, sym, ap, subst, ◌∙◌, arith, length-append, length-take, codes}
+use Rattle.std.proofs.Common.{◌≡◌, ℕ, ◌<◌, ◌⊎◌, Bool, true, false, List, [], ◌∷◌, ◌++◌, length, Option, Some, None, Result, inl, inr, refl, sym, ap, subst, ◌∙◌, arith}
 use Rattle.std.proofs.lemmas.Bool.Decides.{nat_tests}
 use Rattle.std.specs.Prelude.{IfOk, IsSome, is_some, IsUtf8}
-use Rattle.std.proofs.lemmas.Bool.{both_ways, cases_lt}
+use Rattle.std.proofs.lemmas.Bool.{both_ways}
 use Rattle.std.proofs.lemmas.List.{nil_from_length}
 use Rattle.percent_encoding.specs.Percent.{percent_decode}
-use Rattle.git_syntax.specs.declared.refusal.UrlFault.{UrlFault}
 use Rattle.git_syntax.specs.declared.refusal.UrlFault.TheVariants as fault
 use Rattle.git_syntax.specs.Bytes.{colon, at_sign, backslash, Lacks, FreeOf, Holds, LacksWhiteSpace, is_scheme_text, is_path_start, StartsPath}
 use Rattle.git_syntax.specs.Internal.Cuts.{url_mark}
@@ -15,12 +14,12 @@ use Rattle.git_syntax.specs.Schemes.{is_web_scheme, host_syntax_of, requires_hos
 use Rattle.git_syntax.specs.Authority.{unless_empty, Credentials, Authority, Fits}
 use Rattle.git_syntax.specs.Authority.Authority.{host_alone, with_user}
 use Rattle.git_syntax.specs.Grammar.{UrlSyntax, HasUrlSyntax}
-use Rattle.git_syntax.specs.Flaws.{AuthorityFlaw, HasBadUser, PieceOf, OtherUrlForm, TooLongAt, UrlCut}
+use Rattle.git_syntax.specs.Flaws.{AuthorityFlaw, HasBadUser, OtherUrlForm, UrlCut}
 use Rattle.git_syntax.specs.declared.host.HostPort.{HostPort}
 use Rattle.git_syntax.specs.Internal.HostPieces.{IsSimpleHost, host_of, is_simple_byte, named_text}
 use Rattle.git_syntax.specs.Internal.UrlPieces.{CutsRest, HasNoText, HoldsHosted, IsNoAuthority}
 use Rattle.git_syntax.proofs.Texts.CutLemmas.{free_of_all, not_free, cut_unique, last_cut_unique, path_cut_unique, mark_cut_unique, held_free, scheme_text_free}
-use Rattle.git_syntax.proofs.Parsing.HostLemmas.{name_flaw_within, names_unique, simple_host_named}
+use Rattle.git_syntax.proofs.Parsing.HostLemmas.{names_unique, simple_host_named}
 use Rattle.git_syntax.proofs.Texts.EscapeLemmas.{decode_empty}
 use Rattle.percent_encoding.proofs.PercentLemmas.{percent_decode-nil}
 
@@ -31,8 +30,8 @@ pub credentials_alone : (text : List ℕ) (user password : Option (List ℕ)) �
 credentials_alone text user password free h = grind (arith, nat_tests, not_free)
 
 -- user information with a part that decodes to no text holds nothing
-pub no_text_refutes : (text : List ℕ) (at len : ℕ) (user password : Option (List ℕ)) → HasNoText text at len → ¬ Credentials text user password
-no_text_refutes text at len user password k h = grind (arith, nat_tests, credentials_alone, cut_unique, not_free)
+pub no_text_refutes : (text : List ℕ) (user password : Option (List ℕ)) → HasNoText text → ¬ Credentials text user password
+no_text_refutes text user password k h = grind (arith, nat_tests, credentials_alone, cut_unique, not_free)
 
 -- a text that is not empty is itself, unless it is empty
 pub some_kept : (text : List ℕ) → ¬ (text ≡ []) → unless_empty text ≡ Some text
@@ -95,9 +94,9 @@ no_name_behind syntax needed text information piece free joined none user passwo
     none host port (authority_cut syntax text information piece user password host port free joined h.named).1
 
 -- there is no authority where the user information holds what isn't text
-pub no_text_before : (syntax : HostSyntax) (needed : Bool) (text information piece : List ℕ) (at len : ℕ) → FreeOf at_sign piece → text ≡ information ++ at_sign ∷ piece → HasNoText information at len → IsNoAuthority syntax needed text
-no_text_before syntax needed text information piece at len free joined bad user password host port h =
-    no_text_refutes information at len user password bad (authority_cut syntax text information piece user password host port free joined h.named).0
+pub no_text_before : (syntax : HostSyntax) (needed : Bool) (text information piece : List ℕ) → FreeOf at_sign piece → text ≡ information ++ at_sign ∷ piece → HasNoText information → IsNoAuthority syntax needed text
+no_text_before syntax needed text information piece free joined bad user password host port h =
+    no_text_refutes information user password bad (authority_cut syntax text information piece user password host port free joined h.named).0
 
 -- there is no authority where nothing follows the user information
 pub no_host_behind : (syntax : HostSyntax) (needed : Bool) (text information piece : List ℕ) → FreeOf at_sign piece → text ≡ information ++ at_sign ∷ piece → piece ≡ [] → IsNoAuthority syntax needed text
@@ -111,48 +110,13 @@ no_host_alone syntax needed text need free empty user password host port h =
     none_not_some host (empty_names_nothing syntax text host port empty (authority_alone syntax text user password host port free h.named)) (h.hosted need)
 
 -- user information that holds what isn't text is a flaw of its authority
-pub bad_user_flaw : (syntax : HostSyntax) (needed : Bool) (text information piece : List ℕ) (at len : ℕ) → FreeOf at_sign piece → text ≡ information ++ at_sign ∷ piece → HasNoText information at len → AuthorityFlaw syntax needed text at len fault.BadCharacter
-bad_user_flaw syntax needed text information piece at len free joined (HasNoText.user f bad a l) =
-    AuthorityFlaw.bad_user (HasBadUser.user information piece free f joined bad a l)
-bad_user_flaw syntax needed text information piece at len free joined (HasNoText.user_before_password u w f e bad a l) =
-    AuthorityFlaw.bad_user (HasBadUser.user_before_password u w piece free f (joined ∙ ap (λ x. x ++ at_sign ∷ piece) e) bad a l)
-bad_user_flaw syntax needed text information piece at len free joined (HasNoText.password u w f e bad a l) =
-    AuthorityFlaw.bad_user (HasBadUser.password u w piece free f (joined ∙ ap (λ x. x ++ at_sign ∷ piece) e) bad a l)
-
--- ---- the places of flaws
-
--- a user or a password is within its authority
-bad_user_within : (authority : List ℕ) (at len : ℕ) → HasBadUser authority at len → at + len ≤ length authority
-bad_user_within authority at len h = grind (arith, nat_tests, length-append)
-
--- the piece behind the user information ends where its authority does
-piece_start : (authority piece : List ℕ) (start : ℕ) → PieceOf authority piece start → start + length piece ≡ length authority
-piece_start authority piece start h = grind (arith, nat_tests, length-append)
-
--- the flaw of an authority is within it
-pub authority_flaw_within : (syntax : HostSyntax) (needed : Bool) (authority : List ℕ) (at len : ℕ) (named : UrlFault) → AuthorityFlaw syntax needed authority at len named → at + len ≤ length authority
-authority_flaw_within syntax needed authority at len named (AuthorityFlaw.holds_backslash h l) = omega (arith, l, h.offset, ap length h.joined, length-append h.before (backslash ∷ h.behind))
-authority_flaw_within syntax needed authority at len named (AuthorityFlaw.bad_user h) = bad_user_within authority at len h
-authority_flaw_within syntax needed authority at len named (AuthorityFlaw.bad_name piece n start place of bad a) =
-    omega (arith, a, piece_start authority piece start of, name_flaw_within syntax piece n place len bad)
-authority_flaw_within syntax needed authority at len named (AuthorityFlaw.no_host information e a l) = omega (arith, a, l)
-authority_flaw_within syntax needed authority at len named (AuthorityFlaw.host_required need e a l) = omega (arith, a, l)
-
--- a path ends the text
-pub path_end : (b scheme authority path : List ℕ) → b ≡ scheme ++ (codes "://" ++ (authority ++ path)) → length (scheme ++ (codes "://" ++ authority)) + length path ≡ length b
-path_end b scheme authority path e = grind (arith, nat_tests, length-append)
-
--- what is shown of a URL that is too long has its scheme and `://` in front
-pub shown_mark : (b scheme rest : List ℕ) → b ≡ scheme ++ (codes "://" ++ rest) → length scheme + 3 ≤ length (take (length scheme + 1027) b)
-shown_mark b scheme rest e = omega (arith, length-take (length scheme + 1027) b, ap length e, length-append scheme (codes "://" ++ rest))
-
--- the scheme of a URL is too long, or what is shown behind `://` is reported
-pub too_long_placed : (b scheme rest : List ℕ) → b ≡ scheme ++ (codes "://" ++ rest) → (at : ℕ) × (len : ℕ) × TooLongAt scheme (take (length scheme + 1027) b) at len
-too_long_placed b scheme rest e =
-    elim (cases_lt 1024 (length scheme)) [
-      | inl long ↦ (0, length scheme, TooLongAt.scheme long refl refl)
-      | inr short ↦ (length scheme + 3, length (take (length scheme + 1027) b) - (length scheme + 3), TooLongAt.behind_mark short refl (omega (arith, shown_mark b scheme rest e)))
-    ]
+pub bad_user_flaw : (syntax : HostSyntax) (needed : Bool) (text information piece : List ℕ) → FreeOf at_sign piece → text ≡ information ++ at_sign ∷ piece → HasNoText information → AuthorityFlaw syntax needed text fault.BadCharacter
+bad_user_flaw syntax needed text information piece free joined (HasNoText.user f bad) =
+    AuthorityFlaw.bad_user (HasBadUser.user information piece free f joined bad)
+bad_user_flaw syntax needed text information piece free joined (HasNoText.user_before_password u w f e bad) =
+    AuthorityFlaw.bad_user (HasBadUser.user_before_password u w piece free f (joined ∙ ap (λ x. x ++ at_sign ∷ piece) e) bad)
+bad_user_flaw syntax needed text information piece free joined (HasNoText.password u w f e bad) =
+    AuthorityFlaw.bad_user (HasBadUser.password u w piece free f (joined ∙ ap (λ x. x ++ at_sign ∷ piece) e) bad)
 
 -- ---- URLs
 

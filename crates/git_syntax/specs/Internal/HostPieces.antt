@@ -3,7 +3,7 @@ use Rattle.std.specs.Prelude.{◌≡◌, ◌<◌, ℕ, Bool, true, false, ◌||�
 use Rattle.std.specs.List.{list_all}
 use Rattle.std.specs.Char.{is_ascii_digit, is_ascii_lowercase, to_ascii_lowercase}
 use Rattle.percent_encoding.specs.Percent.{percent_decode}
-use Rattle.git_syntax.specs.declared.refusal.Fault.{Fault}
+use Rattle.git_syntax.specs.declared.refusal.UrlFault.{UrlFault}
 use Rattle.git_syntax.specs.declared.host.HostSyntax as rust
 use Rattle.git_syntax.specs.declared.host.HostSyntax.TheVariants as read
 use Rattle.git_syntax.specs.declared.host.HostPiece.{HostPiece}
@@ -136,8 +136,7 @@ abbrev pub IsBadPort : HostSyntax → List ℕ → Type 0
 IsBadPort syntax rest = (digits : List ℕ) × IsNoPort syntax digits × (rest ≡ colon ∷ digits)
 
 -- what was read from a piece that isn't empty: the host and the port that it names, or a flaw of it
--- where it is
-abbrev pub ReadsHostPort : HostSyntax → List ℕ → Result HostPort Fault → Type 0
+abbrev pub ReadsHostPort : HostSyntax → List ℕ → Result HostPort UrlFault → Type 0
 ReadsHostPort syntax piece result = MatchResult result
     (λ named. SpellsHostPort syntax piece (Some (named_text named)) named.port)
-    (λ fault. HostPortFlaw syntax piece fault.kind fault.at fault.len)
+    (λ fault. HostPortFlaw syntax piece fault)

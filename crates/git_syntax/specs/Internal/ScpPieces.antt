@@ -2,7 +2,7 @@
 use Rattle.std.specs.Prelude.{◌≡◌, ℕ, ◌⊎◌, List, ◌∷◌, ◌++◌, Option, Some, None, Result, MatchResult}
 use Rattle.std.specs.Option.{option_copied}
 use Rattle.std.specs.Borrow.{Bor}
-use Rattle.git_syntax.specs.declared.refusal.Fault.{Fault}
+use Rattle.git_syntax.specs.declared.refusal.UrlFault.{UrlFault}
 use Rattle.git_syntax.specs.declared.found.ScpHost as rust
 use Rattle.git_syntax.specs.Bytes.{colon, at_sign, right_bracket, FreeOf}
 use Rattle.git_syntax.specs.Escapes.{escaped_percents}
@@ -30,14 +30,14 @@ pub record SpellsHost (piece meant : List ℕ) : Type 0 where
   pub unbracketed : Unbrackets named meant
 
 -- what is found in a host that isn't empty: what it names where each `%` is read as its own escape, or a flaw
--- of it where it is
-abbrev pub ReadsScpPiece : List ℕ → Result rust.ScpHost Fault → Type 0
+-- of it
+abbrev pub ReadsScpPiece : List ℕ → Result rust.ScpHost UrlFault → Type 0
 ReadsScpPiece host result = MatchResult result
     (λ found. SpellsHost (escaped_percents host) (scp_host_of found))
-    (λ fault. ScpNameFlaw host fault.at fault.len fault.kind)
+    (λ fault. ScpNameFlaw host fault)
 
--- what is found for the host of the scp form: the one that it stands for, or a flaw of it where it stands
-abbrev pub ReadsScpHost : List ℕ → Result rust.ScpHost Fault → Type 0
+-- what is found for the host of the scp form: the one that it stands for, or a flaw of it
+abbrev pub ReadsScpHost : List ℕ → Result rust.ScpHost UrlFault → Type 0
 ReadsScpHost host result = MatchResult result
     (λ found. ScpHost host (scp_host_of found))
-    (λ fault. ScpHostFlaw host fault.at fault.len fault.kind)
+    (λ fault. ScpHostFlaw host fault)

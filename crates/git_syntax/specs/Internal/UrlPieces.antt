@@ -1,9 +1,9 @@
 -- What the slices stand for that the reader of URLs answers, and what it reports of them.
-use Rattle.std.specs.Prelude.{◌≡◌, ℕ, ◌+◌, Bool, true, ◌⊎◌, List, [], ◌∷◌, ◌++◌, length, Option, option_map, IfSome, IsSome, IsUtf8, Result, MatchResult}
+use Rattle.std.specs.Prelude.{◌≡◌, ℕ, Bool, true, ◌⊎◌, List, [], ◌∷◌, ◌++◌, Option, option_map, IfSome, IsSome, IsUtf8, Result, MatchResult}
 use Rattle.std.specs.Borrow.{Bor}
 use Rattle.percent_encoding.specs.Percent.{percent_decode}
-use Rattle.git_syntax.specs.declared.refusal.Fault.{Fault}
-use Rattle.git_syntax.specs.declared.refusal.UrlFault.TheVariants as kind
+use Rattle.git_syntax.specs.declared.refusal.UrlFault.{UrlFault}
+use Rattle.git_syntax.specs.declared.refusal.UrlFault.TheVariants.{BadCharacter}
 use Rattle.git_syntax.specs.declared.url_syntax.ParsedUrl.{ParsedUrl}
 use Rattle.git_syntax.specs.declared.url_syntax.AuthoritySlices.{AuthoritySlices}
 use Rattle.git_syntax.specs.declared.url_syntax.CredentialSlices.{CredentialSlices}
@@ -44,22 +44,20 @@ abbrev pub HoldsCredentials : List ℕ → CredentialSlices → Type 0
 HoldsCredentials information parts = Credentials information (decoded_option parts.user)
     (decoded_option parts.password)
 
--- a part of user information decodes to no text: the `len` bytes behind the first `at`
-pub data HasNoText (information : List ℕ) (at len : ℕ) : Type 0 where
-  user : FreeOf colon information → ¬ IsUtf8 (percent_decode information)
-      → at ≡ 0 → len ≡ length information → HasNoText information at len
+-- a part of user information decodes to no text
+pub data HasNoText (information : List ℕ) : Type 0 where
+  user : FreeOf colon information → ¬ IsUtf8 (percent_decode information) → HasNoText information
   user_before_password : (u w : List ℕ) → FreeOf colon u → information ≡ u ++ colon ∷ w
-      → ¬ IsUtf8 (percent_decode u) → at ≡ 0 → len ≡ length u → HasNoText information at len
+      → ¬ IsUtf8 (percent_decode u) → HasNoText information
   password : (u w : List ℕ) → FreeOf colon u → information ≡ u ++ colon ∷ w
-      → ¬ IsUtf8 (percent_decode w) → at ≡ length u + 1 → len ≡ length w
-      → HasNoText information at len
+      → ¬ IsUtf8 (percent_decode w) → HasNoText information
 
 -- what is read of user information: the user and the password that it holds, or a part of it that decodes to
 -- no text
-abbrev pub ReadsCredentials : List ℕ → Result CredentialSlices Fault → Type 0
+abbrev pub ReadsCredentials : List ℕ → Result CredentialSlices UrlFault → Type 0
 ReadsCredentials information result = MatchResult result
     (λ parts. HoldsCredentials information parts)
-    (λ fault. (fault.kind ≡ kind.BadCharacter) × HasNoText information fault.at fault.len)
+    (λ fault. (fault ≡ BadCharacter) × HasNoText information)
 
 -- an authority holds these, and a host where one is needed
 pub record HoldsHosted (syntax : HostSyntax) (needed : Bool) (authority : List ℕ)

@@ -3,9 +3,8 @@ use Rattle.std.proofs.Common.{[], ◌∷◌, ◌++◌, refl, sym, ap, ◌∙◌,
 use Rattle.std.specs.Str.Iter.{char_indices_rest}
 use Rattle.std.proofs.lemmas.List.{append-nil, nil_from_length}
 use Rattle.git_syntax.proofs.Texts.CutLemmas.{lacks-append, lacks-cons}
-use Rattle.git_syntax.proofs.Texts.PlaceLemmas.{encodes_push}
 use Rattle.git_refusals.specs.Internal.Wrong.{wrong_test}
-use Rattle.git_refusals.proofs.Refusing.CharacterLemmas.{character_within, none_stands, stands_character}
+use Rattle.git_refusals.proofs.Refusing.CharacterLemmas.{character_within, encodes_push, none_stands, stands_character}
 use Rattle.git_refusals.proofs.characters.first_wrong.Goals as goal
 
 pub loop-at-preserved : goal.loop-at-preserved

@@ -1,5 +1,5 @@
 -- The text between brackets, and what follows it.
-use Rattle.std.proofs.Common.{Some, refl, ap, arith, length}
+use Rattle.std.proofs.Common.{Some, refl}
 use Rattle.std.proofs.lemmas.Bool.{false≢true}
 use Rattle.git_syntax.specs.Internal.HostPieces.{named_text, meant_host, host_syntax}
 use Rattle.git_syntax.proofs.Parsing.HostLemmas.{bracketed_name, no_port_behind, not_ended, not_inner}
@@ -20,4 +20,4 @@ returns-in-Some-with_rest c =
 
 pub returns-in-None : goal.returns-in-None
 returns-in-None c =
-    no_port_behind (host_syntax c.args.syntax) _ c.args.inner.now c.args.rest.now c.in-None.ensures.0 _ c.requires refl c.in-None.ensures.2 c.in-None.ensures.1 (omega (arith, ap length c.in-None.ensures.2))
+    no_port_behind (host_syntax c.args.syntax) _ c.args.inner.now c.args.rest.now c.in-None.ensures.0 c.requires refl c.in-None.ensures.2 c.in-None.ensures.1

@@ -7,7 +7,7 @@ use Rattle.git_syntax.proofs.host.read_host.Goals as goal
 pub returns-in_err-named-clause-unnamed : goal.returns-in_err-named-clause-unnamed
 returns-in_err-named-clause-unnamed c =
     let p = err_from_is_err_and c.from_residual.result c.from_residual.ensures.1 in
-    rw p.1 (flawed_unnamed (host_syntax c.args.syntax) c.args.piece.now c.in_err-named.field-0.0.kind c.in_err-named.field-0.0.at c.in_err-named.field-0.0.len c.in_err-named.ensures)
+    rw p.1 (flawed_unnamed (host_syntax c.args.syntax) c.args.piece.now c.in_err-named.field-0.0 c.in_err-named.ensures)
 
 pub returns-clause-text : goal.returns-clause-text
 returns-clause-text c = names_utf8 (host_syntax c.args.syntax) c.args.piece.now (named_text c.in_ok-named.named) c.in_ok-named.named.port c.in_ok-named.ensures

@@ -10,4 +10,4 @@ pub returns-in-Some : goal.returns-in-Some
 returns-in-Some c = SpellsHostPort.plain (meant_host c.in-Some.host) c.requires c.in-Some.ensures (ap Some c.alone.ensures.host) c.alone.ensures.port
 
 pub returns-in-None : goal.returns-in-None
-returns-in-None c = HasBadHost.plain c.args.piece.now [] c.requires (inl refl) (sym (append-nil c.args.piece.now)) c.in-None.ensures refl refl
+returns-in-None c = HasBadHost.plain c.args.piece.now [] c.requires (inl refl) (sym (append-nil c.args.piece.now)) c.in-None.ensures

@@ -18,12 +18,12 @@ read_colons-requires-clause-colons c =
 pub returns-then-not-are_digits : goal.returns-then-not-are_digits
 returns-then-not-are_digits c =
     let front = plain_front c.args.piece.now c.in-Some.text.now (colon ∷ c.in-Some.digits.now) c.if-is_empty.ensures c.in-Some.ensures.0 c.requires.no_bracket c.in-Some.ensures.1 in
-    HasBadPort.plain c.in-Some.text.now c.in-Some.digits.now front (c.if-not-is_free_of.ensures.0 refl) c.in-Some.ensures.1 (not_digits (host_syntax c.args.syntax) c.in-Some.digits.now c.if-not-are_digits.ensures) refl refl
+    HasBadPort.plain c.in-Some.text.now c.in-Some.digits.now front (c.if-not-is_free_of.ensures.0 refl) c.in-Some.ensures.1 (not_digits (host_syntax c.args.syntax) c.in-Some.digits.now c.if-not-are_digits.ensures)
 
 pub returns-in_default-read_text : goal.returns-in_default-read_text
 returns-in_default-read_text c =
     let front = plain_front c.args.piece.now c.in-Some.text.now (colon ∷ c.in-Some.digits.now) c.if-is_empty.ensures c.in-Some.ensures.0 c.requires.no_bracket c.in-Some.ensures.1 in
-    HasBadHost.plain c.in-Some.text.now (colon ∷ c.in-Some.digits.now) front (inr (c.in-Some.digits.now, c.if-not-is_free_of.ensures.0 refl, refl)) c.in-Some.ensures.1 c.in_default-read_text.ensures refl refl
+    HasBadHost.plain c.in-Some.text.now (colon ∷ c.in-Some.digits.now) front (inr (c.in-Some.digits.now, c.if-not-is_free_of.ensures.0 refl, refl)) c.in-Some.ensures.1 c.in_default-read_text.ensures
 
 pub returns-in-Some-with_port : goal.returns-in-Some-with_port
 returns-in-Some-with_port c =
@@ -34,4 +34,4 @@ returns-in-Some-with_port c =
 pub returns-in-None : goal.returns-in-None
 returns-in-None c =
     let front = plain_front c.args.piece.now c.in-Some.text.now (colon ∷ c.in-Some.digits.now) c.if-is_empty.ensures c.in-Some.ensures.0 c.requires.no_bracket c.in-Some.ensures.1 in
-    HasBadPort.plain c.in-Some.text.now c.in-Some.digits.now front (c.if-not-is_free_of.ensures.0 refl) c.in-Some.ensures.1 c.in-None.ensures refl refl
+    HasBadPort.plain c.in-Some.text.now c.in-Some.digits.now front (c.if-not-is_free_of.ensures.0 refl) c.in-Some.ensures.1 c.in-None.ensures

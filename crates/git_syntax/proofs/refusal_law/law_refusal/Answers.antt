@@ -1,6 +1,6 @@
--- The laws are lemmas.
-use Rattle.git_syntax.proofs.Errors.RefusalLemmas.{flawless, refused_unspelled}
+-- The law is a lemma.
+use Rattle.git_syntax.proofs.Errors.RefusalLemmas.{flawless}
 use Rattle.git_syntax.proofs.refusal_law.law_refusal.Goals as goal
 
 pub returns : goal.returns
-returns c = record { refusal = λ b r v h. refused_unspelled b r h v; flawless = flawless }
+returns c = flawless

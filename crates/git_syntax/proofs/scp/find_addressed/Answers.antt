@@ -11,8 +11,8 @@ use Rattle.git_syntax.proofs.Parsing.RoomLemmas.{address_within}
 use Rattle.git_syntax.proofs.Parsing.ScpLemmas.{addressed_user_utf8}
 use Rattle.git_syntax.proofs.scp.find_addressed.Goals as goal
 
-pub no_path-requires : goal.no_path-requires
-no_path-requires c =
+pub returns-then-is_empty-clause-flaw : goal.returns-then-is_empty-clause-flaw
+returns-then-is_empty-clause-flaw c =
     behind_address c.args.user.now c.args.address.now (subst (λ p. AddressedForm c.args.input.now c.args.user.now c.args.address.now p) (nil_tested c.args.path.now c.if-is_empty.ensures) c.requires)
 
 pub returns-clause-found : goal.returns-clause-found

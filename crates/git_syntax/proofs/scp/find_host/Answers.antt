@@ -2,7 +2,6 @@
 use Rattle.std.proofs.Common.{refl, sym, subst}
 use Rattle.std.proofs.lemmas.Bool.{false≢true}
 use Rattle.git_syntax.specs.Flaws.{ScpHostFlaw}
-use Rattle.git_syntax.specs.Places.{StandsWhite}
 use Rattle.git_syntax.specs.Internal.ScpPieces.{ReadsScpPiece}
 use Rattle.git_syntax.proofs.Parsing.ClassifierLemmas.{nil_tested}
 use Rattle.git_syntax.proofs.Parsing.ScpLemmas.{scp_host_read, simple_scp_host}
@@ -12,14 +11,13 @@ pub returns-then-is_simple_host-clause-read : goal.returns-then-is_simple_host-c
 returns-then-is_simple_host-clause-read c = simple_scp_host c.args.host.now (c.if-is_simple_host.ensures refl)
 
 pub returns-then-not-has_no_white_space-clause-read : goal.returns-then-not-has_no_white_space-clause-read
-returns-then-not-has_no_white_space-clause-read c =
-    rw c.white_space.ensures.kind (ScpHostFlaw.white_space c.requires.text (λ lacks. false≢true (c.if-not-has_no_white_space.ensures.1 lacks)) (subst (λ t. StandsWhite t c.white_space.result.at c.white_space.result.len) c.as_text.ensures c.white_space.ensures.place))
+returns-then-not-has_no_white_space-clause-read c = ScpHostFlaw.white_space c.requires.text (λ lacks. false≢true (c.if-not-has_no_white_space.ensures.1 lacks))
 
 pub returns-then-not-is_free_of-clause-read : goal.returns-then-not-is_free_of-clause-read
-returns-then-not-is_free_of-clause-read c = ScpHostFlaw.holds_backslash c.first_byte.ensures refl
+returns-then-not-is_free_of-clause-read c = ScpHostFlaw.holds_backslash (λ free. false≢true (c.if-not-is_free_of.ensures.1 free))
 
 pub returns-then-is_empty-clause-read : goal.returns-then-is_empty-clause-read
-returns-then-is_empty-clause-read c = ScpHostFlaw.empty (nil_tested c.args.host.now c.if-is_empty.ensures) refl refl
+returns-then-is_empty-clause-read c = ScpHostFlaw.empty (nil_tested c.args.host.now c.if-is_empty.ensures)
 
 pub returns-in-Some-clause-read : goal.returns-in-Some-clause-read
 returns-in-Some-clause-read c =

@@ -1,17 +1,16 @@
 -- What is found of the scp form, and what is refused.
-use Rattle.std.proofs.Common.{refl, subst, arith}
+use Rattle.std.proofs.Common.{refl, subst}
 use Rattle.std.specs.Option.{option_copied}
 use Rattle.git_syntax.specs.Internal.FoundPieces.{scp_host_of}
 use Rattle.git_syntax.specs.Grammar.{ScpForm}
 use Rattle.git_syntax.specs.Flaws.MissesPath.{in_scp}
 use Rattle.git_syntax.proofs.Parsing.HostLemmas.{some_tested}
 use Rattle.git_syntax.proofs.Parsing.ClassifierLemmas.{nil_tested}
-use Rattle.git_syntax.proofs.Parsing.RoomLemmas.{scp_user_length}
-use Rattle.git_syntax.proofs.Parsing.ScpLemmas.{scp_host_flaw_within, scp_host_utf8, scp_user_utf8, scp_meant_utf8, colons_inside_front, colons_inside_host}
+use Rattle.git_syntax.proofs.Parsing.ScpLemmas.{scp_host_utf8, scp_user_utf8, scp_meant_utf8, colons_inside_front, colons_inside_host}
 use Rattle.git_syntax.proofs.scp.find_scp.Goals as goal
 
-pub no_path-requires : goal.no_path-requires
-no_path-requires c =
+pub returns-then-is_empty-clause-flaw : goal.returns-then-is_empty-clause-flaw
+returns-then-is_empty-clause-flaw c =
     in_scp c.args.front.now (subst (λ p. ScpForm c.args.input.now c.args.front.now p) (nil_tested c.args.path.now c.if-is_empty.ensures) c.requires.form)
 
 pub find_host-requires-clause-text : goal.find_host-requires-clause-text
@@ -54,11 +53,5 @@ returns-in-Err-clause-flaw c = record {
   form = c.requires.form;
   split = c.cut_front_user.ensures.split;
   no_at = c.cut_front_user.ensures.no_at;
-  place = c.in-Err.fault.at;
   flaw = c.in-Err.ensures.read;
-  offset = omega (arith, scp_user_length c.cut_front_user.ensures.split);
 }
-
-pub overflow_add-result : goal.overflow_add-result
-overflow_add-result c =
-    omega (arith, scp_user_length c.cut_front_user.ensures.split, scp_host_flaw_within c.cut_front_user.result.1.now c.in-Err.fault.at c.in-Err.fault.len c.in-Err.fault.kind c.in-Err.ensures.read)

@@ -1,6 +1,6 @@
 -- The scheme decides: `ext` keeps the text, a missing path is
 -- reported, and any other URL means what its parts do.
-use Rattle.std.proofs.Common.{refl, sym, ◌∙◌}
+use Rattle.std.proofs.Common.{sym, ◌∙◌}
 use Rattle.std.proofs.lemmas.Bool.{both_ways, false≢true}
 use Rattle.git_syntax.proofs.Parsing.HostLemmas.{some_tested}
 use Rattle.git_syntax.proofs.Parsing.ClassifierLemmas.{nil_tested}
@@ -13,7 +13,7 @@ use Rattle.git_syntax.proofs.url.found_of_url.Goals.{else-rules-via-then-rules+e
 
 pub returns-then-is_empty-clause-flaw : goal.returns-then-is_empty-clause-flaw
 returns-then-is_empty-clause-flaw c =
-    (path_missed c.requires.spelled (sym c.requires.rules.path ∙ c.if-rules.true) (nil_tested c.args.url.path.now c.if-is_empty.ensures), refl)
+    path_missed c.requires.spelled (sym c.requires.rules.path ∙ c.if-rules.true) (nil_tested c.args.url.path.now c.if-is_empty.ensures)
 
 pub returns-clause-found : goal.returns-clause-found
 returns-clause-found c =

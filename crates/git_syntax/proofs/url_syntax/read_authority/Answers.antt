@@ -1,5 +1,6 @@
 -- A simple host is the whole authority.
 use Rattle.std.proofs.Common.{refl, inr, ◌⊎◌}
+use Rattle.std.proofs.lemmas.Bool.{false≢true}
 use Rattle.std.proofs.lemmas.Result.{IfErr-weaker}
 use Rattle.git_syntax.specs.Bytes.{FreeOf, backslash}
 use Rattle.git_syntax.specs.Flaws.{AuthorityFlaw}
@@ -15,7 +16,7 @@ pub returns-in-Some-clause-clean : goal.returns-in-Some-clause-clean
 returns-in-Some-clause-clean c = simple_clean c.args.authority.now c.in-Some.ensures.simple
 
 pub returns-then-not-is_free_of-clause-flaw : goal.returns-then-not-is_free_of-clause-flaw
-returns-then-not-is_free_of-clause-flaw c = AuthorityFlaw.holds_backslash c.first_byte.ensures refl
+returns-then-not-is_free_of-clause-flaw c = AuthorityFlaw.holds_backslash (λ free. false≢true (c.if-not-is_free_of.ensures.1 free))
 
 pub returns-clause-clean : goal.returns-clause-clean
 returns-clause-clean c = on_each_ok c.read_marked.result (FreeOf backslash c.args.authority.now) (c.if-not-is_free_of.ensures.0 refl)

@@ -7,11 +7,11 @@ use Rattle.git_syntax.proofs.url_syntax.read_credentials.Goals as goal
 
 pub returns-then-not-decodes_to_utf8 : goal.returns-then-not-decodes_to_utf8
 returns-then-not-decodes_to_utf8 c =
-    (refl, HasNoText.password c.in-Some.user.now c.in-Some.password.now c.in-Some.ensures.0 c.in-Some.ensures.1 (λ text. false≢true (c.if-not-decodes_to_utf8.ensures.1 text)) refl refl)
+    (refl, HasNoText.password c.in-Some.user.now c.in-Some.password.now c.in-Some.ensures.0 c.in-Some.ensures.1 (λ text. false≢true (c.if-not-decodes_to_utf8.ensures.1 text)))
 
 pub returns-then-not-decodes_to_utf8-2 : goal.returns-then-not-decodes_to_utf8-2
 returns-then-not-decodes_to_utf8-2 c =
-    (refl, HasNoText.user_before_password c.in-Some.user.now c.in-Some.password.now c.in-Some.ensures.0 c.in-Some.ensures.1 (λ text. false≢true (c.if-not-decodes_to_utf8-2.ensures.1 text)) refl refl)
+    (refl, HasNoText.user_before_password c.in-Some.user.now c.in-Some.password.now c.in-Some.ensures.0 c.in-Some.ensures.1 (λ text. false≢true (c.if-not-decodes_to_utf8-2.ensures.1 text)))
 
 pub returns : goal.returns
 returns c =

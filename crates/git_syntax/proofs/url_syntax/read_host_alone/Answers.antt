@@ -1,5 +1,5 @@
 -- The whole authority names a host and a port.
-use Rattle.std.proofs.Common.{refl, sym, zero-add}
+use Rattle.std.proofs.Common.{refl}
 use Rattle.std.proofs.lemmas.Bool.{both_ways}
 use Rattle.std.proofs.lemmas.Result.{err_from_is_err_and}
 use Rattle.git_syntax.specs.Authority.Authority.{host_alone}
@@ -16,7 +16,7 @@ returns-in_err-host-clause-refused c =
 pub returns-in_err-host-clause-flaw : goal.returns-in_err-host-clause-flaw
 returns-in_err-host-clause-flaw c =
     let p = err_from_is_err_and c.from_residual.result c.from_residual.ensures.1 in
-    rw (p.1, p.2) (AuthorityFlaw.bad_name c.args.authority.now _ 0 _ (PieceOf.whole c.requires refl refl) c.in_err-host.ensures.flaw (sym (zero-add _)))
+    rw (p.1, p.2) (AuthorityFlaw.bad_name c.args.authority.now _ (PieceOf.whole c.requires refl) c.in_err-host.ensures.flaw)
 
 pub returns-then-is_none-clause-refused : goal.returns-then-is_none-clause-refused
 returns-then-is_none-clause-refused c =
@@ -26,7 +26,7 @@ returns-then-is_none-clause-refused c =
 pub returns-then-is_none-clause-flaw : goal.returns-then-is_none-clause-flaw
 returns-then-is_none-clause-flaw c =
     let empty = nothing_named _ _ _ _ c.in_ok-host.ensures.named (none_host c.in_ok-host.host c.if-is_none.ensures) in
-    AuthorityFlaw.host_required c.if-needed.true empty refl refl
+    AuthorityFlaw.host_required c.if-needed.true empty
 
 pub returns-clause-read : goal.returns-clause-read
 returns-clause-read c = record {

@@ -1,7 +1,7 @@
 -- A piece with a bracket in front has its port behind the brackets, any other behind the host.
 use Rattle.std.proofs.Common.{sym, subst, MatchOption}
 use Rattle.git_refusals.specs.Internal.Pieces.{IsHostAlone, HasPort}
-use Rattle.git_refusals.proofs.parts.port_digits.Goals as goal
+use Rattle.git_refusals.proofs.parts.authority.port_digits.Goals as goal
 
 pub returns-in-Some : goal.returns-in-Some
 returns-in-Some c =

@@ -3,11 +3,11 @@ use Rattle.std.proofs.Common.{◌+◌, ◌∷◌, ◌&&◌, sym, ap, subst, ◌�
 use Rattle.std.proofs.lemmas.Bool.{both_ways}
 use Rattle.git_syntax.specs.Bytes.{percent_sign}
 use Rattle.git_syntax.specs.Escapes.{is_sound}
-use Rattle.git_syntax.specs.Places.{StandsBroken}
 use Rattle.git_syntax.proofs.Texts.AsciiLemmas.{sound_at_cut}
 use Rattle.git_syntax.proofs.Texts.EscapeLemmas.{sound_free}
-use Rattle.git_syntax.proofs.Texts.PlaceLemmas.{broken_first, broken_later}
-use Rattle.git_syntax.proofs.places.broken_escape.Goals as goal
+use Rattle.git_refusals.specs.Characters.{StandsBroken}
+use Rattle.git_refusals.proofs.Refusing.PlaceLemmas.{broken_first, broken_later}
+use Rattle.git_refusals.proofs.escapes.broken_escape.Goals as goal
 
 pub returns-then-not-begins_with_digits : goal.returns-then-not-begins_with_digits
 returns-then-not-begins_with_digits c =

@@ -2,7 +2,7 @@
 use Rattle.std.proofs.Common.{refl}
 use Rattle.git_refusals.specs.Parts.{AuthoritySpans}
 use Rattle.git_refusals.proofs.Refusing.PartLemmas.{authority_names, behind_names}
-use Rattle.git_refusals.proofs.parts.authority_parts.Goals as goal
+use Rattle.git_refusals.proofs.parts.authority.authority_parts.Goals as goal
 
 pub host_parts-host-requires-clause-named : goal.host_parts-host-requires-clause-named
 host_parts-host-requires-clause-named c = authority_names c.args.authority.now c.in-None.ensures c.requires.held

@@ -2,7 +2,7 @@
 use Rattle.git_syntax.proofs.Parsing.ClassifierLemmas.{nil_tested}
 use Rattle.git_syntax.proofs.Parsing.HostLemmas.{some_tested}
 use Rattle.git_refusals.proofs.Refusing.PartLemmas.{never_open, brackets_alone, brackets_colon, brackets_port}
-use Rattle.git_refusals.proofs.parts.digits_behind_brackets.Goals as goal
+use Rattle.git_refusals.proofs.parts.authority.digits_behind_brackets.Goals as goal
 
 pub returns-in_err-rest : goal.returns-in_err-rest
 returns-in_err-rest c = never_open c.args.behind.now c.requires c.in_err-rest.ensures

@@ -4,7 +4,7 @@ use Rattle.std.proofs.lemmas.Bool.{false≢true}
 use Rattle.git_syntax.proofs.Parsing.ClassifierLemmas.{nil_tested}
 use Rattle.git_syntax.proofs.Parsing.HostLemmas.{some_tested}
 use Rattle.git_refusals.proofs.Refusing.PartLemmas.{free_alone, first_alone, last_alone, again_alone, only_port}
-use Rattle.git_refusals.proofs.parts.digits_behind_host.Goals as goal
+use Rattle.git_refusals.proofs.parts.authority.digits_behind_host.Goals as goal
 
 pub returns-in_err-host : goal.returns-in_err-host
 returns-in_err-host c = rw c.from_residual.ensures (free_alone c.args.piece.now c.requires c.in_err-host.ensures)

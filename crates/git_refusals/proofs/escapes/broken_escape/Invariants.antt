@@ -1,8 +1,8 @@
 -- The rest is unsound, and its first broken escape is that of the text, further on.
 use Rattle.std.proofs.Common.{◌≡◌, ◌≤◌, ◌+◌, ℕ, false, length}
 use Rattle.git_syntax.specs.Escapes.{is_sound}
-use Rattle.git_syntax.specs.Places.{StandsBroken}
-use Rattle.git_syntax.proofs.places.broken_escape.Given as goal
+use Rattle.git_refusals.specs.Characters.{StandsBroken}
+use Rattle.git_refusals.proofs.escapes.broken_escape.Given as goal
 
 abbrev pub invariant-loop-behind : goal.invariant-loop-behind
 invariant-loop-behind l = record {

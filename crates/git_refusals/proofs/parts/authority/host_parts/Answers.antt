@@ -1,7 +1,7 @@
 -- A host is the whole piece, or what is before the colon of a port.
 use Rattle.std.proofs.Common.{arith}
 use Rattle.git_refusals.proofs.Refusing.PartLemmas.{port_within, port_spans}
-use Rattle.git_refusals.proofs.parts.host_parts.Goals as goal
+use Rattle.git_refusals.proofs.parts.authority.host_parts.Goals as goal
 
 pub returns-in-None : goal.returns-in-None
 returns-in-None c = rw c.unless_empty.ensures (c.in-None.ensures c.args.start)
