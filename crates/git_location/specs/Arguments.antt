@@ -1,16 +1,12 @@
 -- What may be given to a command as an argument: a part that can't be taken for one of the command's options.
 use Rattle.std.specs.Prelude.{◌≡◌, ℕ, Bool, false, not, ◌&&◌, ◌==◌, List, [], ◌∷◌, Option, Some, None, if◌then◌else◌}
-use Rattle.git_syntax.specs.Bytes.{hyphen, slash, begins_with}
+use Rattle.git_syntax.specs.Bytes.{slash, is_option_like}
 
 -- what a part is to a command line: there is none, it may be passed, or it may be taken for an option
 pub data Judgement : Type 0 where
   absent : Judgement
   usable : List ℕ → Judgement
   dangerous : List ℕ → Judgement
-
--- a text that begins with `-` may be taken for an option
-abbrev pub is_option_like : List ℕ → Bool
-is_option_like text = begins_with hyphen text
 
 -- the judgement of a text
 abbrev pub judgement_of_text : List ℕ → Judgement

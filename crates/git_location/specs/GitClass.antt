@@ -5,10 +5,9 @@ use Rattle.percent_encoding.specs.declared.ascii_set.AsciiSet.{AsciiSet}
 use Rattle.percent_encoding.specs.AsciiSet.{should_percent_encode}
 use Rattle.git_syntax.specs.Location.{Scheme, Location}
 use Rattle.git_syntax.specs.Location.Scheme.{file, git, ssh, http, https}
-use Rattle.git_syntax.specs.Bytes.{newline, percent_sign, left_bracket, right_bracket, tilde, Lacks, FreeOf, begins_with}
+use Rattle.git_syntax.specs.Bytes.{newline, percent_sign, left_bracket, right_bracket, tilde, Lacks, FreeOf, begins_with, is_option_like}
 use Rattle.git_syntax.specs.Escapes.{password_set, user_set}
 use Rattle.git_location.specs.Settled.{IsSettled}
-use Rattle.git_location.specs.Arguments.{is_option_like}
 use Rattle.git_location.specs.WebClass.{AgreesOverWeb}
 
 -- a byte by which Git cuts a text otherwise: byte 0, `[` or `]`

@@ -6,6 +6,7 @@ pub mod Display
 pub mod ErrorText
 pub mod Arguments
 pub mod WebClass
+pub mod WebConditions
 pub mod GitClass
 pub mod Safeguards
 pub mod Views

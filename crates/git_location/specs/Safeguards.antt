@@ -1,8 +1,9 @@
 -- Laws that keep passwords, options and escapes in their places, and of locations without a password or a
 -- spelling.
 use Rattle.std.specs.Prelude.{◌≡◌, ℕ, false, List, Option, Some}
+use Rattle.git_syntax.specs.Bytes.{is_option_like}
 use Rattle.git_syntax.specs.Location.{Location}
-use Rattle.git_location.specs.Arguments.{judgement_of, path_argument, is_option_like}
+use Rattle.git_location.specs.Arguments.{judgement_of, path_argument}
 use Rattle.git_location.specs.Arguments.Judgement.{usable}
 use Rattle.git_location.specs.Display.{display}
 pub use Rattle.git_syntax.specs.Safeguards.{PathSet, PasswordSet, UserSet, DecidesAddresses}

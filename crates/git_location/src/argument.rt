@@ -7,7 +7,8 @@
 
 ghost use Rattle.std.specs.Prelude.{◌≡◌, Some, IfSome, false, option_map};
 ghost use Rattle.bstr.specs.BStr.{bstr_bytes};
-ghost use Rattle.git_location.specs.Arguments.{IsNoOption, is_option_like, judgement_of, judgement_of_text, path_argument, usable_text};
+ghost use Rattle.git_syntax.specs.Bytes.{is_option_like};
+ghost use Rattle.git_location.specs.Arguments.{IsNoOption, judgement_of, judgement_of_text, path_argument, usable_text};
 ghost use Rattle.git_location.specs.Views.{judgement};
 ghost use Rattle.git_location.specs.Safeguards.{PathIsNoOption, UsableIsNoOption};
 

@@ -8,10 +8,10 @@
 ghost use Rattle.std.specs.Prelude.{◌≡◌, ◌↔◌, IsTrue, IfSome, None, Some, false, option_map};
 ghost use Rattle.std.specs.List.{list_any};
 ghost use Rattle.percent_encoding.specs.AsciiSet.{should_percent_encode};
-ghost use Rattle.git_syntax.specs.Bytes.{FreeOf, begins_with, percent_sign, tilde};
-ghost use Rattle.git_location.specs.Arguments.{is_option_like};
+ghost use Rattle.git_syntax.specs.Bytes.{FreeOf, begins_with, is_option_like, percent_sign, tilde};
 ghost use Rattle.git_location.specs.GitClass.{AgreesByTransport, AgreesWithGit, HasNoOption, HasPlainParts, IsBracketedOfGit, IsPlainHost, IsPlainPart, IsRsync, SuitsTransport, is_contested, is_tilde_second};
 
+pub mod conditions;
 mod web;
 
 use crate::url_ref::UrlRef;

@@ -9,7 +9,7 @@ mod accessors;
 pub mod argument;
 pub mod display;
 mod error_text;
-mod git;
+pub mod git;
 mod lend;
 pub mod parse_error;
 mod read;

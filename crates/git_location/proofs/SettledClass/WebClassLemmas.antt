@@ -280,6 +280,13 @@ uri_path_by_bytes t = (
   λ path. (no_strays t path.no_control path.no_fragment (sym (all_written is_uri_byte PATH t escape_in_uri) ∙ path.bytes), path.whole),
 )
 
+-- a text without control characters and `#` is written in the bytes of a URI where it has no stray
+bytes_by_strays : (t : List ℕ) → Lacks is_control t → FreeOf number_sign t → not (list_any is_stray t) ≡ list_all is_uri_byte (percent_encode PATH t)
+bytes_by_strays t control fragment = elim (cases_Bool (list_any is_stray t)) [
+  | inl stray ↦ ap not stray ∙ sym (false_from_ne_true _ (λ all. true≢false (sym stray ∙ no_strays t control fragment (sym (all_written is_uri_byte PATH t escape_in_uri) ∙ all))))
+  | inr none ↦ ap not none ∙ sym (all_written is_uri_byte PATH t escape_in_uri ∙ all_written_from t none)
+]
+
 simple_no_stray : (b : ℕ) → is_simple_byte b ≡ true → is_stray b ≡ false
 simple_no_stray b simple = grind (arith, nat_tests)
 
@@ -342,6 +349,11 @@ spelled_path v path s web same is =
       ),
       λ (uri, url). (url.path_text, (subst (λ w. IsUriPath v.path w) written uri, url.spelling s some decodes)),
     )
+
+-- without such a spelling a path is written in the bytes of a URI where it has no stray
+pub unspelled_bytes : (v : Location) (path : List ℕ) → IsWeb v → path ≡ v.path → ((other : List ℕ) → other ≡ matching_or v.spelling v.path other) → Lacks is_control v.path → FreeOf number_sign v.path → not (list_any is_stray path) ≡ list_all is_uri_byte (canonical_path v)
+unspelled_bytes v path web same is control fragment =
+    ap (λ p. not (list_any is_stray p)) same ∙ bytes_by_strays v.path control fragment ∙ ap (list_all is_uri_byte) (is (percent_encode PATH v.path) ∙ sym (web_path v web))
 
 -- ---- the class
 
