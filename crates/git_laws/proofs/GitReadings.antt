@@ -6,6 +6,4 @@ pub mod WebTextLemmas
 pub mod WebCredentialLemmas
 pub mod WebUriLemmas
 pub mod GitLemmas
-pub mod GitUniqueLemmas
-pub mod WebCredentialUniqueLemmas
 pub mod WebUriUniqueLemmas

@@ -6,7 +6,7 @@ use Rattle.git_syntax.specs.Location.Scheme.{git, http, https}
 use Rattle.git_syntax.specs.Grammar.{Unbrackets}
 use Rattle.git_location.specs.Text.{text}
 use Rattle.git_location.specs.Settled.{IsValue}
-use Rattle.git_laws.specs.Git.{GitReading, GitReads}
+use Rattle.git_reads.specs.Git.{GitReading, GitReads}
 use Rattle.git_laws.specs.GitWeb.{ReadsOwnOverWeb}
 pub use Rattle.git_location.specs.GitClass.{is_contested, IsPlainHost, HasPlainParts, HasNoOption, is_tilde_second, IsRsync, SuitsTransport, AgreesByTransport, AgreesWithGit}
 

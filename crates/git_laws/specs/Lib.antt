@@ -1,5 +1,4 @@
 -- What a user reads.
-pub mod Git
 pub mod GitWeb
 pub mod GitClass
 pub mod Components

@@ -8,9 +8,10 @@
 ghost use Rattle.std.specs.Cmp.{IsTotalOrder};
 ghost use Rattle.git_laws.specs.AnswerLaws.{LineForLine, OneLine, OneSplit};
 ghost use Rattle.git_laws.specs.ComponentLaws.{EqualComponents, OneComponents};
-ghost use Rattle.git_laws.specs.Git.{OneGitReading};
+ghost use Rattle.git_reads.specs.Git.{OneGitReading};
 ghost use Rattle.git_laws.specs.GitClass.{ReadAlike};
-ghost use Rattle.git_laws.specs.GitWeb.{OneCredentialReading, OneUriReading};
+ghost use Rattle.git_reads.specs.Credentials.{OneCredentialReading};
+ghost use Rattle.git_laws.specs.GitWeb.{OneUriReading};
 ghost use Rattle.git_laws.specs.Laws.{Apart, Closed, EqualIsSame, Exact, ExactByFields, FedAlike, KeepsEarlier, LocationsFedApart, SchemesFedApart, ReadAgain, SameComponents, SettledAgain, SpellingLast, TextDecides, TiedIsEqual, Unchanged, Unique, Writable};
 ghost use Rattle.git_laws.specs.Order.{fed_location, fed_scheme, location_cmp, location_eq, scheme_cmp, scheme_eq};
 ghost use Rattle.git_laws.specs.Records.{KeepsMeaning, MigratedOnce, Migrates, RespelledOnce};

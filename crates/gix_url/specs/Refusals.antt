@@ -5,7 +5,7 @@ use Rattle.gix_url.specs.declared.error.Error.TheVariants as error
 use Rattle.git_syntax.specs.Location.{Location}
 use Rattle.git_syntax.specs.Grammar.{Spells}
 use Rattle.gix_url.specs.Flaws.{Flaw}
-pub use Rattle.git_syntax.specs.Refusals.{RefusalExclusive, HasFlaw, Flawless, Decided}
+pub use Rattle.git_syntax.specs.Refusals.{HasFlaw, Flawless, Decided}
 pub use Rattle.git_refusals.specs.Laws.{OneRefusal, RefusedUnspelled, RefusedWithin, RefusedFlaw}
 
 -- no location is spelled by bytes in which the flaw of an error is; lack of memory is no flaw of them

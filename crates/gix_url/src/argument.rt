@@ -4,7 +4,8 @@
 
 ghost use Rattle.std.specs.Prelude.{◌≡◌, Some, IfSome, false, option_map};
 ghost use Rattle.bstr.specs.BStr.{bstr_bytes};
-ghost use Rattle.git_location.specs.Arguments.{IsNoOption, is_option_like, judgement_of, path_argument, usable_text};
+ghost use Rattle.git_syntax.specs.Bytes.{is_option_like};
+ghost use Rattle.git_location.specs.Arguments.{IsNoOption, judgement_of, path_argument, usable_text};
 ghost use Rattle.git_location.specs.Views.{judgement};
 
 use crate::location::Url;

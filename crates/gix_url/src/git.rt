@@ -1,11 +1,15 @@
-//! Locations in whose texts Git reads the same place: the answer of the borrowed location.
+//! Locations in whose texts Git reads the same place: the answers of the borrowed location.
 //!
 //! It uses `location`, and takes no memory.
 
-ghost use Rattle.std.specs.Prelude.{◌↔◌, IsTrue};
+ghost use Rattle.std.specs.Prelude.{◌↔◌, IsTrue, IsNone, IfSome};
 ghost use Rattle.git_location.specs.GitClass.{AgreesWithGit};
+ghost use Rattle.git_location.specs.Settled.{IsWeb};
+ghost use Rattle.git_location.specs.WebClass.{AgreesOverWeb};
+ghost use Rattle.git_location.specs.WebConditions.{IsFirstUnmet};
 
 use crate::location::Url;
+use git_location::git::conditions::WebCondition;
 
 impl Url {
     /// Whether Git reads this very place in the text of the location: the same scheme, user, host, port and
@@ -51,5 +55,24 @@ impl Url {
         ensures { IsTrue result ↔ AgreesWithGit self.now }
     {
         self.as_ref().agrees_with_git()
+    }
+
+    /// The first condition that this location of HTTP doesn't meet: those conditions by which
+    /// [`Url::agrees_with_git`] accepts such a location, in the order of [`WebCondition`]. Of HTTP, none is
+    /// returned exactly where that answer is yes. For a location of another scheme none is returned, whatever
+    /// that answer is. It takes no memory.
+    ///
+    /// ```
+    /// /// Whether the path is refused for a segment `.` or `..`, which other readers remove.
+    /// fn is_refused_for_dots(url: &Url) -> bool {
+    ///     url.unmet_web_condition() == Some(WebCondition::NoDotSegment) // of `http://h/a/../b`
+    /// }
+    /// ```
+    pub fn unmet_web_condition(&self) -> Option<WebCondition>
+        ensures met { IsWeb self.now → (IsNone result ↔ AgreesOverWeb self.now) }
+        ensures other { ¬ IsWeb self.now → IsNone result }
+        ensures first { IfSome result (λ condition. IsFirstUnmet condition self.now) }
+    {
+        self.as_ref().unmet_web_condition()
     }
 }

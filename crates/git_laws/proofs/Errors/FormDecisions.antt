@@ -1,9 +1,10 @@
 -- Decisions on whole texts: each spells a location, or a flaw is in it.
-use Rattle.std.proofs.Common.{◌≡◌, ℕ, ◌<◌, ◌-◌, ◌==◌, true, false, ◌⊎◌, inl, inr, List, ◌∷◌, ◌++◌, ◌+◌, length, drop, Option, Some, None, refl, sym, ap, subst, ◌∙◌, arith, IsUtf8}
+use Rattle.std.proofs.Common.{◌≡◌, ℕ, ◌<◌, ◌==◌, true, false, ◌⊎◌, inl, inr, List, ◌∷◌, ◌++◌, ◌+◌, length, drop, Option, Some, None, refl, sym, ap, subst, ◌∙◌, IsUtf8}
 use Rattle.std.proofs.lemmas.Bool.{cases_Bool}
 use Rattle.git_syntax.specs.declared.refusal.UrlKind.TheVariants as kind
 use Rattle.git_syntax.specs.declared.refusal.UrlFault.{UrlFault}
 use Rattle.git_syntax.specs.declared.refusal.UrlFault.TheVariants as fault
+use Rattle.git_syntax.specs.declared.refusal.Refusal.TheVariants as refusal
 use Rattle.git_syntax.specs.Location.{path_alone}
 use Rattle.git_syntax.specs.Location.Scheme.{file}
 use Rattle.git_syntax.specs.Bytes.{slash, colon, at_sign, left_bracket, backslash, right_bracket, FreeOf, begins_with, lowercase, is_helper_name}
@@ -12,11 +13,9 @@ use Rattle.git_syntax.specs.Grammar.{HasHelperForm, helper_scheme, IsNeither, Sc
 use Rattle.git_syntax.specs.Flaws.{ScpNameFlaw, ScpHostFlaw, MissesPath}
 use Rattle.git_syntax.specs.Internal.Forms.{ColonCut, HasFrontCut, LacksBrackets, HasScpCut, HasAddressedCut, AddressedFront, PlainScp}
 use Rattle.git_syntax.specs.Internal.ScpPieces.{ColonsInside, SpellsHost}
-use Rattle.git_syntax.specs.Refusals.{HasFlaw, Decided}
+use Rattle.git_syntax.specs.Refusals.{Decided}
 use Rattle.git_syntax.proofs.Texts.CutLemmas.{free-cons, begins_cut, free_or_cut, not_free}
-use Rattle.git_syntax.proofs.Texts.PlaceLemmas.{held_stands, white_stands}
 use Rattle.git_syntax.proofs.Parsing.ClassifierLemmas.{no_helper_free, no_helper_alone, no_helper_unnamed, front_unbracketed, front_taken, no_scp_cut, no_scp_uncut, addressed_free, addressed_at, addressed_unbracketed, addressed_bracketed, addressed_no_path, addressed_other, plain_scp, local_form, unbracketed_front}
-use Rattle.git_syntax.proofs.Parsing.RoomLemmas.{scp_user_length}
 use Rattle.git_syntax.proofs.Parsing.ScpLemmas.{colons_found, colons_inside_front, colons_inside_host, inner_kept, literal_found, name_found, no_port_found, open_found, rest_found, scp_host_found, scp_host_utf8}
 use Rattle.git_laws.proofs.Errors.TextDecisions.{Decides, nil_or_some, free_or_not, white_or_not, utf8_or_not, address_or_not, literal_or_not, free_or_last_cut, mark_or_cut}
 use Rattle.git_laws.proofs.Errors.UrlDecisions.{SpelledOrFlawed, url_decided}
@@ -45,11 +44,11 @@ helper_or_not b =
 
 -- a host of the scp form stands for one, or is flawed
 abbrev HostOrFlawed : List ℕ → Type 0
-HostOrFlawed host = ((meant : List ℕ) × ScpHost host meant) ⊎ ((named : UrlFault) × (at : ℕ) × (len : ℕ) × ScpHostFlaw host at len named)
+HostOrFlawed host = ((meant : List ℕ) × ScpHost host meant) ⊎ ((named : UrlFault) × ScpHostFlaw host named)
 
 -- a host is read where each `%` is its own escape, or is flawed
 abbrev PieceOrFlawed : List ℕ → Type 0
-PieceOrFlawed host = ((meant : List ℕ) × SpellsHost (escaped_percents host) meant) ⊎ ((named : UrlFault) × (at : ℕ) × (len : ℕ) × ScpNameFlaw host at len named)
+PieceOrFlawed host = ((meant : List ℕ) × SpellsHost (escaped_percents host) meant) ⊎ ((named : UrlFault) × ScpNameFlaw host named)
 
 -- a text between brackets
 inner_decided : (behind inner rest : List ℕ) → IsUtf8 (left_bracket ∷ behind) → FreeOf right_bracket inner → behind ≡ inner ++ right_bracket ∷ rest → true ≡ (length rest == 0) → PieceOrFlawed (left_bracket ∷ behind)
@@ -63,11 +62,11 @@ inner_decided behind inner rest text closed e none =
 brackets_decided : (behind : List ℕ) → IsUtf8 (left_bracket ∷ behind) → ColonsInside (left_bracket ∷ behind) → PieceOrFlawed (left_bracket ∷ behind)
 brackets_decided behind text inside =
     elim (free_or_cut right_bracket behind) [
-      | inl free ↦ inr (fault.BadCharacter, 0, 1, open_found behind free)
+      | inl free ↦ inr (fault.BadCharacter, open_found behind free)
       | inr (inner, rest, closed, e) ↦
           elim (cases_Bool (length rest == 0)) [
             | inl none ↦ inner_decided behind inner rest text closed e (sym none)
-            | inr some ↦ inr (fault.BadCharacter, _, _, rest_found behind inner rest inside closed e (sym some))
+            | inr some ↦ inr (fault.BadCharacter, rest_found behind inner rest inside closed e (sym some))
           ]
     ]
 
@@ -82,7 +81,7 @@ open_decided host some open_front text inside =
             | inr some ↦
                 elim (free_or_not colon behind) [
                   | inr held ↦ inl (_, colons_found host front behind open_front text inside e (inr held))
-                  | inl last ↦ inr (fault.BadPort, _, _, no_port_found host front behind open_front inside free e (sym some) last)
+                  | inl last ↦ inr (fault.BadPort, no_port_found host front behind open_front inside free e (sym some) last)
                 ]
           ]
     ]
@@ -101,17 +100,17 @@ piece_decided host some text inside =
 host_decided : (host : List ℕ) → IsUtf8 host → FreeOf at_sign host → ColonsInside host → HostOrFlawed host
 host_decided host text lone inside =
     elim (white_or_not host) [
-      | inr held ↦ let (at, len, first) = white_stands host text held in inr (fault.BadCharacter, at, len, ScpHostFlaw.white_space text held first)
+      | inr held ↦ inr (fault.BadCharacter, ScpHostFlaw.white_space text held)
       | inl white ↦
           elim (free_or_not backslash host) [
-            | inr held ↦ let (at, first) = held_stands backslash host held in inr (fault.BadCharacter, at, 1, ScpHostFlaw.holds_backslash first refl)
+            | inr held ↦ inr (fault.BadCharacter, ScpHostFlaw.holds_backslash held)
             | inl free ↦
                 elim (nil_or_some host) [
-                  | inl none ↦ inr (fault.HostRequired, 0, 0, ScpHostFlaw.empty none refl refl)
+                  | inl none ↦ inr (fault.HostRequired, ScpHostFlaw.empty none)
                   | inr some ↦
                       elim (piece_decided host some text inside) [
                         | inl (meant, n) ↦ inl (meant, scp_host_found host (escaped_percents host) meant lone free white refl n)
-                        | inr (named, at, len, flaw) ↦ inr (named, at, len, ScpHostFlaw.bad_name named flaw)
+                        | inr (named, flaw) ↦ inr (named, ScpHostFlaw.bad_name named flaw)
                       ]
                 ]
           ]
@@ -131,18 +130,18 @@ cut_front_user front =
 plain_decided : (b front path : List ℕ) → PlainScp b front path → SpelledOrFlawed b
 plain_decided b front path h =
     elim (utf8_or_not b) [
-      | inr bad ↦ inr (HasFlaw.no_text kind.Scp bad (inl (front, path, h.form)))
+      | inr bad ↦ inr (refusal.NotUtf8 kind.Scp, (bad, inl (front, path, h.form)))
       | inl text ↦
           elim (nil_or_some path) [
-            | inl none ↦ inr (HasFlaw.no_path kind.Scp (MissesPath.in_scp front (subst (λ p. ScpForm b front p) none h.form)))
+            | inl none ↦ inr (refusal.MissingPath kind.Scp, MissesPath.in_scp front (subst (λ p. ScpForm b front p) none h.form))
             | inr some ↦
                 let (user, host, split, lone) = cut_front_user front in
                 let inside = colons_inside_host front user host split (colons_inside_front b front h.form.form) in
                 elim (host_decided host (scp_host_utf8 b front path user host h.form text split) lone inside) [
                   | inl (meant, hosted) ↦
                       inl (scp_location user meant path, Spells.scp_form (inl (record { front = front; path = path; user = user; host = host; meant = meant; form = h.form; text = text; pathed = some; split = split; hosted = hosted; value = refl })))
-                  | inr (named, at, len, flaw) ↦
-                      inr (HasFlaw.bad_url kind.Scp named (length front - length host + at) len (record { not_addressed = h.not_addressed; front = front; path = path; user = user; host = host; form = h.form; split = split; no_at = lone; place = at; flaw = flaw; offset = omega (arith, scp_user_length split) }))
+                  | inr (named, flaw) ↦
+                      inr (refusal.BadUrl kind.Scp named, record { not_addressed = h.not_addressed; front = front; path = path; user = user; host = host; form = h.form; split = split; no_at = lone; flaw = flaw })
                 ]
           ]
     ]
@@ -151,10 +150,10 @@ plain_decided b front path h =
 addressed_decided : (b user address path : List ℕ) → AddressedForm b user address path → SpelledOrFlawed b
 addressed_decided b user address path h =
     elim (utf8_or_not b) [
-      | inr bad ↦ inr (HasFlaw.no_text kind.Scp bad (inr (user, address, path, h)))
+      | inr bad ↦ inr (refusal.NotUtf8 kind.Scp, (bad, inr (user, address, path, h)))
       | inl text ↦
           elim (nil_or_some path) [
-            | inl none ↦ inr (HasFlaw.no_path kind.Scp (MissesPath.behind_address user address (subst (λ p. AddressedForm b user address p) none h)))
+            | inl none ↦ inr (refusal.MissingPath kind.Scp, MissesPath.behind_address user address (subst (λ p. AddressedForm b user address p) none h))
             | inr some ↦
                 inl (scp_location (Some user) (lowercase address) path, Spells.scp_form (inr (record { user = user; address = address; path = path; form = h; text = text; pathed = some; value = refl })))
           ]
@@ -252,7 +251,7 @@ scp_or_not b =
 neither_decided : (b : List ℕ) → IsNeither b → SpelledOrFlawed b
 neither_decided b neither =
     elim (nil_or_some b) [
-      | inl none ↦ inr (HasFlaw.empty none)
+      | inl none ↦ inr (refusal.EmptyLocal, none)
       | inr some ↦
           elim (addressed_or_not b) [
             | inl (user, address, path, h) ↦

@@ -97,7 +97,7 @@ address_piece_or_not piece =
 
 -- a piece names a host and a port, or is flawed
 abbrev pub NamesOrFlawed : HostSyntax → List ℕ → Type 0
-NamesOrFlawed syntax piece = ((host : Option (List ℕ)) × (port : Option ℕ) × SpellsHostPort syntax piece host port) ⊎ ((named : UrlFault) × (at : ℕ) × (len : ℕ) × HostPortFlaw syntax piece named at len)
+NamesOrFlawed syntax piece = ((host : Option (List ℕ)) × (port : Option ℕ) × SpellsHostPort syntax piece host port) ⊎ ((named : UrlFault) × HostPortFlaw syntax piece named)
 
 -- what follows brackets and a colon
 behind_colon : (syntax : HostSyntax) (x digits inner : List ℕ) → FreeOf right_bracket x → Inner syntax x inner → NamesOrFlawed syntax (left_bracket ∷ (x ++ right_bracket ∷ (colon ∷ digits)))
@@ -105,7 +105,7 @@ behind_colon syntax x [] inner free h = inl (_, _, SpellsHostPort.bracketed_colo
 behind_colon syntax x (d ∷ digits) inner free h =
     elim (number_or_not syntax (d ∷ digits)) [
       | inl (port, n) ↦ inl (_, _, SpellsHostPort.bracketed_port x inner (d ∷ digits) port free h n refl refl refl)
-      | inr none ↦ inr (fault.BadPort, _, _, HasBadPort.bracketed x (d ∷ digits) free refl (omega arith, none) refl refl)
+      | inr none ↦ inr (fault.BadPort, HasBadPort.bracketed x (d ∷ digits) free refl (omega arith, none))
     ]
 
 -- what follows brackets
@@ -126,10 +126,10 @@ ends_host_or_not (b ∷ rest) =
 closed_named : (syntax : HostSyntax) (x rest : List ℕ) → FreeOf right_bracket x → NamesOrFlawed syntax (left_bracket ∷ (x ++ right_bracket ∷ rest))
 closed_named syntax x rest free =
     elim (ends_host_or_not rest) [
-      | inr other ↦ inr (fault.BadCharacter, _, _, not_ended syntax (x ++ right_bracket ∷ rest) x rest free refl other)
+      | inr other ↦ inr (fault.BadCharacter, not_ended syntax (x ++ right_bracket ∷ rest) x rest free refl other)
       | inl ended ↦
           elim (inner_or_not syntax x) [
-            | inr none ↦ inr (fault.BadCharacter, _, _, not_inner syntax (x ++ right_bracket ∷ rest) x rest free refl ended none)
+            | inr none ↦ inr (fault.BadCharacter, not_inner syntax (x ++ right_bracket ∷ rest) x rest free refl ended none)
             | inl (inner, h) ↦ behind_brackets syntax x rest inner free h ended
           ]
     ]
@@ -138,7 +138,7 @@ closed_named syntax x rest free =
 bracket_named : (syntax : HostSyntax) (behind : List ℕ) → NamesOrFlawed syntax (left_bracket ∷ behind)
 bracket_named syntax behind =
     elim (free_or_cut right_bracket behind) [
-      | inl free ↦ inr (fault.BadCharacter, _, _, HasBadHost.open_bracket behind free refl refl refl)
+      | inl free ↦ inr (fault.BadCharacter, HasBadHost.open_bracket behind free refl)
       | inr (x, rest, free, e) ↦ subst (λ t. NamesOrFlawed syntax (left_bracket ∷ t)) (sym e) (closed_named syntax x rest free)
     ]
 
@@ -147,7 +147,7 @@ plain_named : (syntax : HostSyntax) (piece : List ℕ) → IsPlainHost piece →
 plain_named syntax piece h =
     elim (text_or_not syntax piece) [
       | inl (named, t) ↦ inl (_, _, SpellsHostPort.plain named h t refl refl)
-      | inr none ↦ inr (fault.BadCharacter, _, _, HasBadHost.plain piece [] h (inl refl) (sym (append-nil piece)) none refl refl)
+      | inr none ↦ inr (fault.BadCharacter, HasBadHost.plain piece [] h (inl refl) (sym (append-nil piece)) none)
     ]
 
 -- what follows it and a colon
@@ -156,7 +156,7 @@ port_named syntax front named [] h t free = inl (_, _, SpellsHostPort.plain_colo
 port_named syntax front named (d ∷ digits) h t free =
     elim (number_or_not syntax (d ∷ digits)) [
       | inl (port, n) ↦ inl (_, _, SpellsHostPort.plain_port front named (d ∷ digits) port h t n refl refl refl)
-      | inr none ↦ inr (fault.BadPort, _, _, HasBadPort.plain front (d ∷ digits) h free refl (omega arith, none) refl refl)
+      | inr none ↦ inr (fault.BadPort, HasBadPort.plain front (d ∷ digits) h free refl (omega arith, none))
     ]
 
 -- a host outside brackets and its only colon
@@ -164,7 +164,7 @@ colon_named : (syntax : HostSyntax) (front digits : List ℕ) → IsPlainHost fr
 colon_named syntax front digits h free =
     elim (text_or_not syntax front) [
       | inl (named, t) ↦ port_named syntax front named digits h t free
-      | inr none ↦ inr (fault.BadCharacter, _, _, HasBadHost.plain front (colon ∷ digits) h (inr (digits, free, refl)) refl none refl refl)
+      | inr none ↦ inr (fault.BadCharacter, HasBadHost.plain front (colon ∷ digits) h (inr (digits, free, refl)) refl none)
     ]
 
 -- colons that mark no port, where no address is read
@@ -172,12 +172,12 @@ other_named : (syntax : HostSyntax) (piece : List ℕ) → ¬ (syntax ≡ http_h
 other_named syntax piece lax unread open_front many =
     elim (text_or_not syntax piece) [
       | inl (named, t) ↦ inl (_, _, SpellsHostPort.colons named lax unread open_front many t refl refl)
-      | inr none ↦ inr (fault.BadCharacter, _, _, HasBadHost.colons lax unread open_front many none refl refl)
+      | inr none ↦ inr (fault.BadCharacter, HasBadHost.colons lax unread open_front many none)
     ]
 
 -- colons that mark no port
 many_named : (syntax : HostSyntax) (piece : List ℕ) → begins_with left_bracket piece ≡ false → IsManyColoned piece → NamesOrFlawed syntax piece
-many_named http_hosts piece open_front many = inr (fault.BadCharacter, _, _, HasBadHost.colons_on_the_web refl open_front many refl refl)
+many_named http_hosts piece open_front many = inr (fault.BadCharacter, HasBadHost.colons_on_the_web refl open_front many)
 many_named git_hosts piece open_front many =
     elim (address_piece_or_not piece) [
       | inl h ↦ inl (_, _, SpellsHostPort.unbracketed (refl, h) refl refl)

@@ -7,6 +7,7 @@ use Rattle.percent_encoding.specs.Percent.{percent_decode}
 use Rattle.git_syntax.specs.declared.refusal.UrlKind.TheVariants as kind
 use Rattle.git_syntax.specs.declared.refusal.UrlFault.{UrlFault}
 use Rattle.git_syntax.specs.declared.refusal.UrlFault.TheVariants as fault
+use Rattle.git_syntax.specs.declared.refusal.Refusal.TheVariants as refusal
 use Rattle.git_syntax.specs.Location.{Location, path_alone}
 use Rattle.git_syntax.specs.Location.Scheme.{file}
 use Rattle.git_syntax.specs.Bytes.{slash, colon, at_sign, backslash, FreeOf, LacksWhiteSpace, is_scheme_text, is_path_start}
@@ -19,9 +20,8 @@ use Rattle.git_syntax.specs.Flaws.{UrlForm, OtherUrlForm, UrlCut, PieceOf, Autho
 use Rattle.git_syntax.specs.Internal.UrlPieces.{CutsRest, HasNoText, HoldsHosted}
 use Rattle.git_syntax.specs.Refusals.{HasFlaw}
 use Rattle.git_syntax.proofs.Texts.CutLemmas.{cut_at_first, free_or_cut}
-use Rattle.git_syntax.proofs.Texts.PlaceLemmas.{held_stands, unsound_stands, white_stands}
 use Rattle.git_syntax.proofs.Parsing.ClassifierLemmas.{file_found, file_misses_path}
-use Rattle.git_syntax.proofs.Parsing.UrlLemmas.{nothing_named, bad_user_flaw, path_end, too_long_placed, url_cut, spelled}
+use Rattle.git_syntax.proofs.Parsing.UrlLemmas.{nothing_named, bad_user_flaw, url_cut, spelled}
 use Rattle.git_syntax.proofs.Parsing.UrlLocationLemmas.{path_missed}
 use Rattle.git_refusals.proofs.Refusing.UrlLemmas.{meaning}
 use Rattle.git_laws.proofs.Errors.TextDecisions.{nil_or_some, free_or_not, white_or_not, utf8_or_not, fits_or_not, free_or_last_cut}
@@ -30,18 +30,18 @@ use Rattle.git_laws.proofs.Errors.HostDecisions.{named_or_flawed}
 -- ---- authorities
 
 -- user information holds a user and a password, or what isn't text
-credentials_or_not : (text : List ℕ) → ((user : Option (List ℕ)) × (password : Option (List ℕ)) × Credentials text user password) ⊎ ((at : ℕ) × (len : ℕ) × HasNoText text at len)
+credentials_or_not : (text : List ℕ) → ((user : Option (List ℕ)) × (password : Option (List ℕ)) × Credentials text user password) ⊎ HasNoText text
 credentials_or_not text =
     elim (free_or_cut colon text) [
       | inl free ↦
-          elim (utf8_or_not (percent_decode text)) [ inl u ↦ inl (_, _, Credentials.user_alone free u refl refl) | inr bad ↦ inr (_, _, HasNoText.user free bad refl refl) ]
+          elim (utf8_or_not (percent_decode text)) [ inl u ↦ inl (_, _, Credentials.user_alone free u refl refl) | inr bad ↦ inr (HasNoText.user free bad) ]
       | inr (u, w, free, e) ↦
           elim (utf8_or_not (percent_decode u)) [
-            | inr bad ↦ inr (_, _, HasNoText.user_before_password u w free e bad refl refl)
+            | inr bad ↦ inr (HasNoText.user_before_password u w free e bad)
             | inl first ↦
                 elim (utf8_or_not (percent_decode w)) [
                   | inl second ↦ inl (_, _, Credentials.with_password u w free e first second refl refl)
-                  | inr bad ↦ inr (_, _, HasNoText.password u w free e bad refl refl)
+                  | inr bad ↦ inr (HasNoText.password u w free e bad)
                 ]
           ]
     ]
@@ -50,22 +50,22 @@ credentials_or_not text =
 abbrev pub HeldOrFlawed : HostSyntax → Bool → List ℕ → Type 0
 HeldOrFlawed syntax needed authority =
     ((user : Option (List ℕ)) × (password : Option (List ℕ)) × (host : Option (List ℕ)) × (port : Option ℕ) × HoldsHosted syntax needed authority user password host port)
-    ⊎ ((named : UrlFault) × (at : ℕ) × (len : ℕ) × AuthorityFlaw syntax needed authority at len named)
+    ⊎ ((named : UrlFault) × AuthorityFlaw syntax needed authority named)
 
 -- an authority without user information
 alone_held : (syntax : HostSyntax) (needed : Bool) (authority : List ℕ) (host : Option (List ℕ)) (port : Option ℕ) → FreeOf at_sign authority → SpellsHostPort syntax authority host port → HeldOrFlawed syntax needed authority
 alone_held syntax needed authority (Some host) port free n = inl (_, _, _, _, record { named = Authority.host_alone free n refl refl; hosted = λ e. refl })
-alone_held syntax true authority None port free n = inr (fault.HostRequired, _, _, AuthorityFlaw.host_required refl (nothing_named syntax authority None port n refl) refl refl)
+alone_held syntax true authority None port free n = inr (fault.HostRequired, AuthorityFlaw.host_required refl (nothing_named syntax authority None port n refl))
 alone_held syntax false authority None port free n =
     inl (_, _, _, _, record { named = Authority.host_alone free n refl refl; hosted = λ e. absurd (false≢true e) })
 
 -- an authority with user information
 behind_held : (syntax : HostSyntax) (needed : Bool) (authority information piece : List ℕ) (host : Option (List ℕ)) (port : Option ℕ) → FreeOf at_sign piece → authority ≡ information ++ at_sign ∷ piece → SpellsHostPort syntax piece host port → HeldOrFlawed syntax needed authority
 behind_held syntax needed authority information piece None port free e n =
-    inr (fault.BadCharacter, _, _, AuthorityFlaw.no_host information (e ∙ ap (λ p. information ++ at_sign ∷ p) (nothing_named syntax piece None port n refl)) refl refl)
+    inr (fault.BadCharacter, AuthorityFlaw.no_host information (e ∙ ap (λ p. information ++ at_sign ∷ p) (nothing_named syntax piece None port n refl)))
 behind_held syntax needed authority information piece (Some host) port free e n =
     elim (credentials_or_not information) [
-      | inr (at, len, bad) ↦ inr (fault.BadCharacter, at, len, bad_user_flaw syntax needed authority information piece at len free e bad)
+      | inr bad ↦ inr (fault.BadCharacter, bad_user_flaw syntax needed authority information piece free e bad)
       | inl (user, password, c) ↦ inl (_, _, _, _, record { named = Authority.with_user information piece free e c n refl; hosted = λ e. refl })
     ]
 
@@ -76,12 +76,12 @@ held_or_flawed syntax needed authority =
       | inl free ↦
           elim (named_or_flawed syntax authority) [
             | inl (host, port, n) ↦ alone_held syntax needed authority host port free n
-            | inr (named, at, len, flaw) ↦ inr (named, _, len, AuthorityFlaw.bad_name authority named 0 at (PieceOf.whole free refl refl) flaw refl)
+            | inr (named, flaw) ↦ inr (named, AuthorityFlaw.bad_name authority named (PieceOf.whole free refl) flaw)
           ]
       | inr (information, piece, free, e) ↦
           elim (named_or_flawed syntax piece) [
             | inl (host, port, n) ↦ behind_held syntax needed authority information piece host port free e n
-            | inr (named, at, len, flaw) ↦ inr (named, _, len, AuthorityFlaw.bad_name piece named _ at (PieceOf.behind information free e refl) flaw refl)
+            | inr (named, flaw) ↦ inr (named, AuthorityFlaw.bad_name piece named (PieceOf.behind information free e) flaw)
           ]
     ]
 
@@ -89,21 +89,19 @@ held_or_flawed syntax needed authority =
 
 -- the text has the parts of a URL, or a flaw
 abbrev pub PartsOrFlawed : List ℕ → Type 0
-PartsOrFlawed b = ((parts : UrlSyntax) × HasUrlSyntax b parts) ⊎ ((named : UrlFault) × (at : ℕ) × (len : ℕ) × UrlFlaw b at len named)
+PartsOrFlawed b = ((parts : UrlSyntax) × HasUrlSyntax b parts) ⊎ ((named : UrlFault) × UrlFlaw b named)
 
 -- a URL that was cut
 cut_or_flawed : (b scheme authority path : List ℕ) → UrlCut b scheme authority path → Fits scheme (authority ++ path) → IsUtf8 b → LacksWhiteSpace b → is_sound b ≡ true → PartsOrFlawed b
 cut_or_flawed b scheme authority path cut fits text white sound =
     elim (free_or_not backslash authority) [
-      | inr held ↦
-          let (at, first) = held_stands backslash authority held in
-          inr (fault.BadCharacter, _, 1, UrlFlaw.bad_authority scheme authority path fault.BadCharacter at cut (AuthorityFlaw.holds_backslash first refl) refl)
+      | inr held ↦ inr (fault.BadCharacter, UrlFlaw.bad_authority scheme authority path fault.BadCharacter cut (AuthorityFlaw.holds_backslash held))
       | inl free ↦
           elim (held_or_flawed (host_syntax_of scheme) (requires_host scheme) authority) [
-            | inr (named, at, len, flaw) ↦ inr (named, _, len, UrlFlaw.bad_authority scheme authority path named at cut flaw refl)
+            | inr (named, flaw) ↦ inr (named, UrlFlaw.bad_authority scheme authority path named cut flaw)
             | inl (user, password, host, port, held) ↦
                 elim (utf8_or_not (percent_decode path)) [
-                  | inr bad ↦ inr (fault.BadCharacter, length (scheme ++ (codes "://" ++ authority)), _, UrlFlaw.bad_path scheme authority path cut bad (path_end b scheme authority path cut.form.form.joined) refl)
+                  | inr bad ↦ inr (fault.BadCharacter, UrlFlaw.bad_path scheme authority path cut bad)
                   | inl good ↦ inl (_, spelled cut text white (sym sound) free fits held good)
                 ]
           ]
@@ -113,13 +111,13 @@ cut_or_flawed b scheme authority path cut fits text white sound =
 parts_or_flawed : (b front rest : List ℕ) → OtherUrlForm b front rest → Fits front rest → IsUtf8 b → PartsOrFlawed b
 parts_or_flawed b front rest form fits text =
     elim (white_or_not b) [
-      | inr held ↦ let (at, len, first) = white_stands b text held in inr (fault.BadCharacter, at, len, UrlFlaw.white_space front rest form text held first)
+      | inr held ↦ inr (fault.BadCharacter, UrlFlaw.white_space front rest form text held)
       | inl white ↦
           elim (cases_Bool (is_sound b)) [
-            | inr broken ↦ let (at, first) = unsound_stands b broken in inr (fault.BadCharacter, at, 1, UrlFlaw.unsound front rest form broken first refl)
+            | inr broken ↦ inr (fault.BadCharacter, UrlFlaw.unsound front rest form broken)
             | inl sound ↦
                 elim (cases_Bool (is_scheme_text front)) [
-                  | inr none ↦ inr (fault.NoScheme, _, _, UrlFlaw.no_scheme front rest form none refl refl)
+                  | inr none ↦ inr (fault.NoScheme, UrlFlaw.no_scheme front rest form none)
                   | inl named ↦
                       let (joined, before, starts) = cut_at_first (is_path_start (is_web_scheme front)) rest in
                       let place = position_or_len (is_path_start (is_web_scheme front)) rest in
@@ -142,31 +140,25 @@ parts_spelled b parts h =
       | inr some ↦ let (v, m) = meaning (scheme_of parts.scheme) b parts (λ need. some) in inl (v, Spells.url (record { parts = parts; spelled = h; means = m }))
       | inl none ↦
           elim (cases_Bool (requires_path (scheme_of parts.scheme))) [
-            | inl need ↦ inr (HasFlaw.no_path kind.Url (path_missed h need none))
+            | inl need ↦ inr (refusal.MissingPath kind.Url, path_missed h need none)
             | inr other ↦
                 let (v, m) = meaning (scheme_of parts.scheme) b parts (λ need. absurd (both_ways _ other need)) in
                 inl (v, Spells.url (record { parts = parts; spelled = h; means = m }))
           ]
     ]
 
--- a URL that is too long
-too_long_decided : (b front rest : List ℕ) → OtherUrlForm b front rest → ¬ Fits front rest → HasFlaw b
-too_long_decided b front rest form unfit =
-    let (at, len, place) = too_long_placed b front rest form.form.joined in
-    HasFlaw.too_long _ _ at len (record { front = front; rest = rest; form = form; unfit = unfit; front_shown = refl; length_reported = refl; place = place })
-
 -- a URL that isn't a file URL
 other_decided : (b front rest : List ℕ) → OtherUrlForm b front rest → SpelledOrFlawed b
 other_decided b front rest form =
     elim (fits_or_not front rest) [
-      | inr unfit ↦ inr (too_long_decided b front rest form unfit)
+      | inr unfit ↦ inr (refusal.TooLong, record { front = front; rest = rest; form = form; unfit = unfit })
       | inl fits ↦
           elim (utf8_or_not b) [
-            | inr bad ↦ inr (HasFlaw.no_text kind.Url bad (front, rest, form.form))
+            | inr bad ↦ inr (refusal.NotUtf8 kind.Url, (bad, (front, rest, form.form)))
             | inl text ↦
                 elim (parts_or_flawed b front rest form fits text) [
                   | inl (parts, h) ↦ parts_spelled b parts h
-                  | inr (named, at, len, flaw) ↦ inr (HasFlaw.bad_url kind.Url named at len flaw)
+                  | inr (named, flaw) ↦ inr (refusal.BadUrl kind.Url named, flaw)
                 ]
           ]
     ]
@@ -175,14 +167,14 @@ other_decided b front rest form =
 file_decided : (b rest : List ℕ) → UrlForm b (codes "file") rest → SpelledOrFlawed b
 file_decided b rest form =
     elim (utf8_or_not b) [
-      | inr bad ↦ inr (HasFlaw.no_text kind.Url bad (codes "file", rest, form))
+      | inr bad ↦ inr (refusal.NotUtf8 kind.Url, (bad, (codes "file", rest, form)))
       | inl text ↦
           elim (free_or_cut slash rest) [
-            | inl free ↦ inr (HasFlaw.no_path kind.Url (file_misses_path b rest form free))
+            | inl free ↦ inr (refusal.MissingPath kind.Url, file_misses_path b rest form free)
             | inr (host, behind, free, e) ↦
-                let path = drop (length host) rest in
+                let path = slash ∷ behind in
                 let v = record (path_alone file false path) { host = unless_empty host } in
-                inl (v, Spells.file_url (file_found b rest host behind path v form text free e refl refl))
+                inl (v, Spells.file_url (file_found b rest host path v form text free e refl refl))
           ]
     ]
 

@@ -4,17 +4,17 @@ use Rattle.std.proofs.lemmas.Bool.Decides.{nat_tests}
 use Rattle.std.proofs.lemmas.Bool.{false≢true, true≢false}
 use Rattle.git_syntax.specs.Location.{Scheme}
 use Rattle.git_syntax.specs.Location.Scheme.{file, git, ssh}
-use Rattle.git_syntax.specs.Bytes.{tab, newline, slash, colon, at_sign, left_bracket, right_bracket, tilde, FreeOf, Holds, Lacks, StartsPath, begins_with, is_helper_name, is_path_start}
+use Rattle.git_syntax.specs.Bytes.{tab, newline, slash, colon, at_sign, left_bracket, right_bracket, tilde, FreeOf, Holds, Lacks, StartsPath, begins_with, is_helper_name, is_path_start, is_option_like}
 use Rattle.git_syntax.specs.Schemes.{scheme_of}
 use Rattle.git_syntax.specs.Authority.{unless_empty}
-use Rattle.git_location.specs.Arguments.{is_option_like}
-use Rattle.git_laws.specs.Git.{GitReading, on_this_machine, from_tilde, git_decode, host_mark, OpensHost, InBrackets, LacksHostBrackets, HostEnd, CutsPlace, BeforePort, HostAndPort, SecurePort, UserCut, ReachesSecure, ReachesGit, OwnUrl, IsNoUrl, ReadsGiven, GitReads}
+use Rattle.git_reads.specs.Git.{GitReading, on_this_machine, from_tilde, git_decode, host_mark, OpensHost, InBrackets, LacksHostBrackets, HostEnd, CutsPlace, BeforePort, HostAndPort, SecurePort, UserCut, ReachesSecure, ReachesGit, OwnUrl, IsNoUrl, ReadsGiven, GitReads}
 use Rattle.git_laws.specs.Examples.GitRows.{asked, by_ssh, by_git, CredentialRows, GitUrlRows, GitTextRows, NoGitRows}
-use Rattle.git_laws.specs.GitWeb.{are_slashes, AreOneLine, CredentialCut, CredentialDecodes, CredentialReads, trimmed_path}
+use Rattle.git_reads.specs.Credentials.{are_slashes, AreOneLine, CredentialCut, CredentialDecodes, CredentialReads, trimmed_path}
 use Rattle.git_syntax.proofs.Texts.CutLemmas.{cut_unique, different_bytes, free-cons, held_free, last_cut_unique, not_free}
 use Rattle.git_laws.proofs.Examples.RowFormLemmas.{holds, not_held, no_helper_at}
 use Rattle.git_laws.proofs.GitReadings.GitCutLemmas.{git_decode_kept, lacks_brackets, nothing_passed, place_cut, portless_free}
-use Rattle.git_laws.proofs.GitReadings.GitUniqueLemmas.{host_end_unique, host_unique, is_own, own_free, own_unique, place_unique, remote_not_local, secure_unique}
+use Rattle.git_reads.proofs.Reading.UniqueLemmas.{host_unique, is_own, own_free, own_unique, place_unique, remote_not_local, secure_unique}
+use Rattle.git_reads.proofs.Texts.PlaceLemmas.{host_end_unique}
 
 -- ---- cuts
 

@@ -4,14 +4,13 @@ use Rattle.std.proofs.lemmas.Bool.Decides.{nat_tests}
 use Rattle.git_syntax.specs.Location.{Scheme, Location}
 use Rattle.git_syntax.specs.Location.Scheme.{file, git, http, https, ssh}
 use Rattle.git_syntax.specs.Addresses.{IsIpv6Text}
-use Rattle.git_syntax.specs.Bytes.{percent_sign, slash, colon, at_sign, left_bracket, right_bracket, tilde, FreeOf, Lacks, begins_with}
+use Rattle.git_syntax.specs.Bytes.{percent_sign, slash, colon, at_sign, left_bracket, right_bracket, tilde, FreeOf, Lacks, begins_with, is_option_like}
 use Rattle.git_syntax.specs.Internal.HostPieces.{in_brackets}
 use Rattle.git_syntax.specs.Grammar.{ScpFront, IsNeither, HasScpForm}
-use Rattle.git_location.specs.Arguments.{is_option_like}
 use Rattle.git_location.specs.Text.{raw_user, raw_host, canonical_text, text}
 use Rattle.git_location.specs.Settled.{IsValue, IsWeb, IsNormalAddress, IsScpName, IsSettledLocal, IsSettledFile, IsSettledScp, IsSettledBy, LooksLikeHelper}
 use Rattle.std.proofs.lemmas.Option.{IfSome_then}
-use Rattle.git_laws.specs.Git.{HostAndPort, on_this_machine, IsNoUrl, IsLocal, ReachesSecure, ReadsGiven}
+use Rattle.git_reads.specs.Git.{HostAndPort, on_this_machine, IsNoUrl, IsLocal, ReachesSecure, ReadsGiven}
 use Rattle.git_location.specs.GitClass.{is_contested, HasPlainParts, is_tilde_second, IsRsync, SuitsTransport, AgreesByTransport, AgreesBy}
 use Rattle.git_location.specs.WebClass.{AgreesOverWeb}
 use Rattle.git_laws.specs.GitWeb.{ReadsOwnOverWeb}

@@ -21,7 +21,7 @@ use Rattle.git_syntax.specs.Schemes.{requires_path}
 use Rattle.git_location.specs.Text.{raw_user, raw_host, keeps_host, needs_brackets, canonical_host, user_information, port_part, root_part, plain_path, matching_or, canonical_path}
 use Rattle.git_location.specs.Settled.{IsRawPath, IsTransportPath}
 use Rattle.git_syntax.specs.Grammar.{begins_at_home}
-use Rattle.git_laws.specs.Git.{from_tilde}
+use Rattle.git_reads.specs.Git.{from_tilde}
 use Rattle.git_location.specs.GitClass.{is_tilde_second}
 use Rattle.git_syntax.proofs.Addresses.AddressTestLemmas.{ipv6_text_to}
 use Rattle.git_syntax.proofs.Texts.CutLemmas.{lacks-cons, lacks_head_tail, free_head_tail, free-append, free-cons, free_of_all, free_of_lacked, begins_cut}

@@ -11,14 +11,13 @@ use Rattle.git_syntax.specs.declared.escape.TheConstants.{PASSWORD, USER}
 use Rattle.git_syntax.specs.Location.{Scheme, Location}
 use Rattle.git_syntax.specs.Location.Scheme.{git, ssh}
 use Rattle.git_syntax.specs.Addresses.{IsIpv6Text}
-use Rattle.git_syntax.specs.Bytes.{newline, percent_sign, slash, colon, at_sign, left_bracket, right_bracket, FreeOf, Lacks}
+use Rattle.git_syntax.specs.Bytes.{newline, percent_sign, slash, colon, at_sign, left_bracket, right_bracket, FreeOf, Lacks, is_option_like}
 use Rattle.git_syntax.specs.Schemes.{scheme_of, scheme_text}
 use Rattle.git_syntax.specs.Authority.{unless_empty}
 use Rattle.git_syntax.specs.Grammar.{Unbrackets}
-use Rattle.git_location.specs.Arguments.{is_option_like}
 use Rattle.git_location.specs.Text.{raw_user, keeps_host, canonical_host, port_part, canonical_path, canonical_text, text}
 use Rattle.git_location.specs.Settled.{IsValue, IsNormalName, IsBareHost, IsBracketedHost, IsTransportPath, IsSettledRaw, IsSettledSecure, IsSettledGit, IsRawPath}
-use Rattle.git_laws.specs.Git.{GitReading, git_decode, CutsPlace, HostAndPort, SecurePort, UserCut, ReachesSecure, ReachesGit, OwnUrl, ReadsGiven, GitReads}
+use Rattle.git_reads.specs.Git.{GitReading, git_decode, CutsPlace, HostAndPort, SecurePort, UserCut, ReachesSecure, ReachesGit, OwnUrl, ReadsGiven, GitReads}
 use Rattle.git_location.specs.GitClass.{is_contested, IsPlainPart, IsBracketedOfGit, IsPlainHost, HasNoOption, AgreesByTransport}
 use Rattle.git_laws.specs.GitClass.{HostForGit, own_reading, ReadsOwnPlace, ReadsOwnBy}
 use Rattle.git_syntax.proofs.Texts.CutLemmas.{free-append, free-cons, free_begins, free_head_tail, free_of_lacked, free_parts, not_free}

@@ -13,8 +13,9 @@ use Rattle.git_syntax.specs.Schemes.{scheme_text}
 use Rattle.git_location.specs.Text.{user_information, port_part, canonical_path, canonical_text}
 use Rattle.git_location.specs.Settled.{begins_with_slashes, first_byte, IsValue, IsWeb}
 use Rattle.git_location.specs.WebClass.{is_control, is_uri_byte, IsDecodedWhole, is_plain_host_byte, IsUnambiguousUser, IsUnambiguousPassword, AgreesOverWeb}
-use Rattle.git_laws.specs.Git.{escaped_byte, git_decode}
-use Rattle.git_laws.specs.GitWeb.{CredentialDecodes, CredentialCut, CredentialPath, CredentialReads, AreOneLine, IsOneLine, are_slashes, without_last_slashes, trimmed_path, below_root, own_credential}
+use Rattle.git_reads.specs.Git.{escaped_byte, git_decode}
+use Rattle.git_reads.specs.Credentials.{CredentialDecodes, CredentialCut, CredentialPath, CredentialReads, AreOneLine, IsOneLine, are_slashes, without_last_slashes, trimmed_path}
+use Rattle.git_laws.specs.GitWeb.{below_root, own_credential}
 use Rattle.git_syntax.proofs.Texts.CutLemmas.{begins_cut, free-append, free_head_tail, free_of_all, free_of_lacked, free_or_cut, free_parts, held_free, lacks-append, lacks-cons, lacks_head_tail, lacks_of_all, lacks_weaker, scheme_text_free}
 use Rattle.git_syntax.proofs.Texts.EscapeLemmas.{decode_byte, decode_kept, encode_free}
 use Rattle.git_syntax.proofs.Texts.EscapeSets.{password_holds, user_holds}

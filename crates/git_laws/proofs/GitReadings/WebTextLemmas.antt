@@ -9,7 +9,7 @@ use Rattle.git_syntax.specs.Schemes.{scheme_text}
 use Rattle.git_location.specs.Text.{user_information, host_part, port_part, canonical_text, text}
 use Rattle.git_location.specs.Settled.{IsValue, IsWeb, IsWebHost}
 use Rattle.git_location.specs.WebClass.{IsUnambiguousHost, AgreesOverWeb}
-use Rattle.git_laws.specs.GitWeb.{IsOneLine}
+use Rattle.git_reads.specs.Credentials.{IsOneLine}
 use Rattle.git_laws.proofs.Writing.WrittenWebHostLemmas.{web_host_same, web_host_written}
 use Rattle.git_laws.proofs.Writing.WrittenUrlLemmas.{authority_text, authority_with_host}
 use Rattle.git_location.proofs.SettledClass.SettledLemmas.{settled_as_web}

@@ -6,8 +6,8 @@
 use Rattle.std.specs.Prelude.{ℕ, List, [], ◌∷◌, ◌++◌, codes, Option, Some, None}
 use Rattle.git_syntax.specs.Location.Scheme.{git, ssh}
 use Rattle.git_syntax.specs.Bytes.{tab}
-use Rattle.git_laws.specs.Git.{GitReading, GitReads, on_this_machine}
-use Rattle.git_laws.specs.GitWeb.{CredentialReading, CredentialReads}
+use Rattle.git_reads.specs.Git.{GitReading, GitReads, on_this_machine}
+use Rattle.git_reads.specs.Credentials.{CredentialReading, CredentialReads}
 
 -- a place that Secure Shell reaches
 abbrev pub by_ssh : Option (List ℕ) → Option (List ℕ) → Option ℕ → List ℕ → GitReading

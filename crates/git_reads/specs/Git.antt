@@ -9,11 +9,10 @@ use Rattle.std.specs.Str.Parse.{digits_value}
 use Rattle.percent_encoding.specs.Percent.{is_escape}
 use Rattle.git_syntax.specs.Location.{Scheme}
 use Rattle.git_syntax.specs.Location.Scheme.{file, git, ssh}
-use Rattle.git_syntax.specs.Bytes.{tab, newline, space, plus_sign, hyphen, slash, colon, at_sign, left_bracket, right_bracket, tilde, FreeOf, begins_with, Holds}
+use Rattle.git_syntax.specs.Bytes.{tab, newline, space, plus_sign, hyphen, slash, colon, at_sign, left_bracket, right_bracket, tilde, FreeOf, begins_with, Holds, is_option_like}
 use Rattle.git_syntax.specs.Schemes.{scheme_of}
 use Rattle.git_syntax.specs.Authority.{unless_empty}
 use Rattle.git_syntax.specs.Grammar.{HasHelperForm}
-use Rattle.git_location.specs.Arguments.{is_option_like}
 
 -- the place that Git reads: a file has a path alone
 pub record GitReading : Type 0 where

@@ -2,7 +2,8 @@
 use Rattle.std.proofs.Common.{◌≡◌, ◌∙◌, ℕ, true, false, not, ◌==◌, ◌⊎◌, List, [], ◌∷◌, ◌++◌, Option, Some, sym, ap, subst, append_assoc, arith}
 use Rattle.std.proofs.lemmas.Bool.Decides.{nat_tests}
 use Rattle.git_syntax.specs.Bytes.{slash, colon, at_sign, FreeOf, Lacks, begins_by, begins_with}
-use Rattle.git_laws.specs.GitWeb.{CredentialDecodes, CredentialCut, CredentialPath, OneCredentialReading, are_slashes, trimmed_path}
+use Rattle.git_reads.specs.Credentials.{CredentialDecodes, CredentialCut, CredentialPath, CredentialReading, CredentialReads, OneCredentialReading, are_slashes, trimmed_path, ReadsPieces}
+use Rattle.git_reads.specs.Internal.{CutsText}
 use Rattle.git_syntax.proofs.Texts.CutLemmas.{class_cut_unique, cut_unique, free-append, lacks_of_all, mark_cut_unique, not_free, path_cut_unique}
 
 -- a piece is decoded in one way
@@ -65,12 +66,43 @@ path_same behind path other h k =
 
 -- ---- the text
 
+-- a text is cut in one way
+text_same : (t protocol other authority place behind rest : List ℕ) → CutsText t protocol authority behind → CutsText t other place rest → (protocol ≡ other) × (authority ≡ place) × (behind ≡ rest)
+text_same t protocol other authority place behind rest h k =
+    let schemes = mark_cut_unique protocol other (authority ++ behind) (place ++ rest) h.no_mark k.no_mark (sym h.joined ∙ k.joined) in
+    let cut = path_cut_unique true authority place behind rest h.before_path k.before_path h.path_start k.path_start schemes.1 in
+    (schemes.0, cut.0, cut.1)
+
+-- the pieces of a text are read in one way
+pieces_same : (authority behind : List ℕ) (r other : CredentialReading) → r.protocol ≡ other.protocol → ReadsPieces authority behind r → ReadsPieces authority behind other → r ≡ other
+pieces_same authority behind r other schemes h k =
+    let credentials = cut_same authority r.user other.user r.password other.password h.named k.named h.cut k.cut in
+    let hosts = decodes_unique k.named r.host other.host (subst (λ t. CredentialDecodes t r.host) credentials.2 h.host) k.host in
+    let paths = path_same behind r.path other.path h.path k.path in
+    λ i. record { protocol = schemes i; user = credentials.0 i; password = credentials.1 i; host = hosts i; path = paths i }
+
+-- so a text is read in one way, also where a part is of several lines
+pub one_of_pieces : (t authority behind place rest : List ℕ) (r other : CredentialReading) → CutsText t r.protocol authority behind → ReadsPieces authority behind r → CutsText t other.protocol place rest → ReadsPieces place rest other → r ≡ other
+one_of_pieces t authority behind place rest r other cut h cut' k =
+    let same = text_same t r.protocol other.protocol authority place behind rest cut cut' in
+    pieces_same place rest r other same.0 (subst (λ b. ReadsPieces place b r) same.2 (subst (λ a. ReadsPieces a behind r) same.1 h)) k
+
+-- how a text is cut that is read
+pub reading_cut : (t : List ℕ) (r : CredentialReading) (h : CredentialReads t r) → CutsText t r.protocol h.authority h.behind
+reading_cut t r h = record {
+  whole = h.whole;
+  some = h.protocol;
+  no_mark = h.no_mark;
+  joined = h.joined;
+  before_path = h.before_path;
+  path_start = h.path_start;
+}
+
+-- and what is read in its pieces
+pub reading_pieces : (t : List ℕ) (r : CredentialReading) (h : CredentialReads t r) → ReadsPieces h.authority h.behind r
+reading_pieces t r h = record { named = h.named; cut = h.cut; host = h.host; path = h.path }
+
 -- Git's credential code reads one thing in a text
 pub one_credential : OneCredentialReading
 one_credential t r other h k =
-    let schemes = mark_cut_unique r.protocol other.protocol (h.authority ++ h.behind) (k.authority ++ k.behind) h.no_mark k.no_mark (sym h.joined ∙ k.joined) in
-    let cut = path_cut_unique true h.authority k.authority h.behind k.behind h.before_path k.before_path h.path_start k.path_start schemes.1 in
-    let credentials = cut_same k.authority r.user other.user r.password other.password h.named k.named (subst (λ t. CredentialCut t r.user r.password h.named) cut.0 h.cut) k.cut in
-    let hosts = decodes_unique k.named r.host other.host (subst (λ t. CredentialDecodes t r.host) credentials.2 h.host) k.host in
-    let paths = path_same k.behind r.path other.path (subst (λ t. CredentialPath t r.path) cut.1 h.path) k.path in
-    λ i. record { protocol = schemes.0 i; user = credentials.0 i; password = credentials.1 i; host = hosts i; path = paths i }
+    one_of_pieces t h.authority h.behind k.authority k.behind r other (reading_cut t r h) (reading_pieces t r h) (reading_cut t other k) (reading_pieces t other k)

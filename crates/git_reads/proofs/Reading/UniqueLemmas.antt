@@ -6,59 +6,17 @@ use Rattle.std.proofs.lemmas.Option.{none-some}
 use Rattle.std.proofs.lemmas.Slice.Eq.{bytes_eq-Decides}
 use Rattle.git_syntax.specs.Location.{Scheme}
 use Rattle.git_syntax.specs.Location.Scheme.{file, git, ssh}
-use Rattle.git_syntax.specs.Bytes.{slash, colon, at_sign, left_bracket, right_bracket, FreeOf, Holds, begins_with}
+use Rattle.git_syntax.specs.Bytes.{slash, colon, FreeOf}
 use Rattle.git_syntax.specs.Schemes.{scheme_of}
 use Rattle.git_syntax.specs.Authority.{unless_empty}
-use Rattle.git_laws.specs.Git.{GitReading, OneGitReading, on_this_machine, from_tilde, git_decode, host_mark, OpensHost, InBrackets, LacksHostBrackets, HostEnd, CutsPlace, git_port, BeforePort, HostAndPort, SecurePort, UserCut, ReachesSecure, ReachesGit, OwnUrl, IsNoUrl, IsRemote, IsLocal, ReadsGiven}
+use Rattle.git_reads.specs.Git.{GitReading, OneGitReading, on_this_machine, from_tilde, git_decode, CutsPlace, git_port, BeforePort, HostAndPort, SecurePort, UserCut, ReachesSecure, ReachesGit, OwnUrl, IsNoUrl, IsRemote, IsLocal, ReadsGiven}
 use Rattle.git_syntax.proofs.Parsing.SchemeLemmas.{scheme_cases, transport}
-use Rattle.git_syntax.proofs.Texts.CutLemmas.{heads, tails, different_bytes, cut_unique, free_head_tail, last_cut_unique, not_free, held_cut_unique}
+use Rattle.git_reads.proofs.Texts.PlaceLemmas.{brackets_unique, brackets_not_lacked, host_end_unique}
+use Rattle.git_syntax.proofs.Texts.CutLemmas.{heads, tails, different_bytes, cut_unique, free_head_tail, last_cut_unique, not_free}
 
--- ---- brackets
+-- ---- places
 
--- no mark reaches from a text without it into one that follows
-mark_no_overlap : (b : ℕ) (bs x y : List ℕ) → ¬ Holds host_mark (b ∷ bs) → host_mark ++ x ≡ b ∷ (bs ++ (host_mark ++ y)) → ⊥
-mark_no_overlap b [] x y h e = different_bytes 91 64 refl (tails e)
-mark_no_overlap b (c ∷ bs) x y h e =
-    h ([], bs, ap (λ z. z ∷ c ∷ bs) (sym (heads e)) ∙ ap (λ z. 64 ∷ z ∷ bs) (sym (heads (tails e))))
-
--- one bracket opens the host
-opens_unique : (t front rest other more : List ℕ) → OpensHost t front rest → OpensHost t other more → (front ≡ other) × (rest ≡ more)
-opens_unique t front rest other more (OpensHost.behind_at user none is e) (OpensHost.behind_at name none' is' e') =
-    let same = held_cut_unique host_mark mark_no_overlap user name rest more none none' (sym e ∙ e') in
-    (is ∙ ap (λ u. u ++ at_sign ∷ []) same.0 ∙ sym is', same.1)
-opens_unique t front rest other more (OpensHost.behind_at user none is e) (OpensHost.at_front none' is' e') = absurd (none' (user, rest, e))
-opens_unique t front rest other more (OpensHost.at_front none is e) (OpensHost.behind_at name none' is' e') = absurd (none (name, more, e'))
-opens_unique t front rest other more (OpensHost.at_front none is e) (OpensHost.at_front none' is' e') = (is ∙ sym is', tails (sym e ∙ e'))
-
--- and one closes it
-brackets_unique : (t front inside behind other within beyond : List ℕ) → InBrackets t front inside behind → InBrackets t other within beyond → (front ≡ other) × (inside ≡ within) × (behind ≡ beyond)
-brackets_unique t front inside behind other within beyond h k =
-    let opened = opens_unique t front (inside ++ right_bracket ∷ behind) other (within ++ right_bracket ∷ beyond) h.opened k.opened in
-    let closed = cut_unique right_bracket inside within behind beyond h.next k.next opened.1 in
-    (opened.0, closed.0, closed.1)
-
--- a text with host brackets doesn't lack them
-opened_not_lacked : (t front rest : List ℕ) → OpensHost t front rest → ¬ Holds host_mark t → begins_with left_bracket t ≡ false → ⊥
-opened_not_lacked t front rest (OpensHost.behind_at user none is e) lacks begins = lacks (user, rest, e)
-opened_not_lacked t front rest (OpensHost.at_front none is e) lacks begins = both_ways _ begins (ap (begins_with left_bracket) e)
-
--- so it is with brackets that are closed
-brackets_not_lacked : (t front inside behind : List ℕ) → InBrackets t front inside behind → LacksHostBrackets t → ⊥
-brackets_not_lacked t front inside behind h (LacksHostBrackets.unopened none begins) = opened_not_lacked t front (inside ++ right_bracket ∷ behind) h.opened none begins
-brackets_not_lacked t front inside behind h (LacksHostBrackets.unclosed other rest opened free) =
-    let same = opens_unique t front (inside ++ right_bracket ∷ behind) other rest h.opened opened in
-    not_free right_bracket inside behind (subst (λ s. FreeOf right_bracket s) (sym same.1) free)
-
--- one front is passed over
-pub host_end_unique : (t passed rest other more : List ℕ) → HostEnd t passed rest → HostEnd t other more → (passed ≡ other) × (rest ≡ more)
-host_end_unique t passed rest other more (HostEnd.brackets f i b h p r) (HostEnd.brackets f' i' b' h' p' r') =
-    let same = brackets_unique t f i b f' i' b' h h' in
-    (p ∙ ap (λ x. x ++ left_bracket ∷ i) same.0 ∙ ap (λ x. f' ++ left_bracket ∷ x) same.1 ∙ sym p', r ∙ ap (λ x. right_bracket ∷ x) same.2 ∙ sym r')
-host_end_unique t passed rest other more (HostEnd.brackets f i b h p r) (HostEnd.none lacks p' r') = absurd (brackets_not_lacked t f i b h lacks)
-host_end_unique t passed rest other more (HostEnd.none lacks p r) (HostEnd.brackets f i b h p' r') = absurd (brackets_not_lacked t f i b h lacks)
-host_end_unique t passed rest other more (HostEnd.none lacks p r) (HostEnd.none lacks' p' r') = (p ∙ sym p', r ∙ sym r')
-
--- so the text is cut at one place
+-- a text is cut at one place
 pub place_unique : (c : ℕ) (t place rest other more : List ℕ) → CutsPlace c t place rest → CutsPlace c t other more → (place ≡ other) × (rest ≡ more)
 place_unique c t place rest other more h k =
     let ends = host_end_unique t h.passed (h.between ++ c ∷ rest) k.passed (k.between ++ c ∷ more) h.end k.end in
@@ -174,6 +132,7 @@ secure_unique named found word other port number h k =
     let same = secure_same named found word other port number (secure_comes named found word port h) (secure_comes named found other number k) in
     (ap (λ p. p.0) same, ap (λ p. p.1) same)
 
+-- Secure Shell cuts its word in one way
 user_unique : (word host other : List ℕ) (user name : Option (List ℕ)) → UserCut word user host → UserCut word name other → (user ≡ name) × (host ≡ other)
 user_unique word host other user name h5 h6 = grind (arith, nat_tests, not_free, last_cut_unique)
 
@@ -230,7 +189,7 @@ own_unique p q t rest other first second h k =
     (sym h.own ∙ ap scheme_of schemes.0 ∙ k.own, h.decoded ∙ ap git_decode (tails (tails schemes.1)) ∙ sym k.decoded)
 
 -- a URL isn't another text
-own_no_other : {A : Type 0} (p : Scheme) (t rest : List ℕ) → OwnUrl p t rest → IsNoUrl t → A
+pub own_no_other : {A : Type 0} (p : Scheme) (t rest : List ℕ) → OwnUrl p t rest → IsNoUrl t → A
 own_no_other p t rest h k = absurd (k.no_mark (h.scheme, h.spelled, h.joined))
 
 -- a colon before any `/` isn't behind one

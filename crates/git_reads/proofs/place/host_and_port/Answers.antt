@@ -1,0 +1,14 @@
+-- The host in brackets, or the text before a port.
+use Rattle.std.proofs.Common.{◌∙◌, ◌++◌, ap}
+use Rattle.git_reads.specs.Git.{HostAndPort}
+use Rattle.git_reads.proofs.place.host_and_port.Goals as goal
+
+pub returns-in_default : goal.returns-in_default
+returns-in_default c = HostAndPort.none c.in_default.ensures c.before_port.ensures
+
+pub returns : goal.returns
+returns c =
+    let found = c.in-Some.found in
+    let written =
+    c.as_slice.ensures.value ∙ c.in_ok-extend_from_slice-2.ensures.items ∙ ap (λ x. x ++ found.inside.now) (c.in_ok-extend_from_slice.ensures.items ∙ ap (λ x. x ++ found.front.now) c.clear.ensures.items) in
+    HostAndPort.brackets found.front.now found.inside.now found.behind.now c.before_port-2.result.0.now c.in-Some.ensures written c.before_port-2.ensures
