@@ -2,3 +2,6 @@
 -- last of the entries that set a key, and the decision.
 pub mod ListedLemmas
 pub mod DecisionLemmas
+-- The transport of a text.
+pub mod TransportLemmas
+pub mod TransportLawLemmas

@@ -2,3 +2,4 @@
 pub mod KeyLemmas
 pub mod ItemLemmas
 pub mod OneReadingLemmas
+pub mod ListingLemmas

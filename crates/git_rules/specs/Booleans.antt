@@ -1,82 +1,8 @@
 -- Texts that Git takes for a boolean value, numbers among them.
-use Rattle.std.specs.Prelude.{ℕ, ◌*◌, Bool, true, false, not, ◌&&◌, ◌||◌, ◌==◌, nat_le, bytes_eq, codes, List, [], ◌∷◌, drop, Option, Some, None, option_and_then, if◌then◌else◌}
+use Rattle.std.specs.Prelude.{ℕ, Bool, true, false, not, ◌||◌, ◌==◌, codes, List, [], Option, Some, if◌then◌else◌}
 use Rattle.std.specs.Option.{option_map}
-use Rattle.std.specs.List.{prefix_len, take_while}
-use Rattle.std.specs.Char.{is_digit, to_ascii_lowercase}
-use Rattle.std.specs.Int.{is_in_range}
-use Rattle.std.specs.Str.Parse.{digits_value}
-use Rattle.git_syntax.specs.Bytes.{begins_with, digit_zero, hyphen, lowercase, plus_sign, space}
-
--- `k`, `m`, `g` and `x`
-abbrev pub letter_k : ℕ
-letter_k = 107
-
-abbrev pub letter_m : ℕ
-letter_m = 109
-
-abbrev pub letter_g : ℕ
-letter_g = 103
-
-abbrev pub letter_x : ℕ
-letter_x = 120
-
--- white space, as C has it: tab, line feed, vertical tab, form feed, carriage return and space
-abbrev pub is_blank : ℕ → Bool
-is_blank b = is_in_range 9 13 b || (b == space)
-
--- the greatest number that Git has room for: 2^31 - 1
-abbrev pub greatest : ℕ
-greatest = 2147483647
-
--- the number, where Git has room for it
-abbrev pub fitting : ℕ → Option ℕ
-fitting n = if nat_le n greatest then Some n else None
-
--- what a small letter behind a number multiplies it by
-abbrev pub unit_named : ℕ → Option ℕ
-unit_named b = if b == letter_k then Some 1024
-    else (if b == letter_m then Some 1048576
-    else (if b == letter_g then Some 1073741824 else None))
-
--- what the text behind a number multiplies it by: no text, or one letter of either case
-abbrev pub unit_of : List ℕ → Option ℕ
-unit_of [] = Some 1
-unit_of (b ∷ []) = unit_named (to_ascii_lowercase b)
-unit_of (b ∷ c ∷ rest) = None
-
--- the number of these digits, at least one, and what follows them
-abbrev pub counted : ℕ → List ℕ → List ℕ → Option ℕ
-counted radix [] rest = None
-counted radix (d ∷ ds) rest =
-    option_and_then (λ unit. fitting (digits_value radix (d ∷ ds) * unit)) (unit_of rest)
-
--- the number that begins with all of the text's first digits of this radix
-abbrev pub number_in : ℕ → List ℕ → Option ℕ
-number_in radix text = let is_own : ℕ → Bool = λ b. is_digit b radix in
-    counted radix (take_while is_own text) (drop (prefix_len is_own text) text)
-
--- the text begins with `0x` or `0X`
-abbrev pub is_hexadecimal : List ℕ → Bool
-is_hexadecimal [] = false
-is_hexadecimal (b ∷ []) = false
-is_hexadecimal (b ∷ c ∷ rest) = (b == digit_zero) && (to_ascii_lowercase c == letter_x)
-
--- the number without a sign: hexadecimal behind `0x`, octal behind a `0`, and else decimal
-abbrev pub size_of : List ℕ → Option ℕ
-size_of text = if is_hexadecimal text then number_in 16 (drop 2 text)
-    else (if begins_with digit_zero text then number_in 8 text else number_in 10 text)
-
--- the text without a sign in front
-abbrev pub without_sign : List ℕ → List ℕ
-without_sign text = if begins_with plus_sign text || begins_with hyphen text then drop 1 text else text
-
--- the size of the number that the text is, whatever its sign: white space, a sign, digits and a unit
-abbrev pub number_of : List ℕ → Option ℕ
-number_of text = size_of (without_sign (drop (prefix_len is_blank text) text))
-
--- the text is the word, without letter case
-abbrev pub is_word : List ℕ → List ℕ → Bool
-is_word text word = bytes_eq (lowercase text) (lowercase word)
+use Rattle.git_rules.specs.Words.{is_word}
+use Rattle.git_rules.specs.Numbers.{greatest_int, number_of}
 
 -- the words for true
 abbrev pub is_yes : List ℕ → Bool
@@ -90,4 +16,4 @@ is_no text = is_word text []
 -- the boolean value that the text is: a word, or a number, which is false where it is 0
 abbrev pub boolean_of : List ℕ → Option Bool
 boolean_of text = if is_yes text then Some true
-    else (if is_no text then Some false else option_map (λ n. not (n == 0)) (number_of text))
+    else (if is_no text then Some false else option_map (λ n. not (n == 0)) (number_of greatest_int text))

@@ -1,6 +1,7 @@
 -- The entries of a configuration: what contracts see of one, and the text that Git writes for it.
-use Rattle.std.specs.Prelude.{◌≡◌, ℕ, List, [], ◌∷◌, ◌++◌, Option, Some, None}
-use Rattle.git_syntax.specs.Bytes.{FreeOf, dot, newline, lowercase}
+use Rattle.std.specs.Prelude.{◌≡◌, ℕ, Bool, ◌&&◌, List, [], ◌∷◌, ◌++◌, Option, Some, None}
+use Rattle.git_syntax.specs.Bytes.{FreeOf, dot, newline}
+use Rattle.git_rules.specs.Words.{is_word}
 
 -- an entry as plain values: `section.subsection.name` and its value, and at which byte of the text it begins
 pub record ConfigEntry : Type 0 where
@@ -10,17 +11,17 @@ pub record ConfigEntry : Type 0 where
   pub value : Option (List ℕ)
   pub at : ℕ
 
--- the two texts are the same without letter case, as ASCII has it
-abbrev pub IsSameWord : List ℕ → List ℕ → Type 0
-IsSameWord a b = lowercase a ≡ lowercase b
-
 -- the entry is of the section, without letter case
-abbrev pub IsOfSection : List ℕ → ConfigEntry → Type 0
-IsOfSection word e = IsSameWord e.section word
+abbrev pub is_of_section : List ℕ → ConfigEntry → Bool
+is_of_section section e = is_word e.section section
 
 -- the entry has the name, without letter case
-abbrev pub HasName : List ℕ → ConfigEntry → Type 0
-HasName word e = IsSameWord e.name word
+abbrev pub has_name : List ℕ → ConfigEntry → Bool
+has_name name e = is_word e.name name
+
+-- the entry sets the variable of the section and the name, for all subsections or for one
+abbrev pub sets : List ℕ → List ℕ → ConfigEntry → Bool
+sets section name e = is_of_section section e && has_name name e
 
 -- what a key holds behind its first dot: the subsection, if there is one, and the name
 abbrev pub name_text : Option (List ℕ) → List ℕ → List ℕ

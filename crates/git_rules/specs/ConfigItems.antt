@@ -1,5 +1,5 @@
 -- What is read of a configuration: its entries in turn, and what isn't one.
-use Rattle.std.specs.Prelude.{◌≡◌, ℕ, ◌+◌, ◌⊎◌, List, [], ◌∷◌, ◌++◌, Option, Some, None, Result, Ok, Err, MatchOption, length, option_map}
+use Rattle.std.specs.Prelude.{◌≡◌, ℕ, ◌+◌, ◌⊎◌, List, [], ◌∷◌, ◌++◌, Option, Some, None, Result, Ok, Err, MatchOption, All, length, option_map}
 use Rattle.std.specs.Borrow.{Bor}
 use Rattle.git_syntax.specs.Bytes.{FreeOf, dot, newline}
 use Rattle.git_rules.specs.Config.{ConfigEntry, SpellsEntry, SpellsKey, name_text, value_text}
@@ -72,3 +72,21 @@ HasEntries text found = (items : List Item) × ReadsItems (start text) items × 
 abbrev pub GivesItem : Place → Option Item → Place → Type 0
 GivesItem from None next = (from.rest ≡ []) × (next ≡ from)
 GivesItem from (Some item) next = ReadsItem from item next
+
+-- the item isn't a line whose key has no section or no name
+abbrev pub HasKey : Item → Type 0
+HasKey (Ok e) = Unit {0}
+HasKey (Err (NoKey at)) = ⊥
+HasKey (Err (NoEnd at)) = Unit {0}
+
+-- each line of the text has its key
+abbrev pub HasKeys : List ℕ → Type 0
+HasKeys text = (items : List Item) × ReadsItems (start text) items × All HasKey items
+
+-- the text is empty, or a byte 0 is in it
+abbrev pub IsEnded : List ℕ → Type 0
+IsEnded text = (text ≡ []) ⊎ ¬ FreeOf 0 text
+
+-- the text may be what `git config --list -z` writes
+abbrev pub IsListing : List ℕ → Type 0
+IsListing text = IsEnded text × HasKeys text

@@ -1,4 +1,5 @@
 -- What a user reads.
+pub mod Words
 pub mod Config
 pub mod ConfigView
 pub mod ConfigItems
@@ -12,6 +13,10 @@ pub mod RewriteViews
 pub mod RewriteEntries
 pub mod RewriteErrors
 pub mod RewriteLaws
+pub mod Remotes
+pub mod RemoteView
+pub mod RemoteAnswers
+pub mod RemoteLaws
 pub mod SameHost
 pub mod Normal
 pub mod NormalView
@@ -22,10 +27,21 @@ pub mod Patterns
 pub mod Places
 pub mod PatternEntries
 pub mod PatternLaws
+pub mod Settings
+pub mod SettingsLaws
+pub mod Numbers
 pub mod Booleans
+pub mod Stops
+pub mod CredentialUrls
+pub mod PartialUrls
+pub mod CredentialEntries
+pub mod CredentialView
+pub mod Credentials
+pub mod CredentialLaws
 pub mod Policies
 pub mod PolicyView
 pub mod Protocols
+pub mod TextTransports
 pub mod ShellWords
 pub mod SecureShell
 pub mod SecureLaws

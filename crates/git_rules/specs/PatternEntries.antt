@@ -3,13 +3,9 @@ use Rattle.std.specs.Prelude.{◌≡◌, ℕ, true, List, ◌+◌, ◌*◌, ◌<
 use Rattle.git_rules.specs.declared.normal.NormalError.{NormalError}
 use Rattle.git_rules.specs.declared.normal.NormalError.TheVariants.{NoRoom}
 use Rattle.git_rules.specs.declared.pattern.Rank.{Rank}
-use Rattle.git_rules.specs.Config.{ConfigEntry, HasName, IsOfSection}
+use Rattle.git_rules.specs.Config.{ConfigEntry, sets}
 use Rattle.git_rules.specs.Normal.{NormalPlace, IsNormalOf}
 use Rattle.git_rules.specs.Patterns.{HasRank, IsBest, RanksFor}
-
--- the entry sets the variable, for some place or for all
-abbrev pub IsOfVariable : List ℕ → List ℕ → ConfigEntry → Type 0
-IsOfVariable section name e = IsOfSection section e × HasName name e
 
 -- the rank of an entry for all places, below that of each pattern
 abbrev pub lowest_rank : Rank
@@ -23,12 +19,12 @@ RanksSubsection place (Some url) rank = (pattern : NormalPlace) × IsNormalOf tr
 
 -- the entry sets the variable for the place, with this rank
 abbrev pub RanksEntry : List ℕ → List ℕ → NormalPlace → ConfigEntry → Rank → Type 0
-RanksEntry section name place e rank = IsOfVariable section name e
+RanksEntry section name place e rank = (sets section name e ≡ true)
     × RanksSubsection place e.subsection rank
 
 -- a room of this length is enough for the URL of the entry, if it sets the variable
 abbrev pub HasRoomFor : List ℕ → List ℕ → ℕ → ConfigEntry → Type 0
-HasRoomFor section name room e = IsOfVariable section name e
+HasRoomFor section name room e = (sets section name e ≡ true)
     → IfSome e.subsection (λ url. 3 * length url + 1 ≤ room)
 
 -- the rank of an entry, or that the room is too short for it

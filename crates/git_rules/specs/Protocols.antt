@@ -2,8 +2,9 @@
 use Rattle.std.specs.Prelude.{◌≡◌, ℕ, Bool, true, false, ◌||◌, ◌==◌, ◌⊎◌, bytes_eq, codes, List, ◌∷◌, ◌++◌, Option, Some, None, All, if◌then◌else◌}
 use Rattle.std.specs.List.{list_any, slice_split}
 use Rattle.git_syntax.specs.Bytes.{colon}
-use Rattle.git_rules.specs.Config.{ConfigEntry, HasName, IsOfSection}
-use Rattle.git_rules.specs.Booleans.{boolean_of, is_word}
+use Rattle.git_rules.specs.Config.{ConfigEntry, sets}
+use Rattle.git_rules.specs.Booleans.{boolean_of}
+use Rattle.git_rules.specs.Words.{is_word}
 use Rattle.git_rules.specs.declared.protocols.Allowance.{Allowance}
 use Rattle.git_rules.specs.declared.protocols.Allowance.TheVariants as allowance
 use Rattle.git_rules.specs.declared.protocols.Reason.{Reason}
@@ -14,7 +15,7 @@ use Rattle.git_rules.specs.Policies.{Policy}
 
 -- the key of the entry is `protocol.allow`, or with a name `protocol.<name>.allow`
 abbrev pub SetsAllow : Option (List ℕ) → ConfigEntry → Type 0
-SetsAllow name e = IsOfSection (codes "protocol") e × HasName (codes "allow") e × (e.subsection ≡ name)
+SetsAllow name e = (sets (codes "protocol") (codes "allow") e ≡ true) × (e.subsection ≡ name)
 
 -- the last of the entries that has the property, or that there is none: no entry behind it has the property
 abbrev pub IsLastOf : (ConfigEntry → Type 0) → List ConfigEntry → Option ConfigEntry → Type 0

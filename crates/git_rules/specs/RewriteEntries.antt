@@ -1,8 +1,6 @@
 -- The rules of a configuration.
-use Rattle.std.specs.Prelude.{◌≡◌, ℕ, Bool, true, ◌&&◌, ◌⊎◌, if◌then◌else◌, List, [], ◌∷◌, ◌++◌, Option, Some, None, codes}
-use Rattle.std.specs.Str.{bytes_eq}
-use Rattle.git_syntax.specs.Bytes.{lowercase}
-use Rattle.git_rules.specs.Config.{ConfigEntry}
+use Rattle.std.specs.Prelude.{◌≡◌, ℕ, true, ◌⊎◌, if◌then◌else◌, List, [], ◌∷◌, ◌++◌, Option, Some, None, codes}
+use Rattle.git_rules.specs.Config.{ConfigEntry, sets}
 use Rattle.git_rules.specs.Rewrites.{Rule, Rules}
 
 -- the name of rules for fetching
@@ -13,13 +11,9 @@ instead_of = codes "insteadof"
 abbrev pub push_instead_of : List ℕ
 push_instead_of = codes "pushinsteadof"
 
--- the words are the same without letter case
-abbrev pub is_same_word : List ℕ → List ℕ → Bool
-is_same_word a b = bytes_eq (lowercase a) (lowercase b)
-
--- the entry has the section `url` and the name
-abbrev pub is_url_entry : List ℕ → ConfigEntry → Bool
-is_url_entry name e = is_same_word e.section (codes "url") && is_same_word e.name name
+-- the section of rules
+abbrev pub url_section : List ℕ
+url_section = codes "url"
 
 -- a base and a front make a rule; where one of them is missing there is none
 abbrev pub rule_between : Option (List ℕ) → Option (List ℕ) → List Rule
@@ -29,7 +23,7 @@ rule_between None front = []
 
 -- the rule that an entry is by this name: its subsection is the base, and its value the front
 abbrev pub entry_rule : List ℕ → ConfigEntry → List Rule
-entry_rule name e = if is_url_entry name e then rule_between e.subsection e.value else []
+entry_rule name e = if sets url_section name e then rule_between e.subsection e.value else []
 
 -- the rules that entries are by this name, in their order
 abbrev pub rules_named : List ℕ → List ConfigEntry → List Rule
@@ -52,7 +46,7 @@ with_entry rules e = record {
 
 -- the entry has a base and one of the two names, and no value: Git stops at it
 abbrev pub LacksValue : ConfigEntry → Type 0
-LacksValue e = ((is_url_entry instead_of e ≡ true) ⊎ (is_url_entry push_instead_of e ≡ true))
+LacksValue e = ((sets url_section instead_of e ≡ true) ⊎ (sets url_section push_instead_of e ≡ true))
     × ((base : List ℕ) × (e.subsection ≡ Some base)) × (e.value ≡ None)
 
 -- none of the entries lacks a value

@@ -1,5 +1,10 @@
 -- The table of a `Table`: its rules, each with its rank, which is where the first rule with its base is.
-use Rattle.std.specs.Prelude.{◌≡◌, ℕ, ◌<◌, ◌≤◌, ◌⊎◌, List, [], ◌∷◌, ◌++◌, Option, Some, None, length, map}
+use Rattle.std.specs.Prelude.{◌≡◌, ℕ, ◌<◌, ◌≤◌, ◌⊎◌, List, [], ◌∷◌, ◌++◌, Option, Some, None, bytes_eq, length, map}
+use Rattle.std.specs.BTreeMap.{BTreeMap, get_by}
+use Rattle.std.specs.Cmp.Lexicographic.{slice_cmp}
+use Rattle.std.specs.Map.{update}
+use Rattle.std.specs.Ordering.{nat_cmp}
+use denote.Ref.{Bor}
 use Rattle.git_rules.specs.declared.rewrite.table.Ranked.{Ranked}
 use Rattle.git_rules.specs.Rewrites.{Rule, LacksBase, Applies}
 
@@ -13,9 +18,23 @@ HasRank rules base rank = (before : List Rule) × (first : Rule) × (others : Li
     × (rules ≡ before ++ first ∷ others) × (first.base ≡ base) × LacksBase base before
     × (length before ≡ rank)
 
--- behind so many rules, none of which has the base, comes one with the base, or none at all
-abbrev pub RankFor : List Rule → List ℕ → ℕ → Type 0
-RankFor rules base rank = HasRank rules base rank ⊎ (LacksBase base rules × (length rules ≡ rank))
+-- the rank that is noted for a base in a map of ranks, if one is
+abbrev pub noted_rank : BTreeMap (Bor (List ℕ)) ℕ → List ℕ → Option ℕ
+noted_rank ranks base = get_by (λ key. slice_cmp nat_cmp base key.now) ranks
+
+-- afterwards this rank is noted for a base, and for all others what was noted before
+abbrev pub NotesAlso : BTreeMap (Bor (List ℕ)) ℕ → List ℕ → ℕ → BTreeMap (Bor (List ℕ)) ℕ → Type 0
+NotesAlso ranks base rank after = (other : List ℕ)
+    → noted_rank after other ≡ update bytes_eq (noted_rank ranks) base (Some rank) other
+
+-- what is noted for a base is right: its rank, and nothing where no rule has the base
+abbrev pub IsNoted : List Rule → List ℕ → Option ℕ → Type 0
+IsNoted rules base None = LacksBase base rules
+IsNoted rules base (Some rank) = HasRank rules base rank
+
+-- what is noted for each base is right
+abbrev pub NotesRanks : List Rule → BTreeMap (Bor (List ℕ)) ℕ → Type 0
+NotesRanks rules ranks = (base : List ℕ) → IsNoted rules base (noted_rank ranks base)
 
 -- each of these has its rank among the rules
 abbrev pub AreRankedIn : List Rule → List Ranked → Type 0

@@ -6,7 +6,7 @@ use Rattle.git_syntax.specs.Location.Scheme.{ssh}
 use Rattle.git_location.specs.Text.{text}
 use Rattle.git_location.specs.Settled.{IsValue}
 use Rattle.git_location.specs.GitClass.{AgreesWithGit}
-use Rattle.git_laws.specs.Git.{GitReading, GitReads, ReachesSecure}
+use Rattle.git_reads.specs.Git.{GitReading, GitReads, ReachesSecure}
 use Rattle.git_rules.specs.declared.ssh.SshVariant.{SshVariant}
 use Rattle.git_rules.specs.SecureShell.{destination, port_refusal, ssh_refusal}
 

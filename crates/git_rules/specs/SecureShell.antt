@@ -3,8 +3,7 @@ use Rattle.std.specs.Prelude.{◌≡◌, ℕ, Bool, true, false, ◌==◌, List,
 use Rattle.std.specs.List.{list_any, starts_with}
 use Rattle.git_syntax.specs.Location.{Scheme, Location}
 use Rattle.git_syntax.specs.Location.Scheme.{ssh}
-use Rattle.git_syntax.specs.Bytes.{space, at_sign}
-use Rattle.git_location.specs.Arguments.{is_option_like}
+use Rattle.git_syntax.specs.Bytes.{space, at_sign, is_option_like}
 use Rattle.git_rules.specs.declared.ssh.Service.{Service}
 use Rattle.git_rules.specs.declared.ssh.Service.TheVariants.{UploadPack, ReceivePack, UploadArchive}
 use Rattle.git_rules.specs.declared.ssh.SshVariant.{SshVariant}
@@ -13,7 +12,7 @@ use Rattle.git_rules.specs.declared.ssh.ProtocolVersion.{ProtocolVersion}
 use Rattle.git_rules.specs.declared.ssh.ProtocolVersion.TheVariants.{V0, V1, V2}
 use Rattle.git_rules.specs.declared.ssh.SshRefusal.{SshRefusal}
 use Rattle.git_rules.specs.declared.ssh.SshRefusal.TheVariants as refusal
-use Rattle.git_laws.specs.Git.{UserCut}
+use Rattle.git_reads.specs.Git.{UserCut}
 use Rattle.git_rules.specs.ShellWords.{shell_words, sq_quote}
 
 -- ---- the words before the destination

@@ -1,15 +1,17 @@
 //! The entries of a configuration, as `git config --list -z` writes them.
 //!
-//! It uses the cuts of `git_syntax`. Its contract: an entry is one value of five parts, and what is read is
-//! reported as a concatenation: the texts of the entries, each with the byte 0 behind it, are the text.
+//! It uses `word` and the cuts of `git_syntax`. Its contract: an entry is one value of five parts, and what
+//! is read is reported as a concatenation: the texts of the entries, each with the byte 0 behind it, are the
+//! text.
 
-ghost use Rattle.std.specs.Prelude.{◌≡◌, ◌==◌, ◌↔◌, ◌++◌, ◌∷◌, [], IfOk, IsTrue, OnOk, count_by};
-ghost use Rattle.git_rules.specs.Config.{HasName, IsOfSection, IsSameWord};
-ghost use Rattle.git_rules.specs.ConfigItems.{CutsKey, CutsName, CutsValue, HasEntries, MeansItem, entries_of, start};
+ghost use Rattle.std.specs.Prelude.{◌≡◌, ◌↔◌, ◌==◌, ◌++◌, ◌∷◌, [], IfOk, IsTrue, OnOk, count_by};
+ghost use Rattle.git_rules.specs.Config.{has_name, is_of_section, sets};
+ghost use Rattle.git_rules.specs.ConfigItems.{CutsKey, CutsName, CutsValue, HasEntries, HasKey, HasKeys, IsEnded, IsListing, MeansItem, entries_of, start};
 
 pub mod law;
 
-use git_syntax::bytes::{cut, last_cut};
+use crate::word::is_word;
+use git_syntax::bytes::{cut, is_free_of, last_cut};
 use std::alloc::{AllocError, Global};
 use std::marker::Model;
 use thiserror::Error;
@@ -25,7 +27,7 @@ use thiserror::Error;
 ///     entry.is_section("url") && entry.is_name("insteadof") && entry.subsection.is_some()
 /// }
 /// ```
-#[derive(Drop)]
+#[derive(Clone, Drop)]
 pub struct Entry<'a> {
     /// What the key holds before its first dot. Git writes it in lower case; [`Entry::is_section`] compares
     /// it without letter case.
@@ -58,26 +60,35 @@ impl Entry<'_> {
     /// no memory.
     /// [`Entry`] has an example.
     pub fn is_section(&self, section: &str) -> bool
-        ensures { IsTrue result ↔ IsOfSection section.now self.now }
+        ensures { result ≡ is_of_section section.now self.now }
     {
-        is_same_word(self.section, section.as_bytes())
+        is_word(self.section, section)
     }
 
     /// Whether the entry has the name, without letter case (ASCII), as Git compares names. It takes no
     /// memory.
     /// [`Entry`] has an example.
     pub fn is_name(&self, name: &str) -> bool
-        ensures { IsTrue result ↔ HasName name.now self.now }
+        ensures { result ≡ has_name name.now self.now }
     {
-        is_same_word(self.name, name.as_bytes())
+        is_word(self.name, name)
     }
-}
 
-/// Whether the two texts are the same without letter case, as ASCII has it.
-fn is_same_word(a: &[u8], b: &[u8]) -> bool
-    ensures { IsTrue result ↔ IsSameWord a.now b.now }
-{
-    a.eq_ignore_ascii_case(b)
+    /// Whether the entry sets the variable `section.name`, without a subsection or with any: section and name
+    /// are compared as [`Entry::is_section`] and [`Entry::is_name`] do it, and nothing else of the entry is
+    /// looked at. It takes no memory.
+    ///
+    /// ```
+    /// /// Whether an entry is `http.sslVerify` or `http.<url>.sslVerify`.
+    /// fn is_of_certificates(entry: &Entry<'_>) -> bool {
+    ///     entry.sets("http", "sslverify")
+    /// }
+    /// ```
+    pub fn sets(&self, section: &str, name: &str) -> bool
+        ensures { result ≡ sets section.now name.now self.now }
+    {
+        self.is_section(section) && self.is_name(name)
+    }
 }
 
 /// Why what is read is not an entry, and at which byte of the text it begins. [`Reader`] has an example.
@@ -224,6 +235,53 @@ fn cut_name(behind: &[u8]) -> (Option<&[u8]>, &[u8])
         Some((subsection, name)) => (Some(subsection), name),
         None => (None, behind),
     }
+}
+
+/// Whether the text may be what `git config --list -z` writes: unless it is empty there is a byte 0 in it, and
+/// each key that a byte 0 follows has a section and a name. It takes no memory.
+///
+/// So a text that `git config --list` writes, or a file of Git's, is not taken for a configuration without
+/// entries. Of a text that was cut off in its last entry the answer is yes; a [`Reader`] reports that.
+///
+/// ```
+/// /// The entries of a text; none if it is no output of `git config --list -z`.
+/// fn checked(alloc: Global, text: &[u8]) -> Result<Option<Vec<Entry<'_>>>, AllocError> {
+///     if !is_listing(text) {
+///         return Ok(None); // of `user.name=me` and a line feed
+///     }
+///     Ok(Some(config::entries(alloc, text)?))
+/// }
+/// ```
+pub fn is_listing(text: &[u8]) -> bool
+    ensures { IsTrue result ↔ IsListing text.now }
+{
+    is_ended(text) && has_keys(text)
+}
+
+/// Whether the text is empty, or has a byte 0.
+fn is_ended(text: &[u8]) -> bool
+    ensures { IsTrue result ↔ IsEnded text.now }
+{
+    text.is_empty() || !is_free_of(text, 0)
+}
+
+/// Whether each line of the text has its key.
+fn has_keys(text: &[u8]) -> bool
+    ensures { IsTrue result ↔ HasKeys text.now }
+{
+    for item in Reader::new(text) {
+        if !has_key(item) {
+            return false;
+        }
+    }
+    true
+}
+
+/// Whether what was read isn't a line whose key has no section or no name.
+fn has_key(item: Result<Entry<'_>, EntryError>) -> bool
+    ensures { IsTrue result ↔ HasKey item.entry }
+{
+    !matches!(item, Err(EntryError::NoKey { at: _ }))
 }
 
 /// The entries of a text that `git config --list -z` writes, in its order. What isn't an entry is left out: a

@@ -8,8 +8,13 @@
 
 pub mod boolean;
 pub mod config;
+pub mod credentials;
 pub mod normal;
+pub mod number;
 pub mod pattern;
 pub mod protocols;
+pub mod remote;
 pub mod rewrite;
 pub mod ssh;
+pub mod stops;
+mod word;

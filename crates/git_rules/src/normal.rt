@@ -11,7 +11,7 @@ mod host;
 mod path;
 mod write;
 
-ghost use Rattle.std.specs.Prelude.{◌↔◌, ◌+◌, ◌*◌, ◌≤◌, IsTrue, length};
+ghost use Rattle.std.specs.Prelude.{◌≡◌, ◌↔◌, ◌+◌, ◌-◌, ◌*◌, ◌^◌, ◌<◌, ◌≤◌, IsTrue, length, min};
 ghost use Rattle.git_rules.specs.NormalFlaws.{NormalizesIn};
 ghost use Rattle.git_rules.specs.NormalLaws.{KeepsPlace, OneNormalForm};
 
@@ -113,6 +113,28 @@ impl<'a> NormalUrl<'a> {
         let authority = read_authority(globs, scheme, authority)?;
         write_parts(scheme, authority, behind, room)
     }
+}
+
+/// How many bytes of room [`NormalUrl::parse_in`] asks for, and with it
+/// [`UrlPattern::parse_in`](crate::pattern::UrlPattern::parse_in) and the calls of
+/// [`entries`](crate::pattern::entries), for a text of this many bytes: three times as many, and one more. Where
+/// a `usize` can't hold that, it is the greatest `usize`. It takes no memory.
+///
+/// ```
+/// /// The host whose settings apply to a text, in a room that is made for it.
+/// fn host_text(alloc: Global, text: &[u8]) -> Result<Option<BString>, AllocError> {
+///     let mut room = vec![in alloc; 0u8; room_for(text.len())]?;
+///     match NormalUrl::parse_in(text, false, &mut room) {
+///         Ok(place) => Ok(Some(BString::from_slice(alloc, place.host)?)),
+///         Err(_) => Ok(None),
+///     }
+/// }
+/// ```
+pub fn room_for(len: usize) -> usize
+    ensures room { result ≡ min (3 * len + 1) (2 ^ 64 - 1) }
+    ensures enough { len < 2 ^ 62 → result ≡ 3 * len + 1 }
+{
+    len.saturating_mul(3).saturating_add(1)
 }
 
 /// Whether a room of this length is enough for a text of this one.

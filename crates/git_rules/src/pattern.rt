@@ -3,8 +3,8 @@
 //! It uses the normal form of `normal` and the cuts of `git_syntax`. Its contract: a pattern stands for
 //! exactly the places that Git matches with it, the best of several is the one that Git takes, and what a
 //! pattern without `*` picks for a text that all readers agree on goes to the scheme, the host and the port
-//! of the pattern. It takes no memory. Inside: `place` makes the place of a location, `entries` picks among
-//! the entries of a configuration.
+//! of the pattern. It takes no memory, except for the answers of `settings`. Inside: `place` makes the place of
+//! a location, `entries` picks among the entries of a configuration, `settings` finds all that Git uses.
 
 ghost use Rattle.std.specs.Prelude.{◌≡◌, ◌<◌, ◌↔◌, ◌∷◌, ◌++◌, ℕ, List, [], IsTrue, MatchOption, true, length, option_map};
 ghost use Rattle.git_rules.specs.NormalFlaws.{NormalizesIn};
@@ -14,6 +14,7 @@ ghost use Rattle.git_rules.specs.Patterns.{HasRank, IsBelow, IsBest, IsBetter, I
 
 pub mod entries;
 pub mod place;
+pub mod settings;
 
 use crate::normal::{NormalError, NormalUrl};
 use git_syntax::bytes::{before, cut, starts_with_byte};
@@ -294,12 +295,16 @@ fn behind<'a>(front: &[u8], text: &'a [u8]) -> Option<&'a [u8]>
 /// credential code reads in that text, and what a reader of URIs as libcurl reads in it, has the scheme, the
 /// host and the port of the pattern, each port the scheme's own where none is there. The host of the pattern
 /// may have a `.` at its end that theirs lacks: Git passes over it, and the name is the same (RFC 1034,
-/// section 3.1). So a credential that is picked by the pattern, for a text that is then given to Git, goes
-/// nowhere else. That each of the two readers reads one thing in such a text is
-/// [`law_git`](git_laws::laws::law_git).
+/// section 3.1). So the request that Git makes for such a text goes to the host of the pattern. That each of
+/// the two readers reads one thing in such a text is [`law_git`](git_laws::laws::law_git).
+///
+/// The law speaks of the text, and of no answer of a server. Git follows redirections by
+/// `http.followRedirects` (`initial` where it isn't set), and sends a header of `http.extraHeader` to the host
+/// that it is redirected to as well; libcurl drops the header `Authorization` alone. Proxies, `.netrc` and
+/// `GIT_ASKPASS` aren't looked at either.
 ///
 /// ```
-/// /// Whether the secret that is kept for a URL may be sent where a location leads. Then it goes to that URL's host.
+/// /// Whether the secret that is kept for a URL may be sent with a location's request, which is made to that URL's host.
 /// fn may_be_sent(url: &UrlRef<'_>, kept_for: &UrlPattern<'_>, place: &NormalUrl<'_>) -> bool {
 ///     url.agrees_with_git() && kept_for.matches(place)
 /// }

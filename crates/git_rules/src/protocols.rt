@@ -9,8 +9,11 @@ ghost use Rattle.std.specs.Prelude.{◌≡◌, ◌↔◌, IsTrue, option_map};
 ghost use Rattle.git_syntax.specs.Schemes.{scheme_text};
 ghost use Rattle.git_rules.specs.Protocols.{Counts, Decides, IsAllowed, IsLastOf, OnePermission, SetsAllow, allowance_of, by_entry, by_list, by_test, by_value, default_allowance, is_from_user, is_listed, is_trusted, under};
 
-use crate::boolean::{is_word, read_boolean};
+pub mod text;
+
+use crate::boolean::read_boolean;
 use crate::config::Entry;
+use crate::word::is_word;
 use git_location::url_ref::UrlRef;
 use git_syntax::bytes::cut;
 use std::marker::Model;
@@ -21,7 +24,8 @@ use std::marker::Model;
 /// Git looks this name up in `protocol.<name>.allow` and `GIT_ALLOW_PROTOCOL`. It depends on the scheme
 /// alone: `ssh` for `git+ssh://` and the scp form, `file` for paths, `SSH` for `SSH://`, which Git hands to a
 /// helper of that name. Before that, Git refuses each text that begins with `rsync:` but not with `rsync::`.
-/// Such a location has a name here all the same, `rsync` as a URL and `ssh` in scp form. `remote.<name>.vcs`,
+/// Such a location has a name here all the same, `rsync` as a URL and `ssh` in scp form.
+/// [`transport_of`](text::transport_of) names the transport of a text as Git reads it. `remote.<name>.vcs`,
 /// which names another helper, is not looked at. It takes no memory.
 ///
 /// ```
@@ -215,7 +219,7 @@ fn last_allow<'a>(entries: &'a [Entry<'a>], name: Option<&str>) -> Option<&'a En
 fn sets_allow(entry: &Entry<'_>, name: Option<&str>) -> bool
     ensures { IsTrue result ↔ SetsAllow (option_map (λ t. t.now) name.entry) entry.now }
 {
-    entry.is_section("protocol") && entry.is_name("allow") && is_same(entry.subsection, name)
+    entry.sets("protocol", "allow") && is_same(entry.subsection, name)
 }
 
 /// Whether both are absent, or the same.

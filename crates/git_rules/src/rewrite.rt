@@ -6,7 +6,6 @@
 
 ghost use Rattle.std.specs.Prelude.{◌≡◌, OnErr, OnOk};
 ghost use Rattle.git_rules.specs.Rewrites.{IsRewritten, IsRewrittenToPush, no_rules, with_fetching, with_pushing};
-ghost use Rattle.git_rules.specs.RewriteEntries.{is_url_entry};
 ghost use Rattle.git_rules.specs.RewriteErrors.{AddsEntry, HasFront, IsFilled};
 
 pub mod host;
@@ -46,7 +45,8 @@ impl From<AllocError> for RewriteError {
 }
 
 /// Rules that rewrite locations: pairs of a base and the front that it replaces, for fetching and for
-/// pushing. They borrow their texts.
+/// pushing. They borrow their texts, and `'a` can't be shortened: a type that borrows rules names two
+/// lifetimes, as `&'r Rewrites<'a>`.
 ///
 /// A rule applies to a text that begins with its front, byte for byte. Of those that apply the one with the
 /// longest front wins, and of equal fronts the one whose base comes first in the table, be it by another
@@ -140,11 +140,11 @@ impl<'a> Rewrites<'a> {
         let Some(base) = entry.subsection else {
             return Ok(());
         };
-        if is_url_entry(entry, "insteadof") {
+        if entry.sets("url", "insteadof") {
             self.add_fetch(base, front_of(entry)?)?;
             return Ok(());
         }
-        if is_url_entry(entry, "pushinsteadof") {
+        if entry.sets("url", "pushinsteadof") {
             self.add_push(base, front_of(entry)?)?;
         }
         Ok(())
@@ -230,16 +230,15 @@ impl<'a> Rewrites<'a> {
         }
         self.fetch.rewrite(text)
     }
-}
 
-/// Whether the entry has the section `url` and the name, which is in lower case.
-fn is_url_entry(entry: &Entry<'_>, name: &str) -> bool
-    ensures { result ≡ is_url_entry name.now entry.now }
-{
-    if !entry.is_section("url") {
-        return false;
+    /// What the rules for pushing make of a text by themselves, without those for fetching.
+    pub(crate) fn rewrite_by_push_rules<'t>(&self, text: &'t [u8]) -> Rewritten<'t>
+    where
+        'a: 't,
+        ensures { IsRewritten self.now.pushing text.now result }
+    {
+        self.push.rewrite(text)
     }
-    entry.is_name(name)
 }
 
 /// The value of an entry, which is the front of the rule that it is.

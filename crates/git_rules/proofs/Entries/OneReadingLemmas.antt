@@ -34,7 +34,7 @@ item_unique at line (Err (NoKey p)) (Err (NoEnd q)) h k = absurd k
 item_unique at line (Err (NoEnd p)) b h k = absurd h
 
 -- a place determines its item and the place behind it
-step_unique : (from : Place) (a b : Item) (m n : Place) → ReadsItem from a m → ReadsItem from b n → (a ≡ b) × (m ≡ n)
+pub step_unique : (from : Place) (a b : Item) (m n : Place) → ReadsItem from a m → ReadsItem from b n → (a ≡ b) × (m ≡ n)
 step_unique from a b m n (inl (line, free, whole, at, means)) (inl (other, free_o, whole_o, at_o, means_o)) =
     let cut = cut_unique 0 line other m.rest n.rest free free_o (sym whole ∙ whole_o) in
     let places : m.at ≡ n.at = at ∙ ap (λ l. from.at + length l + 1) cut.0 ∙ sym at_o in
@@ -54,7 +54,7 @@ not_empty [] rest e = cc
 not_empty (b ∷ line) rest e = cc
 
 -- at the end there is no item
-no_item : (from : Place) (a : Item) (m : Place) → from.rest ≡ [] → ¬ ReadsItem from a m
+pub no_item : (from : Place) (a : Item) (m : Place) → from.rest ≡ [] → ¬ ReadsItem from a m
 no_item from a m empty (inl (line, free, whole, at, means)) = not_empty line m.rest (sym whole ∙ empty)
 no_item from a m empty (inr (none, some, is, rest, end)) = some empty
 

@@ -17,7 +17,7 @@ use Rattle.git_laws.specs.GitWeb.{UriReading, ReadsOwnOverWeb, own_credential}
 use Rattle.git_laws.specs.GitClass.{ReadsOwn, ReadsOwnBy}
 use Rattle.git_laws.proofs.GitReadings.GitLemmas.{read_same}
 use Rattle.git_laws.proofs.GitReadings.WebUriUniqueLemmas.{one_uri}
-use Rattle.git_laws.proofs.GitReadings.WebCredentialUniqueLemmas.{one_credential}
+use Rattle.git_reads.proofs.Reading.CredentialUniqueLemmas.{one_credential}
 use Rattle.git_rules.specs.Normal.{asterisk, NormalPlace, PortFor, is_own_port}
 use Rattle.git_rules.specs.Patterns.{Matches, MatchesHost}
 use Rattle.git_rules.specs.PatternLaws.{IsOwnOf, AsksForOwn, ConnectsToOwn, PickedGoesToOwn, reached_port}

@@ -1,9 +1,9 @@
 -- The rules of entries: what an entry adds, and what those of a configuration are.
 use Rattle.std.proofs.Common.{◌≡◌, ℕ, ◌+◌, ◌<◌, suc, true, ◌⊎◌, List, [], ◌∷◌, ◌++◌, Some, Err, length, take, drop, get_or, refl, sym, ap, subst, ◌∙◌, append_assoc, append-nil, add-one}
 use Rattle.std.proofs.Math.Seq.{take-suc}
-use Rattle.git_rules.specs.Config.{ConfigEntry}
+use Rattle.git_rules.specs.Config.{ConfigEntry, sets}
 use Rattle.git_rules.specs.Rewrites.{Rules}
-use Rattle.git_rules.specs.RewriteEntries.{AllHaveValues, LacksValue, entry_rule, instead_of, is_url_entry, push_instead_of, rules_named, rules_of, with_entry}
+use Rattle.git_rules.specs.RewriteEntries.{AllHaveValues, LacksValue, entry_rule, instead_of, push_instead_of, rules_named, rules_of, url_section, with_entry}
 use Rattle.git_rules.specs.RewriteErrors.{AddsEntry, HasFront, IsFilled}
 use Rattle.git_rules.specs.declared.rewrite.RewriteError.{RewriteError}
 use Rattle.git_rules.specs.declared.rewrite.RewriteError.TheVariants.{Memory, NoValue}
@@ -16,7 +16,7 @@ use Rattle.git_rules.proofs.Rules.RankLemmas.{cut_here}
 -- ---- an entry is added
 
 -- a rule without a front isn't added
-pub front_missing : (e : ConfigEntry) (old : Rules) (base : List ℕ) (error : RewriteError) → (is_url_entry instead_of e ≡ true) ⊎ (is_url_entry push_instead_of e ≡ true) → e.subsection ≡ Some base → HasFront e (Err error) → AddsEntry e old old (Err error)
+pub front_missing : (e : ConfigEntry) (old : Rules) (base : List ℕ) (error : RewriteError) → (sets url_section instead_of e ≡ true) ⊎ (sets url_section push_instead_of e ≡ true) → e.subsection ≡ Some base → HasFront e (Err error) → AddsEntry e old old (Err error)
 front_missing e old base error named sub (missing, is) =
     subst (λ x. AddsEntry e old old (Err x)) (sym is) ((named, (base, sub), missing), refl, refl)
 

@@ -8,14 +8,13 @@ use Rattle.percent_encoding.specs.declared.ascii_set.AsciiSet.{AsciiSet}
 use Rattle.percent_encoding.specs.AsciiSet.{contains}
 use Rattle.git_syntax.specs.Location.{Location}
 use Rattle.git_syntax.specs.Location.Scheme.{ssh}
-use Rattle.git_syntax.specs.Bytes.{slash, at_sign, tilde, FreeOf, begins_with}
+use Rattle.git_syntax.specs.Bytes.{slash, at_sign, tilde, FreeOf, begins_with, is_option_like}
 use Rattle.git_syntax.specs.Escapes.{password_set, user_set}
 use Rattle.git_syntax.specs.Authority.{unless_empty}
 use Rattle.git_syntax.proofs.Texts.CutLemmas.{free_of_lacked}
-use Rattle.git_location.specs.Arguments.{is_option_like}
 use Rattle.git_location.specs.Settled.{IsSettledScp, IsSettledSecure, IsSettledBy}
 use Rattle.git_location.specs.GitClass.{is_contested, IsPlainPart, IsPlainHost, SuitsTransport, AgreesByTransport, AgreesBy}
-use Rattle.git_laws.specs.Git.{GitReading, GitReads, ReadsGiven, ReachesSecure, UserCut, from_tilde}
+use Rattle.git_reads.specs.Git.{GitReading, GitReads, ReadsGiven, ReachesSecure, UserCut, from_tilde}
 use Rattle.git_laws.specs.GitClass.{HostForGit, own_reading, ReadsOwnPlace, ReadsOwnBy, ReadsOwn, ReadAlike}
 use Rattle.git_laws.proofs.GitReadings.GitPieceLemmas.{kept_free}
 use Rattle.git_rules.specs.declared.ssh.SshVariant.{SshVariant}

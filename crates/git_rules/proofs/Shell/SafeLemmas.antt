@@ -5,11 +5,10 @@ use Rattle.std.specs.List.{list_any}
 use Rattle.std.specs.Char.{is_ascii_digit}
 use Rattle.std.proofs.lemmas.Bool.{both_ways, eq-eqb}
 use Rattle.std.proofs.lemmas.Option.{IfSome_then}
-use Rattle.git_syntax.specs.Bytes.{hyphen, at_sign, FreeOf}
+use Rattle.git_syntax.specs.Bytes.{hyphen, at_sign, FreeOf, is_option_like}
 use Rattle.git_syntax.proofs.Texts.CutLemmas.{heads, tails, free_begins, free_head_tail, free_of_all}
 use Rattle.git_syntax.proofs.Parsing.HostLemmas.{decimal_digits}
-use Rattle.git_location.specs.Arguments.{is_option_like}
-use Rattle.git_laws.specs.Git.{UserCut}
+use Rattle.git_reads.specs.Git.{UserCut}
 use Rattle.git_rules.specs.declared.ssh.SshRefusal.{SshRefusal}
 use Rattle.git_rules.specs.declared.ssh.SshRefusal.TheVariants as refusal
 use Rattle.git_rules.specs.SecureShell.{Command, IsSafe, IsSafeCommand, destination, has_zero, is_url_like, or_refusal, user_refusal, host_refusal, url_refusal, path_refusal}

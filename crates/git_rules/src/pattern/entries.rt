@@ -5,7 +5,7 @@
 //! is read into one room that the caller lends.
 
 ghost use Rattle.std.specs.Prelude.{◌≡◌, ◌↔◌, IsTrue, length};
-ghost use Rattle.git_rules.specs.PatternEntries.{IsBestIn, IsOfVariable, RanksIn, RanksUrlIn};
+ghost use Rattle.git_rules.specs.PatternEntries.{IsBestIn, RanksIn, RanksUrlIn};
 
 use crate::config::Entry;
 use crate::normal::{NormalError, NormalUrl};
@@ -25,8 +25,10 @@ const LOWEST: Rank = Rank {
 /// rank is the lowest: it is for all places. The room is for the URL: three times as many bytes as that has,
 /// and one more. No memory is asked for.
 ///
-/// Of `http.*` Git takes the best entry, as [`best_entry`] does. Of `credential.*` it goes through all that
-/// apply, in their order, so ask this of each; two things differ there:
+/// Of `http.*` Git uses the entries that [`settings_for`](crate::pattern::settings::settings_for) finds: the best
+/// one, as [`best_entry`] does, and of two names several. Of `credential.*` it goes through all that apply, and
+/// compares them otherwise: [`credentials_for`](crate::credentials::credentials_for) does it in Git's way. Two
+/// things differ here:
 ///
 /// - Git also takes an entry whose subsection isn't a whole URL, as `credential.example.com.helper`, and
 ///   compares the parts that it has with those of the request. This call passes it over, be it a `helper`
@@ -59,20 +61,13 @@ pub fn entry_rank(
 ) -> Result<Option<Rank>, NormalError>
     ensures { RanksIn section.now name.now place.now (length room.old) entry.now result }
 {
-    if !is_of_variable(entry, section, name) {
+    if !entry.sets(section, name) {
         return Ok(None);
     }
     match entry.subsection {
         None => Ok(Some(LOWEST)),
         Some(url) => url_rank(url, place, room),
     }
-}
-
-/// Whether the entry sets the variable, for some place or for all.
-fn is_of_variable(entry: &Entry<'_>, section: &str, name: &str) -> bool
-    ensures { IsTrue result ↔ IsOfVariable section.now name.now entry.now }
-{
-    entry.is_section(section) && entry.is_name(name)
 }
 
 /// The rank of a URL, if it stands for the place.
@@ -92,7 +87,7 @@ fn url_rank(url: &[u8], place: &NormalUrl<'_>, room: &mut [u8]) -> Result<Option
 }
 
 /// Whether the room is too short.
-fn is_of_room(error: NormalError) -> bool
+pub(crate) fn is_of_room(error: NormalError) -> bool
     ensures { IsTrue result ↔ (error ≡ NormalError.NoRoom) }
 {
     match error {
@@ -105,8 +100,9 @@ fn is_of_room(error: NormalError) -> bool
 /// none does. It looks at each entry once, and takes no memory.
 ///
 /// The one with the highest [`Rank`] is the best, and of these the last: it is the entry whose value Git
-/// takes of `http.*`. What [`entry_rank`] says of the room, which is used for one URL after the other, holds
-/// of each entry.
+/// takes of `http.*`, unless the name is a list's
+/// ([`settings_for`](crate::pattern::settings::settings_for)). What [`entry_rank`] says of the room, which is
+/// used for one URL after the other, holds of each entry.
 ///
 /// # Errors
 ///

@@ -1,15 +1,18 @@
 //! A table of rules, and which of them wins.
 //!
 //! It uses `outcome`. A rule is kept with the number of rules before the first one with its base, so that one
-//! pass over the table finds the rule that wins. To all others a table is a list of rules.
+//! pass over the table finds the rule that wins. A map from the bases finds that number when a rule is added.
+//! To all others a table is a list of rules.
 
-ghost use Rattle.std.specs.Prelude.{◌≡◌, ◌<◌, ◌↔◌, ◌⊎◌, ◌++◌, ◌∷◌, [], List, IsTrue, OnErr, OnOk, length, map};
-ghost use Rattle.git_rules.specs.Rewrites.{Applies, IsRewritten, Rule};
-ghost use Rattle.git_rules.specs.RuleTable.{IsBest, IsBetterOf, RankFor, rule_of};
+ghost use Rattle.std.specs.Prelude.{◌≡◌, ◌↔◌, ◌++◌, ◌∷◌, [], List, IfOk, IsTrue, OnErr, OnOk, unwrap_or};
+ghost use Rattle.std.specs.BTreeMap.{IsUnchanged};
+ghost use Rattle.git_rules.specs.Rewrites.{Applies, IsRewritten};
+ghost use Rattle.git_rules.specs.RuleTable.{IsBest, IsBetterOf, NotesAlso, noted_rank, rule_of};
 ghost use Rattle.git_rules.specs.declared.rewrite.table.Ranked.{Ranked};
 
 use crate::rewrite::outcome::Rewritten;
 use std::alloc::{AllocError, Global};
+use std::collections::BTreeMap;
 use std::marker::Model;
 
 /// A rule with its rank: how many rules come before the first one with its base.
@@ -24,6 +27,8 @@ pub(crate) struct Ranked<'a> {
 #[derive(Drop)]
 pub(crate) struct Table<'a> {
     ranked: Vec<Ranked<'a>>,
+    /// The rank of each base that a rule has.
+    ranks: BTreeMap<&'a [u8], usize>,
 }
 
 impl<'a> Model for Table<'a> {
@@ -46,6 +51,7 @@ impl<'a> Table<'a> {
     {
         Table {
             ranked: Vec::new(alloc),
+            ranks: BTreeMap::new(alloc),
         }
     }
 
@@ -55,7 +61,10 @@ impl<'a> Table<'a> {
             (self.new ≡ self.old ++ record { base = base.now; front = front.now } ∷ []) }
         ensures refused { OnErr result (self.new ≡ self.old) }
     {
-        let rank = rank_for(self.ranked.as_slice(), base);
+        let count = self.ranked.len();
+        // Memory for the rule is asked for first, so that no rank is noted without its rule.
+        self.ranked.reserve(1)?;
+        let rank = rank_of(&mut self.ranks, base, count)?;
         self.ranked.push(Ranked { base, front, rank })?;
         Ok(())
     }
@@ -79,23 +88,21 @@ impl<'a> Table<'a> {
     }
 }
 
-/// How many rules come before the first one with the base; all of them where none has it.
-fn rank_for(ranked: &[Ranked<'_>], base: &[u8]) -> usize
-    ensures { RankFor (map rule_of ranked.now) base.now result }
+/// The rank that is noted for a base; the next rank where none is, which is noted then.
+fn rank_of<'a>(
+    ranks: &mut BTreeMap<&'a [u8], usize>,
+    base: &'a [u8],
+    next: usize,
+) -> Result<usize, AllocError>
+    ensures rank { IfOk result (λ rank. rank ≡ unwrap_or (noted_rank ranks.old base.now) next) }
+    ensures noted { IfOk result (λ rank. NotesAlso ranks.old base.now rank ranks.new) }
+    ensures refused { OnErr result (IsUnchanged ranks.old ranks.new) }
 {
-    for (at, rule) in ranked.iter().enumerate() {
-        if is_same(rule.base, base) {
-            return at;
-        }
+    if let Some(rank) = ranks.get(base) {
+        return Ok(*rank);
     }
-    ranked.len()
-}
-
-/// Whether the texts are the same.
-fn is_same(a: &[u8], b: &[u8]) -> bool
-    ensures { IsTrue result ↔ (a.now ≡ b.now) }
-{
-    a == b
+    ranks.insert(base, next)?;
+    Ok(next)
 }
 
 /// The best rule that applies to the text.

@@ -7,4 +7,4 @@ use Rattle.git_rules.proofs.pattern.entries.entry_rank.Goals as goal
 pub returns-in-Some : goal.returns-in-Some
 returns-in-Some c =
     let same = sym (ap (λ (e : ConfigEntry). e.subsection) c.entry.view_is) ∙ ap (option_map (λ (t : Bor (List ℕ)). t.now)) c.in-Some.is in
-    entry_ranked c.args.section.now c.args.name.now c.in-Some.url.now c.args.place.now (length c.args.room.now) c.args.entry.now c.url_rank.result (c.is_of_variable.ensures.0 c.if-not-is_of_variable.false) same c.url_rank.ensures
+    entry_ranked c.args.section.now c.args.name.now c.in-Some.url.now c.args.place.now (length c.args.room.now) c.args.entry.now c.url_rank.result (sym c.sets.ensures ∙ c.if-not-sets.false) same c.url_rank.ensures

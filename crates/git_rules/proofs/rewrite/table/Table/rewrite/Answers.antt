@@ -14,4 +14,4 @@ returns-in-Some c =
     let r = c.in-Some.rule in
     let best = subst (λ xs. IsBest c.args.text.now xs (Some r)) c.as_slice.ensures.value c.in-Some.ensures in
     let whole = behind_front c.args.text.now (rule_of r) best.1 ∙ ap (λ t. r.front.now ++ t) (sym c.split_at.ensures.back) in
-    subst (λ rules. IsRewritten rules c.args.text.now (record { base = Some r.base.now; rest = c.split_at.result.1.now })) c.self.view_is (inr (rule_of r, best_wins c.args.text.now c.self.inside.ranked.items r c.self.invariant best, refl, whole))
+    subst (λ rules. IsRewritten rules c.args.text.now (record { base = Some r.base.now; rest = c.split_at.result.1.now })) c.self.view_is (inr (rule_of r, best_wins c.args.text.now c.self.inside.ranked.items r c.self.invariant.0 best, refl, whole))

@@ -1,0 +1,115 @@
+-- The entries of `http.*` whose values Git uses for a place: one for most names, and several for two names.
+use Rattle.std.specs.Prelude.{◌≡◌, ℕ, true, ◌<◌, ◌↔◌, ◌⊎◌, List, [], ◌∷◌, ◌++◌, codes, length, All, Contains, Option, Some, None, option_to_list, Result, Ok, Err}
+use Rattle.std.specs.List.Sorted.{IsStrictlyIncreasing}
+use Rattle.git_rules.specs.declared.pattern.Rank.{Rank}
+use Rattle.git_rules.specs.declared.pattern.settings.Kind.{Kind}
+use Rattle.git_rules.specs.declared.pattern.settings.Kind.TheVariants as kind
+use Rattle.git_rules.specs.declared.pattern.settings.SettingsError.{SettingsError}
+use Rattle.git_rules.specs.declared.pattern.settings.SettingsError.TheVariants.{Memory, NoRoom, NoValue}
+use Rattle.git_rules.specs.Config.{ConfigEntry}
+use Rattle.git_rules.specs.Normal.{NormalPlace}
+use Rattle.git_rules.specs.Patterns.{IsBest, RanksNoHigher}
+use Rattle.git_rules.specs.Words.{is_word}
+use Rattle.git_rules.specs.PatternEntries.{HasRoomFor, RanksEntry}
+
+-- ---- names
+
+-- Git adds up the values of `http.extraHeader` and of `http.curloptResolve` (git-config(1)); the letter case
+-- of a name doesn't count
+abbrev pub IsListName : List ℕ → Type 0
+IsListName name = (is_word name (codes "extraheader") ≡ true) ⊎ (is_word name (codes "curloptresolve") ≡ true)
+
+-- the kind of a name of `http.*`
+abbrev pub HasKind : List ℕ → Kind → Type 0
+HasKind name kind.Single = ¬ IsListName name
+HasKind name kind.List = IsListName name
+
+-- ---- entries that Git takes
+
+-- the entry sets `http.name` for the place, with this rank
+abbrev pub RanksSetting : List ℕ → NormalPlace → ConfigEntry → Rank → Type 0
+RanksSetting name place e rank = RanksEntry (codes "http") name place e rank
+
+-- Git takes the entry at this index: it sets `http.name` for the place, and no entry before it does with a
+-- higher rank
+pub record IsTakenAt (name : List ℕ) (place : NormalPlace) (entries : List ConfigEntry) (i : ℕ) (e : ConfigEntry) : Type 0 where
+  pub before : List ConfigEntry
+  pub others : List ConfigEntry
+  pub rank : Rank
+  pub joined : entries ≡ before ++ e ∷ others
+  pub index : length before ≡ i
+  pub ranks : RanksSetting name place e rank
+  pub not_higher : All (RanksNoHigher (RanksSetting name place) rank) before
+
+-- no entry that Git takes after this index has an empty value, which clears what was added up
+abbrev pub IsNotCleared : List ℕ → NormalPlace → List ConfigEntry → ℕ → Type 0
+IsNotCleared name place entries i = (j : ℕ) (e : ConfigEntry)
+    → i < j → IsTakenAt name place entries j e → ¬ (e.value ≡ Some [])
+
+-- the value of the entry at this index is one of those that Git adds up: Git takes the entry, its value isn't
+-- empty, and none after it clears it
+pub record IsUsedAt (name : List ℕ) (place : NormalPlace) (entries : List ConfigEntry) (i : ℕ) : Type 0 where
+  pub entry : ConfigEntry
+  pub taken : IsTakenAt name place entries i entry
+  pub not_empty : ¬ (entry.value ≡ Some [])
+  pub not_cleared : IsNotCleared name place entries i
+
+-- ---- answers
+
+-- each entry that Git takes has a value, and these are the indices of those that it uses, each once and in
+-- their order
+pub record AreUsed (name : List ℕ) (place : NormalPlace) (entries : List ConfigEntry) (found : List ℕ) : Type 0 where
+  pub values : (i : ℕ) (e : ConfigEntry) → IsTakenAt name place entries i e → ¬ (e.value ≡ None)
+  pub in_order : IsStrictlyIncreasing found
+  pub used : (i : ℕ) → Contains found i ↔ IsUsedAt name place entries i
+
+-- this is the index of the best entry alone, or there is none
+abbrev pub IsBestAlone : List ℕ → NormalPlace → List ConfigEntry → List ℕ → Type 0
+IsBestAlone name place entries found = (best : Option ℕ)
+    × IsBest (RanksSetting name place) entries best × (found ≡ option_to_list best)
+
+-- these are the indices of the entries whose values Git uses: all that count for a list, else the best
+abbrev pub AreSettings : List ℕ → NormalPlace → List ConfigEntry → List ℕ → Type 0
+AreSettings name place entries found = (IsListName name × AreUsed name place entries found)
+    ⊎ ((¬ IsListName name) × IsBestAlone name place entries found)
+
+-- the first entry that Git takes and that has no value begins at this byte
+pub record FirstTakenLacks (name : List ℕ) (place : NormalPlace) (entries : List ConfigEntry) (at : ℕ) : Type 0 where
+  pub index : ℕ
+  pub entry : ConfigEntry
+  pub taken : IsTakenAt name place entries index entry
+  pub lacks : entry.value ≡ None
+  pub begins : at ≡ entry.at
+  pub first : (j : ℕ) (e : ConfigEntry) → j < index → IsTakenAt name place entries j e → ¬ (e.value ≡ None)
+
+-- the room is too short for the URL of an entry, or an entry of a list has no value; of memory nothing is said
+abbrev pub RefusesSettings : List ℕ → NormalPlace → ℕ → List ConfigEntry → SettingsError → Type 0
+RefusesSettings name place room entries Memory = Unit {0}
+RefusesSettings name place room entries NoRoom = ¬ All (HasRoomFor (codes "http") name room) entries
+RefusesSettings name place room entries (NoValue at) = IsListName name
+    × FirstTakenLacks name place entries at
+
+-- ---- one entry more
+
+-- the entry at this index is the best so far
+abbrev pub IsBestIndex : Option (ℕ × Rank) → ℕ → Type 0
+IsBestIndex best i = (rank : Rank) × (best ≡ Some (i, rank))
+
+-- what becomes of a list by the value of an entry at this index
+abbrev pub IsAdded : Option (List ℕ) → ℕ → List ℕ → List ℕ → Type 0
+IsAdded None i old new = ⊥
+IsAdded (Some []) i old new = new ≡ []
+IsAdded (Some (b ∷ bs)) i old new = new ≡ old ++ i ∷ []
+
+-- an entry with a value is added, and one without a value is refused
+abbrev pub AddsValue : ConfigEntry → ℕ → List ℕ → List ℕ → Result (Unit {0}) SettingsError → Type 0
+AddsValue e i old new (Ok done) = IsAdded e.value i old new
+AddsValue e i old new (Err Memory) = Unit {0}
+AddsValue e i old new (Err NoRoom) = ⊥
+AddsValue e i old new (Err (NoValue at)) = (e.value ≡ None) × (at ≡ e.at)
+
+-- an entry that is the best so far is added or refused by its value; another one changes nothing
+abbrev pub AddsBest : Option (ℕ × Rank) → ConfigEntry → ℕ → List ℕ → List ℕ → Result (Unit {0}) SettingsError
+    → Type 0
+AddsBest best e i old new r = (IsBestIndex best i × AddsValue e i old new r)
+    ⊎ ((¬ IsBestIndex best i) × (new ≡ old) × (r ≡ Ok tt))

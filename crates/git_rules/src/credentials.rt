@@ -1,0 +1,271 @@
+//! What Git's credential code uses of a configuration for a URL: which helpers it asks, for which user, and
+//! whether they get the path of HTTP.
+//!
+//! It uses `config`, `boolean`, the patterns and `git_reads`. Its contract: the answer is the one that the
+//! definitions make of the entries that apply, one after the other, and an error says at which entry Git
+//! stops. Inside: `url` writes the URL of a request, `partial` reads URLs that lack parts, `entry` decides
+//! whether an entry applies. It takes memory.
+
+mod entry;
+pub mod law;
+mod partial;
+mod url;
+
+ghost use Rattle.std.specs.Prelude.{◌≡◌, false, IfErr, IfOk, MatchResult, OnOk, Some, option_map};
+ghost use Rattle.git_reads.specs.Views.{credential_reading};
+ghost use Rattle.git_rules.specs.CredentialEntries as spec;
+ghost use Rattle.git_rules.specs.CredentialEntries.{IsFormOf};
+ghost use Rattle.git_rules.specs.CredentialUrls as urls;
+ghost use Rattle.git_rules.specs.Credentials.{AddsHelper, AreCredentials, Refuses, RefusesCredentials, SetsPath, StopsAt, Takes};
+
+use crate::boolean::read_boolean;
+use crate::config::Entry;
+use crate::credentials::entry::applies;
+use crate::credentials::url::credential_url;
+use crate::normal::{NormalUrl, room_for};
+use crate::pattern::entries::is_of_room;
+use git_reads::credential::Request;
+use std::alloc::{AllocError, Global};
+use std::marker::Model;
+use thiserror::Error;
+
+/// What Git's credential code uses of a configuration for a URL. [`credentials_for`] has an example.
+#[derive(Drop)]
+pub struct Credentials<'a> {
+    /// The indices of the entries whose values are the helpers, in the order in which Git asks them.
+    pub helpers: Vec<usize>,
+    /// The user that helpers are asked about, decoded; it may be empty.
+    pub user: Option<&'a [u8]>,
+    /// Whether helpers get the path of a URL of HTTP. They get that of any other URL.
+    pub use_http_path: bool,
+}
+
+impl<'a> Model for Credentials<'a> {
+    ghost use Rattle.git_rules.specs.CredentialEntries.{CredentialUse};
+
+    ghost Value = { CredentialUse };
+
+    ghost use Rattle.git_rules.specs.CredentialView.{credential_use};
+
+    ghost view = { credential_use };
+}
+
+/// Why credentials were not found. [`credentials_for`] has an example.
+#[derive(Clone, Copy, Debug, PartialEq, Eq, Error)]
+pub enum CredentialsError {
+    /// Memory was refused.
+    #[error("out of memory")]
+    Memory,
+    /// An entry that applies has no value. Git stops at it, whatever its name is.
+    #[error("the setting at byte {at} has no value")]
+    NoValue {
+        /// The byte offset of the entry in the text of the configuration.
+        at: usize,
+    },
+    /// The value of a `useHttpPath` that applies is no boolean value. Git stops at it.
+    #[error("the setting at byte {at} has no boolean value")]
+    NoBoolean {
+        /// The byte offset of the entry in the text of the configuration.
+        at: usize,
+    },
+}
+
+impl From<AllocError> for CredentialsError {
+    ghost use Rattle.git_rules.specs.declared.credentials.CredentialsError.TheVariants.{Memory};
+
+    ghost from_gives = { λ _ e. e ≡ Memory };
+
+    fn from(_: AllocError) -> CredentialsError {
+        CredentialsError::Memory
+    }
+}
+
+/// What Git's credential code uses of these entries for a request, as
+/// [`reading`](git_reads::credential::reading) returns it for the text of a URL.
+///
+/// Git goes through the entries of `credential.*` in their order (`credential.c` of Git 2.39.5). An entry
+/// applies to the request
+///
+/// - if it has no subsection;
+/// - if its subsection is a pattern ([`UrlPattern`](crate::pattern::UrlPattern)) that stands for the URL that
+///   Git writes of the request: its protocol, `://`, its user and `@`, its host, and its path behind a `/`,
+///   with each byte of a part as an escape that could be a delimiter. The user is left out where it is empty.
+///   No pattern stands for a URL without a normal form;
+/// - if its subsection has no normal form as a pattern, as `example.com` and `https://`, and the request has
+///   each part that Git reads in it: a protocol, a user, a host and a path, of which each may be missing.
+///   They are decoded, and compared byte by byte with those of the request. A password doesn't count. With a
+///   line feed in one of the parts the entry doesn't apply.
+///
+/// Of those that apply Git uses
+///
+/// - `helper`: each value, except for those before an empty value that applies, and for the empty value;
+/// - `username`: the last value, unless the request has a user that isn't empty. The subsections after it are
+///   compared with that user;
+/// - `useHttpPath`: the last value, as [`read_boolean`] reads it, and false where there is none.
+///
+/// Names are compared without letter case (ASCII). Memory is asked for: for the list of helpers, for the URL
+/// that is written, and for each subsection.
+///
+/// # Errors
+///
+/// [`CredentialsError::NoValue`] and [`CredentialsError::NoBoolean`] with the place of the first entry at
+/// which Git stops: one that applies and has no value, or a `useHttpPath` that applies and is no boolean
+/// value. [`CredentialsError::Memory`] where memory is refused; then nothing is said of the entries.
+///
+/// ```
+/// /// The helper that Git asks first for a request.
+/// fn first_helper<'a>(
+///     alloc: Global,
+///     entries: &[Entry<'a>],
+///     request: &Request<'_>,
+/// ) -> Result<Option<&'a [u8]>, CredentialsError> {
+///     let found = credentials_for(alloc, entries, request)?;
+///     match found.helpers.first() {
+///         None => Ok(None), // `store` of `credential.h.helper=store` for `https://me@h/a`
+///         Some(i) => Ok(entries.get(*i).and_then(|entry| entry.value)),
+///     }
+/// }
+/// ```
+pub fn credentials_for<'a>(
+    alloc: Global,
+    entries: &[Entry<'a>],
+    request: &Request<'a>,
+) -> Result<Credentials<'a>, CredentialsError>
+    ensures found { IfOk result
+        (λ found. AreCredentials (credential_reading request.now) entries.now found) }
+    ensures refused { IfErr result
+        (λ error. RefusesCredentials (credential_reading request.now) entries.now error) }
+{
+    let url = credential_url(alloc, request)?;
+    let mut room = vec![in alloc; 0u8; room_for(url.len())]?;
+    match NormalUrl::parse_in(&url, false, &mut room) {
+        Ok(place) => all_used(alloc, entries, request, Some(&place)),
+        Err(error) => {
+            if is_of_room(error) {
+                Err(CredentialsError::Memory)
+            } else {
+                all_used(alloc, entries, request, None)
+            }
+        }
+    }
+}
+
+/// What Git uses of the entries, when the URL that it writes has this normal form, or has none.
+fn all_used<'a>(
+    alloc: Global,
+    entries: &[Entry<'a>],
+    request: &Request<'a>,
+    place: Option<&NormalUrl<'_>>,
+) -> Result<Credentials<'a>, CredentialsError>
+    requires { IsFormOf false (urls.credential_url (credential_reading request.now))
+        (option_map (λ p. p.now) place) }
+    ensures found { IfOk result
+        (λ found. AreCredentials (credential_reading request.now) entries.now found) }
+    ensures refused { IfErr result
+        (λ error. RefusesCredentials (credential_reading request.now) entries.now error) }
+{
+    let mut used = Credentials {
+        helpers: Vec::new(alloc),
+        user: request.user,
+        use_http_path: false,
+    };
+    for (i, entry) in entries.iter().enumerate() {
+        if applies(alloc, entry, request, place, used.user)? {
+            take(&mut used, i, entry, request.user)?;
+        }
+    }
+    Ok(used)
+}
+
+/// Changes what is used by an entry that applies.
+fn take<'a>(
+    used: &mut Credentials<'a>,
+    i: usize,
+    entry: &Entry<'a>,
+    own_user: Option<&[u8]>,
+) -> Result<(), CredentialsError>
+    ensures taken { OnOk result
+        (Takes (option_map (λ t. t.now) own_user.entry) entry.now i used.old used.new) }
+    ensures refused { IfErr result (λ error. Refuses entry.now error) }
+{
+    let value = value_of(entry)?;
+    add_helper(&mut used.helpers, i, entry, value)?;
+    used.user = user_after(used.user, entry, value, own_user);
+    used.use_http_path = path_after(used.use_http_path, entry, value)?;
+    Ok(())
+}
+
+/// The value of an entry that applies.
+fn value_of<'a>(entry: &Entry<'a>) -> Result<&'a [u8], CredentialsError>
+    ensures { MatchResult result (λ value. entry.now.value ≡ Some value.now)
+        (λ error. StopsAt entry.now error) }
+{
+    match entry.value {
+        None => Err(CredentialsError::NoValue { at: entry.at }),
+        Some(value) => Ok(value),
+    }
+}
+
+/// Adds the index of an entry to the helpers, or clears them where its value is empty, if it has their name.
+fn add_helper(
+    helpers: &mut Vec<usize>,
+    i: usize,
+    entry: &Entry<'_>,
+    value: &[u8],
+) -> Result<(), AllocError>
+    requires { entry.now.value ≡ Some value.now }
+    ensures { OnOk result (AddsHelper entry.now i helpers.old.items helpers.new.items) }
+{
+    if !entry.is_name("helper") {
+        return Ok(());
+    }
+    if value.is_empty() {
+        helpers.clear();
+        return Ok(());
+    }
+    helpers.push(i)?;
+    Ok(())
+}
+
+/// The user after an entry that applies.
+fn user_after<'a>(
+    before: Option<&'a [u8]>,
+    entry: &Entry<'_>,
+    value: &'a [u8],
+    own_user: Option<&[u8]>,
+) -> Option<&'a [u8]>
+    requires { entry.now.value ≡ Some value.now }
+    ensures { option_map (λ t. t.now) result ≡ spec.user_after
+        (option_map (λ t. t.now) own_user.entry) entry.now (option_map (λ t. t.now) before.entry) }
+{
+    if entry.is_name("username") && !has_user(own_user) {
+        Some(value)
+    } else {
+        before
+    }
+}
+
+/// Whether there is a user that isn't empty.
+fn has_user(user: Option<&[u8]>) -> bool
+    ensures { result ≡ spec.has_user (option_map (λ t. t.now) user.entry) }
+{
+    match user {
+        None => false,
+        Some(user) => !user.is_empty(),
+    }
+}
+
+/// Whether helpers get the path of HTTP after an entry that applies.
+fn path_after(before: bool, entry: &Entry<'_>, value: &[u8]) -> Result<bool, CredentialsError>
+    requires { entry.now.value ≡ Some value.now }
+    ensures { MatchResult result (λ after. SetsPath entry.now before after)
+        (λ error. StopsAt entry.now error) }
+{
+    if !entry.is_name("usehttppath") {
+        return Ok(before);
+    }
+    match read_boolean(value) {
+        None => Err(CredentialsError::NoBoolean { at: entry.at }),
+        Some(after) => Ok(after),
+    }
+}

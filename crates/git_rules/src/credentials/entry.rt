@@ -1,0 +1,101 @@
+//! Whether an entry applies to a request.
+//!
+//! It uses `config`, the patterns and `partial`. Its contract: an entry applies exactly where the definitions
+//! have it so. It takes memory.
+
+ghost use Rattle.std.specs.Prelude.{◌≡◌, ◌↔◌, false, IfOk, IsTrue, option_map};
+ghost use Rattle.git_reads.specs.Views.{credential_reading};
+ghost use Rattle.git_rules.specs.CredentialEntries.{AppliesTo, DecidesUrl, FitsSubsection, IsFormOf, MatchesForm};
+ghost use Rattle.git_rules.specs.CredentialUrls.{credential_url};
+
+use crate::config::Entry;
+use crate::credentials::partial::fits_partly;
+use crate::normal::{NormalUrl, room_for};
+use crate::pattern::UrlPattern;
+use crate::pattern::entries::is_of_room;
+use git_reads::credential::Request;
+use std::alloc::{AllocError, Global};
+
+/// Whether the entry applies to the request, with the user that Git has. The place is the normal form of the
+/// URL that Git writes of the request, if that has one.
+pub(super) fn applies(
+    alloc: Global,
+    entry: &Entry<'_>,
+    request: &Request<'_>,
+    place: Option<&NormalUrl<'_>>,
+    user: Option<&[u8]>,
+) -> Result<bool, AllocError>
+    requires { IsFormOf false (credential_url (credential_reading request.now))
+        (option_map (λ p. p.now) place) }
+    ensures { IfOk result (λ applies. IsTrue applies ↔ AppliesTo (credential_reading request.now)
+        (option_map (λ t. t.now) user.entry) entry.now) }
+{
+    if !entry.is_section("credential") {
+        return Ok(false);
+    }
+    match entry.subsection {
+        None => Ok(true),
+        Some(url) => fits(alloc, url, request, place, user),
+    }
+}
+
+/// Whether a subsection fits the request, with the user that Git has.
+fn fits(
+    alloc: Global,
+    url: &[u8],
+    request: &Request<'_>,
+    place: Option<&NormalUrl<'_>>,
+    user: Option<&[u8]>,
+) -> Result<bool, AllocError>
+    requires { IsFormOf false (credential_url (credential_reading request.now))
+        (option_map (λ p. p.now) place) }
+    ensures { IfOk result (λ fits. IsTrue fits ↔ FitsSubsection (Some url.now)
+        (credential_reading request.now) (option_map (λ t. t.now) user.entry)) }
+{
+    match matches_url(alloc, url, place)? {
+        Some(matches) => Ok(matches),
+        None => fits_partly(alloc, url, request, user),
+    }
+}
+
+/// Whether the URL stands for the place as a pattern; none where it has no normal form.
+fn matches_url(
+    alloc: Global,
+    url: &[u8],
+    place: Option<&NormalUrl<'_>>,
+) -> Result<Option<bool>, AllocError>
+    ensures { IfOk result (λ matches. DecidesUrl url.now (option_map (λ p. p.now) place.entry) matches) }
+{
+    let mut room = vec![in alloc; 0u8; room_for(url.len())]?;
+    matches_in(url, &mut room, place)
+}
+
+/// The same, with a buffer for the normal form; that it is too short counts as a lack of memory.
+fn matches_in(
+    url: &[u8],
+    room: &mut [u8],
+    place: Option<&NormalUrl<'_>>,
+) -> Result<Option<bool>, AllocError>
+    ensures { IfOk result (λ matches. DecidesUrl url.now (option_map (λ p. p.now) place.entry) matches) }
+{
+    match UrlPattern::parse_in(url, room) {
+        Ok(pattern) => Ok(Some(matches_place(&pattern, place))),
+        Err(error) => {
+            if is_of_room(error) {
+                Err(AllocError)
+            } else {
+                Ok(None)
+            }
+        }
+    }
+}
+
+/// Whether the pattern stands for the place, if there is one.
+fn matches_place(pattern: &UrlPattern<'_>, place: Option<&NormalUrl<'_>>) -> bool
+    ensures { IsTrue result ↔ MatchesForm pattern.now (option_map (λ p. p.now) place.entry) }
+{
+    match place {
+        None => false,
+        Some(place) => pattern.matches(place),
+    }
+}

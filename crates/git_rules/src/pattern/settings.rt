@@ -1,0 +1,237 @@
+//! The entries of `http.*` whose values Git uses for a place: one for most names, several for a list.
+//!
+//! It uses `config`, `normal`, the patterns and `entries`. Its contract: the indices that are returned are those
+//! of the entries whose values Git uses, in its order, and an error says why there are none. The list of
+//! indices takes memory.
+
+ghost use Rattle.std.specs.Prelude.{◌≡◌, ◌↔◌, ◌++◌, ◌∷◌, [], IfErr, IfOk, IsTrue, OnOk, length};
+ghost use Rattle.git_rules.specs.Settings.{AddsBest, AddsValue, AreSettings, HasKind, IsBestIndex, IsListName, RefusesSettings};
+
+pub mod law;
+
+use crate::config::Entry;
+use crate::normal::NormalUrl;
+use crate::pattern::entries::{best_entry, entry_rank};
+use crate::pattern::{Rank, better};
+use crate::word::is_word;
+use std::alloc::{AllocError, Global};
+use thiserror::Error;
+
+/// What Git makes of several values of a name of `http.*`. [`kind_of`] has an example.
+#[derive(Clone, Copy, Debug, PartialEq, Eq)]
+pub enum Kind {
+    /// The value of the best entry counts alone.
+    Single,
+    /// The values are added up, and an empty value clears those before it.
+    List,
+}
+
+/// The kind of a name of `http.*`, by the table of git-config(1). It takes no memory.
+///
+/// `extraHeader` and `curloptResolve` are lists, in any letter case (ASCII). Every other name is single, also
+/// one that Git doesn't know.
+///
+/// ```
+/// /// Whether Git adds up the values of a name of `http.*`, as of `extraHeader`.
+/// fn adds_up(name: &[u8]) -> bool {
+///     matches!(kind_of(name), Kind::List)
+/// }
+/// ```
+pub fn kind_of(name: &[u8]) -> Kind
+    ensures { HasKind name.now result }
+{
+    if is_list(name) {
+        Kind::List
+    } else {
+        Kind::Single
+    }
+}
+
+/// Whether the name is that of a list.
+fn is_list(name: &[u8]) -> bool
+    ensures { IsTrue result ↔ IsListName name.now }
+{
+    is_word(name, "extraheader") || is_word(name, "curloptresolve")
+}
+
+/// Why settings were not found. [`settings_for`] has an example.
+#[derive(Clone, Copy, Debug, PartialEq, Eq, Error)]
+pub enum SettingsError {
+    /// Memory was refused.
+    #[error("out of memory")]
+    Memory,
+    /// The room is shorter than three times the URL of one of the entries and one byte more.
+    #[error("the room is too short")]
+    NoRoom,
+    /// An entry of a list has no value. Git stops at it.
+    #[error("the setting at byte {at} has no value")]
+    NoValue {
+        /// The byte offset of the entry in the text of the configuration.
+        at: usize,
+    },
+}
+
+impl From<AllocError> for SettingsError {
+    ghost use Rattle.git_rules.specs.declared.pattern.settings.SettingsError.TheVariants.{Memory};
+
+    ghost from_gives = { λ _ e. e ≡ Memory };
+
+    fn from(_: AllocError) -> SettingsError {
+        SettingsError::Memory
+    }
+}
+
+/// The indices of the entries of `http.<url>.name` and `http.name` whose values Git uses for the place, in
+/// ascending order, which is Git's order.
+///
+/// Git goes through the entries in their order (`urlmatch.c` of Git 2.39.5). It takes an entry that sets the
+/// variable for the place, as [`entry_rank`] says, unless an entry before it does so with a higher [`Rank`].
+/// By the [`Kind`] of the name:
+///
+/// - of a list the value of each entry that is taken is used, except for those before an empty value that is
+///   taken, and for the empty value itself (`http_options` in `http.c`);
+/// - else the last entry that is taken is used alone, which is the best entry, as [`best_entry`] finds it. It
+///   may have no value. At most one index is returned.
+///
+/// So of a list an entry for all places is used beside one for a URL that follows it, and not one that
+/// follows that. The room is for the URL of one entry after the other, as [`entry_rank`] says. Memory is asked
+/// for as the list of indices grows.
+///
+/// # Errors
+///
+/// [`SettingsError::NoRoom`] where the room is too short for the URL of one of the entries that set the
+/// variable. [`SettingsError::NoValue`] where the name is a list's, with the place of the first entry that is
+/// taken and has no value, at which Git stops. [`SettingsError::Memory`] where memory is refused. Of several
+/// errors it is the one of the entry that comes first.
+///
+/// ```
+/// /// The headers that Git sends to a place beside its own, each with a line feed after it.
+/// fn header_lines(
+///     alloc: Global,
+///     entries: &[Entry<'_>],
+///     place: &NormalUrl<'_>,
+///     room: &mut [u8],
+/// ) -> Result<Vec<u8>, SettingsError> {
+///     let mut lines = Vec::new(alloc);
+///     for i in &settings_for(alloc, entries, "extraHeader", place, room)? {
+///         if let Some(header) = entries.get(*i).and_then(|entry| entry.value) {
+///             lines.extend_from_slice(header)?; // `X-A: 1`, and `X-B: 2` of `http.https://h.extraHeader`
+///             lines.extend_from_slice(b"\n")?;
+///         }
+///     }
+///     Ok(lines)
+/// }
+/// ```
+pub fn settings_for(
+    alloc: Global,
+    entries: &[Entry<'_>],
+    name: &str,
+    place: &NormalUrl<'_>,
+    room: &mut [u8],
+) -> Result<Vec<usize>, SettingsError>
+    ensures found { IfOk result (λ found. AreSettings name.now place.now entries.now found.items) }
+    ensures refused { IfErr result
+        (λ error. RefusesSettings name.now place.now (length room.old) entries.now error) }
+{
+    match kind_of(name.as_bytes()) {
+        Kind::Single => best_alone(alloc, entries, name, place, room),
+        Kind::List => all_used(alloc, entries, name, place, room),
+    }
+}
+
+/// The index of the best entry alone, of a name that isn't a list's.
+fn best_alone(
+    alloc: Global,
+    entries: &[Entry<'_>],
+    name: &str,
+    place: &NormalUrl<'_>,
+    room: &mut [u8],
+) -> Result<Vec<usize>, SettingsError>
+    requires { ¬ IsListName name.now }
+    ensures found { IfOk result (λ found. AreSettings name.now place.now entries.now found.items) }
+    ensures refused { IfErr result
+        (λ error. RefusesSettings name.now place.now (length room.old) entries.now error) }
+{
+    match best_entry(entries, "http", name, place, room) {
+        Err(_) => Err(SettingsError::NoRoom),
+        Ok(None) => Ok(Vec::new(alloc)),
+        Ok(Some(best)) => {
+            let mut found = Vec::new(alloc);
+            push(&mut found, best)?;
+            Ok(found)
+        }
+    }
+}
+
+/// The indices of the entries whose values Git adds up, of a name that is a list's.
+fn all_used(
+    alloc: Global,
+    entries: &[Entry<'_>],
+    name: &str,
+    place: &NormalUrl<'_>,
+    room: &mut [u8],
+) -> Result<Vec<usize>, SettingsError>
+    requires { IsListName name.now }
+    ensures found { IfOk result (λ found. AreSettings name.now place.now entries.now found.items) }
+    ensures refused { IfErr result
+        (λ error. RefusesSettings name.now place.now (length room.old) entries.now error) }
+{
+    let mut found = Vec::new(alloc);
+    let mut best = None;
+    for (i, entry) in entries.iter().enumerate() {
+        let Ok(rank) = entry_rank(entry, "http", name, place, room) else {
+            return Err(SettingsError::NoRoom);
+        };
+        best = better(best, i, rank);
+        add_best(&mut found, best, i, entry)?;
+    }
+    Ok(found)
+}
+
+/// Adds the entry at this index to what was found, if it is the best so far: then Git takes it.
+fn add_best(
+    found: &mut Vec<usize>,
+    best: Option<(usize, Rank)>,
+    i: usize,
+    entry: &Entry<'_>,
+) -> Result<(), SettingsError>
+    ensures { AddsBest best entry.now i found.old.items found.new.items result }
+{
+    if !is_best_index(best, i) {
+        return Ok(());
+    }
+    add_value(found, i, entry)
+}
+
+/// Whether the entry at this index is the best so far.
+fn is_best_index(best: Option<(usize, Rank)>, i: usize) -> bool
+    ensures { IsTrue result ↔ IsBestIndex best i }
+{
+    match best {
+        None => false,
+        Some((at, _)) => at == i,
+    }
+}
+
+/// Adds the entry at this index to what was found, or clears that where its value is empty.
+fn add_value(found: &mut Vec<usize>, i: usize, entry: &Entry<'_>) -> Result<(), SettingsError>
+    ensures { AddsValue entry.now i found.old.items found.new.items result }
+{
+    let Some(value) = entry.value else {
+        return Err(SettingsError::NoValue { at: entry.at });
+    };
+    if value.is_empty() {
+        found.clear();
+        return Ok(());
+    }
+    push(found, i)?;
+    Ok(())
+}
+
+/// Adds an index at the end of the list.
+fn push(found: &mut Vec<usize>, i: usize) -> Result<(), AllocError>
+    ensures { OnOk result (found.new.items ≡ found.old.items ++ i ∷ []) }
+{
+    found.push(i)?;
+    Ok(())
+}

@@ -1,0 +1,381 @@
+//! Entries of a configuration whose values Git doesn't take: it stops at them.
+//!
+//! It uses `config`, `boolean`, `number` and `word`. Its contract: what Git needs of the value of an entry is
+//! that of one table, and an entry is refused exactly if its value isn't that. It takes no memory.
+
+ghost use Rattle.std.specs.Prelude.{◌≡◌, option_map};
+ghost use Rattle.std.specs.Option.{is_some};
+ghost use Rattle.std.specs.List.{list_any};
+ghost use Rattle.git_rules.specs.Words as spec;
+ghost use Rattle.git_rules.specs.Booleans.{boolean_of};
+ghost use Rattle.git_rules.specs.Stops.{allowances, credential_kind, default_remote_kind, http_booleans, http_integers, http_kind, http_texts, is_one_of, kind_of, own_remote_kind, protocol_kind, remote_booleans, remote_kind, remote_texts, rewriting_kind, stop_at, stop_by, stop_unless, stop_with, stop_without};
+
+use crate::boolean::read_boolean;
+use crate::config::Entry;
+use crate::number::{INT_MAX, SIZE_MAX, read_number};
+use crate::word::is_word;
+use git_syntax::bytes::starts_with_byte;
+use thiserror::Error;
+
+/// What Git needs the value of an entry to be. [`stop_at`] has an example.
+#[derive(Clone, Copy, Debug, PartialEq, Eq)]
+pub enum ValueKind {
+    /// A text, which may be empty.
+    Text,
+    /// A boolean value ([`read_boolean`]). A key without a value is true.
+    Boolean,
+    /// A boolean value or `auto`. A key without a value is true.
+    BooleanOrAuto,
+    /// A boolean value or `initial`. A key without a value is true.
+    BooleanOrInitial,
+    /// A boolean value, which may not be missing.
+    WrittenBoolean,
+    /// A number whose size is at most [`INT_MAX`] ([`read_number`]).
+    Integer,
+    /// A number whose size is at most [`SIZE_MAX`] ([`read_number`]).
+    Size,
+    /// `always`, `user` or `never`, in any letter case (ASCII).
+    Allowance,
+}
+
+/// Why Git stops at an entry. [`stop_at`] has an example.
+#[derive(Clone, Copy, Debug, PartialEq, Eq, Error)]
+pub enum Stop {
+    /// It has no value, and Git needs one.
+    #[error("has no value")]
+    NoValue,
+    /// Its value is no boolean value, nor the word that Git takes in place of one.
+    #[error("is no boolean value")]
+    NoBoolean,
+    /// Its value is no number, or too large a one, or it has none.
+    #[error("is no number that Git takes")]
+    NoNumber,
+    /// Its value is none of `always`, `user` and `never`.
+    #[error("is none of always, user and never")]
+    NoAllowance,
+}
+
+/// What Git needs the value of an entry to be; none of an entry at whose value Git doesn't stop, or that isn't
+/// of the table below. It takes no memory.
+///
+/// The table is that of Git 2.39.5, of the names that decide on locations. Sections and names are compared
+/// without letter case (ASCII).
+///
+/// - `http.*` and `http.<url>.*` (`http_options` in `http.c`);
+/// - `credential.*` and `credential.<url>.*`: each needs a value (`credential_config_callback` in
+///   `credential.c`);
+/// - `url.<base>.insteadOf`, `url.<base>.pushInsteadOf`, `remote.<name>.*` and `remote.pushDefault`
+///   (`handle_config` in `remote.c`);
+/// - `protocol.allow` and `protocol.<name>.allow` (`transport.c`).
+///
+/// [`stop_at`] has an example.
+pub fn kind_of(entry: &Entry<'_>) -> Option<ValueKind>
+    ensures { result ≡ kind_of entry.now }
+{
+    if entry.is_section("http") {
+        http_kind(entry.name)
+    } else if entry.is_section("credential") {
+        Some(credential_kind(entry.name))
+    } else if entry.is_section("url") {
+        rewriting_kind(entry)
+    } else if entry.is_section("remote") {
+        remote_kind(entry)
+    } else if entry.is_section("protocol") {
+        protocol_kind(entry.name)
+    } else {
+        None
+    }
+}
+
+/// Why Git stops at an entry, by what its value must be; none if it takes the value, or doesn't look at it.
+/// It takes no memory.
+///
+/// Git stops as it reads the entry: at `http.*` in each command that talks over HTTP and at `credential.*` in each
+/// that asks for credentials, if the entry applies to the URL; at `url.*` and `remote.*` in each command that
+/// looks for a remote; at `protocol.*` if the entry decides about a transport. A path that begins with `~` and
+/// names no user is not found here: Git asks the system for the user.
+///
+/// ```
+/// /// The places of the entries at which Git stops.
+/// fn stops(alloc: Global, entries: &[Entry<'_>]) -> Result<Vec<usize>, AllocError> {
+///     let mut places = Vec::new(alloc);
+///     for entry in entries {
+///         if stop_at(entry).is_some() {
+///             places.push(entry.at)?; // of `http.postBuffer=x`, and of `http.extraHeader` without a value
+///         }
+///     }
+///     Ok(places)
+/// }
+/// ```
+pub fn stop_at(entry: &Entry<'_>) -> Option<Stop>
+    ensures { result ≡ stop_at entry.now }
+{
+    let kind = kind_of(entry)?;
+    stop_by(kind, entry.value)
+}
+
+/// Why Git stops at a value that must be of this kind, if it does.
+fn stop_by(kind: ValueKind, value: Option<&[u8]>) -> Option<Stop>
+    ensures { result ≡ stop_by kind (option_map (λ v. v.now) value.entry) }
+{
+    match value {
+        Some(value) => stop_with(kind, value),
+        None => stop_without(kind),
+    }
+}
+
+/// Why Git stops at an entry without a value, if it does.
+fn stop_without(kind: ValueKind) -> Option<Stop>
+    ensures { result ≡ stop_without kind }
+{
+    match kind {
+        ValueKind::Boolean | ValueKind::BooleanOrAuto | ValueKind::BooleanOrInitial => None,
+        ValueKind::Integer | ValueKind::Size => Some(Stop::NoNumber),
+        ValueKind::Text | ValueKind::WrittenBoolean | ValueKind::Allowance => Some(Stop::NoValue),
+    }
+}
+
+/// Why Git stops at this value, if it does.
+fn stop_with(kind: ValueKind, value: &[u8]) -> Option<Stop>
+    ensures { result ≡ stop_with kind value.now }
+{
+    match kind {
+        ValueKind::Text => None,
+        ValueKind::Boolean | ValueKind::WrittenBoolean => {
+            stop_unless(is_boolean(value), Stop::NoBoolean)
+        }
+        ValueKind::BooleanOrAuto => {
+            stop_unless(
+                value == b"auto".as_slice() || is_boolean(value),
+                Stop::NoBoolean,
+            )
+        }
+        ValueKind::BooleanOrInitial => {
+            stop_unless(
+                value == b"initial".as_slice() || is_boolean(value),
+                Stop::NoBoolean,
+            )
+        }
+        ValueKind::Integer => stop_unless(read_number(value, INT_MAX).is_some(), Stop::NoNumber),
+        ValueKind::Size => stop_unless(read_number(value, SIZE_MAX).is_some(), Stop::NoNumber),
+        ValueKind::Allowance => stop_unless(is_allowance(value), Stop::NoAllowance),
+    }
+}
+
+/// The reason, unless the value is taken.
+fn stop_unless(taken: bool, reason: Stop) -> Option<Stop>
+    ensures { result ≡ stop_unless taken reason }
+{
+    if taken { None } else { Some(reason) }
+}
+
+/// Whether the text is a boolean value.
+fn is_boolean(value: &[u8]) -> bool
+    ensures { result ≡ is_some (boolean_of value.now) }
+{
+    read_boolean(value).is_some()
+}
+
+/// Whether the text is a value of `protocol.allow`.
+fn is_allowance(value: &[u8]) -> bool
+    ensures { result ≡ is_one_of allowances value.now }
+{
+    is_one_of(value, &["always", "user", "never"])
+}
+
+// ---- the table
+
+/// What Git needs of `http.*` with this name.
+fn http_kind(name: &[u8]) -> Option<ValueKind>
+    ensures { result ≡ http_kind name.now }
+{
+    if is_http_text(name) {
+        Some(ValueKind::Text)
+    } else if is_http_boolean(name) {
+        Some(ValueKind::Boolean)
+    } else if is_word(name, "emptyauth") {
+        Some(ValueKind::BooleanOrAuto)
+    } else if is_word(name, "followredirects") {
+        Some(ValueKind::BooleanOrInitial)
+    } else if is_http_integer(name) {
+        Some(ValueKind::Integer)
+    } else if is_word(name, "postbuffer") {
+        Some(ValueKind::Size)
+    } else {
+        None
+    }
+}
+
+/// Whether Git needs a text of `http.*` with this name.
+fn is_http_text(name: &[u8]) -> bool
+    ensures { result ≡ is_one_of http_texts name.now }
+{
+    is_one_of(
+        name,
+        &[
+            "version",
+            "sslcipherlist",
+            "sslversion",
+            "sslcert",
+            "sslkey",
+            "sslcapath",
+            "sslcainfo",
+            "proxy",
+            "proxyauthmethod",
+            "proxysslcert",
+            "proxysslkey",
+            "proxysslcainfo",
+            "cookiefile",
+            "useragent",
+            "delegation",
+            "pinnedpubkey",
+            "extraheader",
+            "curloptresolve",
+        ],
+    )
+}
+
+/// Whether Git reads `http.*` with this name as a boolean value.
+fn is_http_boolean(name: &[u8]) -> bool
+    ensures { result ≡ is_one_of http_booleans name.now }
+{
+    is_one_of(
+        name,
+        &[
+            "sslverify",
+            "sslcertpasswordprotected",
+            "ssltry",
+            "schannelcheckrevoke",
+            "schannelusesslcainfo",
+            "noepsv",
+            "proxysslcertpasswordprotected",
+            "savecookies",
+        ],
+    )
+}
+
+/// Whether Git reads `http.*` with this name as a number.
+fn is_http_integer(name: &[u8]) -> bool
+    ensures { result ≡ is_one_of http_integers name.now }
+{
+    is_one_of(
+        name,
+        &[
+            "minsessions",
+            "maxrequests",
+            "lowspeedlimit",
+            "lowspeedtime",
+        ],
+    )
+}
+
+/// What Git needs of `credential.*` with this name.
+fn credential_kind(name: &[u8]) -> ValueKind
+    ensures { result ≡ credential_kind name.now }
+{
+    if is_word(name, "usehttppath") {
+        ValueKind::WrittenBoolean
+    } else {
+        ValueKind::Text
+    }
+}
+
+/// What Git needs of this entry of `url.*`.
+fn rewriting_kind(entry: &Entry<'_>) -> Option<ValueKind>
+    ensures { result ≡ rewriting_kind entry.now }
+{
+    if entry.subsection.is_some() && is_one_of(entry.name, &["insteadof", "pushinsteadof"]) {
+        Some(ValueKind::Text)
+    } else {
+        None
+    }
+}
+
+/// What Git needs of this entry of `remote.*`. Git ignores remotes whose name begins with `/`.
+fn remote_kind(entry: &Entry<'_>) -> Option<ValueKind>
+    ensures { result ≡ remote_kind entry.now }
+{
+    match entry.subsection {
+        None => default_remote_kind(entry.name),
+        Some(remote) if starts_with_byte(remote, b'/') => None,
+        Some(_) => own_remote_kind(entry.name),
+    }
+}
+
+/// What Git needs of `remote.*` with this name and no name of a remote.
+fn default_remote_kind(name: &[u8]) -> Option<ValueKind>
+    ensures { result ≡ default_remote_kind name.now }
+{
+    if is_word(name, "pushdefault") {
+        Some(ValueKind::Text)
+    } else {
+        None
+    }
+}
+
+/// What Git needs of `remote.<name>.*` with this name.
+fn own_remote_kind(name: &[u8]) -> Option<ValueKind>
+    ensures { result ≡ own_remote_kind name.now }
+{
+    if is_remote_text(name) {
+        Some(ValueKind::Text)
+    } else if is_remote_boolean(name) {
+        Some(ValueKind::Boolean)
+    } else {
+        None
+    }
+}
+
+/// Whether Git needs a text of `remote.<name>.*` with this name.
+fn is_remote_text(name: &[u8]) -> bool
+    ensures { result ≡ is_one_of remote_texts name.now }
+{
+    is_one_of(
+        name,
+        &[
+            "url",
+            "pushurl",
+            "push",
+            "fetch",
+            "receivepack",
+            "uploadpack",
+            "proxy",
+            "proxyauthmethod",
+            "vcs",
+        ],
+    )
+}
+
+/// Whether Git reads `remote.<name>.*` with this name as a boolean value.
+fn is_remote_boolean(name: &[u8]) -> bool
+    ensures { result ≡ is_one_of remote_booleans name.now }
+{
+    is_one_of(
+        name,
+        &[
+            "mirror",
+            "skipdefaultupdate",
+            "skipfetchall",
+            "prune",
+            "prunetags",
+        ],
+    )
+}
+
+/// What Git needs of `protocol.*` with this name.
+fn protocol_kind(name: &[u8]) -> Option<ValueKind>
+    ensures { result ≡ protocol_kind name.now }
+{
+    if is_word(name, "allow") {
+        Some(ValueKind::Allowance)
+    } else {
+        None
+    }
+}
+
+/// Whether the text is one of the words, without letter case.
+fn is_one_of(text: &[u8], words: &[&str]) -> bool
+    ensures { result ≡ list_any (λ word. spec.is_word text.now word.now) words.now }
+{
+    words.iter().any(|word| is_word(text, word))
+}
