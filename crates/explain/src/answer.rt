@@ -1,20 +1,20 @@
 //! The answer to a line: what it is read as or why it is refused, in the layout that is asked for.
 //!
-//! `explain_text` finds what of the line may be shown, `explain_report` what is reported of a location or why
-//! a line is refused, `explain_advice` what people may have got wrong, and `explain_rules` what Git does with
-//! it by a configuration. `shown` lays that out for people, `only` one part of it, and with `--json` it goes
-//! out as one object. It has no contract but that it can't abort: the stored run and `scripts/hostile` show
-//! its answers.
+//! `explain_report` finds what of the line may be shown, what is reported of a location or why a line is
+//! refused, what people may have got wrong, and what Git does with it by a configuration. `shown` lays that
+//! out for people, `only` one part of it, and with `--json` it goes out as one object. It has no contract but
+//! that it can't abort: the stored run and `scripts/hostile` show its answers.
 
 use crate::only::{self, Part};
 use crate::shown;
 use crate::style::{Layout, Style};
 use bstr::BStr;
-use explain_advice::hint::{self, Hint, Reading};
-use explain_report::location_report::{Report, both};
+use explain_report::advice::hint::{self, Hint, Reading};
+use explain_report::location_report::Report;
+use explain_report::memory::both;
 use explain_report::refusal::Refusal;
-use explain_rules::rules::Rules;
-use explain_text::line::SeenLine;
+use explain_report::rules::Rules;
+use explain_report::text::line::SeenLine;
 use gix_url::parse::parse;
 use gix_url::{Error, Url};
 use serde::Serialize;
@@ -22,12 +22,12 @@ use std::alloc::{AllocError, Global};
 
 /// A line, and how it is answered.
 #[derive(Clone, Copy)]
-pub struct Line<'a> {
+pub struct Line<'a, 'e: 'a> {
     /// The number of the line, from 1.
     pub number: u64,
     /// The line without its end.
     pub bytes: &'a [u8],
-    pub style: Style<'a>,
+    pub style: Style<'a, 'e>,
 }
 
 /// What is answered to a line: a location or why there is none.
@@ -56,7 +56,7 @@ pub struct Notes<'b> {
     pub rules: Option<&'b Rules>,
 }
 
-impl<'l> Line<'l> {
+impl Line<'_, '_> {
     /// The answer, and whether the line is settled.
     pub fn answer(self, alloc: Global) -> Result<(String, bool), AllocError> {
         let read = parse(alloc, BStr::new(self.bytes));
@@ -116,7 +116,7 @@ impl<'l> Line<'l> {
                 alloc,
                 &Answer {
                     line: self.number,
-                    input: seen.text(),
+                    input: seen.input.as_str(),
                     location: Some(report),
                     refusal: None,
                     hints: notes.hints,
@@ -174,7 +174,7 @@ impl<'l> Line<'l> {
                 alloc,
                 &Answer {
                     line: self.number,
-                    input: seen.text(),
+                    input: seen.input.as_str(),
                     location: None,
                     refusal: Some(refusal),
                     hints: notes.hints,

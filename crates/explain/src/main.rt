@@ -1,8 +1,7 @@
 //! The program `explain`: reports to a person, or to another program, what texts mean as Git locations.
 //!
 //! It uses the public calls of `gix_url` and `git_rules` alone, by the crates below: `explain_report` finds
-//! what is reported of a line, `explain_advice` its dangers and hints, `explain_rules` what Git does with it
-//! by a configuration, and `explain_page` writes the page. `options` reads the command line, `source` a
+//! what is reported of a line, and `explain_page` writes the page. `options` reads the command line, `source` a
 //! configuration, `answer` finds the answer to a line and `style` says how it is laid out; here the lines are
 //! read and the answers are written, each as soon as its line is read, except for a page, which is collected.
 //! The status is 0 where every line is settled, 1 where one is not, and 2 where the run was cut short, a file
@@ -20,7 +19,7 @@ mod style;
 
 use answer::Line;
 use clap::ArgMatches;
-use explain_rules::config::{self, Config, Fault};
+use explain_report::rules::config::{self, Config, Fault};
 use git_rules::config::entries;
 use git_rules::protocols::Protocols;
 use gix_url::lines::RunError;
@@ -58,7 +57,7 @@ fn answer_by_file<W: Write>(
     given: &ArgMatches<'_>,
     file: &str,
     output: &mut W,
-    style: Style<'_>,
+    style: Style<'_, '_>,
     seen: &mut Seen,
 ) -> Result<(), RunError> {
     if file == "-" && options::reads_input(given) {
@@ -87,7 +86,7 @@ fn answer_by_source<W: Write>(
     given: &ArgMatches<'_>,
     source: &Source,
     output: &mut W,
-    style: Style<'_>,
+    style: Style<'_, '_>,
     seen: &mut Seen,
 ) -> Result<(), RunError> {
     let entries = entries(rt.alloc(), source.text.as_slice())?;
@@ -109,7 +108,7 @@ fn answer_by_config<W: Write>(
     given: &ArgMatches<'_>,
     config: &Config<'_>,
     output: &mut W,
-    style: Style<'_>,
+    style: Style<'_, '_>,
     seen: &mut Seen,
 ) -> Result<(), RunError> {
     let style = Style {
@@ -145,7 +144,7 @@ fn answer_all<W: Write>(
     rt: &HostRuntime,
     given: &ArgMatches<'_>,
     output: &mut W,
-    style: Style<'_>,
+    style: Style<'_, '_>,
     seen: &mut Seen,
 ) -> Result<(), RunError> {
     let files = given.get_strs("file").unwrap_or(&[]);
@@ -177,7 +176,7 @@ fn answer_file<W: Write>(
     rt: &HostRuntime,
     file: &str,
     output: &mut W,
-    style: Style<'_>,
+    style: Style<'_, '_>,
     seen: &mut Seen,
 ) -> Result<(), RunError> {
     if file == "-" {
@@ -198,7 +197,7 @@ fn answer_reader<R: Read + Drop, W: Write>(
     alloc: Global,
     reader: R,
     output: &mut W,
-    style: Style<'_>,
+    style: Style<'_, '_>,
     seen: &mut Seen,
 ) -> Result<(), RunError> {
     match BufReader::new(alloc, reader) {
@@ -214,7 +213,7 @@ fn answer_lines<B: BufRead, W: Write>(
     alloc: Global,
     input: &mut B,
     output: &mut W,
-    style: Style<'_>,
+    style: Style<'_, '_>,
     seen: &mut Seen,
 ) -> Result<(), RunError> {
     for _turn in 0..u64::MAX {
@@ -253,7 +252,7 @@ fn answer_line<W: Write>(
     alloc: Global,
     line: &[u8],
     output: &mut W,
-    style: Style<'_>,
+    style: Style<'_, '_>,
     seen: &mut Seen,
 ) -> Result<(), RunError> {
     seen.lines = seen.lines.saturating_add(1);

@@ -4,9 +4,8 @@
 //! golden` shows its answers. A password is no part that can be asked for.
 
 use bstr::ByteSlice;
-use explain_report::location_report::text_of;
-use explain_report::path::no_memory;
-use explain_text::line::write_shown;
+use explain_report::memory::no_memory;
+use explain_report::text::line::write_shown;
 use gix_url::{PathComponents, Scheme, Url};
 use std::alloc::{AllocError, Global};
 use std::fmt::Write;
@@ -118,8 +117,11 @@ fn query(url: &Url) -> Option<&[u8]> {
 
 /// Appends the text of the location with its password hidden, if it has a text.
 fn own_text(alloc: Global, out: &mut String, url: &Url) -> Result<(), AllocError> {
-    let text = text_of(alloc, url)?;
-    let shown = bytes(out, text.as_ref().map(|it| it.as_str().as_bytes()));
+    if url.text_len().is_err() {
+        return Ok(());
+    }
+    let text = url.to_string(alloc)?;
+    let shown = write_shown(out, text.as_str().as_bytes());
     drop(text);
     shown
 }

@@ -35,7 +35,7 @@ pub fn parse_options<'a>(
 }
 
 /// How answers are to be laid out. `auto` decides on colours where the command line leaves that open.
-pub fn style<'c>(given: &ArgMatches<'_>, auto: Colors) -> Style<'c> {
+pub fn style<'c, 'e: 'c>(given: &ArgMatches<'_>, auto: Colors) -> Style<'c, 'e> {
     Style {
         layout: layout(given),
         colors: match given.get_str("color") {

@@ -10,8 +10,8 @@ pub mod short;
 
 use crate::paint::names::{NO_SPAN, Span, part_touching, span_of, write_names};
 use crate::paint::short::{INDENT, Keep, is_long, write_kept};
-use explain_text::cut::{Cut, PIECES, Part, Piece};
-use explain_text::line::is_hidden;
+use explain_report::text::cut::{Cut, PIECES, Part, Piece};
+use explain_report::text::line::is_hidden;
 use std::alloc::AllocError;
 
 /// Whether colours are shown.

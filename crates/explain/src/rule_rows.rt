@@ -3,10 +3,11 @@
 //! It uses what `rules` found, and has no contract: `scripts/hostile rules` shows its answers.
 
 use crate::shown::row;
-use explain_rules::rules::{Route, Rules};
-use explain_rules::setting::Setting;
-use explain_rules::transports::{Transport, Verdict};
-use explain_text::line::Quoted;
+use explain_report::rules::credentials::Credentials;
+use explain_report::rules::setting::Setting;
+use explain_report::rules::transports::{Transport, Verdict};
+use explain_report::rules::{Route, Rules};
+use explain_report::text::line::Quoted;
 use std::alloc::{AllocError, Global};
 use std::fmt::Write;
 
@@ -14,7 +15,7 @@ use std::fmt::Write;
 pub fn rows(alloc: Global, out: &mut String, rules: &Rules) -> Result<(), AllocError> {
     route(out, "fetches", &rules.fetch)?;
     route(out, "pushes", &rules.push)?;
-    settings(alloc, out, "credential", &rules.credential)?;
+    credential(alloc, out, &rules.credential)?;
     settings(alloc, out, "http", &rules.http)?;
     transports(alloc, out, rules)
 }
@@ -27,6 +28,30 @@ fn route(out: &mut String, name: &str, route: &Route) -> Result<(), AllocError> 
     };
     let text = Quoted(route.text.as_str().as_bytes());
     row(out, name, format_args!("{text}{warning}"))
+}
+
+/// The rows of what Git's credential code uses: its helpers, for whom they are asked and with what. Without helpers
+/// there are none.
+fn credential(
+    alloc: Global,
+    out: &mut String,
+    credential: &Option<Credentials>,
+) -> Result<(), AllocError> {
+    let Some(used) = credential else {
+        return Ok(());
+    };
+    settings(alloc, out, "credential", &used.helpers)?;
+    if used.helpers.is_empty() {
+        return Ok(());
+    }
+    if let Some(user) = &used.user {
+        let user = Quoted(user.as_str().as_bytes());
+        row(out, "credential", format_args!("for the user {user}"))?;
+    }
+    if used.use_http_path {
+        row(out, "credential", "with the path")?;
+    }
+    Ok(())
 }
 
 /// The rows of entries.
@@ -60,24 +85,44 @@ fn push_entry(out: &mut String, setting: &Setting) -> Result<(), AllocError> {
 
 /// The rows of the transports: one where fetching and pushing take the same.
 fn transports(alloc: Global, out: &mut String, rules: &Rules) -> Result<(), AllocError> {
-    let (fetch, push) = (&rules.fetch.transport, &rules.push.transport);
-    if let Some(transport) = fetch {
-        written(alloc, out, transport, "")?;
-    }
-    match push {
-        Some(transport) if !is_same(fetch, transport) => {
-            written(alloc, out, transport, " for pushing")
-        }
-        _ => Ok(()),
+    let (fetch, push) = (&rules.fetch, &rules.push);
+    transport(alloc, out, fetch, "")?;
+    if is_same(fetch, push) {
+        Ok(())
+    } else {
+        transport(alloc, out, push, " for pushing")
     }
 }
 
-/// Whether both are the same transport, of which then the same holds.
-fn is_same(fetch: &Option<Transport>, push: &Transport) -> bool {
-    match fetch {
-        None => false,
-        Some(fetch) => fetch.name.as_str() == push.name.as_str(),
+/// The row of a transport, or of why Git has none.
+fn transport(
+    alloc: Global,
+    out: &mut String,
+    route: &Route,
+    what_for: &str,
+) -> Result<(), AllocError> {
+    if let Some(transport) = &route.transport {
+        written(alloc, out, transport, what_for)?;
     }
+    if let Some(lack) = &route.no_transport {
+        let words = lack.words.as_str();
+        row(out, "transport", format_args!("none{what_for}: {words}"))?;
+    }
+    Ok(())
+}
+
+/// Whether both have the same transport, of which then the same holds, or have none for the same reason.
+fn is_same(fetch: &Route, push: &Route) -> bool {
+    match (&fetch.transport, &push.transport) {
+        (Some(fetch), Some(push)) => fetch.name.as_str() == push.name.as_str(),
+        (None, None) => reason_name(fetch) == reason_name(push),
+        _ => false,
+    }
+}
+
+/// The name of the reason why Git has no transport.
+fn reason_name(route: &Route) -> Option<&'static str> {
+    route.no_transport.as_ref().map(|lack| lack.reason)
 }
 
 /// The row of a transport: its name, what it is for, and whether Git uses it, by what.

@@ -1,22 +1,22 @@
 //! Answers laid out for people: a heading, and a row for each thing that is reported.
 //!
 //! Texts are in quotes with their control characters escaped, each byte in one way, so that no line of input
-//! can speak to a terminal. It uses what `explain_report` and `explain_advice` found, and has no contract:
-//! `scripts/hostile golden` shows its answers.
+//! can speak to a terminal. It uses what `explain_report` found, and has no contract: `scripts/hostile
+//! golden` shows its answers.
 
 use crate::answer::{Line, Notes};
 use crate::paint::short::is_long;
 use crate::paint::{self, Colors, marks};
 use crate::rule_rows;
-use explain_advice::danger::dangers;
-use explain_advice::hint::Hint;
+use explain_report::advice::danger::dangers;
+use explain_report::advice::hint::Hint;
 use explain_report::curl::Curl;
 use explain_report::git_report::is_of_web;
 use explain_report::location_report::{Report, reading_of_git};
 use explain_report::path::{Components, Field, Home};
 use explain_report::refusal::Refusal;
-use explain_text::cut::Cut;
-use explain_text::line::{Quoted, SeenLine};
+use explain_report::text::cut::Cut;
+use explain_report::text::line::{Quoted, SeenLine};
 use gix_url::Url;
 use std::alloc::{AllocError, Global};
 use std::fmt::{Display, Write};
@@ -24,7 +24,7 @@ use std::fmt::{Display, Write};
 /// A location: its heading and its rows.
 pub fn location(
     alloc: Global,
-    line: Line<'_>,
+    line: Line<'_, '_>,
     url: &Url,
     report: &Report<'_>,
     seen: &SeenLine<'_>,
@@ -80,13 +80,13 @@ fn text(
 
 /// Whether the line was shown whole, and is this text.
 fn is_shown(seen: &SeenLine<'_>, text: &str) -> bool {
-    seen.text() == text && !is_long(&seen.cut)
+    seen.input.as_str() == text && !is_long(&seen.cut)
 }
 
 /// A refusal: its heading, the line with the fault marked, and its hints.
 pub fn refusal(
     alloc: Global,
-    line: Line<'_>,
+    line: Line<'_, '_>,
     refusal: &Refusal,
     seen: &SeenLine<'_>,
     notes: Notes<'_>,

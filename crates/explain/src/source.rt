@@ -2,6 +2,7 @@
 //!
 //! It has no contract but that it can't abort: `scripts/hostile rules` shows what is read, and what isn't.
 
+use git_rules::config::is_listing;
 use std::alloc::AllocError;
 use std::env::{self, VarError};
 use std::io::{self, Read};
@@ -24,6 +25,8 @@ pub enum SourceError {
     Memory,
     /// The file can't be read.
     Unread(io::Error),
+    /// The text isn't what `git config --list -z` writes.
+    NoListing,
     /// A variable isn't UTF-8.
     NotUtf8(&'static str),
 }
@@ -39,6 +42,7 @@ impl fmt::Display for SourceError {
         match self {
             SourceError::Memory => f.write_str("out of memory"),
             SourceError::Unread(error) => write!(f, "{error}"),
+            SourceError::NoListing => f.write_str("use git config --list -z"),
             SourceError::NotUtf8(name) => write!(f, "{name} is not UTF-8"),
         }
     }
@@ -50,6 +54,9 @@ impl Source {
         let allow_list = variable(rt, "GIT_ALLOW_PROTOCOL")?;
         let from_user = variable(rt, "GIT_PROTOCOL_FROM_USER")?;
         let text = text_of(rt, file).map_err(SourceError::Unread)?;
+        if !is_listing(text.as_slice()) {
+            return Err(SourceError::NoListing);
+        }
         Ok(Source {
             text,
             allow_list,

@@ -3,21 +3,21 @@
 use crate::only::Part;
 use crate::paint::Colors;
 use explain_page::page::Page;
-use explain_rules::config::Config;
+use explain_report::rules::config::Config;
 use gix_url::lines::RunError;
 use std::alloc::Global;
 use std::io::Write;
 
 /// How lines are read and answers laid out.
 #[derive(Clone, Copy)]
-pub struct Style<'c> {
+pub struct Style<'c, 'e: 'c> {
     pub layout: Layout,
     /// Whether answers for people are coloured.
     pub colors: Colors,
     /// The byte that ends a line of the input.
     pub end: u8,
     /// The configuration by which it is shown what Git does, if one is given.
-    pub config: Option<&'c Config<'c>>,
+    pub config: Option<&'c Config<'e>>,
 }
 
 /// What is printed of a line.
@@ -35,7 +35,7 @@ pub enum Layout {
     Page,
 }
 
-impl Style<'_> {
+impl Style<'_, '_> {
     /// Whether nothing that follows can change what the run reports.
     pub fn is_over(&self, seen: &Seen) -> bool {
         matches!(self.layout, Layout::Quiet) && !seen.is_settled
@@ -69,7 +69,7 @@ impl Seen {
     /// Writes the page with this title, where one is asked for.
     pub fn write_page<W: Write>(
         &self,
-        style: Style<'_>,
+        style: Style<'_, '_>,
         title: &str,
         output: &mut W,
     ) -> Result<(), RunError> {

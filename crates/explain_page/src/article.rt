@@ -7,13 +7,13 @@
 
 use crate::markup::Markup;
 use crate::{cuts, pieces, readers};
-use explain_advice::danger::dangers;
-use explain_advice::hint::Hint;
+use explain_report::advice::danger::dangers;
+use explain_report::advice::hint::Hint;
 use explain_report::form::Form;
 use explain_report::location_report::{Arguments, Report, Safety};
 use explain_report::path::{Components, Field, Home};
 use explain_report::refusal::Refusal;
-use explain_text::line::SeenLine;
+use explain_report::text::line::SeenLine;
 use gix_url::Url;
 use std::alloc::{AllocError, Global};
 
@@ -43,9 +43,9 @@ pub fn location(
     readers::git(out, url, report)?;
     out.push_template("</dl>")?;
     reread(out, report)?;
-    cuts::reread(alloc, out, url, report)?;
+    cuts::reread(out, report)?;
     readers::table(out, url, report)?;
-    cuts::with_git(alloc, out, url, report)?;
+    cuts::with_git(alloc, out, report)?;
     hints(out, found)?;
     out.push_template("</article>\n")?;
     Ok(is_dangerous)
@@ -221,7 +221,7 @@ fn arguments(out: &mut Markup, report: Arguments) -> Result<(), AllocError> {
 fn text(out: &mut Markup, report: &Report<'_>, seen: &SeenLine<'_>) -> Result<(), AllocError> {
     match &report.text {
         None => out.push_template("<dt>own text<dd class=n data-m=text>none"),
-        Some(text) if text.as_str() == seen.text() => Ok(()),
+        Some(text) if text.as_str() == seen.input.as_str() => Ok(()),
         Some(text) => out.push_row("<dt>own text<dd data-m=text>", text.as_bytes()),
     }
 }

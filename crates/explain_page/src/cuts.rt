@@ -2,49 +2,25 @@
 //! location isn't settled, and by Git, in a table with a column for each piece that neither cuts, so that
 //! both are over the same bytes.
 //!
-//! Nothing is cut here of a location with a password, which another reading may have in another part. It uses
-//! `cut` for the pieces, `git` for what Git reads and `git_pieces` for where that is, and has no contract but
-//! that it can't abort.
+//! Nothing is cut here of a location with a password, which another reading may have in another part. It has no
+//! contract but that it can't abort.
 
 use crate::markup::Markup;
 use crate::{git_pieces, pieces};
-use bstr::BString;
 use explain_report::location_report::Report;
-use explain_text::cut::Cut;
-use explain_text::git::{self, Room};
-use gix_url::{Error, Url, parts_of};
+use explain_report::text::cut::Cut;
+use gix_url::parts_of;
+use gix_url::transport::{self, Buffers};
 use std::alloc::{AllocError, Global};
 
 /// Pieces of at most so many bytes are on one line where the page is wide.
 const SHORT: usize = 20;
 
 /// Appends the own text of a location that isn't settled, in the pieces that it is read as.
-pub fn reread(
-    alloc: Global,
-    out: &mut Markup,
-    url: &Url,
-    report: &Report<'_>,
-) -> Result<(), AllocError> {
-    if report.settled || report.password.is_some() {
-        return Ok(());
-    }
-    let Some(text) = text_of(alloc, url)? else {
-        return Ok(());
-    };
-    let written = own_text(out, text.as_bytes());
-    drop(text);
-    written
-}
-
-/// The own text of a location, if it has one.
-fn text_of(alloc: Global, url: &Url) -> Result<Option<BString>, AllocError> {
-    match url.to_bstring(alloc) {
-        Ok(text) => Ok(Some(text)),
-        Err(Error::Memory) => Err(AllocError),
-        Err(error) => {
-            drop(error);
-            Ok(None)
-        }
+pub fn reread(out: &mut Markup, report: &Report<'_>) -> Result<(), AllocError> {
+    match &report.own_text {
+        Some(text) if !report.settled => own_text(out, text.as_bytes()),
+        _ => Ok(()),
     }
 }
 
@@ -60,32 +36,23 @@ fn own_text(out: &mut Markup, text: &[u8]) -> Result<(), AllocError> {
 
 /// Appends the table of the location's own text as it is read here and by Git, where Git is known to read
 /// other fields and both readings are pieces of the text. A text with a password has none.
-pub fn with_git(
-    alloc: Global,
-    out: &mut Markup,
-    url: &Url,
-    report: &Report<'_>,
-) -> Result<(), AllocError> {
-    match &report.git_reads {
-        Some(reads) if reads.why.is_none() && !reads.same => {}
-        _ => return Ok(()),
-    }
-    if report.password.is_some() || !report.settled {
-        return Ok(());
-    }
-    let Some(text) = text_of(alloc, url)? else {
-        return Ok(());
-    };
-    let mut room = Room::new(alloc);
-    let written = match git::reading(text.as_bytes(), &mut room) {
-        Ok(found) => {
-            let other = git_pieces::cut_of(text.as_bytes(), &found);
-            beside(alloc, out, text.as_bytes(), other)
+pub fn with_git(alloc: Global, out: &mut Markup, report: &Report<'_>) -> Result<(), AllocError> {
+    match (&report.own_text, &report.git_reads) {
+        (Some(text), Some(reads)) if report.settled && reads.why.is_none() && !reads.same => {
+            read_by_git(alloc, out, text.as_bytes())
         }
+        _ => Ok(()),
+    }
+}
+
+/// Appends the table of a text as it is read here and by Git, if Git reads it.
+fn read_by_git(alloc: Global, out: &mut Markup, text: &[u8]) -> Result<(), AllocError> {
+    let mut buffers = Buffers::new(alloc);
+    let written = match transport::reading(text, &mut buffers) {
+        Ok(found) => beside(alloc, out, text, git_pieces::cut_of(text, &found)),
         Err(_) => Ok(()),
     };
-    drop(room);
-    drop(text);
+    drop(buffers);
     written
 }
 

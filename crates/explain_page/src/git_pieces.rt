@@ -2,21 +2,21 @@
 //!
 //! Git decodes a URL before it cuts it, and drops some of a text. So a text has pieces of Git's only where
 //! each part is written as Git reads it, one behind the other, with nothing but marks between them.
-//! It uses `git` of `explain_text` and the library's `Parts`, and has no contract but that it can't abort.
+//! It has no contract but that it can't abort.
 
 use bstr::ByteSlice;
-use explain_text::cut::Cut;
-use explain_text::git::{GitReading, Protocol, bytes};
+use explain_report::text::cut::Cut;
+use gix_url::transport::{GitPlace, Protocol};
 use gix_url::{PartForm, Parts, Span};
 
 /// The text in the pieces that Git reads, if it has them.
-pub fn cut_of<'a>(text: &'a [u8], found: &GitReading<'_>) -> Option<Cut<'a>> {
+pub fn cut_of<'a>(text: &'a [u8], found: &GitPlace<'_>) -> Option<Cut<'a>> {
     let parts = places_of(text, found)?;
     Some(Cut::of_parts(text, &parts))
 }
 
 /// Where the parts are that Git reads. The path is at the end of the text.
-fn places_of(text: &[u8], found: &GitReading<'_>) -> Option<Parts> {
+fn places_of(text: &[u8], found: &GitPlace<'_>) -> Option<Parts> {
     let front = text.strip_suffix(found.path)?;
     let mut walk = Walk { at: 0, rest: front };
     let scheme = walk.scheme();
@@ -100,7 +100,7 @@ impl Walk<'_> {
             .iter()
             .take_while(|byte| byte.is_ascii_digit())
             .count();
-        if bytes::digits_port(behind.get(..len)?) != port {
+        if behind.get(..len)?.to_str().ok()?.parse::<u16>().ok() != port {
             return None;
         }
         Some(Some(self.pass(marks, len)))

@@ -7,7 +7,7 @@
 ghost use Rattle.std.specs.Prelude.{◌≡◌, List, ℕ, ◌++◌, [], true, OnOk, flat_map};
 ghost use Rattle.explain_page.specs.Markup.{escaped, escaped_byte, has_no_markup};
 
-use explain_text::line::Shown;
+use explain_report::text::line::Shown;
 use std::alloc::{AllocError, Global};
 use std::fmt::{Display, Write};
 use std::marker::Model;

@@ -5,8 +5,8 @@
 
 use crate::markup::Markup;
 use explain_report::refusal::Refusal;
-use explain_text::cut::{Cut, Part, Piece};
-use explain_text::line::{SeenLine, halves, is_hidden};
+use explain_report::text::cut::{Cut, Part, Piece};
+use explain_report::text::line::{SeenLine, halves, is_hidden};
 use std::alloc::AllocError;
 
 /// Bytes of a line, counted from where a piece begins.

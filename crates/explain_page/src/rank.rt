@@ -2,7 +2,7 @@
 //!
 //! It uses `danger` and `location_report`, and has no contract but that it can't abort.
 
-use explain_advice::danger::Danger;
+use explain_report::advice::danger::Danger;
 use explain_report::location_report::Report;
 use gix_url::Url;
 

@@ -1,2 +1,6 @@
+pub mod Facts
 pub mod Differences
+pub mod Reports
 pub mod Refusals
+pub mod Secrets
+pub mod Rules

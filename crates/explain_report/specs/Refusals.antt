@@ -1,5 +1,5 @@
 -- What is reported of a line that is refused: the place, the reason and the words of its one refusal.
-use Rattle.std.specs.Prelude.{◌≡◌, ℕ, List, Option, Some, option_map, string_bytes}
+use Rattle.std.specs.Prelude.{◌≡◌, ℕ, List, Some, option_map, string_bytes}
 use Rattle.git_refusals.specs.declared.refusal.Refusal as library
 use Rattle.git_refusals.specs.Words.{reason_name, reason_words}
 use Rattle.gix_url.specs.Flaws.{Refused}

@@ -1,14 +1,16 @@
 //! What curl reads in the text of a location of HTTP: the host and the port that it connects to, and the path
 //! that it asks for.
 //!
-//! It uses `bstr`, `percent_encoding`, the addresses of `std::net`, `git` of `explain_text` for escapes and digits, and a
-//! location of `gix_url` to compare with. What libcurl reads has no definition: each function is a step of
-//! libcurl 7.88.1, and has no contract but that it can't abort. The stored run has what `curl_reads` of
-//! `tools/web_reads.py` says, a rule by hand that `scripts/web_witness` compares with libcurl itself.
+//! What libcurl reads has no definition: each function is a step of libcurl 7.88.1, and has no contract but that
+//! it can't abort. The stored run has what `curl_reads` of `tools/web_reads.py` says, a rule by hand that
+//! `scripts/web_witness` compares with libcurl itself.
 
-use crate::location_report::both;
+ghost use Rattle.std.specs.Prelude.{◌≤◌};
+
+use crate::memory::both;
 use bstr::{BStr, ByteSlice};
-use explain_text::git::bytes;
+use git_reads::decode::append_decoded;
+use git_reads::port::digits_port;
 use gix_url::Url;
 use percent_encoding::percent_decode;
 use serde::Serialize;
@@ -107,7 +109,7 @@ fn host_and_port(named: &[u8]) -> Option<(&[u8], Option<u16>)> {
     };
     match behind {
         [] | [b':'] => Some((host, None)),
-        [b':', digits @ ..] => Some((host, Some(bytes::digits_port(digits)?))),
+        [b':', digits @ ..] => Some((host, Some(digits_port(digits)?))),
         _ => None,
     }
 }
@@ -165,7 +167,7 @@ fn host_of(alloc: Global, host: &[u8], room: &mut Vec<u8>) -> Result<Option<Stri
 /// transfer.
 fn name(alloc: Global, host: &[u8], room: &mut Vec<u8>) -> Result<Option<String>, AllocError> {
     room.clear();
-    bytes::decode_behind(room, host)?;
+    append_decoded(room, host)?;
     let is_name = !room.is_empty() && room.iter().all(|byte| is_in_names(*byte));
     if !is_name || host.contains_str(b"%00") {
         return Ok(None);
@@ -213,13 +215,13 @@ fn number(text: &[u8]) -> Option<u64> {
 }
 
 /// The number that digits write in a base, or the largest one.
-fn number_in(base: u8, digits: &[u8]) -> Option<u64> {
+fn number_in(base: u32, digits: &[u8]) -> Option<u64>
+    requires least { 2 ≤ base }
+    requires most { base ≤ 36 }
+{
     let mut value = 0u64;
     for byte in digits {
-        let digit = bytes::digit(*byte)?;
-        if base <= digit {
-            return None;
-        }
+        let digit = char::from(*byte).to_digit(base)?;
         value = value
             .saturating_mul(u64::from(base))
             .saturating_add(u64::from(digit));

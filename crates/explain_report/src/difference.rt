@@ -1,19 +1,26 @@
 //! What the own text of a location is read as, where the location isn't settled.
 //!
-//! It reads the text again by `Url::reread` and looks for the first of the public fields, in declared order,
-//! that is another one. Its contract, memory permitting: there is an answer exactly where the location isn't
-//! settled, and a difference names a public field and reports it of the location and of the one that its text
-//! spells, a password as the word `redacted`. That the field is the first, and the words, are no part of it.
+//! It reads the text again and looks for the first of the public fields, in declared order, that is another one.
+//! Its contract, memory permitting: there is an answer exactly where the location isn't settled, and a difference
+//! names a public field and reports it of the location and of the one that its text spells, a password as the
+//! word `redacted`. That the field is the first, and the words, are no part of it.
 
-ghost use Rattle.std.specs.Prelude.{◌≡◌, ◌↔◌, IfOk, IfSome, IsNone, decimal, option_map, string_bytes};
+ghost use Rattle.std.specs.Prelude.{◌≡◌, ◌↔◌, IfOk, IfSome, IsNone, Ok, decimal, option_map, string_bytes};
+ghost use Rattle.bstr.specs.BStr.{bstr_bytes};
 ghost use Rattle.gix_url.specs.Settled.{IsSettled};
+ghost use Rattle.gix_url.specs.Text.{text};
 ghost use Rattle.gix_url.specs.Views.{owned_scheme};
 ghost use Rattle.explain_report.specs.Differences.{ReportsField, ReportsReread, flag_word, scheme_words};
+ghost use Rattle.explain_report.specs.Facts.{AreFactsOf};
 
+use crate::change::push_change;
+use crate::facts::Facts;
 use crate::location_report::hidden_password;
+use crate::memory::both;
 use crate::refusal::Refusal;
-use bstr::ByteSlice;
-use explain_text::line::Quoted;
+use crate::text::line::Quoted;
+use bstr::{BStr, ByteSlice};
+use gix_url::parse::parse;
 use gix_url::{Error, Scheme, Url};
 use serde::Serialize;
 use std::alloc::{AllocError, Global};
@@ -43,23 +50,35 @@ pub struct Difference {
 
 impl Reread {
     /// What the text of the location is read as, unless the location is settled.
-    pub fn of(alloc: Global, url: &Url) -> Result<Option<Reread>, AllocError>
+    pub(crate) fn of(alloc: Global, url: &Url, facts: &Facts) -> Result<Option<Reread>, AllocError>
+        requires { AreFactsOf url.now facts.now }
         ensures settled { IfOk result (λ reread. IsNone reread ↔ IsSettled url.now) }
         ensures report { IfOk result (λ reread. IfSome reread (λ it. IfSome it.difference (ReportsReread url.now))) }
     {
-        if url.is_settled() {
+        if facts.is_settled {
             return Ok(None);
         }
-        match url.reread(alloc) {
+        match &facts.text {
+            Ok(text) => Ok(Some(Reread::of_text(alloc, url, text.as_bstr())?)),
+            Err(fault) => Ok(Some(Reread::refused(alloc, &Error::Unwritable(*fault))?)),
+        }
+    }
+
+    /// What this own text of the location is read as.
+    fn of_text(alloc: Global, url: &Url, own: BStr<'_>) -> Result<Reread, AllocError>
+        requires { text url.now ≡ Ok (bstr_bytes own) }
+        ensures { IfOk result (λ it. IfSome it.difference (ReportsReread url.now)) }
+    {
+        match parse(alloc, own) {
             Ok(other) => {
                 let another = Reread::another(alloc, url, &other);
                 drop(other);
-                Ok(Some(another?))
+                another
             }
             Err(error) => {
-                let refused = Reread::reread_of_error(alloc, &error);
+                let refused = Reread::refused(alloc, &error);
                 drop(error);
-                Ok(Some(refused?))
+                refused
             }
         }
     }
@@ -77,7 +96,7 @@ impl Reread {
     }
 
     /// What is reported where the text is refused so, unless it is memory that was refused.
-    fn reread_of_error(alloc: Global, error: &Error) -> Result<Reread, AllocError>
+    fn refused(alloc: Global, error: &Error) -> Result<Reread, AllocError>
         ensures { IfOk result (λ it. IsNone it.difference) }
     {
         if matches!(error, Error::Memory) {
@@ -219,19 +238,10 @@ fn words(alloc: Global, difference: &Option<Difference>) -> Result<String, Alloc
             "its own text is read as the same fields, which no promise covers",
         );
     };
-    let field = it.field;
-    match (quoted(&it.here), quoted(&it.instead)) {
-        (Some(here), Some(instead)) => {
-            format!(in alloc; "its own text is read with the {field} {instead} in place of {here}")
-        }
-        (Some(here), None) => {
-            format!(in alloc; "its own text is read with no {field} in place of {here}")
-        }
-        (None, Some(instead)) => {
-            format!(in alloc; "its own text is read with the {field} {instead} in place of none")
-        }
-        (None, None) => format!(in alloc; "its own text is read with another {field}"),
-    }
+    let mut words = String::from_str(alloc, "its own text is read with ")?;
+    let written = push_change(&mut words, it.field, quoted(&it.here), quoted(&it.instead));
+    let (words, ()) = both(words, written)?;
+    Ok(words)
 }
 
 /// The text in quotes.

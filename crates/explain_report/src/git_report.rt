@@ -1,20 +1,23 @@
 //! What Git reads in the own text of a location, where the library doesn't promise that it is the same.
 //!
-//! It uses `git` of `explain_text` for the reading, `web` for what is in doubt of HTTP, and the public calls
-//! of `gix_url`. Its contract: no field is reported of a location that has a password, which Git reads as a
-//! part of another one. The stored run shows what it reports, and `scripts/hostile golden` its words.
+//! It uses the public calls of `gix_url`, and `web` for words on HTTP. Its contract: no field is reported of a
+//! location that has a password, which Git reads as a part of another one. The stored run shows what it
+//! reports, and `scripts/hostile golden` its words.
 
 ghost use Rattle.std.specs.Prelude.{◌≡◌, IfOk, IfSome, IsSome, None};
 
-use crate::location_report::both;
-use crate::web::Doubt;
+use crate::change::push_change;
+use crate::facts::Facts;
+use crate::memory::both;
+use crate::text::line::Quoted;
+use crate::text::{lossy, lossy_part};
+use crate::web;
 use bstr::ByteSlice;
-use explain_text::git::{self, GitReading, Protocol, Room, Unread};
-use explain_text::line::Quoted;
-use gix_url::{Error, Scheme, Url};
+use gix_url::transport::{self, Buffers, GitPlace, Protocol, Unread};
+use gix_url::{Scheme, Url, WebCondition};
 use serde::Serialize;
 use std::alloc::{AllocError, Global};
-use std::fmt::Write;
+use std::fmt::{Display, Write};
 
 /// What Git does with a text that it hands to a remote helper.
 pub const HANDED: &str = "hands its text to a remote helper, whose reading was not compared";
@@ -40,61 +43,109 @@ pub struct GitReads {
 impl GitReads {
     /// What Git reads in the text of the location: nothing is reported where that is known to be the same,
     /// where the text is for a remote helper by its scheme, and where there is no text.
-    pub fn of(alloc: Global, url: &Url) -> Result<Option<GitReads>, AllocError>
+    pub(crate) fn of(
+        alloc: Global,
+        url: &Url,
+        facts: &Facts,
+    ) -> Result<Option<GitReads>, AllocError>
         ensures hidden { IfOk result (λ reads. IfSome reads (λ it.
             IsSome url.now.password → (it.user ≡ None) × (it.host ≡ None) × (it.path ≡ None))) }
     {
-        if is_for_helper(url) || url.agrees_with_git() {
-            return Ok(None);
-        }
-        match url.to_bstring(alloc) {
-            Ok(text) => {
-                let report = GitReads::in_text(alloc, url, text.as_bytes());
-                drop(text);
-                Ok(Some(report?))
-            }
-            Err(error) => {
-                let is_memory = matches!(error, Error::Memory);
-                drop(error);
-                if is_memory { Err(AllocError) } else { Ok(None) }
-            }
+        match &facts.text {
+            Ok(text) if !is_for_helper(url) && !facts.agrees_with_git => Ok(Some(GitReads::in_text(
+                alloc,
+                url,
+                text.as_bytes(),
+                facts.is_settled,
+            )?)),
+            _ => Ok(None),
         }
     }
 
     /// What Git reads in this text of the location.
-    fn in_text(alloc: Global, url: &Url, text: &[u8]) -> Result<GitReads, AllocError>
+    fn in_text(
+        alloc: Global,
+        url: &Url,
+        text: &[u8],
+        is_settled: bool,
+    ) -> Result<GitReads, AllocError>
         ensures { IfOk result (λ it.
             IsSome url.now.password → (it.user ≡ None) × (it.host ≡ None) × (it.path ≡ None)) }
     {
         if is_of_web(url) {
-            return in_doubt(alloc, Doubt::of(url, text));
+            let unmet = unmet_condition(url, is_settled);
+            return in_words(alloc, web::words(unmet), web::name(unmet));
         }
-        let mut room = Room::new(alloc);
-        let report = match git::reading(text, &mut room) {
-            Ok(_) | Err(Unread::HomeOrHere) if url.password().is_some() => withheld(alloc),
-            Ok(found) => report_reading(alloc, url, &found),
-            Err(why) => unread(alloc, text, why),
-        };
-        drop(room);
+        let mut buffers = Buffers::new(alloc);
+        let report = GitReads::by_transport(alloc, url, text, &mut buffers);
+        drop(buffers);
         report
+    }
+
+    /// What Git's own transports read in this text of the location.
+    fn by_transport(
+        alloc: Global,
+        url: &Url,
+        text: &[u8],
+        buffers: &mut Buffers,
+    ) -> Result<GitReads, AllocError>
+        ensures { IfOk result (λ it.
+            IsSome url.now.password → (it.user ≡ None) × (it.host ≡ None) × (it.path ≡ None)) }
+    {
+        match transport::reading(text, buffers) {
+            Ok(found) => GitReads::of_place(alloc, url, &found),
+            Err(why) => GitReads::of_unread(alloc, url, text, why),
+        }
+    }
+
+    /// What is reported of a place that Git reads.
+    fn of_place(alloc: Global, url: &Url, found: &GitPlace<'_>) -> Result<GitReads, AllocError>
+        ensures { IfOk result (λ it.
+            IsSome url.now.password → (it.user ≡ None) × (it.host ≡ None) × (it.path ≡ None)) }
+    {
+        if url.password().is_some() {
+            withheld(alloc)
+        } else {
+            report_reading(alloc, url, found)
+        }
+    }
+
+    /// What is reported of a text in which Git reads no place. A local path that begins with `~` may have a
+    /// password.
+    fn of_unread(alloc: Global, url: &Url, text: &[u8], why: Unread) -> Result<GitReads, AllocError>
+        ensures { IfOk result (λ it. (it.user ≡ None) × (it.host ≡ None) × (it.path ≡ None)) }
+    {
+        if why == Unread::HomeOrHere && url.password().is_some() {
+            withheld(alloc)
+        } else {
+            unread(alloc, text, why)
+        }
+    }
+}
+
+/// The first condition that a location of HTTP doesn't meet, of which it isn't known that all read the same.
+fn unmet_condition(url: &Url, is_settled: bool) -> Option<WebCondition> {
+    if is_settled {
+        url.unmet_web_condition()
+    } else {
+        Some(WebCondition::Settled)
     }
 }
 
 /// What is reported of a reading.
-fn report_reading(
-    alloc: Global,
-    url: &Url,
-    found: &GitReading<'_>,
-) -> Result<GitReads, AllocError> {
-    let names = both(lossy(alloc, found.user)?, lossy(alloc, found.host))?;
-    let parts = both(names, lossy(alloc, Some(found.path)))?;
+fn report_reading(alloc: Global, url: &Url, found: &GitPlace<'_>) -> Result<GitReads, AllocError> {
+    let names = both(
+        lossy_part(alloc, found.user)?,
+        lossy_part(alloc, found.host),
+    )?;
+    let parts = both(names, lossy(alloc, found.path))?;
     let (((user, host), path), words) = both(parts, words_of(alloc, url, found))?;
     Ok(GitReads {
         protocol: Some(protocol_name(found.protocol)),
         user,
         host,
         port: found.port,
-        path,
+        path: Some(path),
         same: is_same(url, found),
         why: None,
         words,
@@ -117,15 +168,19 @@ fn without_fields(words: String, why: &'static str) -> GitReads
     }
 }
 
+/// What is reported where no field is, in these words.
+fn in_words(alloc: Global, words: &str, why: &'static str) -> Result<GitReads, AllocError>
+    ensures { IfOk result (λ it. (it.user ≡ None) × (it.host ≡ None) × (it.path ≡ None)) }
+{
+    Ok(without_fields(String::from_str(alloc, words)?, why))
+}
+
 /// What is reported of a text that holds a password.
 fn withheld(alloc: Global) -> Result<GitReads, AllocError>
     ensures { IfOk result (λ it. (it.user ≡ None) × (it.host ≡ None) × (it.path ≡ None)) }
 {
-    let words = String::from_str(
-        alloc,
-        "reads something else in its text, which holds a password",
-    )?;
-    Ok(without_fields(words, "Password"))
+    let words = "reads something else in its text, which holds a password";
+    in_words(alloc, words, "Password")
 }
 
 /// What is reported of a text in which Git reads no place, unless it is memory that was refused.
@@ -144,15 +199,7 @@ fn unread(alloc: Global, text: &[u8], why: Unread) -> Result<GitReads, AllocErro
         ),
         Unread::Refused => ("Refused", "refuses its text"),
     };
-    Ok(without_fields(String::from_str(alloc, words)?, name))
-}
-
-/// What is reported of a text of HTTP in which the readers may read different places.
-fn in_doubt(alloc: Global, doubt: Doubt) -> Result<GitReads, AllocError>
-    ensures { IfOk result (λ it. (it.user ≡ None) × (it.host ≡ None) × (it.path ≡ None)) }
-{
-    let words = String::from_str(alloc, doubt.words())?;
-    Ok(without_fields(words, doubt.name()))
+    in_words(alloc, words, name)
 }
 
 /// What is reported of a local path that begins with `~`.
@@ -182,14 +229,6 @@ fn two_places(out: &mut String, text: &[u8]) -> Result<(), AllocError> {
             write!(out, "the home of {user}")
         }
         _ => out.push_str("$HOME"),
-    }
-}
-
-/// A text of its own.
-fn lossy(alloc: Global, text: Option<&[u8]>) -> Result<Option<String>, AllocError> {
-    match text {
-        None => Ok(None),
-        Some(text) => Ok(Some(text.as_bstr().to_string(alloc)?)),
     }
 }
 
@@ -243,7 +282,7 @@ fn host_of(url: &Url) -> Option<&[u8]> {
 }
 
 /// Whether Git reads the location's own fields.
-fn is_same(url: &Url, found: &GitReading<'_>) -> bool {
+fn is_same(url: &Url, found: &GitPlace<'_>) -> bool {
     own_protocol(url) == Some(found.protocol)
         && user_of(url) == found.user
         && host_of(url) == found.host
@@ -252,7 +291,7 @@ fn is_same(url: &Url, found: &GitReading<'_>) -> bool {
 }
 
 /// What is read in words.
-fn words_of(alloc: Global, url: &Url, found: &GitReading<'_>) -> Result<String, AllocError> {
+fn words_of(alloc: Global, url: &Url, found: &GitPlace<'_>) -> Result<String, AllocError> {
     if is_same(url, found) {
         return String::from_str(alloc, "reads the same in its text, which no promise covers");
     }
@@ -263,57 +302,39 @@ fn words_of(alloc: Global, url: &Url, found: &GitReading<'_>) -> Result<String, 
 }
 
 /// Appends the fields that Git reads otherwise.
-fn differences(out: &mut String, url: &Url, found: &GitReading<'_>) -> Result<(), AllocError> {
+fn differences(out: &mut String, url: &Url, found: &GitPlace<'_>) -> Result<(), AllocError> {
     let protocol = Some(protocol_name(found.protocol).as_bytes());
     let own = Some(url.scheme.as_str().as_bytes());
     let path = Some(url.path.as_bytes());
     out.push_str("reads")?;
-    difference(out, "protocol", own, protocol)?;
-    difference(out, "user", user_of(url), found.user)?;
-    difference(out, "host", host_of(url), found.host)?;
-    port_difference(out, url.port, found.port)?;
-    difference(out, "path", path, Some(found.path))?;
+    difference(out, "protocol", own.map(Quoted), protocol.map(Quoted))?;
+    difference(
+        out,
+        "user",
+        user_of(url).map(Quoted),
+        found.user.map(Quoted),
+    )?;
+    difference(
+        out,
+        "host",
+        host_of(url).map(Quoted),
+        found.host.map(Quoted),
+    )?;
+    difference(out, "port", url.port, found.port)?;
+    difference(out, "path", path.map(Quoted), Some(Quoted(found.path)))?;
     out.push_str(" in its text")
 }
 
-/// Appends a field that is read as another one.
-fn difference(
+/// Appends a field that is read as another one, behind a comma unless it is the first.
+fn difference<T: Display + PartialEq + Drop>(
     out: &mut String,
     field: &str,
-    here: Option<&[u8]>,
-    instead: Option<&[u8]>,
+    here: Option<T>,
+    instead: Option<T>,
 ) -> Result<(), AllocError> {
     if here == instead {
         return Ok(());
     }
-    begin(out)?;
-    match (here.map(Quoted), instead.map(Quoted)) {
-        (Some(here), Some(instead)) => { write!(out, "the {field} {instead} in place of {here}") }
-        (Some(here), None) => write!(out, "no {field} in place of {here}"),
-        (None, Some(instead)) => write!(out, "the {field} {instead} in place of none"),
-        (None, None) => Ok(()),
-    }
-}
-
-/// Appends a port that is read as another one.
-fn port_difference(
-    out: &mut String,
-    here: Option<u16>,
-    instead: Option<u16>,
-) -> Result<(), AllocError> {
-    if here == instead {
-        return Ok(());
-    }
-    begin(out)?;
-    match (here, instead) {
-        (Some(here), Some(instead)) => write!(out, "the port {instead} in place of {here}"),
-        (Some(here), None) => write!(out, "no port in place of {here}"),
-        (None, Some(instead)) => write!(out, "the port {instead} in place of none"),
-        (None, None) => Ok(()),
-    }
-}
-
-/// Appends what is before a field: a comma, unless it is the first.
-fn begin(out: &mut String) -> Result<(), AllocError> {
-    out.push_str(if out.as_str() == "reads" { " " } else { ", " })
+    out.push_str(if out.as_str() == "reads" { " " } else { ", " })?;
+    push_change(out, field, here, instead)
 }

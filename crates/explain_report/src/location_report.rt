@@ -1,23 +1,28 @@
 //! What is reported of a location: its form, its parts, what its path means, and what it may be used for.
 //!
-//! It uses the public calls of `gix_url`, `path` for what the path means, `git_report` for what Git reads,
-//! and `difference` for a location that isn't settled. Its contract: where there is a password `redacted` is
-//! reported, and whether a location is settled and agrees with Git as the definitions of the library have it.
-//! Bytes that are no UTF-8 are reported as U+FFFD.
+//! It uses the public calls of `gix_url`, `facts` for what its parts share, `path` for what the path means,
+//! `git_report` for what Git reads, and `difference` for a location that isn't settled. Its contract: where
+//! there is a password `redacted` is reported, and no text that holds it; whether a location is settled and
+//! agrees with Git is reported as the definitions of the library have it. Bytes that are no UTF-8 are reported
+//! as U+FFFD.
 
-ghost use Rattle.std.specs.Prelude.{◌≡◌, ◌↔◌, IfOk, IsTrue, codes, option_map};
+ghost use Rattle.std.specs.Prelude.{◌≡◌, ◌↔◌, IfOk, IsSome, IsTrue, None, codes, option_map};
 ghost use Rattle.gix_url.specs.GitClass.{AgreesWithGit};
 ghost use Rattle.gix_url.specs.Display.{hidden_password};
 ghost use Rattle.gix_url.specs.Settled.{IsSettled};
+ghost use Rattle.explain_report.specs.Facts.{AreFactsOf};
+ghost use Rattle.explain_report.specs.Reports.{ReportsAgain, WithholdsPlace};
 
 use crate::credential::Credential;
 use crate::curl::Curl;
 use crate::difference::Reread;
+use crate::facts::Facts;
 use crate::form::Form;
 use crate::git_report::{GitReads, HANDED, is_of_web};
+use crate::memory::both;
 use crate::path::{Components, Home, Meaning};
-use bstr::ByteSlice;
-use gix_url::{ArgumentSafety, Error, Url};
+use bstr::{BString, ByteSlice};
+use gix_url::{ArgumentSafety, Url, WriteFault};
 use serde::Serialize;
 use std::alloc::{AllocError, Global};
 use std::borrow::CowStr;
@@ -55,6 +60,9 @@ pub struct Report<'a> {
     pub arguments: Arguments,
     /// The text, with `redacted` in place of the field `password`.
     pub text: Option<String>,
+    /// The text byte for byte, where it holds no password.
+    #[serde(skip)]
+    pub own_text: Option<BString>,
     /// Whether the location comes back from its own text.
     pub settled: bool,
     /// Whether Git, and of HTTP curl too, is known to read the same protocol, user, host, port and path in
@@ -99,34 +107,31 @@ impl<'a> Report<'a> {
             ≡ option_map (λ _. codes "redacted") url.now.password) }
         ensures settled { IfOk result (λ report. IsTrue report.settled ↔ IsSettled url.now) }
         ensures agrees { IfOk result (λ report. IsTrue report.agrees_with_git ↔ AgreesWithGit url.now) }
+        ensures withheld { IfOk result (λ report. IsSome url.now.password → report.own_text ≡ None) }
+        ensures git { IfOk result (λ report. WithholdsPlace url.now report.git_reads) }
+        ensures reread { IfOk result (λ report. ReportsAgain url.now report.reread) }
     {
-        let found = both(Texts::of(alloc, url)?, Meaning::of(alloc, url))?;
-        let found = both(found, GitReads::of(alloc, url))?;
-        let found = both(found, over_web(alloc, url))?;
-        let ((((texts, meaning), git_reads), over_web), reread) = both(
-            found,
-            Reread::of(alloc, url),
-        )?;
-        let reads = Reads {
-            git_reads,
-            over_web,
-        };
-        Ok(Report::put_together(url, texts, meaning, reads, reread))
+        let facts = Facts::of(alloc, url)?;
+        match Found::of(alloc, url, &facts) {
+            Ok(found) => Ok(Report::put_together(url, facts, found)),
+            Err(error) => {
+                drop(facts);
+                Err(error)
+            }
+        }
     }
 
-    /// What is reported of this location, with what was made of it.
-    fn put_together(
-        url: &'a Url,
-        texts: Texts<'a>,
-        meaning: Meaning<'a>,
-        reads: Reads,
-        reread: Option<Reread>,
-    ) -> Report<'a>
+    /// What is reported of this location, with its facts and what was found.
+    fn put_together(url: &'a Url, facts: Facts, found: Found<'a>) -> Report<'a>
         ensures hidden { option_map (λ word. word.now) result.password
             ≡ option_map (λ _. codes "redacted") url.now.password }
-        ensures settled { IsTrue result.settled ↔ IsSettled url.now }
-        ensures agrees { IsTrue result.agrees_with_git ↔ AgreesWithGit url.now }
+        ensures settled { result.settled ≡ facts.is_settled }
+        ensures agrees { result.agrees_with_git ≡ facts.agrees_with_git }
+        ensures withheld { IsSome url.now.password → result.own_text ≡ None }
+        ensures git { result.git_reads ≡ found.entry.git_reads }
+        ensures reread { result.reread ≡ found.entry.reread }
     {
+        let (texts, meaning, (credential, curl)) = (found.texts, found.meaning, found.over_web);
         Report {
             form: Form::of(url),
             scheme: url.scheme.as_str(),
@@ -143,55 +148,76 @@ impl<'a> Report<'a> {
             shell_path: meaning.shell_path,
             arguments: arguments_of(url),
             text: texts.text,
-            settled: url.is_settled(),
-            agrees_with_git: is_read_alike(url),
-            git_reads: reads.git_reads,
-            credential: reads.over_web.0,
-            curl: reads.over_web.1,
-            reread,
+            own_text: without_password(url, facts.text),
+            settled: facts.is_settled,
+            agrees_with_git: facts.agrees_with_git,
+            git_reads: found.git_reads,
+            credential,
+            curl,
+            reread: found.reread,
         }
     }
 }
 
-/// What other programs read in the text of a location.
+/// The own text of a location, unless it holds a password.
+fn without_password(url: &Url, text: Result<BString, WriteFault>) -> Option<BString>
+    ensures { IsSome url.now.password → result ≡ None }
+{
+    if url.password().is_some() {
+        drop(text);
+        return None;
+    }
+    text.ok()
+}
+
+/// What is found of a location by its facts.
 #[derive(Drop)]
-struct Reads {
+struct Found<'a> {
+    texts: Texts<'a>,
+    meaning: Meaning<'a>,
     git_reads: Option<GitReads>,
+    /// What Git's credential code and curl read.
     over_web: (Option<Credential>, Option<Curl>),
+    reread: Option<Reread>,
+}
+
+impl<'a> Found<'a> {
+    /// What is found of this location, which has these facts.
+    fn of(alloc: Global, url: &'a Url, facts: &Facts) -> Result<Found<'a>, AllocError>
+        requires { AreFactsOf url.now facts.now }
+        ensures git { IfOk result (λ found. WithholdsPlace url.now found.git_reads) }
+        ensures reread { IfOk result (λ found. ReportsAgain url.now found.reread) }
+    {
+        let found = both(Texts::of(alloc, url, facts)?, Meaning::of(alloc, url))?;
+        let found = both(found, GitReads::of(alloc, url, facts))?;
+        let found = both(found, over_web(alloc, url, facts))?;
+        let ((((texts, meaning), git_reads), over_web), reread) = both(
+            found,
+            Reread::of(alloc, url, facts),
+        )?;
+        Ok(Found {
+            texts,
+            meaning,
+            git_reads,
+            over_web,
+            reread,
+        })
+    }
 }
 
 /// What Git's credential code and curl read in the text of a location of HTTP, if it has a text.
-fn over_web(alloc: Global, url: &Url) -> Result<(Option<Credential>, Option<Curl>), AllocError> {
-    if !is_of_web(url) {
-        return Ok((None, None));
-    }
-    match url.to_bstring(alloc) {
-        Ok(text) => {
-            let found = in_text_of_web(alloc, text.as_bytes());
-            drop(text);
-            found
-        }
-        Err(error) => {
-            let is_memory = matches!(error, Error::Memory);
-            drop(error);
-            if is_memory {
-                Err(AllocError)
-            } else {
-                Ok((None, None))
-            }
-        }
-    }
-}
-
-/// What Git's credential code and curl read in this text of HTTP.
-fn in_text_of_web(
+fn over_web(
     alloc: Global,
-    text: &[u8],
+    url: &Url,
+    facts: &Facts,
 ) -> Result<(Option<Credential>, Option<Curl>), AllocError> {
-    both(
-        Credential::in_text(alloc, text)?,
-        Curl::in_text(alloc, text),
-    )
+    match &facts.text {
+        Ok(text) if is_of_web(url) => both(
+            Credential::in_text(alloc, text.as_bytes())?,
+            Curl::in_text(alloc, text.as_bytes()),
+        ),
+        _ => Ok((None, None)),
+    }
 }
 
 /// The texts that are reported of a location.
@@ -204,15 +230,27 @@ struct Texts<'a> {
 
 impl<'a> Texts<'a> {
     /// The texts of this location.
-    fn of(alloc: Global, url: &'a Url) -> Result<Texts<'a>, AllocError> {
+    fn of(alloc: Global, url: &'a Url, facts: &Facts) -> Result<Texts<'a>, AllocError> {
         let path = url.path.as_bytes().to_str_lossy(alloc)?;
         let original = url.original_path().as_bytes().to_str_lossy(alloc);
-        let ((path, original_path), text) = both(both(path, original)?, text_of(alloc, url))?;
+        let ((path, original_path), text) = both(
+            both(path, original)?,
+            shown_text(alloc, url, facts),
+        )?;
         Ok(Texts {
             path,
             original_path,
             text,
         })
+    }
+}
+
+/// The text of the location with its password hidden, if it has a text.
+fn shown_text(alloc: Global, url: &Url, facts: &Facts) -> Result<Option<String>, AllocError> {
+    match &facts.text {
+        Err(_) => Ok(None),
+        Ok(_) if url.password().is_some() => Ok(Some(url.to_string(alloc)?)),
+        Ok(text) => Ok(Some(text.as_bstr().to_string(alloc)?)),
     }
 }
 
@@ -226,26 +264,11 @@ pub fn reading_of_git<'b>(url: &Url, report: &'b Report<'_>) -> &'b str {
     }
 }
 
-/// Both of two things, unless memory was refused for the second.
-pub fn both<A: Drop, B: Drop>(
-    first: A,
-    second: Result<B, AllocError>,
-) -> Result<(A, B), AllocError> {
-    Ok((first, second?))
-}
-
 /// `redacted`, where there is a password.
 pub(crate) fn hidden_password(url: &Url) -> Option<&'static str>
     ensures { option_map (λ word. word.now) result ≡ hidden_password url.now.password }
 {
     url.password().map(|_| "redacted")
-}
-
-/// Whether Git is known to read the same place in the text of the location.
-fn is_read_alike(url: &Url) -> bool
-    ensures { IsTrue result ↔ AgreesWithGit url.now }
-{
-    url.agrees_with_git()
 }
 
 /// What the parts of the location are to a command line.
@@ -266,13 +289,5 @@ fn safety_of(judged: ArgumentSafety<'_>) -> Safety {
         ArgumentSafety::Absent => Safety::Absent,
         ArgumentSafety::Usable(_) => Safety::Usable,
         ArgumentSafety::Dangerous(_) => Safety::Dangerous,
-    }
-}
-
-/// The text of the location with its password hidden, if it has a text.
-pub fn text_of(alloc: Global, url: &Url) -> Result<Option<String>, AllocError> {
-    match url.text_len() {
-        Ok(_) => Ok(Some(url.to_string(alloc)?)),
-        Err(_) => Ok(None),
     }
 }

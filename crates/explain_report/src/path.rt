@@ -4,10 +4,10 @@
 //! It uses the public calls of `gix_url`, and has no contract but that it can't abort. Bytes that are no
 //! UTF-8 are reported as U+FFFD.
 
-use crate::location_report::both;
+use crate::memory::{both, no_memory};
 use bstr::{BStr, BString, ByteSlice};
 use gix_url::expand_path::{self, ForUser};
-use gix_url::{Error, PathComponents, Scheme, Url};
+use gix_url::{PathComponents, Scheme, Url};
 use serde::Serialize;
 use std::alloc::{AllocError, Global};
 use std::borrow::CowStr;
@@ -55,17 +55,6 @@ pub struct Home {
     pub user: Option<String>,
     /// The path below the folder.
     pub below: String,
-}
-
-/// The calls below fail only where memory is refused.
-pub fn no_memory(error: Error) -> AllocError {
-    drop(error);
-    AllocError
-}
-
-/// Bytes as a text of their own.
-fn lossy(alloc: Global, bytes: BStr<'_>) -> Result<String, AllocError> {
-    bytes.to_string(alloc)
 }
 
 /// Path, query and fragment of the location.
@@ -122,15 +111,10 @@ fn push_field(
     value: BStr<'_>,
 ) -> Result<(), AllocError> {
     fields.push(Field {
-        name: lossy(alloc, name)?,
-        value: lossy(alloc, value)?,
+        name: name.to_string(alloc)?,
+        value: value.to_string(alloc)?,
     })?;
     Ok(())
-}
-
-/// Whether the path is one of a system of files, which a shell may take.
-fn is_of_files(url: &Url) -> bool {
-    matches!(&url.scheme, Scheme::File | Scheme::Ssh | Scheme::Git)
 }
 
 /// Whose home folder the path begins in, at the other side of Secure Shell or of `git://`. A path of this
@@ -165,20 +149,20 @@ fn reported_home(
     let user = match user {
         None => return Ok(None),
         Some(ForUser::Current) => None,
-        Some(ForUser::Name(name)) => Some(lossy(alloc, name.as_bstr())?),
+        Some(ForUser::Name(name)) => Some(name.as_bstr().to_string(alloc)?),
     };
     Ok(Some(Home {
         user,
-        below: lossy(alloc, below)?,
+        below: below.to_string(alloc)?,
     }))
 }
 
-/// The path as a shell takes it.
+/// The path as a shell takes it, where it is one of a system of files.
 fn shell_path_of(alloc: Global, url: &Url) -> Result<Option<String>, AllocError> {
-    if !is_of_files(url) {
+    if !matches!(&url.scheme, Scheme::File | Scheme::Ssh | Scheme::Git) {
         return Ok(None);
     }
     let path = BString::from_slice(alloc, url.path.as_bytes())?;
     let path = expand_path::for_shell(alloc, path).map_err(no_memory)?;
-    Ok(Some(lossy(alloc, path.as_bstr())?))
+    Ok(Some(path.as_bstr().to_string(alloc)?))
 }

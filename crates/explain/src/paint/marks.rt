@@ -4,8 +4,8 @@
 
 use crate::paint::short::{INDENT, Keep, fill, is_long, write_kept};
 use crate::paint::{Colors, DANGER, PLAIN, is_empty};
-use explain_text::cut::{Cut, Piece};
-use explain_text::line::{halves, is_hidden};
+use explain_report::text::cut::{Cut, Piece};
+use explain_report::text::line::{halves, is_hidden};
 use std::alloc::AllocError;
 
 /// The columns between some bytes of a line.

@@ -5,7 +5,7 @@
 //! can't abort.
 
 use crate::paint::short::{INDENT, fill};
-use explain_text::cut::{PIECES, Part, Piece};
+use explain_report::text::cut::{PIECES, Part, Piece};
 use std::alloc::AllocError;
 
 /// The columns that a named piece takes.

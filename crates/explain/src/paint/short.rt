@@ -2,8 +2,8 @@
 //!
 //! It uses `line` for how many columns a text takes, and has no contract but that it can't abort.
 
-use explain_text::cut::Cut;
-use explain_text::line::{columns, end, front, write_shown};
+use explain_report::text::cut::Cut;
+use explain_report::text::line::{columns, end, front, write_shown};
 use std::alloc::AllocError;
 
 /// What of a text stays where it is too long.

@@ -1,5 +1,5 @@
 -- The refusal that is reported is the one that the error of the line returns.
-use Rattle.std.proofs.Common.{◌≡◌, refl, ap, ◌∙◌, subst, List, ℕ, Option, Some, None, option_map, string_bytes}
+use Rattle.std.proofs.Common.{◌≡◌, refl, ap, ◌∙◌, subst, List, ℕ, Some, option_map, string_bytes}
 use Rattle.git_refusals.specs.declared.refusal.Refusal as library
 use Rattle.git_refusals.specs.Words.{reason_name, reason_words}
 use Rattle.gix_url.specs.Flaws.{ReturnsRefusal, Refused}

@@ -1,0 +1,86 @@
+-- What is reported of the rules of a configuration: of a transport what Git does about it, and the settings that
+-- it uses.
+use Rattle.std.specs.Prelude.{◌≡◌, ◌↔◌, ◌⊎◌, ℕ, Bool, true, false, IsTrue, All, List, [], Option, Some, None, codes}
+use Rattle.git_rules.specs.Config.{ConfigEntry}
+use Rattle.git_rules.specs.Normal.{NormalPlace}
+use Rattle.git_rules.specs.Policies.{Policy}
+use Rattle.git_rules.specs.Protocols.{Decides, IsAllowed}
+use Rattle.git_rules.specs.Settings.{AreSettings, RefusesSettings}
+use Rattle.git_rules.specs.declared.pattern.settings.SettingsError.{SettingsError}
+use Rattle.git_rules.specs.declared.pattern.settings.SettingsError.TheVariants.{Memory}
+use Rattle.git_rules.specs.declared.protocols.Reason.{Reason}
+use Rattle.git_rules.specs.declared.protocols.Reason.TheVariants as reason
+use Rattle.git_rules.specs.declared.protocols.Permission.{Permission}
+use Rattle.git_rules.specs.declared.protocols.Permission.TheVariants as permission
+use Rattle.explain_report.specs.declared.rules.transports.Verdict.{Verdict}
+use Rattle.explain_report.specs.declared.rules.transports.Verdict.TheVariants as verdict
+
+-- the verdict that is reported of a permission
+abbrev pub verdict_of : Permission → Verdict
+verdict_of (permission.Allowed by) = verdict.Allowed
+verdict_of (permission.Refused by) = verdict.Refused
+verdict_of (permission.UnknownAllowance at) = verdict.UnknownAllowance
+verdict_of permission.UnknownFromUser = verdict.UnknownFromUser
+
+-- the place of the entry that a reason names
+abbrev pub place_in : Reason → Option ℕ
+place_in reason.AllowList = None
+place_in (reason.Entry at) = Some at
+place_in reason.Default = None
+
+-- the place of the entry that decides, if one does
+abbrev pub place_of : Permission → Option ℕ
+place_of (permission.Allowed by) = place_in by
+place_of (permission.Refused by) = place_in by
+place_of (permission.UnknownAllowance at) = Some at
+place_of permission.UnknownFromUser = None
+
+-- the place of an entry that begins there; none only where no place is asked for, or no entry begins there
+abbrev pub IsEntryAt : List ConfigEntry → Option ℕ → Option ℕ → Type 0
+IsEntryAt entries None r = r ≡ None
+IsEntryAt entries (Some place) None = All (λ e. ¬ (e.at ≡ place)) entries
+IsEntryAt entries (Some place) (Some at) = at ≡ place
+
+-- the variable that has the list, where that decides
+abbrev pub list_variable : Reason → Option (List ℕ)
+list_variable reason.AllowList = Some (codes "GIT_ALLOW_PROTOCOL")
+list_variable (reason.Entry at) = None
+list_variable reason.Default = None
+
+-- whether the configuration alone allows the transport to users
+abbrev pub IsAllowedToUsers : Policy → List ℕ → Bool → Type 0
+IsAllowedToUsers policy name b = (p : Permission)
+    × Decides (record policy { allow_list = None; from_user = None }) name p × (IsTrue b ↔ IsAllowed p)
+
+-- the other variable, where without it the transport is allowed
+abbrev pub user_variable : Bool → Option (List ℕ)
+user_variable true = Some (codes "GIT_PROTOCOL_FROM_USER")
+user_variable false = None
+
+-- the variable by which the transport is refused for this reason
+abbrev pub IsRefusing : Policy → List ℕ → Reason → Option (List ℕ) → Type 0
+IsRefusing policy name reason.AllowList r = r ≡ Some (codes "GIT_ALLOW_PROTOCOL")
+IsRefusing policy name (reason.Entry at) r = (b : Bool) × IsAllowedToUsers policy name b × (r ≡ user_variable b)
+IsRefusing policy name reason.Default r = (b : Bool) × IsAllowedToUsers policy name b × (r ≡ user_variable b)
+
+-- the variable that decides, if one does: without it Git does another thing
+abbrev pub IsVariableOf : Policy → List ℕ → Permission → Option (List ℕ) → Type 0
+IsVariableOf policy name (permission.Allowed by) r = r ≡ list_variable by
+IsVariableOf policy name (permission.Refused by) r = IsRefusing policy name by r
+IsVariableOf policy name (permission.UnknownAllowance at) r = r ≡ None
+IsVariableOf policy name permission.UnknownFromUser r = r ≡ Some (codes "GIT_PROTOCOL_FROM_USER")
+
+-- what Git does about the transport of this name, with the variable and the place of the entry that decide
+pub record ReportsPermission (policy : Policy) (name : List ℕ) (v : Verdict) (variable : Option (List ℕ))
+    (entry : Option ℕ) : Type 0 where
+  pub permission : Permission
+  pub decides : Decides policy name permission
+  pub verdict : v ≡ verdict_of permission
+  pub by_variable : IsVariableOf policy name permission variable
+  pub by_entry : IsEntryAt policy.entries (place_of permission) entry
+
+-- the indices are those of the entries of a name of `http.*` that Git uses for the place; they are none where it
+-- stops at one of the entries, or where the buffer is too short for a URL
+abbrev pub AreShown : List ℕ → NormalPlace → ℕ → List ConfigEntry → List ℕ → Type 0
+AreShown name place buffer entries found = AreSettings name place entries found
+    ⊎ ((found ≡ []) × (error : SettingsError) × (¬ (error ≡ Memory)) × RefusesSettings name place buffer entries error)

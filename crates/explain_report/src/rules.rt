@@ -1,0 +1,181 @@
+//! What Git does with a line by a configuration: where it fetches from and pushes to, by which transport,
+//! with which settings.
+//!
+//! [`config`] is the configuration, read once for all lines; [`transports`], [`credentials`] and `settings` answer about what a
+//! line is rewritten to, and [`setting`] shows an entry without what may be a secret. It uses the public calls
+//! of `gix_url` and `git_rules`, and has no contract but that it can't abort: `scripts/hostile rules` shows
+//! its answers.
+
+pub mod config;
+pub mod credentials;
+pub mod setting;
+mod settings;
+pub mod transports;
+
+use crate::git_report::is_of_web;
+use crate::memory::both;
+use crate::rules::config::Config;
+use crate::rules::credentials::Credentials;
+use crate::rules::setting::Setting;
+use crate::rules::settings::settings_for;
+use crate::rules::transports::{Lack, Transport, transport_for};
+use crate::text::line::{input, pieces_of};
+use bstr::BString;
+use git_rules::rewrite::host::names_same_host;
+use git_rules::rewrite::outcome::Rewritten;
+use gix_url::parse::parse;
+use gix_url::{Error, Url};
+use serde::Serialize;
+use std::alloc::{AllocError, Global};
+
+/// What Git does with a line by a configuration.
+#[derive(Drop, Serialize)]
+pub struct Rules {
+    /// Where a remote with this URL is fetched from.
+    pub fetch: Route,
+    /// Where it is pushed to.
+    pub push: Route,
+    /// What Git's credential code uses for the text that is fetched from, if that is of HTTP.
+    pub credential: Option<Credentials>,
+    /// The entries of each name of `http.*` that Git uses for that text.
+    pub http: Vec<Setting>,
+}
+
+/// Where Git goes.
+#[derive(Drop, Serialize)]
+pub struct Route {
+    /// The text, with `redacted` for its password.
+    pub text: String,
+    /// Whether a rule has rewritten it.
+    pub rewritten: bool,
+    /// Whether it names the host that the line names, where both are locations.
+    pub same_host: Option<bool>,
+    /// The transport that Git uses for the text, if it has one.
+    pub transport: Option<Transport>,
+    /// Why Git has no transport for the text.
+    pub no_transport: Option<Lack>,
+}
+
+impl Rules {
+    /// What Git does with a line, which is read as this location unless it is refused.
+    pub fn of(
+        alloc: Global,
+        config: &Config<'_>,
+        line: &[u8],
+        url: Option<&Url>,
+    ) -> Result<Rules, AllocError> {
+        let fetch = Goal::of(alloc, &config.rewrites.rewrite_fetch(line))?;
+        let (fetch, push) = both(
+            fetch,
+            Goal::of(alloc, &config.rewrites.rewrite_push(line, false)),
+        )?;
+        let rules = Rules::of_goals(alloc, config, url, &fetch, &push);
+        drop(push);
+        drop(fetch);
+        rules
+    }
+
+    /// What Git does with what the line is rewritten to.
+    fn of_goals(
+        alloc: Global,
+        config: &Config<'_>,
+        url: Option<&Url>,
+        fetch: &Goal,
+        push: &Goal,
+    ) -> Result<Rules, AllocError> {
+        let routes = both(
+            Route::of(alloc, config, url, fetch)?,
+            Route::of(alloc, config, url, push),
+        )?;
+        let found = both(routes, settings_of(alloc, config, fetch))?;
+        let ((fetch, push), (credential, http)) = found;
+        Ok(Rules {
+            fetch,
+            push,
+            credential,
+            http,
+        })
+    }
+}
+
+/// What a line is rewritten to, and what that is read as.
+#[derive(Drop)]
+struct Goal {
+    text: BString,
+    is_rewritten: bool,
+    /// The location; none where the text is refused.
+    url: Option<Url>,
+}
+
+impl Goal {
+    /// What becomes of a line.
+    fn of(alloc: Global, rewritten: &Rewritten<'_>) -> Result<Goal, AllocError> {
+        let text = rewritten.to_bstring(alloc)?;
+        let (text, url) = both_read(alloc, text)?;
+        Ok(Goal {
+            text,
+            is_rewritten: rewritten.is_rewritten(),
+            url,
+        })
+    }
+}
+
+/// The text, and the location that it is read as, if it is read.
+fn both_read(alloc: Global, text: BString) -> Result<(BString, Option<Url>), AllocError> {
+    let url = match parse(alloc, text.as_bstr()) {
+        Ok(url) => Ok(Some(url)),
+        Err(Error::Memory) => Err(AllocError),
+        Err(error) => {
+            drop(error);
+            Ok(None)
+        }
+    };
+    both(text, url)
+}
+
+impl Route {
+    /// The way to a goal, from a line that is read as this location unless it is refused.
+    fn of(
+        alloc: Global,
+        config: &Config<'_>,
+        line: Option<&Url>,
+        goal: &Goal,
+    ) -> Result<Route, AllocError> {
+        let bytes = goal.text.as_bytes();
+        let text = input(alloc, &pieces_of(bytes))?;
+        let (text, (transport, no_transport)) = both(
+            text,
+            transport_for(alloc, &config.protocols, bytes),
+        )?;
+        Ok(Route {
+            text,
+            rewritten: goal.is_rewritten,
+            same_host: is_same_host(line, goal),
+            transport,
+            no_transport,
+        })
+    }
+}
+
+/// Whether a goal names the host of a line, where both are locations.
+fn is_same_host(line: Option<&Url>, goal: &Goal) -> Option<bool> {
+    match (line, &goal.url) {
+        (Some(line), Some(url)) => Some(names_same_host(&line.as_ref(), &url.as_ref())),
+        _ => None,
+    }
+}
+
+/// What Git's credential code uses for a goal of HTTP, and the entries of `http.*` that Git uses for it; nothing for
+/// another goal.
+fn settings_of(
+    alloc: Global,
+    config: &Config<'_>,
+    goal: &Goal,
+) -> Result<(Option<Credentials>, Vec<Setting>), AllocError> {
+    if !goal.url.as_ref().is_some_and(is_of_web) {
+        return Ok((None, Vec::new(alloc)));
+    }
+    let text = goal.text.as_bytes();
+    let credential = Credentials::of(alloc, config.protocols.entries, text)?;
+    both(credential, settings_for(alloc, config, text))
+}

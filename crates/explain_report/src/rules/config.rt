@@ -1,0 +1,175 @@
+//! The configuration that `--config` names, read once for all lines, and what of it isn't understood.
+//!
+//! It uses `git_rules`, whose rules are filled here; `rules` asks them about a line. It has no contract but
+//! that it can't abort: `scripts/hostile rules` shows its answers.
+
+use crate::memory::both;
+use bstr::ByteSlice;
+use git_rules::config::{Entry, EntryError, Reader};
+use git_rules::normal::room_for;
+use git_rules::pattern::UrlPattern;
+use git_rules::protocols::Protocols;
+use git_rules::rewrite::{RewriteError, Rewrites};
+use git_rules::stops::{Stop, stop_at};
+use std::alloc::{AllocError, Global};
+use std::collections::BTreeMap;
+
+/// What Git does by a configuration and two variables.
+#[derive(Drop)]
+pub struct Config<'a> {
+    /// All entries, and the variables.
+    pub protocols: Protocols<'a>,
+    pub rewrites: Rewrites<'a>,
+    /// The entries of `http.*`, in the order in which their names come first.
+    pub http: Vec<Variable<'a>>,
+    /// How long a room has to be for the URL of each entry.
+    pub room: usize,
+}
+
+/// The entries of `http.*` with one name, in their order.
+#[derive(Drop)]
+pub struct Variable<'a> {
+    pub name: &'a str,
+    pub entries: Vec<Entry<'a>>,
+}
+
+impl<'a> Config<'a> {
+    /// The rules of these entries. Those that can't be understood are left out.
+    pub fn of(alloc: Global, protocols: Protocols<'a>) -> Result<Config<'a>, AllocError> {
+        let entries = protocols.entries;
+        let (rewrites, http) = both(rewrites_of(alloc, entries)?, variables_of(alloc, entries))?;
+        let longest = entries.iter().map(url_len).max().unwrap_or(0);
+        Ok(Config {
+            protocols,
+            rewrites,
+            http,
+            room: room_for(longest),
+        })
+    }
+}
+
+/// The length of the subsection of an entry.
+fn url_len(entry: &Entry<'_>) -> usize {
+    match entry.subsection {
+        None => 0,
+        Some(url) => url.len(),
+    }
+}
+
+/// The rules that rewrite locations. One without a value is left out, at which Git stops.
+fn rewrites_of<'a>(alloc: Global, entries: &[Entry<'a>]) -> Result<Rewrites<'a>, AllocError> {
+    let mut rules = Rewrites::new(alloc);
+    for entry in entries {
+        match rules.add_entry(entry) {
+            Ok(()) | Err(RewriteError::NoValue { at: _ }) => {}
+            Err(RewriteError::Memory) => return Err(AllocError),
+        }
+    }
+    Ok(rules)
+}
+
+/// The entries of `http.*`, those of a name together.
+fn variables_of<'a>(alloc: Global, entries: &[Entry<'a>]) -> Result<Vec<Variable<'a>>, AllocError> {
+    let mut found = Vec::new(alloc);
+    let mut places = BTreeMap::new(alloc);
+    for entry in entries {
+        if entry.is_section("http") {
+            put(alloc, &mut found, &mut places, entry)?;
+        }
+    }
+    Ok(found)
+}
+
+/// Puts an entry with those of its name. The places of the names are found by the names in lower case.
+fn put<'a>(
+    alloc: Global,
+    found: &mut Vec<Variable<'a>>,
+    places: &mut BTreeMap<String, usize>,
+    entry: &Entry<'a>,
+) -> Result<(), AllocError> {
+    let Ok(name) = entry.name.to_str() else {
+        return Ok(());
+    };
+    let next = found.len();
+    let place = *places
+        .entry(name.to_ascii_lowercase(alloc)?)?
+        .or_insert(next);
+    match found.get_mut(place) {
+        Some(variable) => variable.entries.push(entry.clone()?)?,
+        None => found.push(Variable::of(alloc, name, entry)?)?,
+    }
+    Ok(())
+}
+
+impl<'a> Variable<'a> {
+    /// The name, with its first entry.
+    fn of(alloc: Global, name: &'a str, entry: &Entry<'a>) -> Result<Variable<'a>, AllocError> {
+        let mut entries = Vec::new(alloc);
+        entries.push(entry.clone()?)?;
+        Ok(Variable { name, entries })
+    }
+}
+
+/// What isn't understood of a configuration: where, and in words.
+#[derive(Clone, Copy)]
+pub struct Fault {
+    pub at: usize,
+    pub words: &'static str,
+}
+
+/// All that isn't understood of a configuration, in its order.
+pub fn faults(alloc: Global, text: &[u8]) -> Result<Vec<Fault>, AllocError> {
+    let mut room = vec![in alloc; 0u8; room_for(text.len())]?;
+    let mut found = Vec::new(alloc);
+    for item in Reader::new(text) {
+        if let Some(fault) = fault_of(item, room.as_mut_slice()) {
+            found.push(fault)?;
+        }
+    }
+    Ok(found)
+}
+
+/// What isn't understood of an entry, or of what is none.
+fn fault_of(item: Result<Entry<'_>, EntryError>, room: &mut [u8]) -> Option<Fault> {
+    match item {
+        Err(EntryError::NoKey { at }) => Some(Fault {
+            at,
+            words: "has no section or no name",
+        }),
+        Err(EntryError::NoEnd { at }) => Some(Fault {
+            at,
+            words: "has no end",
+        }),
+        Ok(entry) => {
+            let at = entry.at;
+            let words = words_of(&entry, room)?;
+            Some(Fault { at, words })
+        }
+    }
+}
+
+/// What isn't understood of an entry, in words.
+fn words_of(entry: &Entry<'_>, room: &mut [u8]) -> Option<&'static str> {
+    match words_of_url(entry, room) {
+        None => stop_at(entry).map(words_of_stop),
+        words => words,
+    }
+}
+
+/// Why the URL of an entry of `http.*` isn't understood, in words.
+fn words_of_url(entry: &Entry<'_>, room: &mut [u8]) -> Option<&'static str> {
+    if !entry.is_section("http") || UrlPattern::parse_in(entry.subsection?, room).is_ok() {
+        return None;
+    }
+    Some("has no URL that Git takes: it is for no location")
+}
+
+/// Why Git stops at an entry, in words.
+fn words_of_stop(stop: Stop) -> &'static str {
+    match stop {
+        Stop::NoValue => "has no value: Git stops at it",
+        Stop::NoBoolean => "is no boolean value: Git stops at it",
+        Stop::NoNumber => "is no number that Git takes: it stops at it",
+        Stop::NoAllowance => "is none of always, user and never: Git stops where it decides",
+    }
+}

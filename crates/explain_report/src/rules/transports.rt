@@ -1,0 +1,228 @@
+//! A transport, and whether Git uses it by a configuration and the variables of the environment.
+//!
+//! It uses `protocols` of `git_rules`, and `setting` for the entry that decides. Its contract: the verdict is
+//! that of what Git does by the definitions, and the entry and the variable that are reported are those that
+//! decide.
+
+ghost use Rattle.std.specs.Prelude.{◌≡◌, ◌↔◌, IfOk, IsTrue, Ok, option_map, string_bytes};
+ghost use Rattle.git_rules.specs.Protocols.{IsLastOf};
+ghost use Rattle.explain_report.specs.Rules as spec;
+ghost use Rattle.explain_report.specs.Rules.{IsAllowedToUsers, IsEntryAt, IsRefusing, IsVariableOf, ReportsPermission};
+
+use crate::memory::both;
+use crate::rules::setting::Setting;
+use git_rules::config::Entry;
+use git_rules::protocols::text::{NoTransport, transport_of};
+use git_rules::protocols::{Permission, Protocols, Reason};
+use serde::Serialize;
+use std::alloc::{AllocError, Global};
+
+/// A transport, and whether it may be used.
+#[derive(Drop, Serialize)]
+pub struct Transport {
+    /// Its name, or that of a remote helper.
+    pub name: String,
+    pub permission: Verdict,
+    /// The variable of the environment that decides.
+    pub variable: Option<&'static str>,
+    /// The entry that decides. Without a variable too it is the default.
+    pub entry: Option<Setting>,
+}
+
+/// What Git does about a transport.
+#[derive(Clone, Copy, Serialize)]
+#[serde(rename_all = "snake_case")]
+pub enum Verdict {
+    Allowed,
+    Refused,
+    /// It stops: the value of the entry that decides isn't one of `protocol.allow`.
+    UnknownAllowance,
+    /// It stops: the variable that decides is no boolean value.
+    UnknownFromUser,
+}
+
+/// Why Git has no transport for a text.
+#[derive(Drop, Serialize)]
+pub struct Lack {
+    /// The name of the reason.
+    pub reason: &'static str,
+    /// It in words.
+    pub words: String,
+}
+
+/// The transport that Git uses for a text, or why it has none.
+pub fn transport_for(
+    alloc: Global,
+    protocols: &Protocols<'_>,
+    text: &[u8],
+) -> Result<(Option<Transport>, Option<Lack>), AllocError> {
+    match transport_of(text) {
+        Ok(name) => Ok((Some(Transport::named(alloc, protocols, name)?), None)),
+        Err(why) => Ok((None, Some(Lack::of(alloc, why)?))),
+    }
+}
+
+impl Lack {
+    /// The reason with its words.
+    fn of(alloc: Global, why: NoTransport) -> Result<Lack, AllocError> {
+        Ok(Lack {
+            reason: name_of(why),
+            words: why.to_string(alloc)?,
+        })
+    }
+}
+
+/// The name of a reason.
+fn name_of(why: NoTransport) -> &'static str {
+    match why {
+        NoTransport::ByteZero => "byte_zero",
+        NoTransport::OptionLike => "option_like",
+        NoTransport::Rsync => "rsync",
+        NoTransport::UnknownScheme => "unknown_scheme",
+    }
+}
+
+impl Transport {
+    /// The transport with this name.
+    pub fn named(
+        alloc: Global,
+        protocols: &Protocols<'_>,
+        name: &str,
+    ) -> Result<Transport, AllocError>
+        ensures name { IfOk result (λ t. string_bytes t.name ≡ name.now) }
+        ensures decides { IfOk result (λ t. ReportsPermission protocols.now name.now t.permission
+            (option_map (λ v. v.now) t.variable) (option_map (λ e. e.at) t.entry)) }
+    {
+        let permission = protocols.permission(name);
+        let entry = entry_at(alloc, protocols.entries, place_of(permission))?;
+        let (entry, own) = both(entry, String::from_str(alloc, name))?;
+        Ok(Transport {
+            name: own,
+            permission: verdict_of(permission),
+            variable: variable_of(protocols, name, permission),
+            entry,
+        })
+    }
+}
+
+/// The verdict of a permission.
+fn verdict_of(permission: Permission) -> Verdict
+    ensures { result ≡ spec.verdict_of permission }
+{
+    match permission {
+        Permission::Allowed(_) => Verdict::Allowed,
+        Permission::Refused(_) => Verdict::Refused,
+        Permission::UnknownAllowance { at: _ } => Verdict::UnknownAllowance,
+        Permission::UnknownFromUser => Verdict::UnknownFromUser,
+    }
+}
+
+/// The place of the entry that decides, if one does.
+fn place_of(permission: Permission) -> Option<usize>
+    ensures { result ≡ spec.place_of permission }
+{
+    match permission {
+        Permission::Allowed(by) | Permission::Refused(by) => place_in(by),
+        Permission::UnknownAllowance { at } => Some(at),
+        Permission::UnknownFromUser => None,
+    }
+}
+
+/// The place of the entry that a reason names, if it names one.
+fn place_in(by: Reason) -> Option<usize>
+    ensures { result ≡ spec.place_in by }
+{
+    match by {
+        Reason::Entry { at } => Some(at),
+        Reason::AllowList | Reason::Default => None,
+    }
+}
+
+/// The variable of the environment that decides: without it the permission is another one.
+fn variable_of(
+    protocols: &Protocols<'_>,
+    name: &str,
+    permission: Permission,
+) -> Option<&'static str>
+    ensures { IsVariableOf protocols.now name.now permission (option_map (λ v. v.now) result) }
+{
+    match permission {
+        Permission::Allowed(by) => allowing(by),
+        Permission::Refused(by) => refusing(protocols, name, by),
+        Permission::UnknownAllowance { at: _ } => None,
+        Permission::UnknownFromUser => Some("GIT_PROTOCOL_FROM_USER"),
+    }
+}
+
+/// The variable that allows a transport, for this reason.
+fn allowing(by: Reason) -> Option<&'static str>
+    ensures { option_map (λ v. v.now) result ≡ spec.list_variable by }
+{
+    match by {
+        Reason::AllowList => Some("GIT_ALLOW_PROTOCOL"),
+        Reason::Entry { at: _ } | Reason::Default => None,
+    }
+}
+
+/// The variable that refuses a transport, for this reason.
+fn refusing(protocols: &Protocols<'_>, name: &str, by: Reason) -> Option<&'static str>
+    ensures { IsRefusing protocols.now name.now by (option_map (λ v. v.now) result) }
+{
+    if matches!(by, Reason::AllowList) {
+        return Some("GIT_ALLOW_PROTOCOL");
+    }
+    if is_for_users(protocols, name) {
+        return Some("GIT_PROTOCOL_FROM_USER");
+    }
+    None
+}
+
+/// Whether the configuration allows the transport to users.
+fn is_for_users(protocols: &Protocols<'_>, name: &str) -> bool
+    ensures { IsAllowedToUsers protocols.now name.now result }
+{
+    let of_users = Protocols {
+        entries: protocols.entries,
+        allow_list: None,
+        from_user: None,
+    };
+    of_users.permission(name).is_allowed()
+}
+
+/// The entry that begins at this place, as it is shown.
+fn entry_at(
+    alloc: Global,
+    entries: &[Entry<'_>],
+    place: Option<usize>,
+) -> Result<Option<Setting>, AllocError>
+    ensures { IfOk result (λ s. IsEntryAt entries.now place (option_map (λ e. e.at) s)) }
+{
+    let Some(place) = place else {
+        return Ok(None);
+    };
+    match last_at(entries, place) {
+        None => Ok(None),
+        Some(entry) => Ok(Some(Setting::of(alloc, entry)?)),
+    }
+}
+
+/// The last entry that begins at this place, of which there is one at most.
+fn last_at<'b, 'a>(entries: &'b [Entry<'a>], place: usize) -> Option<&'b Entry<'a>>
+    ensures { IsLastOf (λ e. e.at ≡ place) entries.now (option_map (λ e. e.now) result) }
+{
+    let mut front = entries;
+    while let [rest @ .., last] = front {
+        if is_at(last, place) {
+            return Some(last);
+        }
+        front = rest;
+    }
+    None
+}
+
+/// Whether the entry begins at this place.
+fn is_at(entry: &Entry<'_>, place: usize) -> bool
+    ensures { IsTrue result ↔ (entry.now.at ≡ place) }
+{
+    entry.at == place
+}

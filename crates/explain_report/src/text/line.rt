@@ -1,0 +1,235 @@
+//! What may be shown of a line, and how its text is spelled for a terminal.
+//!
+//! A line with a password is shown with the word `redacted` in its place. Of a refused line all that may be a
+//! password is hidden. Text goes out with `\` doubled and each control character, each byte that is no UTF-8
+//! and each character that isn't seen or takes no column escaped as `Debug` of a byte string spells them;
+//! quotes are as they are. So what is shown is one text's alone, and speaks to no terminal. It uses `cut`,
+//! `secret`, the library's `parts_of`, and the crates `bstr` and `unicode_width`.
+
+use crate::text::cut::{Cut, Part, Piece};
+use crate::text::secret::around_secret;
+use bstr::{BStr, ByteSlice};
+use git_refusals::parts::parts_of;
+use git_syntax::bytes::cut_at_mark;
+use std::alloc::{AllocError, Global};
+use std::fmt::{self, Write};
+use unicode_width::UnicodeWidthChar;
+
+/// A line as it may be shown.
+#[derive(Drop)]
+pub struct SeenLine<'a> {
+    /// Its pieces.
+    pub cut: Cut<'a>,
+    /// The line as one text, with the word for a password and U+FFFD for bytes that are no UTF-8.
+    pub input: String,
+}
+
+impl<'a> SeenLine<'a> {
+    /// The line as it may be shown.
+    pub fn of(alloc: Global, line: &'a [u8]) -> Result<SeenLine<'a>, AllocError> {
+        let cut = pieces_of(line);
+        let input = input(alloc, &cut)?;
+        Ok(SeenLine { cut, input })
+    }
+}
+
+/// The pieces of a line: the parts of its location, or of a refused line what is around a secret.
+pub fn pieces_of(line: &[u8]) -> Cut<'_> {
+    match parts_of(line) {
+        Ok(parts) => Cut::of_parts(line, &parts),
+        Err(_) => refused(line).unwrap_or(Cut::unknown(line)),
+    }
+}
+
+/// The pieces of a refused line around what may be a password, if there may be one: what is between the first
+/// `:` behind its first `://` and its last `@`.
+fn refused(line: &[u8]) -> Option<Cut<'_>> {
+    let (front, behind) = cut_at_mark(line)?;
+    let (user, secret, rest) = around_secret(behind)?;
+    Some(Cut::around_secret(front, user, secret, rest))
+}
+
+/// The line as one text, with U+FFFD for bytes that are no UTF-8.
+pub fn input(alloc: Global, cut: &Cut<'_>) -> Result<String, AllocError> {
+    let mut text = String::new(alloc);
+    for piece in cut.pieces() {
+        push_lossy(&mut text, piece.shown())?;
+    }
+    Ok(text)
+}
+
+/// Appends a text, with U+FFFD for bytes that are no UTF-8.
+pub(crate) fn push_lossy(out: &mut String, text: &[u8]) -> Result<(), AllocError> {
+    let text = BStr::new(text);
+    write!(out, "{text}")
+}
+
+/// How a character is spelled.
+#[derive(Clone, Copy)]
+enum Spelling {
+    /// As it is, in so many columns.
+    Plain(usize),
+    /// By a text.
+    Short(&'static str),
+    /// Each byte by its number.
+    Bytes,
+    /// By the number of the character.
+    Number,
+}
+
+/// How a character is spelled that is in these bytes; U+FFFD also stands for bytes that are no character.
+fn spelled(character: char, bytes: &[u8]) -> Spelling {
+    match character {
+        '\0' => Spelling::Short("\\0"),
+        '\t' => Spelling::Short("\\t"),
+        '\n' => Spelling::Short("\\n"),
+        '\r' => Spelling::Short("\\r"),
+        '\\' => Spelling::Short("\\\\"),
+        ' '..='~' => Spelling::Plain(1),
+        '\0'..='\x7f' => Spelling::Bytes,
+        '\u{fffd}' if bytes != b"\xef\xbf\xbd".as_slice() => Spelling::Bytes,
+        _ => spelled_wide(character),
+    }
+}
+
+/// How a character past ASCII is spelled.
+fn spelled_wide(character: char) -> Spelling {
+    let is_printed = character.escape_debug().next() == Some(character);
+    match character.width() {
+        Some(columns) if is_printed && 0 < columns => Spelling::Plain(columns),
+        _ => Spelling::Number,
+    }
+}
+
+/// How many columns the spelling of a character takes.
+fn columns_of(character: char, bytes: &[u8]) -> usize {
+    match spelled(character, bytes) {
+        Spelling::Plain(columns) => columns,
+        Spelling::Short(text) => text.len(),
+        Spelling::Bytes => bytes.len().saturating_mul(4),
+        Spelling::Number => match u32::from(character) {
+            0..0x100 => 6,
+            0x100..0x1000 => 7,
+            0x1000..0x10000 => 8,
+            0x10000..0x100000 => 9,
+            _ => 10,
+        },
+    }
+}
+
+/// Bytes as they are shown.
+#[derive(Clone, Copy)]
+pub struct Shown<'a>(pub &'a [u8]);
+
+/// Bytes as they are shown, in quotes; those inside are escaped.
+#[derive(Clone, Copy, PartialEq)]
+pub struct Quoted<'a>(pub &'a [u8]);
+
+impl fmt::Display for Shown<'_> {
+    fn fmt<W: fmt::Write>(&self, f: &mut fmt::Formatter<W>) -> fmt::Result {
+        for (from, to, character) in self.0.char_indices() {
+            write_character(f, character, between(self.0, from, to))?;
+        }
+        Ok(())
+    }
+}
+
+impl fmt::Display for Quoted<'_> {
+    fn fmt<W: fmt::Write>(&self, f: &mut fmt::Formatter<W>) -> fmt::Result {
+        f.write_str("\"")?;
+        for (from, to, character) in self.0.char_indices() {
+            match character {
+                '"' => f.write_str("\\\"")?,
+                _ => write_character(f, character, between(self.0, from, to))?,
+            }
+        }
+        f.write_str("\"")
+    }
+}
+
+/// Writes a character as it is spelled.
+fn write_character<W: fmt::Write>(
+    f: &mut fmt::Formatter<W>,
+    character: char,
+    bytes: &[u8],
+) -> fmt::Result {
+    match spelled(character, bytes) {
+        Spelling::Plain(_) => f.write_char(character),
+        Spelling::Short(text) => f.write_str(text),
+        Spelling::Bytes => {
+            for byte in bytes {
+                write!(f, "\\x{byte:02x}")?;
+            }
+            Ok(())
+        }
+        Spelling::Number => {
+            let number = u32::from(character);
+            write!(f, "\\u{{{number:x}}}")
+        }
+    }
+}
+
+/// Appends a text as it is shown.
+pub fn write_shown(out: &mut String, text: &[u8]) -> Result<(), AllocError> {
+    let shown = Shown(text);
+    write!(out, "{shown}")
+}
+
+/// How many columns a text takes as it is shown.
+pub fn columns(text: &[u8]) -> usize {
+    let mut sum = 0usize;
+    for (from, to, character) in text.char_indices() {
+        sum = sum.saturating_add(columns_of(character, between(text, from, to)));
+    }
+    sum
+}
+
+/// The longest front of whole characters that takes at most so many columns.
+pub fn front(text: &[u8], limit: usize) -> &[u8] {
+    let mut sum = 0usize;
+    for (from, to, character) in text.char_indices() {
+        sum = sum.saturating_add(columns_of(character, between(text, from, to)));
+        if limit < sum {
+            return between(text, 0, from);
+        }
+    }
+    text
+}
+
+/// The longest end of whole characters that takes at most so many columns.
+pub fn end(text: &[u8], limit: usize) -> &[u8] {
+    let mut sum = 0usize;
+    for (from, to, character) in text.char_indices().rev() {
+        sum = sum.saturating_add(columns_of(character, between(text, from, to)));
+        if limit < sum {
+            return between(text, to, text.len());
+        }
+    }
+    text
+}
+
+/// The bytes from one place to another.
+fn between(text: &[u8], from: usize, to: usize) -> &[u8] {
+    match text.get(from..to) {
+        Some(bytes) => bytes,
+        None => b"",
+    }
+}
+
+/// The text before a place and from there on. A place inside a character means its beginning, one past the
+/// end the end.
+pub fn halves(text: &[u8], place: usize) -> (&[u8], &[u8]) {
+    let mut at = 0usize;
+    for (_from, to, _character) in text.char_indices() {
+        if place < to {
+            break;
+        }
+        at = to;
+    }
+    text.split_at(at.min(text.len()))
+}
+
+/// Whether the piece stands for a secret.
+pub fn is_hidden(piece: &Piece<'_>) -> bool {
+    matches!(piece.part(), Part::Password)
+}

@@ -1,2 +1,0 @@
-pub mod Secrets
-pub mod Rules
