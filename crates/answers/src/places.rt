@@ -7,26 +7,36 @@ use crate::order::{Order, unknown};
 use crate::report::{Out, report_lent, report_owned};
 use bstr::BStr;
 use git_rules::config::Entry;
-use git_rules::normal::{NormalError, NormalUrl};
+use git_rules::normal::{NormalError, NormalUrl, room_for};
 use git_rules::pattern::entries::{best_entry, entry_rank};
 use git_rules::pattern::place::place_in;
+use git_rules::pattern::settings::settings_for;
 use git_rules::pattern::{UrlPattern, best};
 use gix_url::UrlRef;
 use std::alloc::Global;
 
 /// A room for a normal form: of as many bytes as the order says, and else as are asked for a text of this
 /// length. It isn't empty: what the library leaves there is none of a place.
-fn room_for(alloc: Global, order: Order<'_>, len: usize) -> Result<Vec<u8>, Halt> {
+fn room_of(alloc: Global, order: Order<'_>, len: usize) -> Result<Vec<u8>, Halt> {
     let size = match order.number("room") {
         Some(size) => usize::try_from(size).unwrap_or(0),
-        None => len.saturating_mul(3).saturating_add(1),
+        None => room_for(len),
     };
     Ok(vec![in alloc; b'#'; size]?)
 }
 
+/// Calls over the length of a text.
+pub fn over_len(order: Order<'_>, len: u64, out: &mut Out) -> Result<(), Halt> {
+    let len = usize::try_from(len).unwrap_or(0);
+    match order.call() {
+        "normal::room_for" => report_lent(out, &room_for(len)),
+        call => unknown(call),
+    }
+}
+
 /// Calls over a text, and over a pattern beside it.
 pub fn over_text(alloc: Global, order: Order<'_>, text: &[u8], out: &mut Out) -> Result<(), Halt> {
-    let mut room = room_for(alloc, order, text.len())?;
+    let mut room = room_of(alloc, order, text.len())?;
     let outcome = match order.name() {
         "NormalUrl::parse_in" | "UrlPattern::parse_in" => read(order, text, &mut room, out),
         _ => over_place(
@@ -69,7 +79,7 @@ fn over_place(
     out: &mut Out,
 ) -> Result<(), Halt> {
     let text = order.bytes(alloc, "pattern")?;
-    let mut room = room_for(alloc, order, text.len())?;
+    let mut room = room_of(alloc, order, text.len())?;
     let outcome = match place {
         Err(error) => refused(order, error, out),
         Ok(place) => {
@@ -122,12 +132,12 @@ pub fn over_entries(
     out: &mut Out,
 ) -> Result<(), Halt> {
     let text = order.bytes(alloc, "text")?;
-    let mut own = room_for(alloc, order, text.len())?;
-    let mut room = room_for(alloc, order, len)?;
+    let mut own = room_of(alloc, order, text.len())?;
+    let mut room = room_of(alloc, order, len)?;
     let outcome = match NormalUrl::parse_in(text.as_slice(), false, &mut own) {
         Err(error) => refused(order, error, out),
         Ok(place) => {
-            let outcome = pick(order, entries, &place, &mut room, out);
+            let outcome = over_place_of(alloc, order, entries, &place, &mut room, out);
             drop(place);
             outcome
         }
@@ -136,6 +146,39 @@ pub fn over_entries(
     drop(own);
     drop(text);
     outcome
+}
+
+/// Reports which entries are used for a place, or what is picked of them.
+fn over_place_of(
+    alloc: Global,
+    order: Order<'_>,
+    entries: &[Entry<'_>],
+    place: &NormalUrl<'_>,
+    room: &mut [u8],
+    out: &mut Out,
+) -> Result<(), Halt> {
+    match order.name() {
+        "settings::settings_for" => settle(alloc, order, entries, place, room, out),
+        _ => pick(order, entries, place, room, out),
+    }
+}
+
+/// Reports the indices of the entries whose values are used for a place.
+fn settle(
+    alloc: Global,
+    order: Order<'_>,
+    entries: &[Entry<'_>],
+    place: &NormalUrl<'_>,
+    room: &mut [u8],
+    out: &mut Out,
+) -> Result<(), Halt> {
+    let name = order.needed("name")?;
+    match order.call() {
+        "settings::settings_for" => {
+            report_owned(out, settings_for(alloc, entries, name, place, room))
+        }
+        call => unknown(call),
+    }
 }
 
 /// Reports the value of the best entry for a place, or the rank of the first one.
@@ -190,7 +233,7 @@ pub fn over_location(
         Ok(len) => usize::try_from(len).unwrap_or(0),
         Err(_) => 0,
     };
-    let mut room = room_for(alloc, order, len.saturating_mul(2))?;
+    let mut room = room_of(alloc, order, len.saturating_mul(2))?;
     let outcome = match order.call() {
         "place::place_in" => report_owned(out, place_in(url, &mut room)),
         call => unknown(call),

@@ -7,9 +7,13 @@ use git_rules::config::{Entry, EntryError, Reader};
 use git_rules::normal::{NormalError, NormalUrl};
 use git_rules::pattern::Rank;
 use git_rules::pattern::place::PlaceError;
+use git_rules::pattern::settings::{Kind, SettingsError};
 use git_rules::protocols::Permission;
+use git_rules::protocols::text::NoTransport;
+use git_rules::remote::RemoteError;
 use git_rules::rewrite::RewriteError;
 use git_rules::ssh::{SshError, SshRefusal};
+use git_rules::stops::{Stop, ValueKind};
 use std::alloc::AllocError;
 use std::io::{self, Write};
 
@@ -51,6 +55,12 @@ impl Report for Vec<Entry<'_>> {
 }
 
 impl Report for Vec<BString> {
+    fn report(&self, out: &mut Out) -> io::Result<()> {
+        report_list(out, self.as_slice())
+    }
+}
+
+impl Report for Vec<usize> {
     fn report(&self, out: &mut Out) -> io::Result<()> {
         report_list(out, self.as_slice())
     }
@@ -114,6 +124,33 @@ impl Report for Rank {
     }
 }
 
+impl Report for Kind {
+    fn report(&self, out: &mut Out) -> io::Result<()> {
+        write!(out, "\"{self:?}\"")
+    }
+}
+
+impl Report for ValueKind {
+    fn report(&self, out: &mut Out) -> io::Result<()> {
+        write!(out, "\"{self:?}\"")
+    }
+}
+
+impl Report for Stop {
+    fn report(&self, out: &mut Out) -> io::Result<()> {
+        write!(out, "\"{self:?}\"")
+    }
+}
+
+impl Report for SettingsError {
+    fn report(&self, out: &mut Out) -> io::Result<()> {
+        match self {
+            SettingsError::NoValue { at } => write!(out, "{{\"error\":\"NoValue\",\"at\":{at}}}"),
+            error => write!(out, "{{\"error\":\"{error:?}\"}}"),
+        }
+    }
+}
+
 impl Report for Permission {
     fn report(&self, out: &mut Out) -> io::Result<()> {
         out.write_all(match self {
@@ -131,6 +168,21 @@ impl Report for RewriteError {
             RewriteError::Memory => out.write_all(b"{\"error\":\"Memory\"}"),
             RewriteError::NoValue { at } => write!(out, "{{\"error\":\"NoValue\",\"at\":{at}}}"),
         }
+    }
+}
+
+impl Report for RemoteError {
+    fn report(&self, out: &mut Out) -> io::Result<()> {
+        match self {
+            RemoteError::Memory => out.write_all(b"{\"error\":\"Memory\"}"),
+            RemoteError::NoValue { at } => write!(out, "{{\"error\":\"NoValue\",\"at\":{at}}}"),
+        }
+    }
+}
+
+impl Report for NoTransport {
+    fn report(&self, out: &mut Out) -> io::Result<()> {
+        write!(out, "{{\"error\":\"{self:?}\"}}")
     }
 }
 

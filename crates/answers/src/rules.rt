@@ -1,23 +1,31 @@
 //! Calls of `git_rules`: what Git does with a location by its configuration.
 //!
 //! `config` is the text that `git config --list -z` writes. Calls that rewrite are in `rewriting`, those over
-//! a place in `places`, those of Secure Shell in `commands`, and `rule_outcomes` reports what calls return.
+//! a remote in `remotes`, over a place in `places`, those of Secure Shell in `commands`, and `rule_outcomes`
+//! reports what calls return.
 
 use crate::halt::Halt;
 use crate::order::{Order, unknown};
 use crate::report::{Out, report_lent, report_owned};
 use crate::rule_outcomes::report_items;
 use crate::shown::show_debug;
-use crate::{build, commands, places, rewriting};
+use crate::{build, commands, credentials, places, remotes, rewriting};
 use git_rules::boolean::read_boolean;
 use git_rules::config::law::law_one_reading;
-use git_rules::config::{self, Entry, Reader};
+use git_rules::config::{self, Entry, Reader, is_listing};
+use git_rules::credentials::law::law_credentials;
 use git_rules::normal::law_normal_form;
+use git_rules::number::read_number;
 use git_rules::pattern::law_patterns;
+use git_rules::pattern::settings::kind_of;
+use git_rules::pattern::settings::law::law_settings;
+use git_rules::protocols::text::{law_text_transport, transport_of};
 use git_rules::protocols::{Protocols, law_permission, transport};
+use git_rules::remote::law::law_one_remote;
 use git_rules::rewrite::host::{names_same_host, texts_name_same_host};
 use git_rules::rewrite::law::law_one_outcome;
 use git_rules::ssh::law_git_words;
+use git_rules::stops::{self, stop_at};
 use gix_url::Url;
 use std::alloc::Global;
 
@@ -36,13 +44,18 @@ fn is_of_configuration(owner: &str) -> bool {
     matches!(
         owner,
         "config"
+            | "credentials"
             | "Entry"
             | "Reader"
+            | "Remote"
             | "Rewrites"
             | "Rewritten"
             | "Protocols"
             | "Permission"
+            | "text"
             | "boolean"
+            | "number"
+            | "stops"
     )
 }
 
@@ -50,13 +63,23 @@ fn is_of_configuration(owner: &str) -> bool {
 fn is_of_places(owner: &str) -> bool {
     matches!(
         owner,
-        "NormalUrl" | "UrlPattern" | "pattern" | "entries" | "place" | "protocols" | "host"
+        "NormalUrl"
+            | "normal"
+            | "UrlPattern"
+            | "pattern"
+            | "entries"
+            | "settings"
+            | "place"
+            | "protocols"
+            | "host"
     )
 }
 
 /// Makes the call of an order, by what it is over.
 pub fn make(alloc: Global, order: Order<'_>, out: &mut Out) -> Result<(), Halt> {
-    if order.has("config") {
+    if let Some(len) = order.number("len") {
+        places::over_len(order, len, out)
+    } else if order.has("config") {
         over_config(alloc, order, out)
     } else if order.has("url") {
         over_url(alloc, order, out)
@@ -71,7 +94,12 @@ pub fn make(alloc: Global, order: Order<'_>, out: &mut Out) -> Result<(), Halt> 
 fn over_config(alloc: Global, order: Order<'_>, out: &mut Out) -> Result<(), Halt> {
     let text = order.bytes(alloc, "config")?;
     let outcome = match order.name() {
-        "config::entries" | "Reader::new" => over_reader(alloc, order, text.as_slice(), out),
+        "config::entries" | "config::is_listing" | "Reader::new" => over_reader(
+            alloc,
+            order,
+            text.as_slice(),
+            out,
+        ),
         _ => read_entries(alloc, order, text.as_slice(), out),
     };
     drop(text);
@@ -82,6 +110,7 @@ fn over_config(alloc: Global, order: Order<'_>, out: &mut Out) -> Result<(), Hal
 fn over_reader(alloc: Global, order: Order<'_>, text: &[u8], out: &mut Out) -> Result<(), Halt> {
     match order.call() {
         "config::entries" => report_owned(out, config::entries(alloc, text)),
+        "config::is_listing" => report_lent(out, &is_listing(text)),
         "Reader::new" => Ok(report_items(out, Reader::new(text))?),
         call => unknown(call),
     }
@@ -94,10 +123,18 @@ fn read_entries(alloc: Global, order: Order<'_>, text: &[u8], out: &mut Out) -> 
         "Protocols::permission" | "Permission::is_allowed" => {
             over_protocols(alloc, order, entries.as_slice(), out)
         }
-        "Entry::is_section" | "Entry::is_name" => over_entry(order, entries.as_slice(), out),
-        "entries::best_entry" | "entries::entry_rank" => {
+        "Entry::is_section"
+        | "Entry::is_name"
+        | "Entry::sets"
+        | "stops::kind_of"
+        | "stops::stop_at" => { over_entry(order, entries.as_slice(), out) }
+        "entries::best_entry" | "entries::entry_rank" | "settings::settings_for" => {
             places::over_entries(alloc, order, entries.as_slice(), text.len(), out)
         }
+        "credentials::credentials_for" => {
+            credentials::over_entries(alloc, order, entries.as_slice(), out)
+        }
+        "Remote::of" => remotes::over_entries(alloc, order, entries.as_slice(), out),
         _ => rewriting::over_entries(alloc, order, entries.as_slice(), out),
     };
     drop(entries);
@@ -112,6 +149,12 @@ fn over_entry(order: Order<'_>, entries: &[Entry<'_>], out: &mut Out) -> Result<
     match order.call() {
         "Entry::is_section" => report_lent(out, &entry.is_section(order.needed("section")?)),
         "Entry::is_name" => report_lent(out, &entry.is_name(order.needed("name")?)),
+        "Entry::sets" => report_lent(
+            out,
+            &entry.sets(order.needed("section")?, order.needed("name")?),
+        ),
+        "stops::kind_of" => report_lent(out, &stops::kind_of(entry)),
+        "stops::stop_at" => report_lent(out, &stop_at(entry)),
         call => unknown(call),
     }
 }
@@ -203,6 +246,9 @@ fn over_text(alloc: Global, order: Order<'_>, out: &mut Out) -> Result<(), Halt>
     let text = order.bytes(alloc, "text")?;
     let outcome = match order.name() {
         "boolean::read_boolean" => over_boolean(order, text.as_slice(), out),
+        "number::read_number" => over_number(order, text.as_slice(), out),
+        "settings::kind_of" => over_name(order, text.as_slice(), out),
+        "text::transport_of" => over_form(order, text.as_slice(), out),
         "host::texts_name_same_host" => over_two_texts(alloc, order, text.as_slice(), out),
         "Rewrites::new" | "Rewrites::add_fetch" | "Rewrites::add_push" => {
             rewriting::over_rule(alloc, order, text.as_slice(), out)
@@ -217,6 +263,33 @@ fn over_text(alloc: Global, order: Order<'_>, out: &mut Out) -> Result<(), Halt>
 fn over_boolean(order: Order<'_>, text: &[u8], out: &mut Out) -> Result<(), Halt> {
     match order.call() {
         "boolean::read_boolean" => report_lent(out, &read_boolean(text)),
+        call => unknown(call),
+    }
+}
+
+/// Reports the size of the number that a text is.
+fn over_number(order: Order<'_>, text: &[u8], out: &mut Out) -> Result<(), Halt> {
+    let Some(greatest) = order.number("greatest") else {
+        return Err(Halt::Unprepared);
+    };
+    match order.call() {
+        "number::read_number" => report_lent(out, &read_number(text, greatest).map(u128::from)),
+        call => unknown(call),
+    }
+}
+
+/// Reports the kind of a name of `http.*`.
+fn over_name(order: Order<'_>, text: &[u8], out: &mut Out) -> Result<(), Halt> {
+    match order.call() {
+        "settings::kind_of" => report_lent(out, &kind_of(text)),
+        call => unknown(call),
+    }
+}
+
+/// Reports the transport that Git uses for a text, by the form of the text.
+fn over_form(order: Order<'_>, text: &[u8], out: &mut Out) -> Result<(), Halt> {
+    match order.call() {
+        "text::transport_of" => report_lent(out, &transport_of(text)),
         call => unknown(call),
     }
 }
@@ -242,12 +315,16 @@ fn over_two_texts(alloc: Global, order: Order<'_>, text: &[u8], out: &mut Out) -
 /// Laws of `git_rules`, which hold of all values, and whose calls do nothing.
 pub fn over_nothing(order: Order<'_>, out: &mut Out) -> Result<(), Halt> {
     match order.call() {
+        "laws::law_credentials" => report_lent(out, &law_credentials()),
         "laws::law_git_words" => report_lent(out, &law_git_words()),
         "laws::law_normal_form" => report_lent(out, &law_normal_form()),
         "laws::law_one_outcome" => report_lent(out, &law_one_outcome()),
         "laws::law_one_reading" => report_lent(out, &law_one_reading()),
+        "laws::law_one_remote" => report_lent(out, &law_one_remote()),
         "laws::law_patterns" => report_lent(out, &law_patterns()),
         "laws::law_permission" => report_lent(out, &law_permission()),
+        "laws::law_settings" => report_lent(out, &law_settings()),
+        "laws::law_text_transport" => report_lent(out, &law_text_transport()),
         call => unknown(call),
     }
 }

@@ -2,7 +2,8 @@
 
 use bstr::{BStr, BString};
 use gix_url::{
-    ArgumentSafety, Error, PathComponents, Scheme, SchemeRef, Url, UrlRef, WriteError, WriteFault,
+    ArgumentSafety, Error, PathComponents, Scheme, SchemeRef, Url, UrlRef, WebCondition,
+    WriteError, WriteFault,
 };
 use std::alloc::{AllocError, Global};
 
@@ -118,6 +119,11 @@ fn write_for_git(out: &mut Vec<u8>, url: &UrlRef<'_>) -> Result<bool, WriteError
     }
     url.write_to(out)?;
     Ok(true)
+}
+
+/// Whether a part of the path is written as a segment that readers remove.
+fn has_dots(url: &UrlRef<'_>) -> bool {
+    url.unmet_web_condition() == Some(WebCondition::NoDotSegment) // of `http://h/a/../b`
 }
 
 fn is_refused(url: &UrlRef<'_>) -> bool {

@@ -4,8 +4,10 @@ use git_rules::config::{self, Entry};
 use git_rules::normal::{NormalError, NormalUrl};
 use git_rules::pattern::entries::{best_entry, entry_rank};
 use git_rules::pattern::place::place_in;
+use git_rules::pattern::settings::{Kind, SettingsError, kind_of, settings_for};
 use git_rules::pattern::{UrlPattern, best};
 use gix_url::UrlRef;
+use std::alloc::Global;
 
 /// Whether a pattern stands for a place, each in a room of its own.
 fn stands_for(pattern: &[u8], room: &mut [u8], place: &NormalUrl<'_>) -> bool {
@@ -29,7 +31,7 @@ fn picked<'a>(
     values.get(best(patterns, place)?).copied()
 }
 
-/// Whether the secret that is kept for a URL may be sent where a location leads. Then it goes to that URL's host.
+/// Whether the secret that is kept for a URL may be sent with a location's request, which is made to that URL's host.
 fn may_be_sent(url: &UrlRef<'_>, kept_for: &UrlPattern<'_>, place: &NormalUrl<'_>) -> bool {
     url.agrees_with_git() && kept_for.matches(place)
 }
@@ -64,4 +66,26 @@ fn is_for(pattern: &UrlPattern<'_>, url: &UrlRef<'_>, room: &mut [u8]) -> bool {
         Ok(place) => pattern.matches(&place),
         Err(_) => false,
     }
+}
+
+/// Whether Git adds up the values of a name of `http.*`, as of `extraHeader`.
+fn adds_up(name: &[u8]) -> bool {
+    matches!(kind_of(name), Kind::List)
+}
+
+/// The headers that Git sends to a place beside its own, each with a line feed after it.
+fn header_lines(
+    alloc: Global,
+    entries: &[Entry<'_>],
+    place: &NormalUrl<'_>,
+    room: &mut [u8],
+) -> Result<Vec<u8>, SettingsError> {
+    let mut lines = Vec::new(alloc);
+    for i in &settings_for(alloc, entries, "extraHeader", place, room)? {
+        if let Some(header) = entries.get(*i).and_then(|entry| entry.value) {
+            lines.extend_from_slice(header)?; // `X-A: 1`, and `X-B: 2` of `http.https://h.extraHeader`
+            lines.extend_from_slice(b"\n")?;
+        }
+    }
+    Ok(lines)
 }

@@ -3,7 +3,7 @@
 use bstr::{BStr, BString};
 use gix_url::lines::{self, RunError};
 use gix_url::testing::TestUrlExtension;
-use gix_url::{Error, Scheme, Url, WriteError};
+use gix_url::{Error, Scheme, Url, WebCondition, WriteError};
 use std::alloc::{AllocError, Global};
 
 fn append(out: &mut Vec<u8>, url: &Url) -> Result<(), WriteError> {
@@ -38,6 +38,11 @@ fn for_git(alloc: Global, url: &Url) -> Result<Option<BString>, Error> {
         return Ok(None); // `ssh://u:p@h/p`, in which Git reads the user `u:p`
     }
     Ok(Some(url.to_bstring(alloc)?))
+}
+
+/// Whether the path is refused for a segment `.` or `..`, which other readers remove.
+fn is_refused_for_dots(url: &Url) -> bool {
+    url.unmet_web_condition() == Some(WebCondition::NoDotSegment) // of `http://h/a/../b`
 }
 
 fn log_line(alloc: Global, url: &Url) -> Result<String, AllocError> {

@@ -1,6 +1,6 @@
 -- The words of a command of Secure Shell, as a program that runs it needs them.
 use Rattle.std.specs.Prelude.{◌≡◌, ℕ, false, List, [], ◌∷◌, ◌++◌, codes, Some}
-use Rattle.gix_url.specs.Arguments.{is_option_like}
+use Rattle.gix_url.specs.Bytes.{is_option_like}
 use Rattle.gix_url.specs.Git.{UserCut}
 use Rattle.gix_url.specs.Location.{Location}
 use Rattle.git_rules.specs.declared.ssh.SshVariant.TheVariants.{Ssh}

@@ -12,7 +12,7 @@ ghost use Rattle.gix_url.specs.Location.{Location, fields};
 
 use crate::boxes::{boxed, read};
 use crate::commands::words_to_fetch;
-use crate::credentials::credential_for;
+use crate::credentials::headers_for;
 use bstr::BString;
 use git_rules::config;
 use gix_url::laws::{law_git, law_separation, law_value};
@@ -229,29 +229,33 @@ fn user_and_path_come_through(rt: HostRuntime) -> Result<(), Fail> {
     Ok(())
 }
 
-/// A configuration with credentials: for a place, for all names of a domain, and for all places.
-static CREDENTIALS: &[u8] =
+/// A configuration with headers: for a place, for all names of a domain, and for all places.
+static HEADERS: &[u8] =
     b"http.https://h/a.extraheader\na\0http.https://*.h.extraheader\nb\0http.extraheader\nc\0";
 
-/// Checks the credential that is picked for a text's location.
-fn picks(rt: &impl Abort, alloc: Global, text: &str, want: Option<&[u8]>) -> Result<(), Fail> {
-    let (mut room, mut other) = ([0u8; 256], [0u8; 256]);
-    let entries = config::entries(alloc, CREDENTIALS)?;
+/// Checks the one header that is sent for a text's location, by the index of its entry.
+fn sends(rt: &impl Abort, alloc: Global, text: &str, want: Option<&usize>) -> Result<(), Fail> {
+    let (mut buffer, mut other) = ([0u8; 256], [0u8; 256]);
+    let entries = config::entries(alloc, HEADERS)?;
     let url = read(alloc, text)?;
-    let picked = match credential_for(&url, &entries, &mut room, &mut other) {
-        None => None,
-        Some(entry) => entry.value,
-    };
-    assert!(rt; picked == want, "the credential for {text}");
+    match headers_for(alloc, &url, &entries, &mut buffer, &mut other) {
+        Ok(sent) => {
+            assert!(rt;
+                sent.first() == want && sent.len() <= 1,
+                "the headers for {text}"
+            );
+        }
+        Err(_) => assert!(rt; false, "the headers for {text} are found"),
+    }
     Ok(())
 }
 
 #[test]
-fn credentials_go_to_their_place(rt: HostRuntime) -> Result<(), Fail> {
-    picks(&rt, rt.alloc(), "https://h/a/b", Some(b"a"))?;
-    picks(&rt, rt.alloc(), "https://g.h/", Some(b"b"))?;
-    picks(&rt, rt.alloc(), "https://h/b", None)?;
-    picks(&rt, rt.alloc(), "ssh://h/a", None)
+fn headers_go_to_their_place(rt: HostRuntime) -> Result<(), Fail> {
+    sends(&rt, rt.alloc(), "https://h/a/b", Some(&0))?;
+    sends(&rt, rt.alloc(), "https://g.h/", Some(&1))?;
+    sends(&rt, rt.alloc(), "https://h/b", Some(&2))?;
+    sends(&rt, rt.alloc(), "ssh://h/a", None)
 }
 
 /// Checks what was read back.

@@ -1,50 +1,46 @@
-//! A credential for a location: what a program that picks one proves by the contracts of `git_rules` alone.
+//! The headers for a location: what a program that sends them proves by the contracts of `git_rules` alone.
 
-ghost use Rattle.std.specs.Prelude.{◌↔◌, IfNone, IfSome, IsTrue, length};
+ghost use Rattle.std.specs.Prelude.{◌↔◌, IfOk, IsTrue, length};
 ghost use Rattle.gix_url.specs.Settled.{IsWeb};
-ghost use Rattle.user_proofs.specs.Credentials.{GoesToOwn, NoneIsFor};
+ghost use Rattle.user_proofs.specs.Credentials.{AreOwn, AreSent};
 
 use git_rules::config::Entry;
 use git_rules::normal::law_normal_form;
-use git_rules::pattern::entries::best_entry;
 use git_rules::pattern::law_patterns;
 use git_rules::pattern::place::place_in;
+use git_rules::pattern::settings::{SettingsError, settings_for};
 use gix_url::laws::law_value;
 use gix_url::{Scheme, Url};
+use std::alloc::Global;
 
-/// The entry `http.<url>.extraHeader` with the credential for a location, if it may be sent where Git and curl go for the
-/// text of that: to the scheme, the host and the port of the entry's URL. For a location of HTTP in whose text Git reads the
-/// same place there is none only where no such entry is for it, or where a room is too short: one of the rooms is for the
-/// location, the other for the URLs of the entries.
-pub fn credential_for<'e, 'a>(
+/// The indices of the entries of `extraHeader` whose headers Git sends for a location, in its order. No header of an entry
+/// for another place is among them: each is for all places, or is sent where Git and curl go for the text of the location,
+/// to the scheme, the host and the port of the entry's URL. For a location that is not of HTTP, or in whose text Git may read
+/// another place, there are none, nor where the first buffer is shorter than four times the text and one byte. The other
+/// buffer is for the URLs of the entries.
+pub fn headers_for(
+    alloc: Global,
     url: &Url,
-    entries: &'e [Entry<'a>],
-    room: &mut [u8],
+    entries: &[Entry<'_>],
+    buffer: &mut [u8],
     other: &mut [u8],
-) -> Option<&'e Entry<'a>>
-    ensures goes { IfSome result (λ e. GoesToOwn url.now e.now) }
-    ensures none { IfNone result (NoneIsFor url.now (length room.old) (length other.old) entries.now) }
+) -> Result<Vec<usize>, SettingsError>
+    ensures own { IfOk result (λ found. AreOwn url.now entries.now found.items) }
+    ensures sent { IfOk result (λ found. AreSent url.now (length buffer.old) entries.now found.items) }
 {
     if !is_web(url) {
-        return None;
+        return Ok(Vec::new(alloc));
     }
     if !url.agrees_with_git() {
-        return None;
+        return Ok(Vec::new(alloc));
     }
     law_value(url);
     law_patterns();
     law_normal_form();
-    let Ok(place) = place_in(&url.as_ref(), room) else {
-        return None;
+    let Ok(place) = place_in(&url.as_ref(), buffer) else {
+        return Ok(Vec::new(alloc));
     };
-    let Ok(best) = best_entry(entries, "http", "extraHeader", &place, other) else {
-        return None;
-    };
-    let entry = entries.get(best?)?;
-    match entry.subsection {
-        None => None, // it is for all places
-        Some(_) => Some(entry),
-    }
+    settings_for(alloc, entries, "extraHeader", &place, other)
 }
 
 /// Whether the location is one of HTTP.

@@ -5,9 +5,13 @@ use crate::order::{Order, unknown};
 use crate::report::{Out, report_lent, report_member, report_name, report_owned};
 use crate::shown::show;
 use bstr::BStr;
+use gix_url::credential::{TextPieces, decode_pieces};
 use gix_url::lines::{run, status};
 use gix_url::parse::parse;
-use gix_url::{ParseError, Refusal, Scheme, Url, UrlRef, expand_path, ipv6, parts_of};
+use gix_url::{
+    Error, ParseError, Refusal, Scheme, Url, UrlRef, credential, expand_path, ipv6, parts_of,
+    transport,
+};
 use std::alloc::Global;
 use std::io::Write;
 
@@ -16,6 +20,8 @@ pub fn over_text(alloc: Global, order: Order<'_>, out: &mut Out) -> Result<(), H
     let bytes = order.bytes(alloc, "text")?;
     let outcome = if is_in_room(order.name()) {
         over_room(alloc, order, bytes.as_slice(), out)
+    } else if is_of_git(order.name()) {
+        read_as_git(alloc, order, bytes.as_slice(), out)
     } else {
         read(alloc, order, BStr::new(bytes.as_slice()), out)
     };
@@ -29,6 +35,70 @@ fn is_in_room(name: &str) -> bool {
         || name == "crate::parts_of"
         || name == "ParseError:fmt"
         || is_over_refusal(name)
+}
+
+/// Whether a call returns what Git reads in a text.
+fn is_of_git(name: &str) -> bool {
+    matches!(
+        name,
+        "transport::reading" | "credential::reading" | "credential::decode_pieces" | "Buffers::new"
+    )
+}
+
+/// Calls that return what Git reads in a text.
+fn read_as_git(alloc: Global, order: Order<'_>, text: &[u8], out: &mut Out) -> Result<(), Halt> {
+    match order.call() {
+        "" => Ok(()),
+        "credential::reading" => ask_for_credential(alloc, text, out),
+        "credential::decode_pieces" => read_pieces(alloc, order, text, out),
+        "Buffers::new" => report_owned(out, make_buffers(alloc)),
+        _ => {
+            let mut buffers = transport::Buffers::new(alloc);
+            let reported = report_lent(out, &transport::reading(text, &mut buffers));
+            drop(buffers);
+            reported
+        }
+    }
+}
+
+/// Makes the buffers of both readings, and drops them.
+fn make_buffers(alloc: Global) {
+    drop(transport::Buffers::new(alloc));
+    drop(credential::Buffers::new(alloc));
+}
+
+/// Reports what Git's credential code asks helpers for in a text.
+fn ask_for_credential(alloc: Global, text: &[u8], out: &mut Out) -> Result<(), Halt> {
+    let mut buffers = credential::Buffers::new(alloc);
+    let reported = match credential::reading(text, &mut buffers) {
+        Ok(request) => report_lent(out, &request),
+        Err(_) => report_owned(out, Error::Memory),
+    };
+    drop(buffers);
+    reported
+}
+
+/// Reports what Git's credential code reads in an authority and what follows it.
+fn read_pieces(
+    alloc: Global,
+    order: Order<'_>,
+    authority: &[u8],
+    out: &mut Out,
+) -> Result<(), Halt> {
+    let behind = order.bytes(alloc, "behind")?;
+    let mut buffers = credential::Buffers::new(alloc);
+    let pieces = TextPieces {
+        protocol: b"",
+        authority,
+        behind: behind.as_slice(),
+    };
+    let reported = match decode_pieces(pieces, &mut buffers) {
+        Ok(parts) => report_lent(out, &parts),
+        Err(_) => report_owned(out, Error::Memory),
+    };
+    drop(buffers);
+    drop(behind);
+    reported
 }
 
 /// Whether a call is over the refusal of a text, or over its reason.

@@ -69,6 +69,7 @@ fn look(alloc: Global, order: Order<'_>, url: &Url, out: &mut Out) -> Result<(),
     match order.call() {
         "Url::is_settled" => report_lent(out, &url.is_settled()),
         "Url::agrees_with_git" => report_lent(out, &url.agrees_with_git()),
+        "Url::unmet_web_condition" => report_lent(out, &url.unmet_web_condition()),
         "Url::user" => report_lent(out, &url.user()),
         "Url::password" => report_lent(out, &url.password()),
         "Url::host" => report_lent(out, &url.host()),
@@ -100,6 +101,7 @@ fn look_at_borrowed(alloc: Global, order: Order<'_>, url: &Url, out: &mut Out) -
     match order.call() {
         "Url::as_ref" => report_lent(out, &borrowed),
         "UrlRef::agrees_with_git" => report_lent(out, &borrowed.agrees_with_git()),
+        "UrlRef::unmet_web_condition" => report_lent(out, &borrowed.unmet_web_condition()),
         "UrlRef::is_settled" => report_lent(out, &borrowed.is_settled()),
         "UrlRef::original_path" => report_lent(out, &borrowed.original_path()),
         "UrlRef::port_or_default" => report_lent(out, &borrowed.port_or_default()),
