@@ -1,4 +1,4 @@
-"""A second reading of `GitReads`, the definition of what Git reads in a text (`crates/git_laws/specs/Git.antt`).
+"""A second reading of `GitReads`, the definition of what Git reads in a text (`crates/git_reads/specs/Git.antt`).
 
 Each function is a relation of the definition, and returns all that it relates to what is given: every cut of the text
 is tried, and what each case asks is asked of it. It asks Git nothing: `scripts/git_witness` compares it with what

@@ -1,5 +1,6 @@
 """Size: lines of 100 MB and millions of lines, answered rightly, in linear time, with few reads and with little memory; calls
-over texts of some MB, by the program `answers`, and the page of `explain --html` over 100,000 lines, in linear time.
+over texts of some MB, by the program `answers`, the page of `explain --html` over 100,000 lines, and a configuration with
+100,000 rules and entries, in linear time.
 
 Time is that of the processor. What looks at each byte again for each byte takes ten times as long for each byte of a
 text that is ten times as long; four times is let pass, for a machine that does other work as well.
@@ -52,6 +53,9 @@ LINES = 5_000_000
 # A page, which has many bytes for each byte of the remotes, and the memory for that.
 REMOTES = 100_000
 MOST_PAGE_BYTES = 40
+# A configuration with so many rules, each with a base of its own, so many helpers and so many names of `http.*`.
+RULES = 100_000
+MOST_RULES_SECONDS = 10
 CHUNK = 1 << 20
 
 # Calls over texts of some MB: what is repeated in what the call is over, the order by that text, and the outcome by how
@@ -145,12 +149,30 @@ def remotes_of(size):
     return [b"%b%d\n" % (it, n // len(remotes)) for n, it in enumerate(named)], None
 
 
-class Compared:
-    """The runs over two sizes of what is made, the smaller one twice; the memory for each byte may be limited."""
+def rules_of(size):
+    """So many rules, each with another base and another front."""
+    return "".join(f"url.https://h{n}/.insteadof\na{n}:\0" for n in range(size))
 
-    def __init__(self, name, words, folder, make, small, large, most_bytes=None):
+
+def order_of_rules(size):
+    """The pieces of an order over so many rules, of which the last one applies, and of its outcome."""
+    order = {"call": "Rewrites::rewrite_fetch", "config": rules_of(size), "text": f"a{size - 1}:p"}
+    return tuple([json.dumps(it, separators=(",", ":")).encode() + b"\n"] for it in (order, f"https://h{size - 1}/p"))
+
+
+def configuration_of(size):
+    """So many rules, helpers and names of `http.*`; the answer to a line of HTTP shows all but the rules."""
+    settings = "".join(f"credential.helper\ns{n}\0http.n{n}\nv\0" for n in range(size))
+    return [f"{rules_of(size)}{settings}".encode()], None
+
+
+class Compared:
+    """The runs over two sizes of what is made, the smaller one twice; the memory for each byte and the seconds may be limited."""
+
+    def __init__(self, name, words, folder, make, small, large, most_bytes=None, most_seconds=MOST_SECONDS):
         tenths, whole = [Ran(words, folder, *make(small)) for _ in range(2)], Ran(words, folder, *make(large))
-        self.name, self.is_right, self.most_bytes = name, all(it.is_right for it in (*tenths, whole)), most_bytes
+        self.name, self.is_right = name, all(it.is_right for it in (*tenths, whole))
+        self.most_bytes, self.most_seconds = most_bytes, most_seconds
         self.seconds, self.reads, self.most_reads = whole.seconds, whole.reads, OWN_READS + whole.size // LEAST_READ
         # How much longer a byte takes in the larger size, and how much memory it takes there.
         least = max(0.001, min(it.seconds for it in tenths))
@@ -161,6 +183,8 @@ class Compared:
             yield f"{self.name} is answered otherwise"
         if self.growth > MOST_GROWTH:
             yield f"{self.name} takes {self.growth:.1f} times as long for each byte as a tenth of it: that isn't linear"
+        if self.seconds > self.most_seconds:
+            yield f"{self.name} takes {self.seconds:.1f} s, and may take {self.most_seconds}"
         if self.most_bytes and self.bytes > self.most_bytes:
             yield f"{self.name} takes {self.bytes:.2f} bytes of memory for each byte"
         if self.reads > self.most_reads:
@@ -199,10 +223,17 @@ def compared_page(folder):
     yield Compared(f"a page of {REMOTES} remotes", words, folder, remotes_of, REMOTES // 10, REMOTES, MOST_PAGE_BYTES)
 
 
+def compared_rules(folder):
+    explain = [program("explain"), "--json", "--config", "-", "https://h/p"]
+    for name, words, make in (("Rewrites::rewrite_fetch", [program("answers")], order_of_rules), ("explain", explain, configuration_of)):
+        yield Compared(f"{name} by {RULES} rules", words, folder, make, RULES // 10, RULES, most_seconds=MOST_RULES_SECONDS)
+
+
 def check(folder):
     """The faults, and what was measured."""
     parts = {f"{len(SHAPES)} shapes of a line of {LARGE // 10**6} MB, {LINES // 10**6} million lines": compared_lines,
-             f"{len(CALLS)} calls over {LARGE_ORDER // 10**6} MB": compared_calls, f"a page of {REMOTES} remotes": compared_page}
+             f"{len(CALLS)} calls over {LARGE_ORDER // 10**6} MB": compared_calls, f"a page of {REMOTES} remotes": compared_page,
+             f"a configuration with {RULES} rules": compared_rules}
     faults, said = [], []
     with limited(MOST_SECONDS):
         for name, compare in parts.items():

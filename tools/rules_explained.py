@@ -25,8 +25,12 @@ STORED = f"{ROOT}/crates/explain/golden/by_config"
 # How many of the configurations that Git is asked about are taken of each kind.
 TAKEN = 40
 PERMISSIONS = {"Allowed": "allowed", "Refused": "refused", "UnknownAllowance": "unknown_allowance", "UnknownFromUser": "unknown_from_user"}
-BOOLEANS = (b"usehttppath", b"sslverify", b"ssltry", b"savecookies", b"sslcertpasswordprotected", b"proxysslcertpasswordprotected",
-            b"schannelcheckrevoke", b"schannelusesslcainfo")
+STOPS = {"NoValue": "has no value: Git stops at it", "NoBoolean": "is no boolean value: Git stops at it",
+         "NoNumber": "is no number that Git takes: it stops at it", "NoAllowance": "is none of always, user and never: Git stops where it decides"}
+LACKS = {"ByteZero": {"reason": "byte_zero", "words": "byte 0 ends the argument of a command"},
+         "OptionLike": {"reason": "option_like", "words": "a text that begins with `-` may be taken for an option"},
+         "Rsync": {"reason": "rsync", "words": "Git has no transport for `rsync:` any more"},
+         "UnknownScheme": {"reason": "unknown_scheme", "words": "the text before `://` is neither a transport nor a remote helper"}}
 # A configuration, both variables (None where they aren't set), and the lines.
 Case = namedtuple("Case", "entries lines allow_list from_user", defaults=(None, None))
 
@@ -81,34 +85,33 @@ def route(case, line, text, *names):
     own, goal = grammar.spells(line), grammar.spells(text)
     fronts = [it.value for it in case.entries if is_named(it, b"url", *names) and it.place is not None and it.value is not None]
     same_host = None if own is None or goal is None else host_name(own) == host_name(goal)
-    found = None if goal is None else (yield from transport(case, lossy(grammar.as_str(goal.scheme))))
-    return {"text": shown_line(text), "rewritten": line.startswith(tuple(fronts)), "same_host": same_host, "transport": found}
+    said = (yield [{"call": "text::transport_of", "text": text_of(text)}])[0]
+    found = (yield from transport(case, said)) if isinstance(said, str) else None
+    lack = None if found else LACKS[said["error"]]
+    return {"text": shown_line(text), "rewritten": line.startswith(tuple(fronts)), "same_host": same_host, "transport": found, "no_transport": lack}
 
 
-def applying(case, section, text):
-    """The entries of a section that apply to a text, each behind its rank and its place: those without a URL always do."""
-    own = [it for it in placed(case.entries) if it[1].section.lower() == section]
-    about = {"call": "entries::entry_rank", "section": text_of(section), "text": text_of(text)}
-    said = yield [{**about, "config": text_of(listed([it])), "name": text_of(it.name)} for _, it in own]
-    ranked = [([0, [0, 0]] if it.place is None else rank, at, it) for (at, it), rank in zip(own, said)]
-    return [it for it in ranked if isinstance(it[0], list)]
+def credentials(case, text):
+    """What Git's credential code uses: its helpers, the user that it asks about, and whether they get the path."""
+    request = (yield [{"call": "credential::reading", "text": text_of(text)}])[0]
+    used = request and (yield [{"call": "credentials::credentials_for", "config": text_of(listed(case.entries)), "text": text_of(text)}])[0]
+    if not used or "error" in used:
+        return None
+    entries, user = [*placed(case.entries)], used.get("user")
+    return {"helpers": [setting(*entries[at]) for at in used["helpers"]], "user": user if user is None else lossy(hidden(bytes_of(user))),
+            "use_http_path": used["use_http_path"]}
 
 
-def credentials(found):
-    """The entries of credentials that Git uses: the helpers behind the last empty one, and the last one of each other name."""
-    ends = [at for at, (*_, it) in enumerate(found) if it.name.lower() == b"helper" and it.value == b""]
-    for at, (_, place, it) in enumerate(found):
-        behind = [other.name.lower() for *_, other in found[at + 1 :]]
-        if at > max(ends, default=-1) if it.name.lower() == b"helper" else it.name.lower() not in behind:
-            yield setting(place, it)
-
-
-def of_http(entries, found):
-    """The best entry of each name, in the order in which the names come first."""
-    for name in dict.fromkeys(it.name.lower() for it in entries if it.section.lower() == b"http"):
-        some = [it for it in found if it[2].name.lower() == name]
-        if some:
-            yield setting(*max(some)[1:])
+def of_http(case, text):
+    """The entries of each name that Git uses, in the order in which the names come first. A text without a normal form has those
+    without a URL, which are the same for each place."""
+    is_place = (yield [{"call": "NormalUrl::parse_in", "text": text_of(text)}])[0]
+    is_place = not isinstance(is_place, dict) or "error" not in is_place
+    some = [it for it in placed(case.entries) if it[1].section.lower() == b"http" and (is_place or it[1].place is None)]
+    names = dict.fromkeys(it.name.lower() for _, it in some)
+    about = {"call": "settings::settings_for", "config": text_of(listed([it for _, it in some])), "text": text_of(text if is_place else b"http://h/")}
+    said = yield [{**about, "name": text_of(name)} for name in names]
+    return [setting(*some[at]) for used in said if isinstance(used, list) for at in used]
 
 
 def rules(case, line):
@@ -117,29 +120,21 @@ def rules(case, line):
     fetched, pushed = map(bytes_of, texts[0])
     fetch = yield from route(case, line, fetched, b"insteadof")
     push = yield from route(case, line, pushed, b"insteadof", b"pushinsteadof")
-    goal, credential, http = grammar.spells(fetched), [], []
+    goal, credential, http = grammar.spells(fetched), None, []
     if goal is not None and goal.scheme in grammar.HTTP_SCHEMES:
-        credential = [*credentials((yield from applying(case, b"credential", fetched)))]
-        http = [*of_http(case.entries, (yield from applying(case, b"http", fetched)))]
+        credential = yield from credentials(case, fetched)
+        http = yield from of_http(case, fetched)
     return {"fetch": fetch, "push": push, "credential": credential, "http": http}
 
 
 def fault(it):
     """What isn't understood of an entry, in words."""
-    is_credential = it.section.lower() == b"credential"
-    if is_credential or it.section.lower() == b"http":
-        said = yield [{"call": "UrlPattern::parse_in", "text": text_of(it.place)}] if it.place is not None else []
-        if said not in ([], [True]):
-            of_credential = "has no whole URL: Git compares the parts of it, which isn't done here"
-            return of_credential if is_credential else "has no URL that Git takes: it is for no location"
-        if it.value is not None and it.name.lower() in BOOLEANS:
-            said = yield [{"call": "boolean::read_boolean", "text": text_of(it.value)}]
-            return "is no boolean value: Git stops at it" if said == [None] else None
-    if rules_rewrite.lacks_value(it) or is_credential and it.value is None:
-        return "has no value: Git stops at it"
-    if is_named(it, b"protocol", b"allow") and (it.value or b"").lower() not in (b"always", b"user", b"never"):
-        return "is none of always, user and never: Git stops where it decides"
-    return None
+    if it.section.lower() == b"http" and it.place is not None:
+        said = yield [{"call": "UrlPattern::parse_in", "text": text_of(it.place)}]
+        if said != [True]:
+            return "has no URL that Git takes: it is for no location"
+    said = yield [{"call": "stops::stop_at", "config": text_of(listed([it]))}]
+    return STOPS.get(said[0])
 
 
 # ---- cases
@@ -176,10 +171,16 @@ BY_HAND = [
     Case([entry(b"protocol.ssh.allow", b"always")], [b"/p", b"h:p", b"::x"], allow_list=b""),
     # The rewritten text counts, for fetching and for pushing.
     Case([entry(b"url./srv/.insteadof", b"https://h/"), entry(b"url.ext::sh .pushinsteadof", b"https://h/")], [b"https://h/p"]),
+    # Texts whose transport isn't that of the location that is read, or that have none.
+    Case([entry(b"protocol.ssh.allow", b"never")], [b"[evil:22]/x:p", b"[::1]/:p", b"rsync://h/p", b"-x", b"a!b://h/p", b"://h", b"h"]),
+    # Headers are added up, and an empty one takes those before it back.
+    Case([entry(b"http.extraheader", b"X-A: 1"), entry(b"http.https://h.extraheader", b"X-B: 2"), entry(b"http.https://h.extraheader", b"X-C: 3"),
+          entry(b"http.https://none.curloptresolve", b"h:1:::1"), entry(b"http.https://none.curloptresolve", b"")], [b"https://h/p", b"https://none/", b"https://x/"]),
     # What isn't understood.
     Case([entry(b"url.https://h/.insteadof"), entry(b"protocol.ssh.allow", b"maybe"), entry(b"protocol.file.allow"), entry(b"credential.h.helper", b"store"),
           entry(b"http.h.proxy", b"x"), entry(b"http.https://h/%zz.proxy", b"x"), entry(b"credential.usehttppath", b"maybe"), entry(b"http.sslverify", b"2g"),
-          entry(b"credential.helper"), entry(b"http.https://u:secret@h:0/.proxy", b"x"), entry(b"http.version", b"maybe")],
+          entry(b"credential.helper"), entry(b"http.https://u:secret@h:0/.proxy", b"x"), entry(b"http.version", b"maybe"),
+          entry(b"http.postbuffer", b"x"), entry(b"http.extraheader"), entry(b"http.emptyauth", b"auto"), entry(b"remote.o.url")],
          [b"https://h/p", b"h:p", b"/p", b"http://h/a<<<</../../.."]),
 ]
 
@@ -228,13 +229,15 @@ def command_faults(folder):
     file, nothing, rest = f"{folder}/given", Case([], []), Case([], [b"gh:p"])
     with open(file, "wb") as it:
         it.write(b"url.https://h/.insteadof\ngh:\0")
-    broken = Case([], [b"url.https://h/.insteadof", b"gh:\0x\0a.b", b"c"])
-    said_of_broken = b"explain: the entry at byte 29 of the configuration has no section or no name\nexplain: the entry at byte 31"
+    cut_off, keyless = Case([], [b"url.https://h/.insteadof", b"gh:\0a.b", b"c"]), Case([], [b"url.https://h/.insteadof", b"gh:\0x\0"])
+    said_of_cut = b"explain: the entry at byte 29 of the configuration has no end\n"
     for case, words, status, fetched, reported in (
         (rest, ["--config", file], 0, b"https://h/p", b""),
         (rest, ["--config", os.devnull], 0, b"gh:p", b""),
         (nothing, ["--config", file, "gh:p"], 0, b"https://h/p", b""),
-        (broken, ["--config", "-", "gh:p"], 0, b"https://h/p", said_of_broken + b" of the configuration has no end\n"),
+        (cut_off, ["--config", "-", "gh:p"], 0, b"https://h/p", said_of_cut),
+        (keyless, ["--config", "-", "gh:p"], 2, None, b"explain: cannot read -: use git config --list -z"),
+        (Case([], [b"user.name=me"]), ["--config", "-", "gh:p"], 2, None, b"explain: cannot read -: use git config --list -z"),
         (rest, ["--config", f"{folder}/none"], 2, None, b"explain: cannot read "),
         (rest, ["--config", folder], 2, None, b"explain: cannot read "),
         (rest, ["--config", "-"], 2, None, b"explain: --config - needs the lines"),

@@ -9,8 +9,9 @@ from rules_transport import NAMED, ask
 from second_reading import grammar
 
 NUMBER, WHOLE, SAMPLE = 20_261_129, 4_000, 1_000
-# What Git refuses before it looks at the transport.
-REFUSALS = (b"no path specified", b"strange pathname", b"is not supported", b"git-over-rsync", b"newline is forbidden")
+# What Git refuses before it looks at the transport: a text that has none, by the library's names, or whose form has one.
+REASONS = {b"git-over-rsync": "Rsync", b"is not supported": "UnknownScheme"}
+REFUSALS = (b"no path specified", b"strange pathname", b"newline is forbidden")
 
 
 def made(count):
@@ -18,11 +19,14 @@ def made(count):
 
 
 def answer(said):
-    """The transport that Git names, None where it refuses the text before."""
-    refused = NAMED.search(said)
-    if refused is None and not any(it in said for it in REFUSALS):
+    """The transport that Git names, or the reason why the text has none; None where Git refuses the text for another reason."""
+    if refused := NAMED.search(said):
+        return text_of(refused[1])
+    if reason := next((it for words, it in REASONS.items() if words in said), None):
+        return {"error": reason}
+    if not any(it in said for it in REFUSALS):
         raise ValueError(f"Git says {said!r} of a transport")
-    return refused and refused[1]
+    return None
 
 
 def cases_of(some):
@@ -31,11 +35,14 @@ def cases_of(some):
 
 
 def summary(cases):
-    return f"names of transports: {len(cases):,} texts, of which Git refuses {sum(name is None for _, name in cases):,} for another reason"
+    lacking = sum(not isinstance(found, str) for _, found in cases)
+    return f"names of transports: {len(cases):,} texts, of which Git refuses {lacking:,} for another reason"
 
 
 def orders(cases):
-    """The calls of the library for the texts that it reads, with the transports that Git names."""
-    for text, name in cases:
-        if name is not None and grammar.spells(text) is not None:
-            yield {"call": "protocols::transport", "url": text_of(text)}, text_of(name)
+    """The calls of the library for the texts, and for those that it reads as locations, with the transports that Git names."""
+    for text, found in cases:
+        if found is not None and not text.startswith(b"-"):
+            yield {"call": "text::transport_of", "text": text_of(text)}, found
+        if isinstance(found, str) and grammar.spells(text) is not None:
+            yield {"call": "protocols::transport", "url": text_of(text)}, found

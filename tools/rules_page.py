@@ -2,11 +2,9 @@
 import re
 
 import git_classes
-import rules_credential
 import rules_rewrite
 import rules_ssh
 from rt_api import ROOT
-from rules_asked import Entry
 
 PAGE, OTHER = "docs/RULES.md", "docs/GIT.md"
 # A class, and the cells behind it; a class may have more rows, which name it in the first one alone.
@@ -14,7 +12,7 @@ ROW = re.compile(r"^\| (?:`([a-z0-9-]+)` )?\| (.*) \|$", re.M)
 CODE = re.compile(r"`([^`]*)`")
 # The class for which another variant is asked than `ssh`.
 OF_SIMPLE = "port-of-simple"
-CLASSES = {*rules_rewrite.CLASSES, *rules_credential.CLASSES, *rules_ssh.CLASSES}
+CLASSES = {*rules_rewrite.CLASSES, *rules_ssh.CLASSES}
 
 
 def read(name):
@@ -39,27 +37,6 @@ def class_faults():
     yield from (f"{OTHER} has no row for the class {it}" for it in sorted({*git_classes.CLASSES} - other))
 
 
-def credential_examples():
-    """The examples of classes of credentials: the class, the entry, the URL, and whether Git takes the entry."""
-    for name, cells in rows_of(read(PAGE)):
-        if name in rules_credential.CLASSES:
-            # An entry for nothing at all is the word `empty`.
-            entries = [*CODE.findall(cells[0]), *([""] if "empty" in cells[0] else [])]
-            yield from ((name, one.encode(), url.encode(), cells[2].startswith("applies")) for one in entries for url in CODE.findall(cells[1]))
-
-
-def credential_faults():
-    """The examples of credentials that Git or the rule for `http.<url>.*` take otherwise."""
-    examples = [*credential_examples()]
-    entries = [[Entry(b"credential", place, b"helper", rules_credential.REPORT % 0)] for _, place, _, _ in examples]
-    cases = rules_credential.cases_of([(one, [url]) for one, (_, _, url, _) in zip(entries, examples)])
-    for (name, place, url, is_taken), case in zip(examples, cases):
-        by_git = case.asked[0] == [0]
-        found = [*rules_credential.by_url([case])]
-        if by_git != is_taken or found != [(url, place, name, is_taken)]:
-            yield f"{PAGE}: {place.decode()} and {url.decode()} are an example of {found}, and not of {name}"
-
-
 def word_faults():
     """The examples of words for Secure Shell that are in another class."""
     named = [(name, CODE.findall(cells[0])[0].encode()) for name, cells in rows_of(read(PAGE)) if name in rules_ssh.CLASSES]
@@ -72,4 +49,4 @@ def word_faults():
 
 def page_faults():
     """What is wrong with the page's classes and examples."""
-    return [*class_faults(), *credential_faults(), *word_faults()]
+    return [*class_faults(), *word_faults()]

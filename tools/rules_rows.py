@@ -6,10 +6,13 @@ A row is written without `is` and `from`, and `scripts/rules_witness --record` p
 import json
 import re
 
+import rules_credential
 import rules_match
 import rules_names
+import rules_remote
 import rules_rewrite
 import rules_ssh
+import rules_stops
 import rules_transport
 from row_text import bytes_of
 from rt_api import ROOT
@@ -31,13 +34,22 @@ def pushed(row):
     return (b"none", *given(row, "text")) if row["has_push_url"] else (*given(row, "text"), None)
 
 
+def reporting(entries):
+    """The entries, in which each helper is one that reports its number."""
+    return [it._replace(value=rules_credential.REPORT % at) if it.name == b"helper" and it.value else it for at, it in enumerate(entries)]
+
+
 # Of each call the topic, and what the topic makes a case of for a row: one of the orders for that has the row's outcome.
 TOPICS = {
     "Rewrites::rewrite_fetch": (rules_rewrite, lambda it: (entries_of(it), [(*given(it, "text"), None)])),
     "Rewrites::rewrite_push": (rules_rewrite, lambda it: (entries_of(it), [pushed(it)])),
+    "Remote::of": (rules_remote, lambda it: (entries_of(it), given(it, "name"))),
     "UrlPattern::matches": (rules_match, lambda it: ([[Entry(b"http", given(it, "pattern")[0], b"k", b"x")]], given(it, "text"))),
     "entries::best_entry": (rules_match, lambda it: ([entries_of(it)], given(it, "text"))),
     "protocols::transport": (rules_names, lambda it: given(it, "url")[0]),
+    "text::transport_of": (rules_names, lambda it: given(it, "text")[0]),
+    "credentials::credentials_for": (rules_credential, lambda it: (reporting(entries_of(it)), given(it, "text"))),
+    "stops::stop_at": (rules_stops, lambda it: entries_of(it)[0]),
     "Protocols::permission": (rules_transport, lambda it: (entries_of(it), *given(it, "allow_list", "from_user", "name"))),
     "ssh::ssh_command": (rules_ssh, lambda it: (*given(it, "url"), rules_ssh.Run(it["variant"], it["version"], it["service"]))),
 }

@@ -1,5 +1,5 @@
 """A second reading of `CredentialReads` and `UriReads`, the definitions of what Git's credential code and a reader of URIs read
-in the text of a location of HTTP (`crates/git_laws/specs/GitWeb.antt`).
+in the text of a location of HTTP (`crates/git_reads/specs/Credentials.antt`, `crates/git_laws/specs/GitWeb.antt`).
 
 Each function is a relation of the definitions, and answers all that it relates to what is given: every cut of a text is
 tried, and what each case asks is asked of it. It asks Git and libcurl nothing: `scripts/web_witness` compares.
