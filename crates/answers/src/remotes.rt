@@ -66,19 +66,27 @@ fn report_remote(
     match remote {
         Err(error) => report_lent(out, &error),
         Ok(remote) => {
-            let outcome = report_parts(alloc, &remote, out);
+            let outcome = match both_texts(alloc, &remote) {
+                Err(_) => report_lent(out, &RemoteError::Memory),
+                Ok(texts) => report_parts(&remote, texts, out),
+            };
             drop(remote);
             outcome
         }
     }
 }
 
-/// Reports the parts of a remote: its lists, and the values that it has.
-fn report_parts(alloc: Global, remote: &Remote<'_>, out: &mut Out) -> Result<(), Halt> {
+/// Reports the parts of a remote: the texts of its lists, and the values that it has.
+fn report_parts(
+    remote: &Remote<'_>,
+    texts: (Vec<BString>, Vec<BString>),
+    out: &mut Out,
+) -> Result<(), Halt> {
+    let (urls, push_urls) = texts;
     report_name(out, "{", "urls")?;
-    report_owned(out, texts(alloc, &remote.urls)?)?;
+    report_owned(out, urls)?;
     report_name(out, ",", "push_urls")?;
-    report_owned(out, texts(alloc, &remote.push_urls)?)?;
+    report_owned(out, push_urls)?;
     report_value(out, "vcs", remote.vcs)?;
     report_value(out, "proxy", remote.proxy)?;
     report_value(out, "uploadpack", remote.uploadpack)?;
@@ -89,6 +97,16 @@ fn report_parts(alloc: Global, remote: &Remote<'_>, out: &mut Out) -> Result<(),
 /// Reports a value of a remote, if there is one.
 fn report_value(out: &mut Out, name: &str, value: Option<&[u8]>) -> Result<(), Halt> {
     Ok(report_member(out, name, &value.map(|text| BStr::new(text)))?)
+}
+
+/// The texts of both lists of a remote.
+fn both_texts(
+    alloc: Global,
+    remote: &Remote<'_>,
+) -> Result<(Vec<BString>, Vec<BString>), AllocError> {
+    let urls = texts(alloc, &remote.urls)?;
+    let push_urls = texts(alloc, &remote.push_urls)?;
+    Ok((urls, push_urls))
 }
 
 /// The texts that rewritten ones are.

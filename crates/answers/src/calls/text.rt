@@ -22,6 +22,8 @@ pub fn over_text(alloc: Global, order: Order<'_>, out: &mut Out) -> Result<(), H
         over_room(alloc, order, bytes.as_slice(), out)
     } else if is_of_git(order.name()) {
         read_as_git(alloc, order, bytes.as_slice(), out)
+    } else if order.name() == "credential::decode_pieces" {
+        over_pieces(alloc, order, bytes.as_slice(), out)
     } else {
         read(alloc, order, BStr::new(bytes.as_slice()), out)
     };
@@ -39,10 +41,7 @@ fn is_in_room(name: &str) -> bool {
 
 /// Whether a call returns what Git reads in a text.
 fn is_of_git(name: &str) -> bool {
-    matches!(
-        name,
-        "transport::reading" | "credential::reading" | "credential::decode_pieces" | "Buffers::new"
-    )
+    name == "transport::reading" || name == "credential::reading" || name == "Buffers::new"
 }
 
 /// Calls that return what Git reads in a text.
@@ -50,7 +49,6 @@ fn read_as_git(alloc: Global, order: Order<'_>, text: &[u8], out: &mut Out) -> R
     match order.call() {
         "" => Ok(()),
         "credential::reading" => ask_for_credential(alloc, text, out),
-        "credential::decode_pieces" => read_pieces(alloc, order, text, out),
         "Buffers::new" => report_owned(out, make_buffers(alloc)),
         _ => {
             let mut buffers = transport::Buffers::new(alloc);
@@ -78,26 +76,35 @@ fn ask_for_credential(alloc: Global, text: &[u8], out: &mut Out) -> Result<(), H
     reported
 }
 
-/// Reports what Git's credential code reads in an authority and what follows it.
-fn read_pieces(
+/// Calls over an authority and what follows it.
+fn over_pieces(
     alloc: Global,
     order: Order<'_>,
     authority: &[u8],
     out: &mut Out,
 ) -> Result<(), Halt> {
     let behind = order.bytes(alloc, "behind")?;
-    let mut buffers = credential::Buffers::new(alloc);
     let pieces = TextPieces {
         protocol: b"",
         authority,
         behind: behind.as_slice(),
     };
+    let outcome = match order.call() {
+        "credential::decode_pieces" => read_pieces(alloc, pieces, out),
+        call => unknown(call),
+    };
+    drop(behind);
+    outcome
+}
+
+/// Reports what Git's credential code reads in pieces.
+fn read_pieces(alloc: Global, pieces: TextPieces<'_>, out: &mut Out) -> Result<(), Halt> {
+    let mut buffers = credential::Buffers::new(alloc);
     let reported = match decode_pieces(pieces, &mut buffers) {
         Ok(parts) => report_lent(out, &parts),
         Err(_) => report_owned(out, Error::Memory),
     };
     drop(buffers);
-    drop(behind);
     reported
 }
 
