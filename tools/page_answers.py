@@ -13,8 +13,6 @@ VERDICTS = {"settled": "settled", "unsettled": "not settled", "refused": "refuse
 MOST_HOSTS = 20
 # The second reading takes much memory for longer lines.
 MOST_READ = 10_000
-# A user of HTTP of so many bytes may be a token.
-TOKEN = 20
 # The number of lines at the top, and of each row of a table there its name, its count and its class.
 COUNTS = """[+document.querySelector('#lines b').textContent.replaceAll(',', ''), ...['verdicts', 'forms', 'hosts'].map(id =>
   [...document.querySelectorAll(`#${id} tr`)].map(it => [it.querySelector('th'), it.querySelector('td')]).map(([name, count]) =>
@@ -43,13 +41,7 @@ def verdict(answer):
 
 
 def is_dangerous(answer):
-    """Whether a part of the line is dangerous, by the words of docs/EXPLAIN.md."""
-    it = answer["location"]
-    if it is None:
-        return False
-    is_token = it["scheme"] in ("http", "https") and it["password"] is None and len((it["user"] or "").encode()) >= TOKEN
-    return "dangerous" in it["arguments"].values() or it["path"].startswith(("-", "/-")) or it["password"] is not None or is_token or (
-        it["form"] == "remote_helper" and it["scheme"] == "ext")
+    return bool(answer["dangers"])
 
 
 def piece_faults(article, answer, line):

@@ -34,7 +34,7 @@ def stands_on(name):
 # The library, and what Git does with a location by its configuration; and their layers: the crates that they use, lowest
 # first, and themselves.
 LIBRARY = "gix_url"
-LIBRARIES = (LIBRARY, "git_rules")
+LIBRARIES = (LIBRARY, "git_rules", "git_audit", "git_modules")
 LAYERS = list(dict.fromkeys(it for name in LIBRARIES for it in stands_on(name)))
 
 

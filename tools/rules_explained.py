@@ -13,17 +13,21 @@ from collections import namedtuple
 from itertools import accumulate, zip_longest
 
 import rules_match
+import rules_remote
 import rules_rewrite
 from row_text import bytes_of, text_of
 from rt_api import ROOT, program
 from rules_asked import entry_of as entry, is_named, listed
 from rules_library import together
 from second_reading import grammar
+from second_reading.dangers import dangers
 from second_reading.explain import lossy, shown_line
 
 STORED = f"{ROOT}/crates/explain/golden/by_config"
 # How many of the configurations that Git is asked about are taken of each kind.
 TAKEN = 40
+# The values that a remote may have beside its URLs.
+VALUES = ("vcs", "proxy", "uploadpack", "receivepack")
 PERMISSIONS = {"Allowed": "allowed", "Refused": "refused", "UnknownAllowance": "unknown_allowance", "UnknownFromUser": "unknown_from_user"}
 STOPS = {"NoValue": "has no value: Git stops at it", "NoBoolean": "is no boolean value: Git stops at it",
          "NoNumber": "is no number that Git takes: it stops at it", "NoAllowance": "is none of always, user and never: Git stops where it decides"}
@@ -88,7 +92,8 @@ def route(case, line, text, *names):
     said = (yield [{"call": "text::transport_of", "text": text_of(text)}])[0]
     found = (yield from transport(case, said)) if isinstance(said, str) else None
     lack = None if found else LACKS[said["error"]]
-    return {"text": shown_line(text), "rewritten": line.startswith(tuple(fronts)), "same_host": same_host, "transport": found, "no_transport": lack}
+    return {"text": shown_line(text), "rewritten": line.startswith(tuple(fronts)), "same_host": same_host, "transport": found, "no_transport": lack,
+            "dangers": [] if goal is None else dangers(text, goal)}
 
 
 def credentials(case, text):
@@ -125,6 +130,23 @@ def rules(case, line):
         credential = yield from credentials(case, fetched)
         http = yield from of_http(case, fetched)
     return {"fetch": fetch, "push": push, "credential": credential, "http": http}
+
+
+def remote(case, name):
+    """What is reported of a remote. Whether a text is rewritten is left out."""
+    said = (yield [{"call": "Remote::of", "config": text_of(listed(case.entries)), "name": text_of(name)}])[0]
+    report = {"remote": lossy(name), "fetch": [], "push": [], **dict.fromkeys(VALUES), "stops_at": said.get("at")}
+    for member, key in (("fetch", "urls"), ("push", "push_urls")):
+        for text in said.get(key, []):
+            way = yield from route(case, bytes_of(text), bytes_of(text))
+            report[member].append({**way, "rewritten": None, "same_host": None})
+    return {**report, **{it: lossy(hidden(bytes_of(said[it]))) for it in VALUES if it in said}}
+
+
+def names_of_remotes(entries):
+    """The names of the remotes, in the order in which they come first."""
+    places = (it.place for it in entries if it.section.lower() == b"remote" and it.place)
+    return [*dict.fromkeys(it for it in places if not it.startswith(b"/"))]
 
 
 def fault(it):
@@ -185,6 +207,23 @@ BY_HAND = [
 ]
 
 
+# Remotes with several URLs, a helper, programs and a proxy, and one at which Git stops.
+REMOTES = [
+    Case([entry(b"remote.o.url", b"gh:a"), entry(b"remote.o.url", b"https://u:secret@h/x"), entry(b"remote.o.pushurl", b"ext::sh"), entry(b"remote.p.url", b"-x"),
+          entry(b"remote.p.proxy", b"http://u:secret@p"), entry(b"remote.q.vcs", b"hg"), entry(b"remote.q.uploadpack", b"/opt/up x"), entry(b"remote.q.receivepack", b"r"),
+          entry(b"REMOTE.o.URL", b"http://h:0/"), entry(b"remote./r.url", b"x"), entry(b"url.https://h/.insteadof", b"gh:"), entry(b"protocol.https.allow", b"never")], []),
+    Case([entry(b"remote.o.url", b"h:p"), entry(b"remote.p.url")], []),
+    Case([entry(b"remote.pushdefault", b"o")], []),
+    Case([], []),
+]
+
+
+def made_remotes():
+    """Configurations with remotes that Git is asked about, except those with a rule that has no value."""
+    some = [entries for entries, _ in rules_remote.made(TAKEN)]
+    return [*REMOTES, *(Case(it, []) for it in some if not any(map(rules_rewrite.lacks_value, it)))]
+
+
 def made():
     """Cases of the configurations that Git is asked about."""
     for entries, asked in rules_rewrite.made(TAKEN):
@@ -224,6 +263,20 @@ def case_faults(case, words, wanted, file):
             yield f"of {line!r} by {case} {it['rules']} is reported, and not {rules_of}"
 
 
+def remote_faults(case, wanted, file):
+    """Where the program reports otherwise of the remotes of a case than this."""
+    with open(file, "wb") as it:
+        it.write(listed(case.entries))
+    _, shown, said = run(case, "--json", "--remotes", "--config", file)
+    found = [json.loads(it) for it in shown.splitlines()]
+    for it in found:
+        it.update({member: [{**way, "rewritten": None} for way in it[member]] for member in ("fetch", "push")})
+    if found != json.loads(json.dumps(wanted)):
+        yield f"of the remotes of {case.entries} {found} is reported, and not {wanted}"
+    if b"secret" in shown + said + run(case, "--remotes", "--config", file)[1]:
+        yield f"by {case.entries} a secret is shown of a remote"
+
+
 def command_faults(folder):
     """Where a command line has another outcome than the one written by hand: no lines of `explain` except these."""
     file, nothing, rest = f"{folder}/given", Case([], []), Case([], [b"gh:p"])
@@ -242,8 +295,14 @@ def command_faults(folder):
         (rest, ["--config", folder], 2, None, b"explain: cannot read "),
         (rest, ["--config", "-"], 2, None, b"explain: --config - needs the lines"),
         (rest, ["--config", "-", "-"], 2, None, b"explain: --config - needs the lines"),
-        (rest, ["--config", file, "--only", "host"], 2, None, b"error: "),
-        (rest, ["--config", file, "--quiet"], 2, None, b"error: "),
+        (rest, ["--config", file, "--only", "host"], 0, b"gh\n", b""),
+        (rest, ["--config", file, "--quiet"], 0, None, b""),
+        (rest, ["--config", file, "--html"], 2, None, b"error: "),
+        (rest, ["--config", file, "--remotes"], 0, None, b""),
+        (rest, ["--config", file, "--remotes", "h:p"], 2, None, b"error: "),
+        (Case([], [b"remote.o.url", b"h:p\0"]), ["--remotes"], 0, b"h:p", b"explain: the entry at byte 17 of the configuration has no end\n"),
+        (Case([], [b"remote.o.url", b"ext::x\0"]), ["--remotes", "-q"], 1, None, b"explain: the entry at byte 20 of the configuration has no end\n"),
+        (Case([], [b"remote.o.url=h:p"]), ["--remotes"], 2, None, b"explain: cannot read -: use git config --list -z"),
     ):
         found, shown, said = run(case, *words)
         row = re.search(rb'(?m)^    fetches     "([^"]*)"', shown)
@@ -262,7 +321,7 @@ def stored(name):
 def people_faults():
     """Where the text output differs from the one written by hand."""
     shown = run(Case([], stored("stdin").splitlines()), "--config", f"{STORED}/config")[1]
-    rows = [it for it in shown.splitlines() if re.match(rb"line |    (fetches|pushes|credential|http|transport) ", it)]
+    rows = [it for it in shown.splitlines() if re.match(rb"line |    (fetches|pushes|danger|credential|http|transport) ", it)]
     pairs = zip_longest(rows, stored("stdout").splitlines())
     yield from (f"explain prints {got!r}, and not {wanted!r}" for got, wanted in pairs if got != wanted)
 
@@ -271,8 +330,12 @@ def check(folder):
     cases = [*BY_HAND, *made()]
     words = iter(together([fault(it) for case in cases for it in case.entries]))
     wanted = iter(together([rules(case, line) for case in cases for line in case.lines]))
+    remotes = made_remotes()
+    reports = iter(together([remote(case, name) for case in remotes for name in names_of_remotes(case.entries)]))
     faults = [*command_faults(folder), *people_faults()]
+    for case in remotes:
+        faults += remote_faults(case, [next(reports) for _ in names_of_remotes(case.entries)], f"{folder}/config")
     for case in cases:
         faults += case_faults(case, [next(words) for _ in case.entries], [next(wanted) for _ in case.lines], f"{folder}/config")
     lines = sum(len(it.lines) for it in cases)
-    return faults, [f"{lines} lines by {len(cases)} configurations, as the library's calls have it"]
+    return faults, [f"{lines} lines by {len(cases)} configurations, and the remotes of {len(remotes)}, as the library's calls have it"]

@@ -10,8 +10,6 @@ PAGE, OTHER = "docs/RULES.md", "docs/GIT.md"
 # A class, and the cells behind it; a class may have more rows, which name it in the first one alone.
 ROW = re.compile(r"^\| (?:`([a-z0-9-]+)` )?\| (.*) \|$", re.M)
 CODE = re.compile(r"`([^`]*)`")
-# The class for which another variant is asked than `ssh`.
-OF_SIMPLE = "port-of-simple"
 CLASSES = {*rules_rewrite.CLASSES, *rules_ssh.CLASSES}
 
 
@@ -40,7 +38,7 @@ def class_faults():
 def word_faults():
     """The examples of words for Secure Shell that are in another class."""
     named = [(name, CODE.findall(cells[0])[0].encode()) for name, cells in rows_of(read(PAGE)) if name in rules_ssh.CLASSES]
-    asked = [(text, rules_ssh.Run("simple" if name == OF_SIMPLE else "ssh", 2, rules_ssh.SERVICES[0])) for name, text in named]
+    asked = [(text, rules_ssh.RUNS.get(name, rules_ssh.USUAL)) for name, text in named]
     for (name, text), case in zip(named, rules_ssh.cases_of(asked)):
         found = [it for it, _ in rules_ssh.judged([case])]
         if found != [name]:

@@ -1,9 +1,9 @@
 """The words with which Git runs Secure Shell: texts, what Git says, and what the library has for the locations in them.
 
 Git's words are those that a `GIT_SSH_COMMAND` gets, which shows them and fails: by `git ls-remote`, `git send-pack` and
-`git archive --remote`. Where the library has other words than Git, or none, the difference is in a class: one of
-`git_classes.py`, or one of those below, which are described in `docs/RULES.md`. And in each command `sh` must read two
-words, the service and the path.
+`git archive --remote`, or for a family of addresses by `git fetch` and `git push`. Where the library has other words than
+Git, or none, the difference is in a class: one of `git_classes.py`, or one of those below, which are described in
+`docs/RULES.md`. And in each command `sh` must read the words of the program, by default the service alone, and the path.
 """
 import re
 from collections import namedtuple
@@ -23,13 +23,15 @@ SHOW = r"""f() { { printf '\001'; printf '%s\001' "$@"; printf '%s\001\002' "$GI
 ASK = r"""
 while [ $# -gt 0 ]; do
   export GIT_SSH_VARIANT="$1"
-  case $3 in
-  git-upload-pack) git -c protocol.version="$2" ls-remote -- "$4" 2>&1 ;;
-  git-receive-pack) git -c protocol.version="$2" send-pack --all -- "$4" 2>&1 ;;
-  *) git -c protocol.version="$2" archive --remote="$4" HEAD 2>&1 ;;
+  case $3$4 in
+  git-upload-pack) git -c protocol.version="$2" ls-remote ${5:+"--upload-pack$5"} -- "$6" 2>&1 ;;
+  git-upload-pack*) git -c protocol.version="$2" fetch "-$4" ${5:+"--upload-pack$5"} -- "$6" 2>&1 ;;
+  git-receive-pack) git -c protocol.version="$2" send-pack ${5:+"--receive-pack$5"} --all -- "$6" 2>&1 ;;
+  git-receive-pack*) git -c protocol.version="$2" push "-$4" ${5:+"--receive-pack$5"} -- "$6" :refs/heads/x 2>&1 ;;
+  *) git -c protocol.version="$2" archive ${5:+"--exec$5"} --remote="$6" HEAD 2>&1 ;;
   esac
   printf '\0'
-  shift 4
+  shift 6
 done
 """
 # A shell reads commands, and writes the words that it reads.
@@ -38,14 +40,22 @@ for command; do eval "set -- $command"; printf '%s\001' "$@"; printf '\0'; done
 """
 SERVICES = ("git-upload-pack", "git-receive-pack", "git-upload-archive")
 VARIANTS = ("ssh", "plink", "putty", "tortoiseplink", "simple")
-CALLS = ("ssh::ssh_command", "SshCommand::git_protocol")
-# How Secure Shell is run: the variant, the version of the protocol and the service.
-Run = namedtuple("Run", "variant version service")
+# What may be named in place of a service, with the words that a shell reads in it; None where it expands something.
+PROGRAMS = {
+    b"/opt/up": [b"/opt/up"], b"/opt/up x": [b"/opt/up", b"x"], b"'/opt/my up' -v": [b"/opt/my up", b"-v"], b"up\\ x\\'": [b"up x'"],
+    b"sudo  git-upload-pack": [b"sudo", b"git-upload-pack"], b"git-receive-pack": [b"git-receive-pack"], b"git-upload-pack": [b"git-upload-pack"],
+    b"git-receive-pack ": [b"git-receive-pack"], b"up\xc3\xa4\xff": [b"up\xc3\xa4\xff"], b"~/bin/up": None, b"A=1 $HOME/up": None, b"up;": None,
+    b"-x": None, b"--upload-pack": None, b"": None,
+}
+CALLS = ("ssh::ssh_command", "ssh::ssh_command_for", "SshCommand::git_protocol")
+# How Secure Shell is run: the variant, the version of the protocol, the service, the family of addresses (4 or 6), and the
+# program in place of the service's.
+Run = namedtuple("Run", "variant version service family program", defaults=(None, None))
 # A text, how it is run, and the value of `GIT_PROTOCOL` with the words behind it: Git's, or its reason to give none, and the
 # library's, None where it gives none.
 Case = namedtuple("Case", "text run git own")
 REFUSALS = {b"strange hostname": "strange hostname", b"strange pathname": "strange pathname", b"no path specified": "no path",
-            b"is not supported": "unknown protocol", b"git-over-rsync": "rsync", b"does not support setting port": "port-of-simple"}
+            b"is not supported": "unknown protocol", b"git-over-rsync": "rsync", b"does not support setting port": "port-of-simple", b"does not support -": "family-of-simple"}
 # Texts that are always asked for: each is the only kind of its class, or nearly so.
 GIVEN = (b"ssh://ssh%3A%2F%2Fu@h/p", b"ssh://u@h/it's%21", b"u@h:a'b!c", b"[::1]:p", b"u@[::1]:p", b"ssh://[::1]:22/~/p", b"h:~u/p", b"h:/~u/p")
 # Texts that Git takes for Secure Shell, or for a remote helper of that name.
@@ -61,19 +71,35 @@ REASONS = {
     "like-an-option": lambda it, run: any((one or b"").startswith(b"-") for one in (it.user, it.host, it.path)),
     "at-sign-in-host": lambda it, run: b"@" in it.host,
     "like-a-url": lambda it, run: (it.user or it.host).startswith(b"ssh://"),
+    "empty-program": lambda it, run: run.program == b"",
+    "option-like-program": lambda it, run: (run.program or b"").startswith(b"-"),
+    "family-of-simple": lambda it, run: run.variant == "simple" and run.family is not None,
     "port-of-simple": lambda it, run: run.variant == "simple" and it.port is not None,
 }
-# The classes of differences, beside those of `git_classes`.
-CLASSES = (*REASONS, "zeros-of-port")
+# The classes of differences, beside those of `git_classes`. For a family Git has no words either.
+CLASSES = (*(it for it in REASONS if it != "family-of-simple"), "zeros-of-port")
+# Reasons against programs, which have nothing to do with the location.
+OF_PROGRAMS = ("empty-program", "option-like-program")
+# How the examples of classes are run in the documents.
+USUAL = Run("ssh", 2, SERVICES[0])
+RUNS = {"port-of-simple": USUAL._replace(variant="simple"), "empty-program": USUAL._replace(program=b""), "option-like-program": USUAL._replace(program=b"-x")}
 
 
 def made(count):
-    """Texts that Git takes for Secure Shell, each run by `ssh` and by `plink`, and a tenth of them by other variants and services."""
+    """Texts that Git takes for Secure Shell, each run by `ssh` and by `plink`, a tenth of them by other variants and services, and a
+    fourth by a family of addresses or a program in place of the service's."""
     given = [it for it in (remotes() if count == WHOLE else []) if FOR_SECURE_SHELL.match(it)]
     some = [it for it in texts(NUMBER, 2 * count, 0, []) if FOR_SECURE_SHELL.match(it)][: count // 2]
     every, maker = [*dict.fromkeys([*GIVEN, *given, *some, *secure_texts(NUMBER, count - len(some))])], Maker(NUMBER)
     usual = [(it, Run(variant, maker.one_of((2, 2, 0, 1)), SERVICES[0])) for it in every for variant in VARIANTS[:2]]
-    return usual + [(it, Run(maker.one_of(VARIANTS), maker.below(3), maker.one_of(SERVICES))) for it in every[:: 10] if it[:1] != b"-"]
+    others = [(it, Run(maker.one_of(VARIANTS), maker.below(3), maker.one_of(SERVICES))) for it in every[::10] if it[:1] != b"-"]
+    return usual + others + [(it, special(maker)) for it in every[::4] if it[:1] != b"-"]
+
+
+def special(maker):
+    """A family of addresses, which `git archive` has no option for, a program, or both."""
+    service, family, program = maker.one_of(SERVICES), maker.one_of((None, 4, 6)), maker.one_of((None, *PROGRAMS))
+    return Run(maker.one_of(("ssh", *VARIANTS)), maker.below(3), service, None if service == SERVICES[2] else family, program)
 
 
 # ---- Git and the library
@@ -89,14 +115,30 @@ def answer(said):
 def asked_of_git(asked):
     """What Git gives Secure Shell for texts, each with how it is run."""
     with rooms([[]], GIT_SSH_COMMAND=SHOW) as (room, environment, (folder,)):
-        given = [word for text, run in asked for word in (run.variant, str(run.version), run.service, text)]
-        return map(answer, answers_of(ASK, room, {**environment, "GIT_DIR": folder.decode()}, given, each=4))
+        given = [word for text, run in asked for word in (*words_of(run), text)]
+        return map(answer, answers_of(ASK, room, {**environment, "GIT_DIR": folder.decode()}, given, each=6))
+
+
+def words_of(run):
+    """How Secure Shell is run, in five words."""
+    return run.variant, str(run.version), run.service, str(run.family or ""), b"" if run.program is None else b"=" + run.program
+
+
+def call_of(run):
+    """The call that makes a command."""
+    return CALLS[0] if (run.family, run.program) == (None, None) else CALLS[1]
+
+
+def order_of(call, text, run):
+    """The order of a call for a text."""
+    more = {**({} if run.family is None else {"family": run.family}), **({} if run.program is None else {"program": text_of(run.program)})}
+    return {"call": call, "url": text_of(text), "variant": run.variant, "version": run.version, "service": run.service, **more}
 
 
 def asked_of_library(asked):
     """What the library gives for the locations in texts, None where it gives nothing."""
     read = [(text, run) for text, run in asked if grammar.spells(text) is not None]
-    said = answers([{"call": call, "url": text_of(text), **run._asdict()} for call in CALLS for text, run in read])
+    said = answers([*(order_of(call_of(run), text, run) for text, run in read), *(order_of(CALLS[2], text, run) for text, run in read)])
     found = {it: None if isinstance(words, dict) else [bytes_of(word) for word in (str(variable or ""), *words)]
              for it, words, variable in zip(read, said, said[len(read) :])}
     return map(found.get, asked)
@@ -107,20 +149,24 @@ def cases_of(asked):
     return [Case(*it, git, own) for it, git, own in zip(asked, asked_of_git(asked), asked_of_library(asked))]
 
 
-def path_of(command):
+def path_of(command, run):
     """The path in a command, without its quotes."""
-    return re.sub(rb"'\\(['!])'", rb"\1", command[command.index(b" '") + 2 : -1])
+    return re.sub(rb"'\\(['!])'", rb"\1", command[len(program_of(run)) + 2 : -1])
 
+
+def program_of(run):
+    """What the server is given to run, before a space and the path."""
+    return run.service.encode() if run.program is None else run.program
 
 # ---- differences
 
-def cut(found):
+def cut(found, run):
     """The reading that words are for, their port as it is written, and the words of which no location has a part."""
     at = next((at for at, it in enumerate(found[:-2]) if it in (b"-p", b"-P")), len(found) - 2)
     port = found[at + 1] if at < len(found) - 2 else None
     user, host = next(iter(user_cuts(found[-2])), (None, None))
-    reading = Reading("ssh", user, None, host or None, None if port is None else int(port), path_of(found[-1]))
-    return "empty user" if host is None else reading, port, [*found[:at], *found[at + 2 : -2], found[-1].partition(b" ")[0]]
+    reading = Reading("ssh", user, None, host or None, None if port is None else int(port), path_of(found[-1], run))
+    return "empty user" if host is None else reading, port, [*found[:at], *found[at + 2 : -2], found[-1][: len(program_of(run)) + 2]]
 
 
 def is_alike(case):
@@ -131,11 +177,11 @@ def is_alike(case):
 def class_of(case, location, reason):
     """The class of a text for which the library has other words than Git, or none: None without one, and where the library's words
     aren't for the location's own parts, or differ from Git's in others."""
-    of_git, port, others = (case.git, None, None) if isinstance(case.git, str) else cut(case.git)
+    of_git, port, others = (case.git, None, None) if isinstance(case.git, str) else cut(case.git, case.run)
     if reason or of_git == "port-of-simple":
         return reason or of_git
     ours = Reading("ssh", location.user, None, location.host or None, location.port, location.path)
-    own, own_port, own_others = cut(case.own) if case.own else (None, None, None)
+    own, own_port, own_others = cut(case.own, case.run) if case.own else (None, None, None)
     if own != ours or others not in (None, own_others):
         return None
     if of_git == ours:
@@ -163,19 +209,20 @@ def judged(cases):
         reason = next((name for name, is_so in REASONS.items() if is_so(location, it.run)), None)
         example = f"{it.text!r}, {it.run}: Git has {it.git}, and the library {it.own}"
         if not is_alike(it):
-            yield None if is_own(it.text) else class_of(it, location, reason), example
+            yield None if is_own(it.text) and reason not in OF_PROGRAMS else class_of(it, location, reason), example
         if is_given == (reason is not None):
             yield None, example
 
 
 def differences(cases):
-    """What is judged of the cases; and the commands in which a shell reads other words than the service and the path."""
+    """What is judged of the cases; and the commands in which a shell reads other words than the program's and the path."""
     yield from judged(cases)
-    ran = [it for it in cases if not isinstance(it.git, str)]
+    ran = [it for it in cases if not isinstance(it.git, str) and PROGRAMS.get(program_of(it.run), [program_of(it.run)])]
     with rooms([]) as (room, environment, _):
         read = answers_of(READ, room, environment, [it.git[-1] for it in ran])
     for it, words in zip(ran, read):
-        if words != b"%s\x01%s\x01" % (it.run.service.encode(), path_of(it.git[-1])):
+        own = PROGRAMS.get(program_of(it.run), [program_of(it.run)])
+        if words != b"".join(word + b"\x01" for word in (*own, path_of(it.git[-1], it.run))):
             yield None, f"a shell reads {words!r}: {it}"
 
 
@@ -183,4 +230,4 @@ def orders(cases):
     """The calls of the library for the cases, each with what Git gives."""
     for it in cases:
         outcome = {"refused": True} if isinstance(it.git, str) else [*map(text_of, it.git[1:])]
-        yield {"call": CALLS[0], "url": text_of(it.text), **it.run._asdict()}, outcome
+        yield order_of(call_of(it.run), it.text, it.run), outcome

@@ -19,6 +19,7 @@ COMPLETED = [
     (("explain", "--only", "="), "scheme user host port path query fragment text"),
     (("explain", "--color", "a"), "auto always"),
     (("explain", "--con"), "--config"),
+    (("explain", "--fail-on", "r"), "refused"),
     (("explain", "--config", f"{FOLDER}/_e"), f"{FOLDER}/_explain"),
     (("explain", "--nu"), "--null"),
     (("explain", "--j"), "--json"),

@@ -4,6 +4,7 @@ docs/EXPLAIN.md are among the lines, and the last line lacks its end.
 import json
 
 from second_reading import grammar
+from second_reading.dangers import dangers
 from second_reading.explain import refusal_of_line, shown_line, told
 from second_reading.explain_lines import (
     CURL, FILES, GIT, HELPERS, LOCALS, PLACED, READ, REFUSED, SCPS, SLIPS, URLS, WEB)
@@ -14,7 +15,7 @@ from second_reading.hints import hints
 def answer(number, line):
     v = grammar.spells(line)
     it = {"line": number, "input": shown_line(line), "location": v and told(v), "refusal": refusal_of_line(line) if v is None else None,
-          "hints": hints(line, v), "rules": None}
+          "dangers": [] if v is None else dangers(line, v), "hints": hints(line, v), "rules": None}
     return json.dumps(it, separators=(",", ":"), ensure_ascii=False)
 
 

@@ -17,7 +17,7 @@ use crate::halt::Halt;
 use crate::order::{Order, unknown};
 use crate::report::{Out, report_lent, report_owned};
 use crate::shown::show;
-use crate::{build, errors, rules};
+use crate::{build, dangers, errors, resolved, rule_words, rules};
 use gix_url::lines::{fault_line, status};
 use gix_url::{Url, laws};
 use home::{over_path, over_user};
@@ -30,7 +30,13 @@ use url::over_url;
 /// Makes the call of an order, by what it is over.
 pub fn make(alloc: Global, order: &Order<'_>, out: &mut Out) -> Result<(), Halt> {
     let order = *order;
-    if rules::has(order.name()) {
+    if rule_words::has(order.name()) {
+        rule_words::show(order, out)
+    } else if dangers::has(order.name()) {
+        dangers::make(alloc, order, out)
+    } else if resolved::has(order.name()) {
+        resolved::make(alloc, order, out)
+    } else if rules::has(order.name()) {
         rules::make(alloc, order, out)
     } else if order.has("url") {
         over_url(alloc, order, out)

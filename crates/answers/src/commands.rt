@@ -1,20 +1,22 @@
 //! Calls of `git_rules` over commands of Secure Shell.
 //!
-//! `service`, `variant` and `version` are as Git has them: `git-upload-pack`, `tortoiseplink`, 2.
+//! `service`, `variant` and `version` are as Git has them: `git-upload-pack`, `tortoiseplink`, 2. `program` is in
+//! place of the service's, and `family` is 4 or 6.
 
 use crate::halt::Halt;
 use crate::order::{Order, unknown};
 use crate::report::{Out, report_lent, report_owned};
 use bstr::BString;
 use git_rules::ssh::{
-    ProtocolVersion, Service, SshCommand, SshError, SshVariant, ssh_command, ssh_words,
+    AddressFamily, ProtocolVersion, Service, SshCommand, SshError, SshRefusal, SshRequest,
+    SshVariant, ssh_command, ssh_command_for, ssh_words,
 };
 use gix_url::UrlRef;
 use std::alloc::Global;
 
 /// Whether these are calls over commands, by the module or the type that they are named with.
 pub fn has(owner: &str) -> bool {
-    matches!(owner, "ssh" | "SshCommand" | "Service")
+    matches!(owner, "ssh" | "SshCommand" | "SshProgram" | "Service")
 }
 
 /// The service of an order.
@@ -58,21 +60,68 @@ pub fn over_service(order: Order<'_>, out: &mut Out) -> Result<(), Halt> {
     }
 }
 
-/// Calls over a location, a service, a variant and a version.
+/// The family of addresses of an order.
+fn family(order: Order<'_>) -> Result<AddressFamily, Halt> {
+    match order.number("family") {
+        None => Ok(AddressFamily::Any),
+        Some(4) => Ok(AddressFamily::V4),
+        Some(6) => Ok(AddressFamily::V6),
+        _ => Err(Halt::Unprepared),
+    }
+}
+
+/// Calls over a location and what is asked for.
 pub fn over_url(
     alloc: Global,
     order: Order<'_>,
     url: &UrlRef<'_>,
     out: &mut Out,
 ) -> Result<(), Halt> {
+    let program = order.some_bytes(alloc, "program")?;
+    let outcome = over_program(alloc, order, url, &program, out);
+    drop(program);
+    outcome
+}
+
+/// The same, with the program in place of the service's.
+fn over_program<'a>(
+    alloc: Global,
+    order: Order<'_>,
+    url: &UrlRef<'a>,
+    program: &'a Option<Vec<u8>>,
+    out: &mut Out,
+) -> Result<(), Halt> {
     let (service, variant, version) = (service(order)?, variant(order)?, version(order)?);
+    let request = SshRequest {
+        service,
+        program: program.as_ref().map(|bytes| bytes.as_slice()),
+        variant,
+        version,
+        family: family(order)?,
+    };
     match order.call() {
         "" => Ok(()),
         "ssh::ssh_words" => report_owned(out, ssh_words(alloc, url, service, variant, version)),
-        _ => match ssh_command(url, service, variant, version) {
-            Err(refusal) => report_lent(out, &refusal),
-            Ok(command) => over_command(alloc, order, command, out),
-        },
+        "ssh::ssh_command" => over_made(
+            alloc,
+            order,
+            ssh_command(url, service, variant, version),
+            out,
+        ),
+        _ => over_made(alloc, order, ssh_command_for(url, &request), out),
+    }
+}
+
+/// Reports the words of a command, its variable, or why there is none.
+fn over_made(
+    alloc: Global,
+    order: Order<'_>,
+    made: Result<SshCommand<'_>, SshRefusal>,
+    out: &mut Out,
+) -> Result<(), Halt> {
+    match made {
+        Err(refusal) => report_lent(out, &refusal),
+        Ok(command) => over_command(alloc, order, command, out),
     }
 }
 
@@ -84,7 +133,9 @@ fn over_command(
     out: &mut Out,
 ) -> Result<(), Halt> {
     let outcome = match order.call() {
-        "ssh::ssh_command" | "SshCommand::to_words" => report_owned(out, words_of(alloc, &command)),
+        "ssh::ssh_command" | "ssh::ssh_command_for" | "SshCommand::to_words" => {
+            report_owned(out, words_of(alloc, &command))
+        }
         "SshCommand::git_protocol" => report_lent(out, &command.git_protocol()),
         call => unknown(call),
     };

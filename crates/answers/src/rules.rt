@@ -9,10 +9,15 @@ use crate::order::{Order, unknown};
 use crate::report::{Out, report_lent, report_owned};
 use crate::rule_outcomes::report_items;
 use crate::shown::show_debug;
-use crate::{build, commands, credentials, places, remotes, rewriting};
+use crate::{
+    build, commands, config_files, credentials, places, remotes, rewriting, ssh_programs,
+    submodules,
+};
+use git_modules::config_file::law::law_one_file_reading;
+use git_modules::resolve::law::law_same_place;
 use git_rules::boolean::read_boolean;
 use git_rules::config::law::law_one_reading;
-use git_rules::config::{self, Entry, Reader, is_listing};
+use git_rules::config::{self, Entry, Reader, entries_of, is_listing};
 use git_rules::credentials::law::law_credentials;
 use git_rules::normal::law_normal_form;
 use git_rules::number::read_number;
@@ -20,9 +25,9 @@ use git_rules::pattern::law_patterns;
 use git_rules::pattern::settings::kind_of;
 use git_rules::pattern::settings::law::law_settings;
 use git_rules::protocols::text::{law_text_transport, transport_of};
-use git_rules::protocols::{Protocols, law_permission, transport};
+use git_rules::protocols::{Protocols, law_permission, law_section, transport};
 use git_rules::remote::law::law_one_remote;
-use git_rules::rewrite::host::{names_same_host, texts_name_same_host};
+use git_rules::rewrite::host::{is_same_host, names_same_host, texts_name_same_host};
 use git_rules::rewrite::law::law_one_outcome;
 use git_rules::ssh::law_git_words;
 use git_rules::stops::{self, stop_at};
@@ -44,6 +49,7 @@ fn is_of_configuration(owner: &str) -> bool {
     matches!(
         owner,
         "config"
+            | "config_file"
             | "credentials"
             | "Entry"
             | "Reader"
@@ -56,6 +62,9 @@ fn is_of_configuration(owner: &str) -> bool {
             | "boolean"
             | "number"
             | "stops"
+            | "submodules"
+            | "refusal"
+            | "risk"
     )
 }
 
@@ -79,6 +88,8 @@ fn is_of_places(owner: &str) -> bool {
 pub fn make(alloc: Global, order: Order<'_>, out: &mut Out) -> Result<(), Halt> {
     if let Some(len) = order.number("len") {
         places::over_len(order, len, out)
+    } else if order.has("file") {
+        config_files::over_file(alloc, order, out)
     } else if order.has("config") {
         over_config(alloc, order, out)
     } else if order.has("url") {
@@ -131,14 +142,33 @@ fn read_entries(alloc: Global, order: Order<'_>, text: &[u8], out: &mut Out) -> 
         "entries::best_entry" | "entries::entry_rank" | "settings::settings_for" => {
             places::over_entries(alloc, order, entries.as_slice(), text.len(), out)
         }
+        "config::entries_of" => over_section(alloc, order, entries.as_slice(), out),
         "credentials::credentials_for" => {
             credentials::over_entries(alloc, order, entries.as_slice(), out)
         }
         "Remote::of" => remotes::over_entries(alloc, order, entries.as_slice(), out),
+        "SshProgram::of" => ssh_programs::over_entries(alloc, order, entries.as_slice(), out),
+        "refusal::check" | "risk::has_risk" | "submodules::submodules" => {
+            submodules::over_entries(alloc, order, entries.as_slice(), out)
+        }
         _ => rewriting::over_entries(alloc, order, entries.as_slice(), out),
     };
     drop(entries);
     outcome
+}
+
+/// Reports the entries of one section.
+fn over_section(
+    alloc: Global,
+    order: Order<'_>,
+    entries: &[Entry<'_>],
+    out: &mut Out,
+) -> Result<(), Halt> {
+    let section = order.needed("section")?;
+    match order.call() {
+        "config::entries_of" => report_owned(out, entries_of(alloc, entries, section)),
+        call => unknown(call),
+    }
 }
 
 /// Calls that look at the first entry.
@@ -249,7 +279,9 @@ fn over_text(alloc: Global, order: Order<'_>, out: &mut Out) -> Result<(), Halt>
         "number::read_number" => over_number(order, text.as_slice(), out),
         "settings::kind_of" => over_name(order, text.as_slice(), out),
         "text::transport_of" => over_form(order, text.as_slice(), out),
-        "host::texts_name_same_host" => over_two_texts(alloc, order, text.as_slice(), out),
+        "host::texts_name_same_host" | "host::is_same_host" => {
+            over_two_texts(alloc, order, text.as_slice(), out)
+        }
         "Rewrites::new" | "Rewrites::add_fetch" | "Rewrites::add_push" => {
             rewriting::over_rule(alloc, order, text.as_slice(), out)
         }
@@ -294,7 +326,7 @@ fn over_form(order: Order<'_>, text: &[u8], out: &mut Out) -> Result<(), Halt> {
     }
 }
 
-/// Compares the hosts of a text and another one, each read into a buffer as long as it is.
+/// Compares two hosts, or the hosts of two texts, each of which is read into a buffer as long as it is.
 fn over_two_texts(alloc: Global, order: Order<'_>, text: &[u8], out: &mut Out) -> Result<(), Halt> {
     let mut buffer = order.bytes(alloc, "text")?;
     let other = order.bytes(alloc, "other")?;
@@ -304,6 +336,7 @@ fn over_two_texts(alloc: Global, order: Order<'_>, text: &[u8], out: &mut Out) -
             out,
             texts_name_same_host(text, &mut buffer, other.as_slice(), &mut other_buffer),
         ),
+        "host::is_same_host" => report_lent(out, &is_same_host(text, other.as_slice())),
         call => unknown(call),
     };
     drop(buffer);
@@ -318,11 +351,14 @@ pub fn over_nothing(order: Order<'_>, out: &mut Out) -> Result<(), Halt> {
         "laws::law_credentials" => report_lent(out, &law_credentials()),
         "laws::law_git_words" => report_lent(out, &law_git_words()),
         "laws::law_normal_form" => report_lent(out, &law_normal_form()),
+        "laws::law_one_file_reading" => report_lent(out, &law_one_file_reading()),
         "laws::law_one_outcome" => report_lent(out, &law_one_outcome()),
         "laws::law_one_reading" => report_lent(out, &law_one_reading()),
         "laws::law_one_remote" => report_lent(out, &law_one_remote()),
         "laws::law_patterns" => report_lent(out, &law_patterns()),
         "laws::law_permission" => report_lent(out, &law_permission()),
+        "laws::law_same_place" => report_lent(out, &law_same_place()),
+        "laws::law_section" => report_lent(out, &law_section()),
         "laws::law_settings" => report_lent(out, &law_settings()),
         "laws::law_text_transport" => report_lent(out, &law_text_transport()),
         call => unknown(call),

@@ -6,6 +6,7 @@
 
 mod borrowed;
 mod copies;
+mod dangers;
 mod differences;
 mod first_hour;
 mod git_credentials;
@@ -14,11 +15,15 @@ mod in_room;
 mod parts;
 mod paths;
 mod patterns;
+mod programs;
 mod reading;
 mod refusals;
 mod remotes;
+mod resolved;
 mod rewriting;
 mod rules;
+mod section;
 mod ssh;
+mod submodules;
 mod types;
 mod writing;

@@ -2,7 +2,7 @@
 
 use bstr::BString;
 use git_rules::config::{self, Entry};
-use git_rules::rewrite::host::{names_same_host, texts_name_same_host};
+use git_rules::rewrite::host::{is_same_host, names_same_host, texts_name_same_host};
 use git_rules::rewrite::{RewriteError, Rewrites};
 use gix_url::UrlRef;
 use std::alloc::{AllocError, Global};
@@ -61,6 +61,13 @@ fn keeps_host(before: &[u8], after: &[u8]) -> Option<bool> {
     let mut buffer = [0u8; 1024];
     let mut other = [0u8; 1024];
     texts_name_same_host(before, &mut buffer, after, &mut other).ok()
+}
+
+/// Whether a host is one of those that a program connects to.
+fn is_known(host: &str, known: &[&str]) -> bool {
+    known
+        .iter()
+        .any(|name| is_same_host(host.as_bytes(), name.as_bytes()))
 }
 
 /// The front that a rule takes off a text, if one wins.

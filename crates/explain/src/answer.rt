@@ -5,16 +5,18 @@
 //! out for people, `only` one part of it, and with `--json` it goes out as one object. It has no contract but
 //! that it can't abort: the stored run and `scripts/hostile` show its answers.
 
-use crate::only::{self, Part};
-use crate::shown;
 use crate::style::{Layout, Style};
+use crate::{only, shown};
 use bstr::BStr;
+use explain_report::advice::danger::names;
 use explain_report::advice::hint::{self, Hint, Reading};
+use explain_report::finding::Findings;
 use explain_report::location_report::Report;
 use explain_report::memory::both;
 use explain_report::refusal::Refusal;
 use explain_report::rules::Rules;
 use explain_report::text::line::SeenLine;
+use git_audit::danger::{Danger, dangers};
 use gix_url::parse::parse;
 use gix_url::{Error, Url};
 use serde::Serialize;
@@ -41,6 +43,8 @@ struct Answer<'b, 'a: 'b> {
     location: Option<&'b Report<'a>>,
     /// Why it is read as nothing.
     refusal: Option<&'b Refusal>,
+    /// The names of what is dangerous in it.
+    dangers: &'b [&'static str],
     /// What may be wrong with the line.
     hints: &'b [Hint],
     /// What Git does with it by the configuration, if one is given.
@@ -50,6 +54,8 @@ struct Answer<'b, 'a: 'b> {
 /// What is reported beside what a line is read as.
 #[derive(Clone, Copy)]
 pub struct Notes<'b> {
+    /// What is dangerous in the line, and in the location that is read in it.
+    pub dangers: &'b [Danger],
     /// What may be wrong with the line.
     pub hints: &'b [Hint],
     /// What Git does with it by the configuration, if one is given.
@@ -57,40 +63,55 @@ pub struct Notes<'b> {
 }
 
 impl Line<'_, '_> {
-    /// The answer, and whether the line is settled.
-    pub fn answer(self, alloc: Global) -> Result<(String, bool), AllocError> {
+    /// The answer, and what is found in the line.
+    pub fn answer(self, alloc: Global) -> Result<(String, Findings), AllocError> {
         let read = parse(alloc, BStr::new(self.bytes));
-        let answer = match (&read, self.style.layout) {
-            (Ok(url), Layout::Quiet) => Ok((String::new(alloc), url.is_settled())),
-            (Ok(url), Layout::Only(part)) => one_part(alloc, url, part),
-            (Ok(url), _) => self.location(alloc, url),
-            (Err(error), _) => self.error(alloc, error),
+        let answer = match &read {
+            Ok(url) => self.of_location(alloc, url),
+            Err(error) => self.error(alloc, error),
         };
         drop(read);
         answer
     }
 
-    /// What is reported of a location, and whether it is settled.
-    fn location(self, alloc: Global, url: &Url) -> Result<(String, bool), AllocError> {
+    /// What is reported of a location, and what is found in it.
+    fn of_location(self, alloc: Global, url: &Url) -> Result<(String, Findings), AllocError> {
+        let found = dangers(alloc, self.bytes, &url.as_ref())?;
+        let (found, rules) = both(found, self.rules(alloc, Some(url)))?;
+        let (notes, findings) = (
+            Notes {
+                dangers: found.as_slice(),
+                hints: &[],
+                rules: rules.as_ref(),
+            },
+            Findings::of_location(url, found.as_slice()).union(found_by(rules.as_ref())),
+        );
+        let answer = match self.style.layout {
+            Layout::Quiet => Ok(String::new(alloc)),
+            Layout::Only(part) => only::line(alloc, url, part),
+            _ => self.location(alloc, url, notes),
+        };
+        drop(rules);
+        drop(found);
+        Ok((answer?, findings))
+    }
+
+    /// What is reported of a location, without its hints so far.
+    fn location(self, alloc: Global, url: &Url, notes: Notes<'_>) -> Result<String, AllocError> {
         let seen = SeenLine::of(alloc, self.bytes)?;
         let (seen, report) = both(seen, Report::of(alloc, url))?;
         let found = hint::find(alloc, self.bytes, Some(Reading::of(url, &report)));
         let ((seen, report), found) = both((seen, report), found)?;
-        let (((seen, report), found), rules) = both(
-            ((seen, report), found),
-            self.rules(alloc, Some(url)),
-        )?;
-        let is_settled = report.settled;
         let notes = Notes {
+            dangers: notes.dangers,
             hints: found.as_slice(),
-            rules: rules.as_ref(),
+            rules: notes.rules,
         };
         let answer = self.laid_out(alloc, url, &report, &seen, notes);
-        drop(rules);
         drop(found);
         drop(report);
         drop(seen);
-        Ok((answer?, is_settled))
+        answer
     }
 
     /// What Git does with the line, which is read as this location unless it is refused, by the configuration
@@ -111,50 +132,60 @@ impl Line<'_, '_> {
         seen: &'x SeenLine<'_>,
         notes: Notes<'x>,
     ) -> Result<String, AllocError> {
-        match self.style.layout {
-            Layout::Json => json(
-                alloc,
-                &Answer {
-                    line: self.number,
-                    input: seen.input.as_str(),
-                    location: Some(report),
-                    refusal: None,
-                    hints: notes.hints,
-                    rules: notes.rules,
-                },
-            ),
-            _ => shown::location(alloc, self, url, report, seen, notes),
+        if !matches!(self.style.layout, Layout::Json) {
+            return shown::location(alloc, self, url, report, seen, notes);
         }
+        let names = names(alloc, notes.dangers)?;
+        let answer = json(
+            alloc,
+            &Answer {
+                line: self.number,
+                input: seen.input.as_str(),
+                location: Some(report),
+                refusal: None,
+                dangers: names.as_slice(),
+                hints: notes.hints,
+                rules: notes.rules,
+            },
+        );
+        drop(names);
+        answer
     }
 
-    /// What is reported of a line that is read as no location: that it isn't settled, and why, unless memory
-    /// is refused.
-    fn error(self, alloc: Global, error: &Error) -> Result<(String, bool), AllocError> {
-        let answer = match (error, self.style.layout) {
-            (Error::Memory, _) => Err(AllocError),
-            (_, Layout::Quiet) => Ok(String::new(alloc)),
-            (_, Layout::Only(_)) => String::from_str(alloc, "\n"),
-            (error, _) => self.refusal(alloc, error),
+    /// What is reported of a line that is read as no location, and what is found in it, unless memory is
+    /// refused.
+    fn error(self, alloc: Global, error: &Error) -> Result<(String, Findings), AllocError> {
+        if let Error::Memory = error {
+            return Err(AllocError);
+        }
+        let rules = self.rules(alloc, None)?;
+        let findings = Findings::of_refused().union(found_by(rules.as_ref()));
+        let answer = match self.style.layout {
+            Layout::Quiet => Ok(String::new(alloc)),
+            Layout::Only(_) => String::from_str(alloc, "\n"),
+            _ => self.refusal(alloc, error, rules.as_ref()),
         };
-        Ok((answer?, false))
+        drop(rules);
+        Ok((answer?, findings))
     }
 
     /// What is reported of a line that is refused.
-    fn refusal(self, alloc: Global, error: &Error) -> Result<String, AllocError> {
+    fn refusal(
+        self,
+        alloc: Global,
+        error: &Error,
+        rules: Option<&Rules>,
+    ) -> Result<String, AllocError> {
         let seen = SeenLine::of(alloc, self.bytes)?;
         let (seen, refusal) = both(seen, Refusal::of_line(alloc, error))?;
         let found = hint::find(alloc, self.bytes, None);
         let ((seen, refusal), found) = both((seen, refusal), found)?;
-        let (((seen, refusal), found), rules) = both(
-            ((seen, refusal), found),
-            self.rules(alloc, None),
-        )?;
         let notes = Notes {
+            dangers: &[],
             hints: found.as_slice(),
-            rules: rules.as_ref(),
+            rules,
         };
         let answer = self.laid_out_refusal(alloc, &refusal, &seen, notes);
-        drop(rules);
         drop(found);
         drop(refusal);
         drop(seen);
@@ -177,6 +208,7 @@ impl Line<'_, '_> {
                     input: seen.input.as_str(),
                     location: None,
                     refusal: Some(refusal),
+                    dangers: &[],
                     hints: notes.hints,
                     rules: notes.rules,
                 },
@@ -186,14 +218,17 @@ impl Line<'_, '_> {
     }
 }
 
-/// One part of a location, and whether the location is settled.
-fn one_part(alloc: Global, url: &Url, part: Part) -> Result<(String, bool), AllocError> {
-    Ok((only::line(alloc, url, part)?, url.is_settled()))
+/// What is found in what the line is rewritten to by the configuration, if one is given.
+fn found_by(rules: Option<&Rules>) -> Findings {
+    match rules {
+        None => Findings::none(),
+        Some(rules) => rules.found(),
+    }
 }
 
 /// The answer as one line of JSON. Each part of an answer has a JSON, so it fails only where memory is
 /// refused.
-fn json(alloc: Global, answer: &Answer<'_, '_>) -> Result<String, AllocError> {
+pub fn json<T: Serialize>(alloc: Global, answer: &T) -> Result<String, AllocError> {
     match serde_json::to_string(alloc, answer) {
         Ok(mut line) => {
             line.push('\n')?;

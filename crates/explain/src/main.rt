@@ -4,14 +4,15 @@
 //! what is reported of a line, and `explain_page` writes the page. `options` reads the command line, `source` a
 //! configuration, `answer` finds the answer to a line and `style` says how it is laid out; here the lines are
 //! read and the answers are written, each as soon as its line is read, except for a page, which is collected.
-//! The status is 0 where every line is settled, 1 where one is not, and 2 where the run was cut short, a file
-//! can't be opened or the options are wrong.
+//! The status is 0 if nothing is found in a line that the run fails for, 1 if something is, and 2 if the run was cut
+//! short, a file can't be opened or the options are wrong.
 #![tactic(auto)]
 
 mod answer;
 mod only;
 mod options;
 mod paint;
+mod remote_rows;
 mod rule_rows;
 mod shown;
 mod source;
@@ -19,15 +20,16 @@ mod style;
 
 use answer::Line;
 use clap::ArgMatches;
+use explain_report::remotes::{RemoteReport, names};
 use explain_report::rules::config::{self, Config, Fault};
-use git_rules::config::entries;
+use git_rules::config::{Entry, entries, entries_of};
 use git_rules::protocols::Protocols;
 use gix_url::lines::RunError;
 use paint::Colors;
 use source::Source;
-use std::alloc::Global;
+use std::alloc::{AllocError, Global};
 use std::env;
-use std::fs::File;
+use std::fs::{self, File};
 use std::io::{BufRead, BufReader, ErrorKind, IsTerminal, Read, Write};
 use std::process::ExitCode;
 use std::rt::Env;
@@ -38,7 +40,7 @@ fn explain(rt: &HostRuntime, given: &ArgMatches<'_>) -> u8 {
     let style = options::style(given, colors_of(rt));
     let mut output = rt.stdout();
     let mut seen = Seen::nothing(rt.alloc());
-    let outcome = match given.get_str("config") {
+    let outcome = match options::config_file(given) {
         None => answer_all(rt, given, &mut output, style, &mut seen),
         Some(file) => answer_by_file(rt, given, file, &mut output, style, &mut seen),
     };
@@ -47,7 +49,7 @@ fn explain(rt: &HostRuntime, given: &ArgMatches<'_>) -> u8 {
         Err(fault) => Err(fault),
     };
     report(rt, &outcome);
-    seen.status(&outcome)
+    seen.status(style.fail_on, &outcome)
 }
 
 /// Answers what the command line names, by the configuration in a file. Where that can't be read it is
@@ -60,7 +62,7 @@ fn answer_by_file<W: Write>(
     style: Style<'_, '_>,
     seen: &mut Seen,
 ) -> Result<(), RunError> {
-    if file == "-" && options::reads_input(given) {
+    if file == "-" && options::reads_input(given) && !given.get_flag("remotes") {
         let _ = rt.eprintln("explain: --config - needs the lines as arguments or in files");
         seen.lacks_file = true;
         return Ok(());
@@ -90,16 +92,59 @@ fn answer_by_source<W: Write>(
     seen: &mut Seen,
 ) -> Result<(), RunError> {
     let entries = entries(rt.alloc(), source.text.as_slice())?;
-    let protocols = Protocols {
-        entries: entries.as_slice(),
-        allow_list: bytes_of(&source.allow_list),
-        from_user: bytes_of(&source.from_user),
-    };
-    let config = Config::of(rt.alloc(), protocols)?;
+    let of_protocols = entries_of(rt.alloc(), entries.as_slice(), "protocol")?;
+    let config = config_of(
+        rt.alloc(),
+        source,
+        entries.as_slice(),
+        of_protocols.as_slice(),
+    )?;
     for fault in &config::faults(rt.alloc(), source.text.as_slice())? {
         report_fault(rt, *fault);
     }
+    if given.get_flag("remotes") {
+        return answer_remotes(rt.alloc(), &config, output, style, seen);
+    }
     answer_by_config(rt, given, &config, output, style, seen)
+}
+
+/// What these entries and the variables of the environment say. Those of `protocol.*` are given apart too.
+fn config_of<'e>(
+    alloc: Global,
+    source: &'e Source,
+    entries: &'e [Entry<'e>],
+    of_protocols: &'e [Entry<'e>],
+) -> Result<Config<'e>, AllocError> {
+    let protocols = Protocols {
+        entries: of_protocols,
+        allow_list: bytes_of(&source.allow_list),
+        from_user: bytes_of(&source.from_user),
+    };
+    Config::of(alloc, entries, protocols)
+}
+
+/// Answers about each remote of the configuration.
+fn answer_remotes<W: Write>(
+    alloc: Global,
+    config: &Config<'_>,
+    output: &mut W,
+    style: Style<'_, '_>,
+    seen: &mut Seen,
+) -> Result<(), RunError> {
+    for name in &names(alloc, config.remotes.as_slice())? {
+        let remote = RemoteReport::of(alloc, config, name)?;
+        let found = remote.found();
+        let answer = remote_rows::answer(alloc, &remote, style.layout);
+        drop(remote);
+        seen.found = seen.found.union(found);
+        output
+            .write_all(answer?.as_str().as_bytes())
+            .map_err(RunError::Write)?;
+        if style.is_over(seen) {
+            break;
+        }
+    }
+    Ok(())
 }
 
 /// Answers what the command line names, with what Git does by a configuration.
@@ -116,6 +161,7 @@ fn answer_by_config<W: Write>(
         colors: style.colors,
         end: style.end,
         config: Some(config),
+        fail_on: style.fail_on,
     };
     answer_all(rt, given, output, style, seen)
 }
@@ -149,6 +195,13 @@ fn answer_all<W: Write>(
 ) -> Result<(), RunError> {
     let files = given.get_strs("file").unwrap_or(&[]);
     let texts = given.get_strs("text").unwrap_or(&[]);
+    if let ([], [text]) = (files, texts)
+        && is_file(rt, text)
+    {
+        report_file(rt, text);
+        seen.lacks_file = true;
+        return Ok(());
+    }
     for file in files {
         answer_file(rt, file, output, style, seen)?;
     }
@@ -168,6 +221,24 @@ fn answer_all<W: Write>(
         answer_file(rt, "-", output, style, seen)?;
     }
     Ok(())
+}
+
+/// Whether the text is the name of a file that is there, and `-` is none.
+fn is_file(rt: &HostRuntime, text: &str) -> bool {
+    match fs::metadata(rt, text) {
+        Ok(found) => found.is_file(),
+        Err(error) => {
+            drop(error);
+            false
+        }
+    }
+}
+
+/// Reports on standard error that a text is the name of a file, whose lines aren't looked at.
+fn report_file(rt: &impl Eprint, text: &str) {
+    let _ = eprintln!(rt;
+        "explain: {text} is a file; to read it: -f {text}; for its name alone give that as a line of standard input"
+    );
 }
 
 /// Answers the lines of a file; `-` is standard input. A file that can't be opened is reported, and the rest
@@ -247,7 +318,7 @@ fn without_end(line: &[u8], end: u8) -> (&[u8], bool) {
     }
 }
 
-/// Writes the answer to a line, and notes whether the line is settled.
+/// Writes the answer to a line, and notes what is found in it.
 fn answer_line<W: Write>(
     alloc: Global,
     line: &[u8],
@@ -262,12 +333,12 @@ fn answer_line<W: Write>(
         style,
     };
     if let Layout::Page = style.layout {
-        let is_settled = seen.page.add(line.number, line.bytes)?;
-        seen.is_settled &= is_settled;
+        let found = seen.page.add(line.number, line.bytes)?;
+        seen.found = seen.found.union(found);
         return Ok(());
     }
-    let (answer, is_settled) = line.answer(alloc)?;
-    seen.is_settled &= is_settled;
+    let (answer, found) = line.answer(alloc)?;
+    seen.found = seen.found.union(found);
     output
         .write_all(answer.as_str().as_bytes())
         .map_err(RunError::Write)

@@ -4,6 +4,7 @@ use crate::only::Part;
 use crate::paint::Colors;
 use crate::style::{Layout, Style};
 use clap::{Arg, ArgAction, ArgMatches, Command};
+use explain_report::finding::Findings;
 use std::alloc::{AllocError, Global};
 use std::rt::Env;
 use std::{env, io};
@@ -16,7 +17,7 @@ Examples:
   explain git@github.com:a/b.git
   git config --get-all remote.origin.url | explain --only host
 
-Exit status: 0 if every line is settled, 1 if one is not, 2 for wrong arguments or a run that was cut short.";
+Exit status: 0 if nothing was found, 1 if something was, 2 for wrong arguments or a run that was cut short. What can be found: a danger, a location that is not settled, a refused line, a text that Git is not known to read the same (git-differs), and with --config a transport that Git does not use (policy).";
 
 /// The title of a page that is given none.
 const TITLE: &str = "Git remotes";
@@ -45,6 +46,27 @@ pub fn style<'c, 'e: 'c>(given: &ArgMatches<'_>, auto: Colors) -> Style<'c, 'e> 
         },
         end: if given.get_flag("null") { 0 } else { b'\n' },
         config: None,
+        fail_on: fail_on(given),
+    }
+}
+
+/// What the run fails for: all that can be found, unless the command line says it.
+fn fail_on(given: &ArgMatches<'_>) -> Findings {
+    let Some(names) = given.get_strs("fail-on") else {
+        return Findings::all();
+    };
+    let mut wanted = Findings::none();
+    for name in names {
+        wanted = wanted.union(Findings::named(name));
+    }
+    wanted
+}
+
+/// The file of the configuration, if there is one: `--remotes` reads it from standard input unless it is named.
+pub fn config_file<'a>(given: &ArgMatches<'a>) -> Option<&'a str> {
+    match given.get_str("config") {
+        None if given.get_flag("remotes") => Some("-"),
+        file => file,
     }
 }
 
@@ -95,10 +117,12 @@ fn command<'a>(alloc: Global) -> Result<Command<'a>, AllocError> {
         .arg(files(alloc))?
         .arg(null(alloc))?
         .arg(config(alloc)?)?
+        .arg(remotes(alloc)?)?
         .arg(json(alloc)?)?
         .arg(html(alloc)?)?
         .arg(only(alloc)?)?
         .arg(quiet(alloc))?
+        .arg(fail_on_arg(alloc))?
         .arg(color(alloc))
 }
 
@@ -134,8 +158,20 @@ fn config<'a>(alloc: Global) -> Result<Arg<'a>, AllocError> {
         .help(
             "Show what Git does with each line by the output of git config --list -z; - is standard input",
         )
-        .conflicts_with("only")?
-        .conflicts_with("quiet")
+        .conflicts_with("html")
+}
+
+fn remotes<'a>(alloc: Global) -> Result<Arg<'a>, AllocError> {
+    Arg::new(alloc, "remotes")
+        .long("remotes")
+        .help(
+            "Show what Git fetches from and pushes to for each remote of the configuration, which is that of --config or standard input",
+        )
+        .action(ArgAction::SetTrue)
+        .conflicts_with("text")?
+        .conflicts_with("file")?
+        .conflicts_with("html")?
+        .conflicts_with("only")
 }
 
 fn json<'a>(alloc: Global) -> Result<Arg<'a>, AllocError> {
@@ -156,7 +192,6 @@ fn html<'a>(alloc: Global) -> Result<Arg<'a>, AllocError> {
         )
         .num_args(0..=1)
         .default_missing_value(TITLE)
-        .conflicts_with("config")?
         .conflicts_with("json")?
         .conflicts_with("only")?
         .conflicts_with("quiet")
@@ -175,8 +210,19 @@ fn quiet<'a>(alloc: Global) -> Arg<'a> {
     Arg::new(alloc, "quiet")
         .short('q')
         .long("quiet")
-        .help("Print nothing, and stop at the first line that is not settled")
+        .help("Print nothing, and stop at the first line in which something is found")
         .action(ArgAction::SetTrue)
+}
+
+fn fail_on_arg<'a>(alloc: Global) -> Arg<'a> {
+    Arg::new(alloc, "fail-on")
+        .long("fail-on")
+        .value_name("WHAT")
+        .help(
+            "End with status 1 for this alone; may be given more than once, and any, all of it, is the default",
+        )
+        .value_parser(Findings::NAMES.as_slice())
+        .action(ArgAction::Append)
 }
 
 fn color<'a>(alloc: Global) -> Arg<'a> {

@@ -13,15 +13,32 @@ use std::fmt::Write;
 
 /// The rows of the rules.
 pub fn rows(alloc: Global, out: &mut String, rules: &Rules) -> Result<(), AllocError> {
-    route(out, "fetches", &rules.fetch)?;
-    route(out, "pushes", &rules.push)?;
+    line_route(out, "fetches", &rules.fetch)?;
+    line_route(out, "pushes", &rules.push)?;
     credential(alloc, out, &rules.credential)?;
     settings(alloc, out, "http", &rules.http)?;
     transports(alloc, out, rules)
 }
 
+/// The rows of where Git goes from a line: where, and what is dangerous in that, unless it is the line.
+fn line_route(out: &mut String, name: &str, way: &Route) -> Result<(), AllocError> {
+    route(out, name, way)?;
+    if way.rewritten {
+        return dangers(out, way);
+    }
+    Ok(())
+}
+
+/// The rows of the dangers of a text that Git goes to.
+pub fn dangers(out: &mut String, way: &Route) -> Result<(), AllocError> {
+    for danger in &way.found_dangers {
+        row(out, "danger", danger.words())?;
+    }
+    Ok(())
+}
+
 /// The row of where Git goes, with a warning where that is another host than the line's.
-fn route(out: &mut String, name: &str, route: &Route) -> Result<(), AllocError> {
+pub fn route(out: &mut String, name: &str, route: &Route) -> Result<(), AllocError> {
     let warning = match route.same_host {
         Some(false) => ", on another host than the line's",
         _ => "",
@@ -95,7 +112,7 @@ fn transports(alloc: Global, out: &mut String, rules: &Rules) -> Result<(), Allo
 }
 
 /// The row of a transport, or of why Git has none.
-fn transport(
+pub fn transport(
     alloc: Global,
     out: &mut String,
     route: &Route,

@@ -8,7 +8,7 @@ use crate::answer::{Line, Notes};
 use crate::paint::short::is_long;
 use crate::paint::{self, Colors, marks};
 use crate::rule_rows;
-use explain_report::advice::danger::dangers;
+use explain_report::advice::danger::push_words;
 use explain_report::advice::hint::Hint;
 use explain_report::curl::Curl;
 use explain_report::git_report::is_of_web;
@@ -17,6 +17,7 @@ use explain_report::path::{Components, Field, Home};
 use explain_report::refusal::Refusal;
 use explain_report::text::cut::Cut;
 use explain_report::text::line::{Quoted, SeenLine};
+use git_audit::danger::Danger;
 use gix_url::Url;
 use std::alloc::{AllocError, Global};
 use std::fmt::{Display, Write};
@@ -31,7 +32,7 @@ pub fn location(
     notes: Notes<'_>,
 ) -> Result<String, AllocError> {
     let mut out = String::new(alloc);
-    heading(&mut out, line.number, url, report)?;
+    heading(&mut out, line.number, report, notes.dangers)?;
     paint::named(&mut out, &seen.cut, line.style.colors)?;
     text(&mut out, url, report, seen)?;
     parts(&mut out, url, report)?;
@@ -45,15 +46,15 @@ pub fn location(
 fn heading(
     out: &mut String,
     number: u64,
-    url: &Url,
     report: &Report<'_>,
+    dangers: &[Danger],
 ) -> Result<(), AllocError> {
     let form = report.form;
     match &report.reread {
         None => write!(out, "line {number}: {form}, settled"),
         Some(reread) => write!(out, "line {number}: {form}, not settled: {}", reread.words),
     }?;
-    dangers(out, url, report)?;
+    push_words(out, dangers)?;
     out.push('\n')
 }
 

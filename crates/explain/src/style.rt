@@ -3,6 +3,7 @@
 use crate::only::Part;
 use crate::paint::Colors;
 use explain_page::page::Page;
+use explain_report::finding::Findings;
 use explain_report::rules::config::Config;
 use gix_url::lines::RunError;
 use std::alloc::Global;
@@ -18,6 +19,8 @@ pub struct Style<'c, 'e: 'c> {
     pub end: u8,
     /// The configuration by which it is shown what Git does, if one is given.
     pub config: Option<&'c Config<'e>>,
+    /// What the run fails for.
+    pub fail_on: Findings,
 }
 
 /// What is printed of a line.
@@ -38,7 +41,7 @@ pub enum Layout {
 impl Style<'_, '_> {
     /// Whether nothing that follows can change what the run reports.
     pub fn is_over(&self, seen: &Seen) -> bool {
-        matches!(self.layout, Layout::Quiet) && !seen.is_settled
+        matches!(self.layout, Layout::Quiet) && seen.found.meets(self.fail_on)
     }
 }
 
@@ -47,8 +50,8 @@ impl Style<'_, '_> {
 pub struct Seen {
     /// The number of lines.
     pub lines: u64,
-    /// Whether every line is settled.
-    pub is_settled: bool,
+    /// What was found in one of them.
+    pub found: Findings,
     /// Whether a file could not be opened.
     pub lacks_file: bool,
     /// The page, where one is asked for.
@@ -60,7 +63,7 @@ impl Seen {
     pub fn nothing(alloc: Global) -> Seen {
         Seen {
             lines: 0,
-            is_settled: true,
+            found: Findings::none(),
             lacks_file: false,
             page: Page::new(alloc),
         }
@@ -79,15 +82,15 @@ impl Seen {
         }
     }
 
-    /// The status to end with: 0 where every line is settled, 1 where one is not, 2 where something could not
-    /// be read or written.
-    pub fn status(&self, outcome: &Result<(), RunError>) -> u8 {
+    /// The status to end with: 0 where nothing was found that the run fails for, 1 where something was, 2 where
+    /// something could not be read or written.
+    pub fn status(&self, fail_on: Findings, outcome: &Result<(), RunError>) -> u8 {
         if outcome.is_err() || self.lacks_file {
             2
-        } else if self.is_settled {
-            0
-        } else {
+        } else if self.found.meets(fail_on) {
             1
+        } else {
+            0
         }
     }
 }

@@ -7,17 +7,27 @@
 
 use crate::markup::Markup;
 use crate::{cuts, pieces, readers};
-use explain_report::advice::danger::dangers;
+use explain_report::advice::danger::push_words;
 use explain_report::advice::hint::Hint;
 use explain_report::form::Form;
 use explain_report::location_report::{Arguments, Report, Safety};
 use explain_report::path::{Components, Field, Home};
 use explain_report::refusal::Refusal;
 use explain_report::text::line::SeenLine;
+use git_audit::danger::Danger;
 use gix_url::Url;
 use std::alloc::{AllocError, Global};
 
-/// Appends the article of a location. Returns whether it is dangerous.
+/// What is found of a line beside its location.
+#[derive(Clone, Copy)]
+pub struct Notes<'b> {
+    /// What is dangerous in the line, and in the location that is read in it.
+    pub dangers: &'b [Danger],
+    /// What may be wrong with the line.
+    pub hints: &'b [Hint],
+}
+
+/// Appends the article of a location.
 pub fn location(
     alloc: Global,
     out: &mut Markup,
@@ -25,12 +35,11 @@ pub fn location(
     url: &Url,
     report: &Report<'_>,
     seen: &SeenLine<'_>,
-    found: &[Hint],
-) -> Result<bool, AllocError> {
+    notes: Notes<'_>,
+) -> Result<(), AllocError> {
     let mut words = String::new(alloc);
-    let written = dangers(&mut words, url, report);
+    let written = push_words(&mut words, notes.dangers);
     let headed = heading(out, number, report, words.as_str());
-    let is_dangerous = !words.as_str().is_empty();
     drop(words);
     written?;
     headed?;
@@ -46,9 +55,8 @@ pub fn location(
     cuts::reread(out, report)?;
     readers::table(out, url, report)?;
     cuts::with_git(alloc, out, report)?;
-    hints(out, found)?;
-    out.push_template("</article>\n")?;
-    Ok(is_dangerous)
+    hints(out, notes.hints)?;
+    out.push_template("</article>\n")
 }
 
 /// Appends the beginning of the article: its number, its form, the verdict and the dangers in words.

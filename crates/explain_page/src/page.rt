@@ -4,17 +4,19 @@
 //! rank in the order of their lines. It uses `article`, `counts`, `rank` and `template`, and has no contract
 //! but that it can't abort.
 
-use crate::article;
+use crate::article::{self, Notes};
 use crate::counts::Counts;
 use crate::markup::Markup;
 use crate::rank::Rank;
 use crate::template::{PAGE, Part, Slot};
 use bstr::BStr;
 use explain_report::advice::hint::{self, Reading};
+use explain_report::finding::Findings;
 use explain_report::location_report::Report;
 use explain_report::memory::both;
 use explain_report::refusal::Refusal;
 use explain_report::text::line::SeenLine;
+use git_audit::danger::{Danger, dangers};
 use gix_url::lines::RunError;
 use gix_url::parse::parse;
 use gix_url::{Error, Url};
@@ -31,6 +33,7 @@ pub struct Page {
     counts: Counts,
     options: Markup,
     commands: Markup,
+    misread: Markup,
     secrets: Markup,
     other_hosts: Markup,
     refused: Markup,
@@ -47,6 +50,7 @@ impl Page {
             counts: Counts::new(alloc),
             options: Markup::new(alloc),
             commands: Markup::new(alloc),
+            misread: Markup::new(alloc),
             secrets: Markup::new(alloc),
             other_hosts: Markup::new(alloc),
             refused: Markup::new(alloc),
@@ -56,8 +60,8 @@ impl Page {
         }
     }
 
-    /// Adds a line, which has this number from 1. Returns whether it is settled.
-    pub fn add(&mut self, number: u64, line: &[u8]) -> Result<bool, AllocError> {
+    /// Adds a line, which has this number from 1. Returns what is found in it.
+    pub fn add(&mut self, number: u64, line: &[u8]) -> Result<Findings, AllocError> {
         let read = parse(self.alloc, BStr::new(line));
         let added = match &read {
             Ok(url) => self.add_location(number, line, url),
@@ -69,39 +73,57 @@ impl Page {
     }
 
     /// Adds a line that is read as a location.
-    fn add_location(&mut self, number: u64, line: &[u8], url: &Url) -> Result<bool, AllocError> {
+    fn add_location(
+        &mut self,
+        number: u64,
+        line: &[u8],
+        url: &Url,
+    ) -> Result<Findings, AllocError> {
+        let found = dangers(self.alloc, line, &url.as_ref())?;
+        let findings = Findings::of_location(url, found.as_slice());
+        let added = self.add_dangerous(number, line, url, found.as_slice());
+        drop(found);
+        added?;
+        Ok(findings)
+    }
+
+    /// Adds a line that is read as a location with these dangers.
+    fn add_dangerous(
+        &mut self,
+        number: u64,
+        line: &[u8],
+        url: &Url,
+        dangers: &[Danger],
+    ) -> Result<(), AllocError> {
         let alloc = self.alloc;
         let seen = SeenLine::of(alloc, line)?;
         let (seen, report) = both(seen, Report::of(alloc, url))?;
         let found = hint::find(alloc, line, Some(Reading::of(url, &report)));
         let ((seen, report), found) = both((seen, report), found)?;
-        let out = self.of_rank(Rank::of(url, &report));
+        let out = self.of_rank(Rank::of(dangers, &report));
         let before = out.as_bytes().len();
-        let is_dangerous = article::location(
-            alloc,
-            out,
-            number,
-            url,
-            &report,
-            &seen,
-            found.as_slice(),
-        );
+        let notes = Notes {
+            dangers,
+            hints: found.as_slice(),
+        };
+        let written = article::location(alloc, out, number, url, &report, &seen, notes);
         let grouped = group(out, before);
         drop(found);
         drop(seen);
-        let counted = match is_dangerous {
-            Ok(is_dangerous) => self.counts.add(alloc, &report, is_dangerous),
-            Err(error) => Err(error),
-        };
-        let is_settled = report.settled;
+        let counted = self.counts.add(alloc, &report, !dangers.is_empty());
         drop(report);
+        written?;
         counted?;
-        grouped?;
-        Ok(is_settled)
+        grouped
     }
 
     /// Adds a line that is refused.
-    fn add_refused(&mut self, number: u64, line: &[u8], error: &Error) -> Result<bool, AllocError> {
+    fn add_refused(
+        &mut self,
+        number: u64,
+        line: &[u8],
+        error: &Error,
+    ) -> Result<Findings, AllocError> {
         let alloc = self.alloc;
         let seen = SeenLine::of(alloc, line)?;
         let (seen, refusal) = both(seen, Refusal::of_line(alloc, error))?;
@@ -117,7 +139,7 @@ impl Page {
         self.counts.add_refused();
         added?;
         grouped?;
-        Ok(false)
+        Ok(Findings::of_refused())
     }
 
     /// The articles of a rank, to be added to.
@@ -125,6 +147,7 @@ impl Page {
         match rank {
             Rank::Option => &mut self.options,
             Rank::Command => &mut self.commands,
+            Rank::Misread => &mut self.misread,
             Rank::Secret => &mut self.secrets,
             Rank::OtherHost => &mut self.other_hosts,
             Rank::Refused => &mut self.refused,
@@ -139,6 +162,7 @@ impl Page {
         match rank {
             Rank::Option => &self.options,
             Rank::Command => &self.commands,
+            Rank::Misread => &self.misread,
             Rank::Secret => &self.secrets,
             Rank::OtherHost => &self.other_hosts,
             Rank::Refused => &self.refused,

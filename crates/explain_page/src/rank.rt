@@ -1,10 +1,9 @@
 //! How urgently a line should be looked at: the order of the page.
 //!
-//! It uses `danger` and `location_report`, and has no contract but that it can't abort.
+//! It uses `danger` of `git_audit` and `location_report`, and has no contract but that it can't abort.
 
-use explain_report::advice::danger::Danger;
 use explain_report::location_report::Report;
-use gix_url::Url;
+use git_audit::danger::Danger;
 
 /// A rank, the most urgent first.
 #[derive(Clone, Copy)]
@@ -13,6 +12,8 @@ pub enum Rank {
     Option,
     /// It runs a command.
     Command,
+    /// Git takes another host from it, or a part holds the end of a line.
+    Misread,
     /// It holds a password, or what may be a token.
     Secret,
     /// Its own text is read with another host.
@@ -27,9 +28,10 @@ pub enum Rank {
 
 impl Rank {
     /// All ranks, in order.
-    pub const ALL: [Rank; 8] = [
+    pub const ALL: [Rank; 9] = [
         Rank::Option,
         Rank::Command,
+        Rank::Misread,
         Rank::Secret,
         Rank::OtherHost,
         Rank::Refused,
@@ -39,12 +41,17 @@ impl Rank {
     ];
 
     /// The rank of a location.
-    pub fn of(url: &Url, report: &Report<'_>) -> Rank {
-        let has = |danger: Danger| danger.is_in(url, report);
-        if has(Danger::User) || has(Danger::Host) || has(Danger::Path) {
+    pub fn of(dangers: &[Danger], report: &Report<'_>) -> Rank {
+        let has = |danger: Danger| dangers.contains(&danger);
+        if has(Danger::OptionLikeUser)
+            || has(Danger::OptionLikeHost)
+            || has(Danger::OptionLikePath)
+        {
             Rank::Option
         } else if has(Danger::Command) {
             Rank::Command
+        } else if has(Danger::OtherHost) || has(Danger::HostCharacter) || has(Danger::LineEnd) {
+            Rank::Misread
         } else if has(Danger::Password) || has(Danger::Token) {
             Rank::Secret
         } else if reads_other_host(report) {
@@ -63,6 +70,7 @@ impl Rank {
         match self {
             Rank::Option => "A part that is taken for an option",
             Rank::Command => "A command",
+            Rank::Misread => "A host or a part that a program reads otherwise",
             Rank::Secret => "A password, or what may be a token",
             Rank::OtherHost => "Another host, once it is written and read again",
             Rank::Refused => "Refused",

@@ -4,3 +4,4 @@ pub mod Reports
 pub mod Refusals
 pub mod Secrets
 pub mod Rules
+pub mod Findings

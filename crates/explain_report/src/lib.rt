@@ -3,9 +3,9 @@
 //!
 //! [`location_report`] puts together what is reported of a location, of which [`form`], [`path`],
 //! [`git_report`], [`credential`], [`curl`] and [`difference`] each have a part; [`refusal`] says why a line is
-//! refused. [`text`] shows a line, [`rules`] asks a configuration about it, and [`advice`] has dangers and hints.
-//! The crate uses the public calls of `gix_url` and `git_rules`. Nothing is
-//! laid out here: that is for the crates above.
+//! refused. [`text`] shows a line, [`rules`] asks a configuration about it, [`remotes`] has those of the
+//! configuration itself, [`advice`] has dangers and hints, and [`finding`] is what a run may fail for. The crate uses
+//! the public calls of `gix_url`, `git_rules` and `git_audit`. Nothing is laid out here: that is for the crates above.
 #![tactic(auto)]
 
 pub mod advice;
@@ -14,12 +14,14 @@ pub mod credential;
 pub mod curl;
 pub mod difference;
 mod facts;
+pub mod finding;
 pub mod form;
 pub mod git_report;
 pub mod location_report;
 pub mod memory;
 pub mod path;
 pub mod refusal;
+pub mod remotes;
 pub mod rules;
 pub mod text;
 mod web;

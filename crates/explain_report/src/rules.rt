@@ -6,12 +6,17 @@
 //! of `gix_url` and `git_rules`, and has no contract but that it can't abort: `scripts/hostile rules` shows
 //! its answers.
 
+ghost use Rattle.std.specs.Prelude.{◌≡◌};
+ghost use Rattle.explain_report.specs.Findings.{union};
+
 pub mod config;
 pub mod credentials;
 pub mod setting;
 mod settings;
 pub mod transports;
 
+use crate::advice::danger::names;
+use crate::finding::Findings;
 use crate::git_report::is_of_web;
 use crate::memory::both;
 use crate::rules::config::Config;
@@ -21,6 +26,7 @@ use crate::rules::settings::settings_for;
 use crate::rules::transports::{Lack, Transport, transport_for};
 use crate::text::line::{input, pieces_of};
 use bstr::BString;
+use git_audit::danger::{Danger, dangers};
 use git_rules::rewrite::host::names_same_host;
 use git_rules::rewrite::outcome::Rewritten;
 use gix_url::parse::parse;
@@ -54,6 +60,14 @@ pub struct Route {
     pub transport: Option<Transport>,
     /// Why Git has no transport for the text.
     pub no_transport: Option<Lack>,
+    /// The names of what is dangerous in the text.
+    pub dangers: Vec<&'static str>,
+    /// What is dangerous in the text.
+    #[serde(skip)]
+    pub found_dangers: Vec<Danger>,
+    /// What is found in the text, for which a run may fail.
+    #[serde(skip)]
+    pub found: Findings,
 }
 
 impl Rules {
@@ -73,6 +87,13 @@ impl Rules {
         drop(push);
         drop(fetch);
         rules
+    }
+
+    /// What is found in the texts that the line is rewritten to.
+    pub fn found(&self) -> Findings
+        ensures { result ≡ union self.now.fetch.found self.now.push.found }
+    {
+        self.fetch.found.union(self.push.found)
     }
 
     /// What Git does with what the line is rewritten to.
@@ -120,6 +141,24 @@ impl Goal {
     }
 }
 
+impl Goal {
+    /// What is dangerous in the text, and in the location that is read in it.
+    fn dangers(&self, alloc: Global) -> Result<Vec<Danger>, AllocError> {
+        match &self.url {
+            Some(url) => dangers(alloc, self.text.as_bytes(), &url.as_ref()),
+            None => Ok(Vec::new(alloc)),
+        }
+    }
+
+    /// What is found in the text, which has these dangers.
+    fn found(&self, dangers: &[Danger]) -> Findings {
+        match &self.url {
+            Some(url) => Findings::of_location(url, dangers),
+            None => Findings::of_refused(),
+        }
+    }
+}
+
 /// The text, and the location that it is read as, if it is read.
 fn both_read(alloc: Global, text: BString) -> Result<(BString, Option<Url>), AllocError> {
     let url = match parse(alloc, text.as_bstr()) {
@@ -134,6 +173,18 @@ fn both_read(alloc: Global, text: BString) -> Result<(BString, Option<Url>), All
 }
 
 impl Route {
+    /// The way to what a text is rewritten to.
+    pub fn of_rewritten(
+        alloc: Global,
+        config: &Config<'_>,
+        text: &Rewritten<'_>,
+    ) -> Result<Route, AllocError> {
+        let goal = Goal::of(alloc, text)?;
+        let route = Route::of(alloc, config, None, &goal);
+        drop(goal);
+        route
+    }
+
     /// The way to a goal, from a line that is read as this location unless it is refused.
     fn of(
         alloc: Global,
@@ -147,14 +198,29 @@ impl Route {
             text,
             transport_for(alloc, &config.protocols, bytes),
         )?;
-        Ok(Route {
+        let route = Route {
             text,
             rewritten: goal.is_rewritten,
             same_host: is_same_host(line, goal),
+            found: Findings::of_transport(transport.as_ref()),
             transport,
             no_transport,
-        })
+            dangers: Vec::new(alloc),
+            found_dangers: Vec::new(alloc),
+        };
+        let (mut route, found) = both(route, goal.dangers(alloc))?;
+        route.found = route.found.union(goal.found(found.as_slice()));
+        route.found_dangers = found;
+        let (mut route, names) = both_named(alloc, route)?;
+        route.dangers = names;
+        Ok(route)
     }
+}
+
+/// A route, and the names of what is dangerous in its text.
+fn both_named(alloc: Global, route: Route) -> Result<(Route, Vec<&'static str>), AllocError> {
+    let names = names(alloc, route.found_dangers.as_slice());
+    both(route, names)
 }
 
 /// Whether a goal names the host of a line, where both are locations.
@@ -176,6 +242,6 @@ fn settings_of(
         return Ok((None, Vec::new(alloc)));
     }
     let text = goal.text.as_bytes();
-    let credential = Credentials::of(alloc, config.protocols.entries, text)?;
+    let credential = Credentials::of(alloc, config.credentials.as_slice(), text)?;
     both(credential, settings_for(alloc, config, text))
 }

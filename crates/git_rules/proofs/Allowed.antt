@@ -2,6 +2,8 @@
 -- last of the entries that set a key, and the decision.
 pub mod ListedLemmas
 pub mod DecisionLemmas
+-- The entries of the section alone.
+pub mod SectionLemmas
 -- The transport of a text.
 pub mod TransportLemmas
 pub mod TransportLawLemmas

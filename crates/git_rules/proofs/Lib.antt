@@ -5,6 +5,7 @@ pub mod Remoted
 pub mod Numbers
 pub mod Allowed
 pub mod Shell
+pub mod Programs
 pub mod NormalForms
 pub mod Matched
 pub mod Settled

@@ -1,6 +1,7 @@
--- Tables of rules: ranks, the best rule, the rule that wins.
+-- Tables of rules: ranks, the first bases of fronts, what a table notes, the rule that wins.
 pub mod RankLemmas
-pub mod BestLemmas
+pub mod FrontLemmas
+pub mod TableLemmas
 pub mod WinLemmas
 pub mod UniqueLemmas
 pub mod EntryLemmas

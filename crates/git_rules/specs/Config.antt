@@ -1,5 +1,6 @@
 -- The entries of a configuration: what contracts see of one, and the text that Git writes for it.
 use Rattle.std.specs.Prelude.{◌≡◌, ℕ, Bool, ◌&&◌, List, [], ◌∷◌, ◌++◌, Option, Some, None}
+use Rattle.std.specs.List.{filter}
 use Rattle.git_syntax.specs.Bytes.{FreeOf, dot, newline}
 use Rattle.git_rules.specs.Words.{is_word}
 
@@ -14,6 +15,10 @@ pub record ConfigEntry : Type 0 where
 -- the entry is of the section, without letter case
 abbrev pub is_of_section : List ℕ → ConfigEntry → Bool
 is_of_section section e = is_word e.section section
+
+-- the entries of the section, in their order
+abbrev pub of_section : List ℕ → List ConfigEntry → List ConfigEntry
+of_section section entries = filter (is_of_section section) entries
 
 -- the entry has the name, without letter case
 abbrev pub has_name : List ℕ → ConfigEntry → Bool

@@ -46,4 +46,9 @@ pub mod ShellWords
 pub mod SecureShell
 pub mod SecureLaws
 pub mod SshAnswers
+pub mod SshRequest
 pub mod SshCommand
+pub mod CommandLines
+pub mod SshPrograms
+pub mod SshProgramView
+pub mod BaseNames

@@ -1,8 +1,8 @@
 -- Which transports may be used: by the configuration, two environment variables and the defaults of Git.
-use Rattle.std.specs.Prelude.{◌≡◌, ℕ, Bool, true, false, ◌||◌, ◌==◌, ◌⊎◌, bytes_eq, codes, List, ◌∷◌, ◌++◌, Option, Some, None, All, if◌then◌else◌}
+use Rattle.std.specs.Prelude.{◌≡◌, ◌↔◌, ℕ, Bool, true, false, ◌||◌, ◌==◌, ◌⊎◌, bytes_eq, codes, List, ◌∷◌, ◌++◌, Option, Some, None, All, if◌then◌else◌}
 use Rattle.std.specs.List.{list_any, slice_split}
 use Rattle.git_syntax.specs.Bytes.{colon}
-use Rattle.git_rules.specs.Config.{ConfigEntry, sets}
+use Rattle.git_rules.specs.Config.{ConfigEntry, of_section, sets}
 use Rattle.git_rules.specs.Booleans.{boolean_of}
 use Rattle.git_rules.specs.Words.{is_word}
 use Rattle.git_rules.specs.declared.protocols.Allowance.{Allowance}
@@ -95,6 +95,15 @@ Decides policy name r = DecidesBy policy.allow_list policy name r
 -- the transport may be used
 abbrev pub IsAllowed : Permission → Type 0
 IsAllowed r = (by : Reason) × (r ≡ permission.Allowed by)
+
+-- the policy by the entries of the section `protocol` alone
+abbrev pub of_protocol : Policy → Policy
+of_protocol policy = record policy { entries = of_section (codes "protocol") policy.entries }
+
+-- what Git does about a transport is the same by these entries as by all
+abbrev pub SectionDecides : Type 0
+SectionDecides = (policy : Policy) (name : List ℕ) (r : Permission)
+    → (Decides policy name r ↔ Decides (of_protocol policy) name r)
 
 -- Git does one thing about a transport, whatever decides
 abbrev pub OnePermission : Type 0

@@ -1,16 +1,23 @@
--- The table of a `Table`: its rules, each with its rank, which is where the first rule with its base is.
-use Rattle.std.specs.Prelude.{◌≡◌, ℕ, ◌<◌, ◌≤◌, ◌⊎◌, List, [], ◌∷◌, ◌++◌, Option, Some, None, bytes_eq, length, map}
+-- What a `Table` notes of its rules: the ranks of bases, the first base of each front, and the lengths of fronts.
+use Rattle.std.specs.Prelude.{◌≡◌, ℕ, ◌≤◌, ◌⊎◌, true, List, ◌∷◌, ◌++◌, Option, Some, None, bytes_eq, length}
 use Rattle.std.specs.BTreeMap.{BTreeMap, get_by}
+use Rattle.std.specs.BTreeSet.{BTreeSet, contains}
 use Rattle.std.specs.Cmp.Lexicographic.{slice_cmp}
+use Rattle.std.specs.List.{slice_get}
 use Rattle.std.specs.Map.{update}
 use Rattle.std.specs.Ordering.{nat_cmp}
 use denote.Ref.{Bor}
+use Rattle.git_rules.specs.declared.rewrite.table.Kept.{Kept}
 use Rattle.git_rules.specs.declared.rewrite.table.Ranked.{Ranked}
-use Rattle.git_rules.specs.Rewrites.{Rule, LacksBase, Applies}
+use Rattle.git_rules.specs.Rewrites.{Rule, ComesNoLater, IsAmong, LacksBase}
 
--- the rule that a ranked one is
-abbrev pub rule_of : Ranked → Rule
+-- the rule that a kept one is
+abbrev pub rule_of : Kept → Rule
 rule_of r = record { base = r.base.now; front = r.front.now }
+
+-- the rule at this place has the base
+abbrev pub HasBaseAt : List Kept → ℕ → List ℕ → Type 0
+HasBaseAt kept at base = (r : Kept) × (slice_get kept at ≡ Some r) × (r.base.now ≡ base)
 
 -- so many rules come before the first with the base
 abbrev pub HasRank : List Rule → List ℕ → ℕ → Type 0
@@ -18,60 +25,64 @@ HasRank rules base rank = (before : List Rule) × (first : Rule) × (others : Li
     × (rules ≡ before ++ first ∷ others) × (first.base ≡ base) × LacksBase base before
     × (length before ≡ rank)
 
--- the rank that is noted for a base in a map of ranks, if one is
-abbrev pub noted_rank : BTreeMap (Bor (List ℕ)) ℕ → List ℕ → Option ℕ
-noted_rank ranks base = get_by (λ key. slice_cmp nat_cmp base key.now) ranks
+-- the base has this rank among the rules and one more with it
+abbrev pub HasNextRank : List Rule → List ℕ → ℕ → Type 0
+HasNextRank rules base rank = HasRank rules base rank ⊎ (LacksBase base rules × (length rules ≡ rank))
 
--- afterwards this rank is noted for a base, and for all others what was noted before
-abbrev pub NotesAlso : BTreeMap (Bor (List ℕ)) ℕ → List ℕ → ℕ → BTreeMap (Bor (List ℕ)) ℕ → Type 0
-NotesAlso ranks base rank after = (other : List ℕ)
-    → noted_rank after other ≡ update bytes_eq (noted_rank ranks) base (Some rank) other
+-- what is noted for a text in a map, if anything
+abbrev pub noted : {X : Type 0} → BTreeMap (Bor (List ℕ)) X → List ℕ → Option X
+noted notes text = get_by (λ key. slice_cmp nat_cmp text key.now) notes
 
--- what is noted for a base is right: its rank, and nothing where no rule has the base
+-- afterwards this is noted for a text, and for all others what was noted before
+abbrev pub NotesAlso : {X : Type 0} → BTreeMap (Bor (List ℕ)) X → List ℕ → X → BTreeMap (Bor (List ℕ)) X → Type 0
+NotesAlso notes text entry after = (other : List ℕ)
+    → noted after other ≡ update bytes_eq (noted notes) text (Some entry) other
+
+-- the rank of a base among the rules, if a rule has the base
+abbrev pub IsRankIn : List Rule → List ℕ → Option ℕ → Type 0
+IsRankIn rules base None = LacksBase base rules
+IsRankIn rules base (Some rank) = HasRank rules base rank
+
+-- what is noted for a base is right: its rank, unless no rule has the base
 abbrev pub IsNoted : List Rule → List ℕ → Option ℕ → Type 0
-IsNoted rules base None = LacksBase base rules
-IsNoted rules base (Some rank) = HasRank rules base rank
+IsNoted rules base entry = ((rank : ℕ) × (entry ≡ Some rank) × HasRank rules base rank) ⊎ LacksBase base rules
 
 -- what is noted for each base is right
 abbrev pub NotesRanks : List Rule → BTreeMap (Bor (List ℕ)) ℕ → Type 0
-NotesRanks rules ranks = (base : List ℕ) → IsNoted rules base (noted_rank ranks base)
+NotesRanks rules ranks = (base : List ℕ) → IsNoted rules base (noted ranks base)
 
--- each of these has its rank among the rules
-abbrev pub AreRankedIn : List Rule → List Ranked → Type 0
-AreRankedIn rules [] = Unit {0}
-AreRankedIn rules (first ∷ others) = HasRank rules first.base.now first.rank × AreRankedIn rules others
+-- no rule of these has the front
+abbrev pub LacksFront : List ℕ → List Rule → Type 0
+LacksFront front rules = (s : Rule) → IsAmong s rules → ¬ (s.front ≡ front)
 
--- each has its rank
-abbrev pub AreRanked : List Ranked → Type 0
-AreRanked items = AreRankedIn (map rule_of items) items
+-- the rule of a base and a front
+abbrev pub rule_with : Ranked → List ℕ → Rule
+rule_with b front = record { base = b.base.now; front = front }
 
--- a rule is no better than another: its front is shorter, or as long and its rank is no lower
-abbrev pub IsNoBetter : Ranked → Ranked → Type 0
-IsNoBetter r best = (length r.front.now < length best.front.now)
-    ⊎ ((length r.front.now ≡ length best.front.now) × (best.rank ≤ r.rank))
+-- of the bases that rules with the front have this one comes first, and this is its rank
+abbrev pub IsFirstOfFront : List Rule → List ℕ → Ranked → Type 0
+IsFirstOfFront rules front b = IsAmong (rule_with b front) rules × HasRank rules b.base.now b.rank
+    × ((s : Rule) → IsAmong s rules → s.front ≡ front → ComesNoLater rules b.base.now s.base)
 
--- the rule is one of these
-abbrev pub IsItem : Ranked → List Ranked → Type 0
-IsItem r [] = ⊥
-IsItem r (first ∷ others) = (r ≡ first) ⊎ IsItem r others
+-- what is noted for a front is right: the base that comes first, and nothing where no rule has the front
+abbrev pub IsFrontNoted : List Rule → List ℕ → Option Ranked → Type 0
+IsFrontNoted rules front None = LacksFront front rules
+IsFrontNoted rules front (Some b) = IsFirstOfFront rules front b
 
--- no rule of these that applies is better
-abbrev pub NoneBetter : List ℕ → Ranked → List Ranked → Type 0
-NoneBetter text best [] = Unit {0}
-NoneBetter text best (first ∷ others) = (Applies text (rule_of first) → IsNoBetter first best)
-    × NoneBetter text best others
+-- what is noted for each front is right
+abbrev pub NotesFronts : List Rule → BTreeMap (Bor (List ℕ)) Ranked → Type 0
+NotesFronts rules fronts = (front : List ℕ) → IsFrontNoted rules front (noted fronts front)
 
--- none of these applies
-abbrev pub NoItemApplies : List ℕ → List Ranked → Type 0
-NoItemApplies text [] = Unit {0}
-NoItemApplies text (first ∷ others) = (¬ Applies text (rule_of first)) × NoItemApplies text others
+-- a base, or the one that is noted where its rank is no higher
+abbrev pub IsLowerOf : Option Ranked → Ranked → Ranked → Type 0
+IsLowerOf None b lower = lower ≡ b
+IsLowerOf (Some a) b lower = ((lower ≡ a) × (a.rank ≤ b.rank)) ⊎ ((lower ≡ b) × (b.rank ≤ a.rank))
 
--- the best of these that applies, or none where none does
-abbrev pub IsBest : List ℕ → List Ranked → Option Ranked → Type 0
-IsBest text items None = NoItemApplies text items
-IsBest text items (Some best) = IsItem best items × Applies text (rule_of best) × NoneBetter text best items
+-- afterwards a base is noted for the front, unless the rank of the one that was noted is no higher
+abbrev pub NotesLower : BTreeMap (Bor (List ℕ)) Ranked → List ℕ → Ranked → BTreeMap (Bor (List ℕ)) Ranked → Type 0
+NotesLower fronts front b after = (lower : Ranked) × IsLowerOf (noted fronts front) b lower
+    × NotesAlso fronts front lower after
 
--- one of two rules, than which the other is no better
-abbrev pub IsBetterOf : Ranked → Ranked → Ranked → Type 0
-IsBetterOf first second result = ((result ≡ first) × IsNoBetter second first)
-    ⊎ ((result ≡ second) × IsNoBetter first second)
+-- the length of each front is noted
+abbrev pub NotesLengths : List Rule → BTreeSet ℕ → Type 0
+NotesLengths rules lengths = (s : Rule) → IsAmong s rules → contains nat_cmp lengths (length s.front) ≡ true

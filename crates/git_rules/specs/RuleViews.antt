@@ -2,12 +2,13 @@
 use Rattle.std.specs.Prelude.{List, map}
 use Rattle.git_rules.specs.declared.rewrite.table.Table.TheInside.{Inside}
 use Rattle.git_rules.specs.Rewrites.{Rule}
-use Rattle.git_rules.specs.RuleTable.{AreRanked, NotesRanks, rule_of}
+use Rattle.git_rules.specs.RuleTable.{NotesFronts, NotesLengths, NotesRanks, rule_of}
 
 -- the rules of a table
 abbrev pub table_rules : Inside → List Rule
-table_rules t = map rule_of t.ranked.items
+table_rules t = map rule_of t.rules.items
 
--- each rule of a table has its rank, and the ranks are noted
+-- the rank of each base is noted, the first base of each front, and the length of each front
 abbrev pub IsTable : Inside → Type 0
-IsTable t = AreRanked t.ranked.items × NotesRanks (table_rules t) t.ranks
+IsTable t = NotesRanks (table_rules t) t.ranks × NotesFronts (table_rules t) t.fronts
+    × NotesLengths (table_rules t) t.lengths

@@ -7,8 +7,7 @@ use Rattle.git_location.specs.Text.{text}
 use Rattle.git_location.specs.Settled.{IsValue}
 use Rattle.git_location.specs.GitClass.{AgreesWithGit}
 use Rattle.git_reads.specs.Git.{GitReading, GitReads, ReachesSecure}
-use Rattle.git_rules.specs.declared.ssh.SshVariant.{SshVariant}
-use Rattle.git_rules.specs.SecureShell.{destination, port_refusal, ssh_refusal}
+use Rattle.git_rules.specs.SecureShell.{Request, destination, request_refusal, ssh_refusal}
 
 -- Git gives Secure Shell this word for user and host, this port and this path, for a text: so it reaches what
 -- it reads there
@@ -20,12 +19,13 @@ pub record GivesSecure (t given : List ℕ) (number : Option ℕ) (path : List �
   pub word : reaches.word ≡ given
   pub port : reaches.port ≡ number
 
--- there is a command for the location, except for a port with the variant `simple`, and its destination, port
--- and path are those that Git gives Secure Shell for the text of the location
+-- there is a command for the location, except for what the variant `simple` has no option for and a program
+-- that is refused, and its destination, port and path are those that Git gives Secure Shell for the text of
+-- the location
 pub record HasOwnWords (v : Location) : Type 0 where
   pub host : List ℕ
   pub there : v.host ≡ Some host
-  pub made : (variant : SshVariant) → port_refusal variant v.port ≡ None → ssh_refusal variant v ≡ None
+  pub made : (r : Request) → request_refusal r v.port ≡ None → ssh_refusal r v ≡ None
   pub words : (t : List ℕ) → text v ≡ Ok t → GivesSecure t (destination v.user host) v.port v.path
 
 -- so it is with each location of Secure Shell of Git's class

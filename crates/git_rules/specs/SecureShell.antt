@@ -1,5 +1,5 @@
 -- The words with which Git runs Secure Shell.
-use Rattle.std.specs.Prelude.{◌≡◌, ℕ, Bool, true, false, ◌==◌, List, [], ◌∷◌, ◌++◌, codes, decimal, Option, Some, None, is_none, is_some, IfSome, if◌then◌else◌}
+use Rattle.std.specs.Prelude.{◌≡◌, ℕ, Bool, true, false, not, ◌==◌, bytes_eq, List, [], ◌∷◌, ◌++◌, codes, decimal, Option, Some, None, is_none, is_some, unwrap_or, IfSome, if◌then◌else◌}
 use Rattle.std.specs.List.{list_any, starts_with}
 use Rattle.git_syntax.specs.Location.{Scheme, Location}
 use Rattle.git_syntax.specs.Location.Scheme.{ssh}
@@ -10,25 +10,52 @@ use Rattle.git_rules.specs.declared.ssh.SshVariant.{SshVariant}
 use Rattle.git_rules.specs.declared.ssh.SshVariant.TheVariants.{Ssh, Simple, Plink, Putty, TortoisePlink}
 use Rattle.git_rules.specs.declared.ssh.ProtocolVersion.{ProtocolVersion}
 use Rattle.git_rules.specs.declared.ssh.ProtocolVersion.TheVariants.{V0, V1, V2}
+use Rattle.git_rules.specs.declared.ssh.request.AddressFamily.{AddressFamily}
+use Rattle.git_rules.specs.declared.ssh.request.AddressFamily.TheVariants.{Any, V4, V6}
 use Rattle.git_rules.specs.declared.ssh.SshRefusal.{SshRefusal}
 use Rattle.git_rules.specs.declared.ssh.SshRefusal.TheVariants as refusal
 use Rattle.git_reads.specs.Git.{UserCut}
 use Rattle.git_rules.specs.ShellWords.{shell_words, sq_quote}
 
+-- ---- what is asked for
+
+-- the service, a program in its place, the variant of Secure Shell, the version of the protocol, and the
+-- family of the addresses
+pub record Request : Type 0 where
+  pub service : Service
+  pub program : Option (List ℕ)
+  pub variant : SshVariant
+  pub version : ProtocolVersion
+  pub family : AddressFamily
+
+-- a service alone is asked for: by its own program, and at any address
+abbrev pub service_alone : Service → SshVariant → ProtocolVersion → Request
+service_alone asked client spoken =
+    record { service = asked; program = None; variant = client; version = spoken; family = Any }
+
+-- the program of a service
+abbrev pub service_name : Service → List ℕ
+service_name UploadPack = codes "git-upload-pack"
+service_name ReceivePack = codes "git-receive-pack"
+service_name UploadArchive = codes "git-upload-archive"
+
+-- what the server is given to run, before the path: the program that is named, or else the service's own
+abbrev pub program_text : Request → List ℕ
+program_text r = unwrap_or r.program (service_name r.service)
+
 -- ---- the words before the destination
 
--- the version is above 0, and Git keeps to it: it doesn't push by version 2
-abbrev pub is_asked_for : Service → ProtocolVersion → Bool
-is_asked_for service V0 = false
-is_asked_for service V1 = true
-is_asked_for ReceivePack V2 = false
-is_asked_for UploadPack V2 = true
-is_asked_for UploadArchive V2 = true
+-- the version is above 0, and Git keeps to it. It doesn't push by version 2, for which it looks at the name
+-- of the program alone
+abbrev pub is_asked_for : List ℕ → ProtocolVersion → Bool
+is_asked_for program V0 = false
+is_asked_for program V1 = true
+is_asked_for program V2 = not (bytes_eq program (service_name ReceivePack))
 
 -- the version is sent to the server, by a variable that OpenSSH passes on
-abbrev pub sends_version : SshVariant → Service → ProtocolVersion → Bool
-sends_version Ssh service version = is_asked_for service version
-sends_version _ service version = false
+abbrev pub sends_version : SshVariant → List ℕ → ProtocolVersion → Bool
+sends_version Ssh program version = is_asked_for program version
+sends_version _ program version = false
 
 -- the value of that variable, `GIT_PROTOCOL`
 abbrev pub version_value : ProtocolVersion → List ℕ
@@ -41,10 +68,20 @@ abbrev pub version_words : Bool → List (List ℕ)
 version_words true = codes "-o" ∷ codes "SendEnv=GIT_PROTOCOL" ∷ []
 version_words false = []
 
+-- the option of a family of addresses
+abbrev pub family_words : AddressFamily → List (List ℕ)
+family_words Any = []
+family_words V4 = codes "-4" ∷ []
+family_words V6 = codes "-6" ∷ []
+
 -- TortoisePlink is asked to show no window
 abbrev pub batch_words : SshVariant → List (List ℕ)
 batch_words TortoisePlink = codes "-batch" ∷ []
 batch_words _ = []
+
+-- the options of a family and for no window
+abbrev pub client_words : SshVariant → AddressFamily → List (List ℕ)
+client_words variant family = family_words family ++ batch_words variant
 
 -- the option of a port: `simple` has none
 abbrev pub port_option : SshVariant → List ℕ
@@ -58,9 +95,9 @@ port_words variant None = []
 port_words variant (Some port) = port_option variant ∷ decimal port ∷ []
 
 -- all words before the destination
-abbrev pub option_words : SshVariant → Service → ProtocolVersion → Option ℕ → List (List ℕ)
-option_words variant service version port =
-    version_words (sends_version variant service version) ++ (batch_words variant ++ port_words variant port)
+abbrev pub option_words : Request → Option ℕ → List (List ℕ)
+option_words r port = version_words (sends_version r.variant (program_text r) r.version)
+    ++ (client_words r.variant r.family ++ port_words r.variant port)
 
 -- ---- the destination and the remote command
 
@@ -69,15 +106,9 @@ abbrev pub destination : Option (List ℕ) → List ℕ → List ℕ
 destination None host = host
 destination (Some user) host = user ++ at_sign ∷ host
 
--- the program that the server runs
-abbrev pub service_name : Service → List ℕ
-service_name UploadPack = codes "git-upload-pack"
-service_name ReceivePack = codes "git-receive-pack"
-service_name UploadArchive = codes "git-upload-archive"
-
--- the command for the server's shell: the program, a space, and the path in Git's single quotes
-abbrev pub remote_command : Service → List ℕ → List ℕ
-remote_command service path = service_name service ++ space ∷ sq_quote path
+-- the command for the server's shell: the program as it is, a space, and the path in Git's single quotes
+abbrev pub remote_command : List ℕ → List ℕ → List ℕ
+remote_command program path = program ++ space ∷ sq_quote path
 
 -- ---- why there is no command
 
@@ -133,6 +164,24 @@ port_refusal Plink port = None
 port_refusal Putty port = None
 port_refusal TortoisePlink port = None
 
+-- what is wrong with a program in place of the service's
+abbrev pub program_refusal : Option (List ℕ) → Option SshRefusal
+program_refusal None = None
+program_refusal (Some []) = Some refusal.EmptyProgram
+program_refusal (Some (b ∷ bs)) =
+    if has_zero (b ∷ bs) then Some refusal.ByteZeroInProgram
+    else (if is_option_like (b ∷ bs) then Some refusal.OptionLikeProgram else None)
+
+-- what is wrong with a family of addresses, by the variant
+abbrev pub family_refusal : SshVariant → AddressFamily → Option SshRefusal
+family_refusal Simple Any = None
+family_refusal Simple V4 = Some refusal.FamilyOfSimple
+family_refusal Simple V6 = Some refusal.FamilyOfSimple
+family_refusal Ssh family = None
+family_refusal Plink family = None
+family_refusal Putty family = None
+family_refusal TortoisePlink family = None
+
 -- the first of two refusals
 abbrev pub or_refusal : Option SshRefusal → Option SshRefusal → Option SshRefusal
 or_refusal None second = second
@@ -143,47 +192,48 @@ abbrev pub destination_refusal : Option (List ℕ) → Option (List ℕ) → Opt
 destination_refusal user host =
     or_refusal (user_refusal user) (or_refusal (host_refusal host) (url_refusal user host))
 
+-- why what is asked for makes no command with this port
+abbrev pub request_refusal : Request → Option ℕ → Option SshRefusal
+request_refusal r port = or_refusal (program_refusal r.program)
+    (or_refusal (family_refusal r.variant r.family) (port_refusal r.variant port))
+
 -- why the parts make no command
-abbrev pub parts_refusal : SshVariant → Option (List ℕ) → Option (List ℕ) → Option ℕ → List ℕ
+abbrev pub parts_refusal : Request → Option (List ℕ) → Option (List ℕ) → Option ℕ → List ℕ
     → Option SshRefusal
-parts_refusal variant user host port path = or_refusal (destination_refusal user host)
-    (or_refusal (path_refusal path) (port_refusal variant port))
+parts_refusal r user host port path = or_refusal (destination_refusal user host)
+    (or_refusal (path_refusal path) (request_refusal r port))
 
 -- why there is no command for a location; none where there is one
-abbrev pub ssh_refusal : SshVariant → Location → Option SshRefusal
-ssh_refusal variant v =
+abbrev pub ssh_refusal : Request → Location → Option SshRefusal
+ssh_refusal r v =
     if is_secure v.scheme
     then (if is_some v.password then Some refusal.Password
-    else parts_refusal variant v.user v.host v.port v.path)
+    else parts_refusal r v.user v.host v.port v.path)
     else Some refusal.NotSecureShell
 
 -- ---- the command
 
--- what is run, by its parts
+-- what is run: what is asked for, and the parts of the location
 pub record Command : Type 0 where
-  pub variant : SshVariant
-  pub version : ProtocolVersion
-  pub service : Service
+  pub request : Request
   pub user : Option (List ℕ)
   pub host : List ℕ
   pub port : Option ℕ
   pub path : List ℕ
 
--- its user and host make a destination, its path a command, and its variant has an option for its port
+-- its user and host make a destination, its program and its path a command, and its variant has options for
+-- its family and its port
 abbrev pub IsSafe : Command → Type 0
-IsSafe c = is_none (parts_refusal c.variant c.user (Some c.host) c.port c.path) ≡ true
+IsSafe c = is_none (parts_refusal c.request c.user (Some c.host) c.port c.path) ≡ true
+
+-- the command for the server's shell
+abbrev pub run_there : Command → List ℕ
+run_there c = remote_command (program_text c.request) c.path
 
 -- the words behind the program's name
 abbrev pub command_words : Command → List (List ℕ)
-command_words c = option_words c.variant c.service c.version c.port
-    ++ destination c.user c.host ∷ remote_command c.service c.path ∷ []
-
--- the command is the one that was asked for
-pub record IsAsked (client : SshVariant) (run : Service) (spoken : ProtocolVersion) (c : Command)
-    : Type 0 where
-  pub variant : c.variant ≡ client
-  pub service : c.service ≡ run
-  pub version : c.version ≡ spoken
+command_words c =
+    option_words c.request c.port ++ destination c.user c.host ∷ run_there c ∷ []
 
 -- the parts of the command are those of the location
 pub record IsOwn (v : Location) (c : Command) : Type 0 where
@@ -194,38 +244,45 @@ pub record IsOwn (v : Location) (c : Command) : Type 0 where
 
 -- the variable that goes with the words, where the version is sent to the server
 abbrev pub command_variable : Command → Option (List ℕ)
-command_variable c =
-    if sends_version c.variant c.service c.version then Some (version_value c.version) else None
+command_variable c = if sends_version c.request.variant (program_text c.request) c.request.version
+    then Some (version_value c.request.version) else None
 
--- no word that comes of the location begins with `-`, nor does the host in the destination, or the path that
--- the service gets
+-- no word but the options begins with `-`, nor does the host in the destination, or the path that the program
+-- gets
 pub record HasNoOptions (c : Command) : Type 0 where
   pub destination : is_option_like (destination c.user c.host) ≡ false
   pub host : is_option_like c.host ≡ false
   pub path : is_option_like c.path ≡ false
   pub digits : IfSome c.port (λ port. is_option_like (decimal port) ≡ false)
+  pub remote : is_option_like (run_there c) ≡ false
 
 -- OpenSSH takes the destination for no URL, cuts it at its last `@`, and finds user and host there
 pub record IsCutAlike (c : Command) : Type 0 where
   pub no_url : (rest : List ℕ) → ¬ (destination c.user c.host ≡ codes "ssh://" ++ rest)
   pub cut : UserCut (destination c.user c.host) c.user c.host
 
--- a shell reads two words in the remote command: the program and the path
-abbrev pub IsTwoWords : Command → Type 0
-IsTwoWords c = shell_words (remote_command c.service c.path) ≡ Some (service_name c.service ∷ c.path ∷ [])
+-- what a shell reads in the command. Without a program of one's own it is two words, the service and the
+-- path. Behind any program and a space it is one word, the path. And where the program alone would be these
+-- words, they are read before the path
+pub record IsReadThere (c : Command) : Type 0 where
+  pub service : c.request.program ≡ None
+      → shell_words (run_there c) ≡ Some (service_name c.request.service ∷ c.path ∷ [])
+  pub joined : run_there c ≡ program_text c.request ++ space ∷ sq_quote c.path
+  pub path : shell_words (sq_quote c.path) ≡ Some (c.path ∷ [])
+  pub program : (words : List (List ℕ)) → shell_words (program_text c.request) ≡ Some words
+      → shell_words (run_there c) ≡ Some (words ++ c.path ∷ [])
 
 -- what holds of each command
 pub record IsSafeCommand (c : Command) : Type 0 where
   pub no_options : HasNoOptions c
   pub cut : IsCutAlike c
-  pub words : IsTwoWords c
+  pub words : IsReadThere c
 
--- these are the words of a command for the location
-pub record AreWordsFor (v : Location) (client : SshVariant) (run : Service) (spoken : ProtocolVersion)
-    (said : List (List ℕ)) : Type 0 where
+-- these are the words of a command for the location, by what is asked for
+pub record AreWordsFor (v : Location) (r : Request) (said : List (List ℕ)) : Type 0 where
   pub command : Command
-  pub made : ssh_refusal client v ≡ None
+  pub made : ssh_refusal r v ≡ None
   pub own : IsOwn v command
-  pub asked : IsAsked client run spoken command
+  pub asked : command.request ≡ r
   pub safe : IsSafeCommand command
   pub words : said ≡ command_words command

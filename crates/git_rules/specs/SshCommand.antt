@@ -3,12 +3,16 @@ use Rattle.std.specs.Prelude.{option_map}
 use Rattle.git_rules.specs.declared.ssh.command.SshCommand.TheInside.{Inside}
 use Rattle.git_rules.specs.SecureShell.{Command}
 
--- the parts of an `SshCommand`, as plain values
+-- the parts of an `SshCommand`: what is asked for, and those of the location
 abbrev pub lent_command : Inside → Command
 lent_command c = record {
-  variant = c.variant;
-  version = c.version;
-  service = c.service;
+  request = record {
+    service = c.service;
+    program = option_map (λ t. t.now) c.program;
+    variant = c.variant;
+    version = c.version;
+    family = c.family;
+  };
   user = option_map (λ t. t.now) c.user;
   host = c.host.now;
   port = c.port;

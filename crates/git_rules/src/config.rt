@@ -5,7 +5,7 @@
 //! text.
 
 ghost use Rattle.std.specs.Prelude.{◌≡◌, ◌↔◌, ◌==◌, ◌++◌, ◌∷◌, [], IfOk, IsTrue, OnOk, count_by};
-ghost use Rattle.git_rules.specs.Config.{has_name, is_of_section, sets};
+ghost use Rattle.git_rules.specs.Config.{has_name, is_of_section, of_section, sets};
 ghost use Rattle.git_rules.specs.ConfigItems.{CutsKey, CutsName, CutsValue, HasEntries, HasKey, HasKeys, IsEnded, IsListing, MeansItem, entries_of, start};
 
 pub mod law;
@@ -330,6 +330,62 @@ fn keep<'a>(
         }
         Err(_) => Ok(()),
     }
+}
+
+/// The entries of one section, in their order: those of which [`Entry::is_section`] is true, as they are.
+///
+/// A program that answers many texts by one configuration takes them once, and then goes over them alone.
+/// Places in the text stay what they are; an index into this list is none into `entries`. What
+/// [`Protocols::permission`](crate::protocols::Protocols::permission) returns is the same by the entries of
+/// `protocol` as by all.
+///
+/// Memory is asked for as the list grows. The entries borrow from the same text.
+///
+/// ```
+/// /// How many of the locations may be used, by the entries of `protocol` alone, which are found once.
+/// fn usable(
+///     alloc: Global,
+///     entries: &[Entry<'_>],
+///     urls: &[UrlRef<'_>],
+/// ) -> Result<usize, AllocError> {
+///     let of_protocol = config::entries_of(alloc, entries, "protocol")?;
+///     Ok(usable_by(&of_protocol, urls))
+/// }
+///
+/// /// How many of the locations may be used.
+/// fn usable_by(entries: &[Entry<'_>], urls: &[UrlRef<'_>]) -> usize {
+///     let protocols = Protocols {
+///         entries,
+///         allow_list: None,
+///         from_user: None,
+///     };
+///     let mut count: usize = 0;
+///     for url in urls {
+///         if protocols.permission(transport(url)).is_allowed() {
+///             count = count.saturating_add(1);
+///         }
+///     }
+///     count
+/// }
+/// ```
+///
+/// # Errors
+///
+/// `AllocError` where memory is refused, and no other.
+pub fn entries_of<'a>(
+    alloc: Global,
+    entries: &[Entry<'a>],
+    section: &str,
+) -> Result<Vec<Entry<'a>>, AllocError>
+    ensures { IfOk result (λ found. found.items ≡ of_section section.now entries.now) }
+{
+    let mut found = Vec::new(alloc);
+    for entry in entries {
+        if entry.is_section(section) {
+            found.push(entry.clone()?)?;
+        }
+    }
+    Ok(found)
 }
 
 /// How many entries end in the text.

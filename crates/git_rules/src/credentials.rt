@@ -117,7 +117,7 @@ impl From<AllocError> for CredentialsError {
 /// fn first_helper<'a>(
 ///     alloc: Global,
 ///     entries: &[Entry<'a>],
-///     request: &Request<'_>,
+///     request: &Request<'a>,
 /// ) -> Result<Option<&'a [u8]>, CredentialsError> {
 ///     let found = credentials_for(alloc, entries, request)?;
 ///     match found.helpers.first() {

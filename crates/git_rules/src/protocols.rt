@@ -7,7 +7,7 @@
 
 ghost use Rattle.std.specs.Prelude.{◌≡◌, ◌↔◌, IsTrue, option_map};
 ghost use Rattle.git_syntax.specs.Schemes.{scheme_text};
-ghost use Rattle.git_rules.specs.Protocols.{Counts, Decides, IsAllowed, IsLastOf, OnePermission, SetsAllow, allowance_of, by_entry, by_list, by_test, by_value, default_allowance, is_from_user, is_listed, is_trusted, under};
+ghost use Rattle.git_rules.specs.Protocols.{Counts, Decides, IsAllowed, IsLastOf, OnePermission, SectionDecides, SetsAllow, allowance_of, by_entry, by_list, by_test, by_value, default_allowance, is_from_user, is_listed, is_trusted, under};
 
 pub mod text;
 
@@ -320,6 +320,12 @@ fn is_trusted(name: &str) -> bool
 {
     name == "http" || name == "https" || name == "git" || name == "ssh"
 }
+
+/// The entries of the section `protocol` decide alone: what [`Protocols::permission`] returns is the same by
+/// them, which [`entries_of`](crate::config::entries_of) finds, as by all entries.
+pub fn law_section()
+    ensures { SectionDecides }
+{}
 
 /// Git decides in one way: whatever it does about a transport is what [`Protocols::permission`] returns.
 pub fn law_permission()

@@ -187,8 +187,11 @@ impl<'a> Rewrites<'a> {
         self.push.add(base, front)
     }
 
-    /// What becomes of a text that Git fetches from. It takes no memory, and one pass over the rules.
-    /// [`Rewrites`] has an example.
+    /// What becomes of a text that Git fetches from. [`Rewrites`] has an example.
+    ///
+    /// It takes no memory, and no pass over the rules: the text is looked up once for each length of a front
+    /// that is at most its own. That takes at most the sum of these lengths, in bytes, times the logarithm of
+    /// the number of rules.
     pub fn rewrite_fetch<'t>(&self, text: &'t [u8]) -> Rewritten<'t>
     where
         'a: 't,
@@ -200,7 +203,7 @@ impl<'a> Rewrites<'a> {
     /// What becomes of a text that Git pushes to. Where the remote has a push URL of its own the text is that
     /// URL, and is rewritten as for fetching. Else it is the remote's URL: a rule for pushing that applies
     /// comes before all rules for fetching, and where none applies it is rewritten as for fetching. It takes
-    /// no memory, and one pass over each table.
+    /// no memory, and for each kind of rules the time of [`Rewrites::rewrite_fetch`].
     ///
     /// ```
     /// /// The text that Git pushes to, for a remote with this URL and perhaps this push URL.

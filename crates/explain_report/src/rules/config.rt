@@ -5,7 +5,7 @@
 
 use crate::memory::both;
 use bstr::ByteSlice;
-use git_rules::config::{Entry, EntryError, Reader};
+use git_rules::config::{Entry, EntryError, Reader, entries_of};
 use git_rules::normal::room_for;
 use git_rules::pattern::UrlPattern;
 use git_rules::protocols::Protocols;
@@ -17,9 +17,13 @@ use std::collections::BTreeMap;
 /// What Git does by a configuration and two variables.
 #[derive(Drop)]
 pub struct Config<'a> {
-    /// All entries, and the variables.
+    /// The entries of `protocol.*`, and the variables.
     pub protocols: Protocols<'a>,
     pub rewrites: Rewrites<'a>,
+    /// The entries of `remote.*`.
+    pub remotes: Vec<Entry<'a>>,
+    /// The entries of `credential.*`.
+    pub credentials: Vec<Entry<'a>>,
     /// The entries of `http.*`, in the order in which their names come first.
     pub http: Vec<Variable<'a>>,
     /// How long a room has to be for the URL of each entry.
@@ -34,14 +38,26 @@ pub struct Variable<'a> {
 }
 
 impl<'a> Config<'a> {
-    /// The rules of these entries. Those that can't be understood are left out.
-    pub fn of(alloc: Global, protocols: Protocols<'a>) -> Result<Config<'a>, AllocError> {
-        let entries = protocols.entries;
+    /// What these entries say, of which those of `protocol.*` are in `protocols` too. Rules that can't be
+    /// understood are left out.
+    pub fn of(
+        alloc: Global,
+        entries: &[Entry<'a>],
+        protocols: Protocols<'a>,
+    ) -> Result<Config<'a>, AllocError> {
         let (rewrites, http) = both(rewrites_of(alloc, entries)?, variables_of(alloc, entries))?;
+        let (found, remotes) = both((rewrites, http), entries_of(alloc, entries, "remote"))?;
+        let (found, credentials) = both(
+            (found, remotes),
+            entries_of(alloc, entries, "credential"),
+        )?;
+        let ((rewrites, http), remotes) = found;
         let longest = entries.iter().map(url_len).max().unwrap_or(0);
         Ok(Config {
             protocols,
             rewrites,
+            remotes,
+            credentials,
             http,
             room: room_for(longest),
         })

@@ -17,8 +17,7 @@ use Rattle.git_location.specs.GitClass.{is_contested, IsPlainPart, IsPlainHost, 
 use Rattle.git_reads.specs.Git.{GitReading, GitReads, ReadsGiven, ReachesSecure, UserCut, from_tilde}
 use Rattle.git_laws.specs.GitClass.{HostForGit, own_reading, ReadsOwnPlace, ReadsOwnBy, ReadsOwn, ReadAlike}
 use Rattle.git_laws.proofs.GitReadings.GitPieceLemmas.{kept_free}
-use Rattle.git_rules.specs.declared.ssh.SshVariant.{SshVariant}
-use Rattle.git_rules.specs.SecureShell.{destination, is_url_like, user_refusal, host_refusal, url_refusal, path_refusal, port_refusal, ssh_refusal}
+use Rattle.git_rules.specs.SecureShell.{Request, destination, is_url_like, user_refusal, host_refusal, url_refusal, path_refusal, request_refusal, ssh_refusal}
 use Rattle.git_rules.specs.SecureLaws.{GivesSecure, GivesOwnWords}
 
 -- ---- what is reached
@@ -120,8 +119,8 @@ record IsGiven (v : Location) (host : List ℕ) : Type 0 where
   no_url : (rest : List ℕ) → ¬ (destination v.user host ≡ codes "ssh://" ++ rest)
 
 -- there is a command
-accepted : (v : Location) (host : List ℕ) → v.scheme ≡ ssh → AgreesByTransport v → IsSettledScp v ⊎ IsSettledSecure v → ¬ (v.user ≡ Some []) → IsGiven v host → (variant : SshVariant) → port_refusal variant v.port ≡ None → ssh_refusal variant v ≡ None
-accepted v host e a settled named given variant port =
+accepted : (v : Location) (host : List ℕ) → v.scheme ≡ ssh → AgreesByTransport v → IsSettledScp v ⊎ IsSettledSecure v → ¬ (v.user ≡ Some []) → IsGiven v host → (r : Request) → request_refusal r v.port ≡ None → ssh_refusal r v ≡ None
+accepted v host e a settled named given r asked =
     let user_free = IfSome_then v.user a.plain.user (λ u p. plain_zero_free v.flag user_set u refl p) in
     let host_free = host_zero_free v host e (subst (λ o. IfSome o (IsPlainHost v)) given.there a.plain.host) in
     let host_safe = subst (λ o. IfSome o (λ h. is_option_like h ≡ false)) given.there a.no_option.host in
@@ -130,7 +129,7 @@ accepted v host e a settled named given variant port =
     let host_none = host_accepted host given.some host_free host_safe given.no_at in
     let url_none = url_accepted v.user host given.no_url in
     let path_none = path_accepted v.path (settled_path v settled) path_free a.no_option.path in
-    rw e (rw a.no_password (rw given.there (rw user (rw host_none (rw url_none (rw path_none port))))))
+    rw e (rw a.no_password (rw given.there (rw user (rw host_none (rw url_none (rw path_none asked))))))
 
 -- what Git reads in a text as the location's own: it is reached by its words
 record IsOwnReached (v : Location) (t host : List ℕ) : Type 0 where

@@ -1,6 +1,6 @@
 -- A command that can be made is safe.
 use Rattle.std.proofs.Common.{◌≡◌, ℕ, ◌<◌, Bool, true, false, ◌==◌, List, [], ◌∷◌, ◌++◌, length, Option, Some, None, IfSome, codes, decimal, refl, sym, subst, arith}
-use Rattle.std.specs.Prelude.{is_none, if◌then◌else◌}
+use Rattle.std.specs.Prelude.{is_none, unwrap_or, if◌then◌else◌}
 use Rattle.std.specs.List.{list_any}
 use Rattle.std.specs.Char.{is_ascii_digit}
 use Rattle.std.proofs.lemmas.Bool.{both_ways, eq-eqb}
@@ -9,10 +9,13 @@ use Rattle.git_syntax.specs.Bytes.{hyphen, at_sign, FreeOf, is_option_like}
 use Rattle.git_syntax.proofs.Texts.CutLemmas.{heads, tails, free_begins, free_head_tail, free_of_all}
 use Rattle.git_syntax.proofs.Parsing.HostLemmas.{decimal_digits}
 use Rattle.git_reads.specs.Git.{UserCut}
+use Rattle.git_rules.specs.ShellWords.{shell_words}
+use Rattle.git_rules.specs.declared.ssh.Service.{Service}
+use Rattle.git_rules.specs.declared.ssh.Service.TheVariants.{UploadPack, ReceivePack, UploadArchive}
 use Rattle.git_rules.specs.declared.ssh.SshRefusal.{SshRefusal}
 use Rattle.git_rules.specs.declared.ssh.SshRefusal.TheVariants as refusal
-use Rattle.git_rules.specs.SecureShell.{Command, IsSafe, IsSafeCommand, destination, has_zero, is_url_like, or_refusal, user_refusal, host_refusal, url_refusal, path_refusal}
-use Rattle.git_rules.proofs.Shell.QuoteLemmas.{two_words}
+use Rattle.git_rules.specs.SecureShell.{Command, IsSafe, IsSafeCommand, destination, has_zero, is_url_like, or_refusal, program_refusal, program_text, remote_command, service_name, user_refusal, host_refusal, url_refusal, path_refusal}
+use Rattle.git_rules.proofs.Shell.QuoteLemmas.{path_read, program_read, two_words}
 
 -- ---- refusals
 
@@ -99,24 +102,44 @@ path_no_option (b ∷ bs) h = (test_false _ _ _ (test_false _ _ _ h).1).0
 digits_no_option : (port : ℕ) → port < 65536 → is_option_like (decimal port) ≡ false
 digits_no_option port small = free_begins hyphen (decimal port) (free_of_all is_ascii_digit hyphen (decimal port) (decimal_digits port small).1 refl)
 
--- no word of the location is an option, Secure Shell cuts its word
--- where it was joined, and a shell reads two words
+-- nor is the remote command, where the program isn't refused
+remote_no_option : (service : Service) (program : Option (List ℕ)) (path : List ℕ) → program_refusal program ≡ None → is_option_like (remote_command (unwrap_or program (service_name service)) path) ≡ false
+remote_no_option UploadPack None path h = refl
+remote_no_option ReceivePack None path h = refl
+remote_no_option UploadArchive None path h = refl
+remote_no_option service (Some []) path h = absurd (cc)
+remote_no_option service (Some (b ∷ bs)) path h = (test_false _ _ _ (test_false _ _ _ h).1).0
+
+-- what a shell reads without a program of one's own
+service_read : (service : Service) (program : Option (List ℕ)) (path : List ℕ) → program ≡ None → shell_words (remote_command (unwrap_or program (service_name service)) path) ≡ Some (service_name service ∷ path ∷ [])
+service_read service None path h = two_words service path
+service_read service (Some program) path h = absurd (cc)
+
+-- no word but the options is one, Secure Shell cuts its word
+-- where it was joined, and a shell reads the path
 pub safe_command : (c : Command) → IsSafe c → IfSome c.port (λ p. p < 65536) → IsSafeCommand c
 safe_command c safe small =
     let all = both_none _ _ (none_from_test _ safe) in
     let ends = both_none _ _ all.0 in
     let past_user = both_none _ _ ends.1 in
+    let past_path = both_none _ _ all.1 in
     let good = good_host c.host past_user.0 in
     record {
       no_options = record {
         destination = destination_no_option c.user c.host ends.0 good;
         host = good.no_option;
-        path = path_no_option c.path (both_none _ _ all.1).0;
+        path = path_no_option c.path past_path.0;
         digits = IfSome_then c.port small digits_no_option;
+        remote = remote_no_option c.request.service c.request.program c.path (both_none _ _ past_path.1).0;
       };
       cut = record {
         no_url = destination_no_url c.user c.host past_user.1;
         cut = destination_cut c.user c.host ends.0 good;
       };
-      words = two_words c.service c.path;
+      words = record {
+        service = service_read c.request.service c.request.program c.path;
+        joined = refl;
+        path = path_read c.path;
+        program = program_read (program_text c.request) c.path;
+      };
     }

@@ -64,8 +64,18 @@ pub fn texts_name_same_host(
     Ok(names_same_host(&first, &second))
 }
 
-/// Whether two hosts have one name.
-fn is_same_host(a: &[u8], b: &[u8]) -> bool
+/// Whether two hosts have one name: they are equal without letter case (ASCII), without brackets around them, and
+/// without a lone colon at their end. It takes no memory.
+///
+/// ```
+/// /// Whether a host is one of those that a program connects to.
+/// fn is_known(host: &str, known: &[&str]) -> bool {
+///     known
+///         .iter()
+///         .any(|name| is_same_host(host.as_bytes(), name.as_bytes()))
+/// }
+/// ```
+pub fn is_same_host(a: &[u8], b: &[u8]) -> bool
     ensures { IsTrue result ↔ (host_name a.now ≡ host_name b.now) }
 {
     ssh_host_text(a).eq_ignore_ascii_case(ssh_host_text(b))

@@ -1,34 +1,48 @@
 //! A table of rules, and which of them wins.
 //!
-//! It uses `outcome`. A rule is kept with the number of rules before the first one with its base, so that one
-//! pass over the table finds the rule that wins. A map from the bases finds that number when a rule is added.
-//! To all others a table is a list of rules.
+//! It uses `outcome`. Beside the rules in their order a table notes the rank of each base, which is how many
+//! rules come before the first one with it; of the bases that rules with a front have the first one, for each
+//! front; and the lengths of the fronts. A text is looked up once for each of these lengths that is at most
+//! its own, in ascending order, and the last front that is found wins. So it takes at most the sum of these
+//! lengths, each counted once, times the logarithm of the number of rules. To all others a table is a list of
+//! rules.
 
-ghost use Rattle.std.specs.Prelude.{◌≡◌, ◌↔◌, ◌++◌, ◌∷◌, [], List, IfOk, IsTrue, OnErr, OnOk, unwrap_or};
+ghost use Rattle.std.specs.Prelude.{◌≡◌, ◌↔◌, ◌++◌, ◌∷◌, [], List, IfOk, IsTrue, OnErr, OnOk, map};
 ghost use Rattle.std.specs.BTreeMap.{IsUnchanged};
-ghost use Rattle.git_rules.specs.Rewrites.{Applies, IsRewritten};
-ghost use Rattle.git_rules.specs.RuleTable.{IsBest, IsBetterOf, NotesAlso, noted_rank, rule_of};
-ghost use Rattle.git_rules.specs.declared.rewrite.table.Ranked.{Ranked};
+ghost use Rattle.git_rules.specs.Rewrites.{IsRewritten, Rule};
+ghost use Rattle.git_rules.specs.RuleTable.{HasBaseAt, HasNextRank, IsLowerOf, IsNoted, IsRankIn, NotesAlso, NotesFronts, NotesLengths, NotesLower, noted, rule_of};
 
 use crate::rewrite::outcome::Rewritten;
 use std::alloc::{AllocError, Global};
-use std::collections::BTreeMap;
+use std::collections::{BTreeMap, BTreeSet};
 use std::marker::Model;
 
-/// A rule with its rank: how many rules come before the first one with its base.
+/// A rule.
+#[derive(Clone, Copy)]
+pub(crate) struct Kept<'a> {
+    base: &'a [u8],
+    front: &'a [u8],
+}
+
+/// A base with its rank: how many rules come before the first one with it.
 #[derive(Clone, Copy)]
 pub(crate) struct Ranked<'a> {
     base: &'a [u8],
-    front: &'a [u8],
     rank: usize,
 }
 
 /// A table of rules.
 #[derive(Drop)]
 pub(crate) struct Table<'a> {
-    ranked: Vec<Ranked<'a>>,
-    /// The rank of each base that a rule has.
+    rules: Vec<Kept<'a>>,
+    /// The rank of each base that a rule has. One that is noted for another base means nothing: memory was
+    /// refused for the rule that it was noted for.
     ranks: BTreeMap<&'a [u8], usize>,
+    /// For each front the base of the lowest rank, of those that rules with the front have.
+    fronts: BTreeMap<&'a [u8], Ranked<'a>>,
+    /// The length of each front in bytes. More lengths do no harm: memory may have been refused for a rule
+    /// whose length is noted.
+    lengths: BTreeSet<usize>,
 }
 
 impl<'a> Model for Table<'a> {
@@ -50,8 +64,10 @@ impl<'a> Table<'a> {
         ensures { result ≡ [] }
     {
         Table {
-            ranked: Vec::new(alloc),
+            rules: Vec::new(alloc),
             ranks: BTreeMap::new(alloc),
+            fronts: BTreeMap::new(alloc),
+            lengths: BTreeSet::new(alloc),
         }
     }
 
@@ -61,11 +77,12 @@ impl<'a> Table<'a> {
             (self.new ≡ self.old ++ record { base = base.now; front = front.now } ∷ []) }
         ensures refused { OnErr result (self.new ≡ self.old) }
     {
-        let count = self.ranked.len();
-        // Memory for the rule is asked for first, so that no rank is noted without its rule.
-        self.ranked.reserve(1)?;
-        let rank = rank_of(&mut self.ranks, base, count)?;
-        self.ranked.push(Ranked { base, front, rank })?;
+        // Memory for the rule is asked for first, so that no front is noted without its rule.
+        self.rules.reserve(1)?;
+        self.lengths.insert(front.len())?;
+        let rank = rank_of(self.rules.as_slice(), &mut self.ranks, base)?;
+        note_front(&mut self.fronts, front, Ranked { base, rank })?;
+        self.rules.push(Kept { base, front })?;
         Ok(())
     }
 
@@ -75,82 +92,99 @@ impl<'a> Table<'a> {
         'a: 't,
         ensures { IsRewritten self.now text.now result }
     {
-        match best(self.ranked.as_slice(), text) {
-            None => Rewritten {
-                base: None,
-                rest: text,
-            },
-            Some(rule) => Rewritten {
-                base: Some(rule.base),
-                rest: text.split_at(rule.front.len()).1,
-            },
-        }
+        rewritten(&self.fronts, &self.lengths, text)
     }
 }
 
-/// The rank that is noted for a base; the next rank where none is, which is noted then.
+/// The rank of a base among the rules and one more with it, which is noted.
 fn rank_of<'a>(
+    rules: &[Kept<'a>],
     ranks: &mut BTreeMap<&'a [u8], usize>,
     base: &'a [u8],
-    next: usize,
 ) -> Result<usize, AllocError>
-    ensures rank { IfOk result (λ rank. rank ≡ unwrap_or (noted_rank ranks.old base.now) next) }
+    ensures rank { IsNoted (map rule_of rules.now) base.now (noted ranks.old base.now)
+        → IfOk result (λ rank. HasNextRank (map rule_of rules.now) base.now rank) }
     ensures noted { IfOk result (λ rank. NotesAlso ranks.old base.now rank ranks.new) }
     ensures refused { OnErr result (IsUnchanged ranks.old ranks.new) }
 {
-    if let Some(rank) = ranks.get(base) {
-        return Ok(*rank);
-    }
-    ranks.insert(base, next)?;
-    Ok(next)
+    let rank = known_rank(rules, ranks, base).unwrap_or(rules.len());
+    ranks.insert(base, rank)?;
+    Ok(rank)
 }
 
-/// The best rule that applies to the text.
-fn best<'a>(ranked: &[Ranked<'a>], text: &[u8]) -> Option<Ranked<'a>>
-    ensures { IsBest text.now ranked.now result }
+/// The rank of a base, if a rule has it.
+fn known_rank(rules: &[Kept<'_>], ranks: &BTreeMap<&[u8], usize>, base: &[u8]) -> Option<usize>
+    ensures { IsNoted (map rule_of rules.now) base.now (noted ranks.now base.now)
+        → IsRankIn (map rule_of rules.now) base.now result }
 {
-    let mut best = None;
-    for rule in ranked {
-        best = better(text, best, rule);
-    }
-    best
-}
-
-/// The best of the rules so far and one more.
-fn better<'a>(text: &[u8], best: Option<Ranked<'a>>, rule: &Ranked<'a>) -> Option<Ranked<'a>>
-    ensures { (done : List Ranked) → IsBest text.now done best.entry
-        → IsBest text.now (done ++ rule.now ∷ []) result }
-{
-    if !applies(text, rule) {
-        return best;
-    }
-    match best {
-        None => Some(*rule),
-        Some(so_far) => Some(better_of(so_far, *rule)),
-    }
-}
-
-/// Whether the text begins with the rule's front.
-fn applies(text: &[u8], rule: &Ranked<'_>) -> bool
-    ensures { IsTrue result ↔ Applies text.now (rule_of rule.now) }
-{
-    text.starts_with(rule.front)
-}
-
-/// The better of two rules that apply: the first, unless the second has the longer front, or one of the same
-/// length and the lower rank.
-fn better_of<'a>(first: Ranked<'a>, second: Ranked<'a>) -> Ranked<'a>
-    ensures { IsBetterOf first.entry second.entry result }
-{
-    if second.front.len() > first.front.len() {
-        return second;
-    }
-    if second.front.len() < first.front.len() {
-        return first;
-    }
-    if second.rank < first.rank {
-        second
+    let rank = *ranks.get(base)?;
+    if has_base_at(rules, rank, base) {
+        Some(rank)
     } else {
-        first
+        None
     }
+}
+
+/// Whether the rule at a place has the base.
+fn has_base_at(rules: &[Kept<'_>], at: usize, base: &[u8]) -> bool
+    ensures { IsTrue result ↔ HasBaseAt rules.now at base.now }
+{
+    match rules.get(at) {
+        Some(rule) => rule.base == base,
+        None => false,
+    }
+}
+
+/// Notes a base for a front, unless the rank of the one that is noted is no higher.
+fn note_front<'a>(
+    fronts: &mut BTreeMap<&'a [u8], Ranked<'a>>,
+    front: &'a [u8],
+    base: Ranked<'a>,
+) -> Result<(), AllocError>
+    ensures noted { OnOk result (NotesLower fronts.old front.now base.entry fronts.new) }
+    ensures refused { OnErr result (IsUnchanged fronts.old fronts.new) }
+{
+    let lower = lower_of(fronts.get(front).copied(), base);
+    fronts.insert(front, lower)?;
+    Ok(())
+}
+
+/// A base, or the one that is noted where its rank is no higher.
+fn lower_of<'a>(noted: Option<Ranked<'a>>, base: Ranked<'a>) -> Ranked<'a>
+    ensures { IsLowerOf noted.entry base.entry result }
+{
+    let Some(first) = noted else {
+        return base;
+    };
+    if first.rank <= base.rank { first } else { base }
+}
+
+/// What rules make of a text, by what is noted of their fronts. The lengths ascend, so that the last front
+/// that is found is the longest, and no front is sought that is longer than the text.
+fn rewritten<'a, 't>(
+    fronts: &BTreeMap<&'a [u8], Ranked<'a>>,
+    lengths: &BTreeSet<usize>,
+    text: &'t [u8],
+) -> Rewritten<'t>
+where
+    'a: 't,
+    ensures { (rules : List Rule) → NotesFronts rules fronts.now → NotesLengths rules lengths.now
+        → IsRewritten rules text.now result }
+{
+    let mut outcome = Rewritten {
+        base: None,
+        rest: text,
+    };
+    for length in lengths {
+        let Some((front, rest)) = text.split_at_checked(*length) else {
+            return outcome;
+        };
+        if let Some(first) = fronts.get(front) {
+            outcome = Rewritten {
+                base: Some(first.base),
+                rest,
+            };
+        }
+    }
+    outcome
 }

@@ -1,4 +1,5 @@
-//! Whether the parts of a location make a command: the user, the host, the path and the port.
+//! Whether the parts of a location and what is asked for make a command: the user, the host, the path, the
+//! program, the family of addresses and the port.
 //!
 //! It uses the tests of bytes of `git_syntax`, and takes no memory. Its contract: a part is refused exactly
 //! where the definitions refuse it, for their reason.
@@ -7,7 +8,7 @@ ghost use Rattle.std.specs.Prelude.{◌≡◌, IfErr, IfOk, None, Some, option_m
 ghost use Rattle.std.specs.Result.{result_err};
 ghost use Rattle.git_rules.specs.SecureShell as spec;
 
-use crate::ssh::{SshRefusal, SshVariant};
+use crate::ssh::{AddressFamily, SshRefusal, SshRequest, SshVariant};
 use git_syntax::bytes::{is_free_of, starts_with_byte};
 
 /// The host, where it makes a destination with the user.
@@ -119,8 +120,39 @@ pub(super) fn check_path(path: &[u8]) -> Result<(), SshRefusal>
     }
 }
 
+/// Refuses what is asked for, where it makes no command with the port.
+pub(super) fn check_request(request: &SshRequest<'_>, port: Option<u16>) -> Result<(), SshRefusal>
+    ensures { result_err result ≡ spec.request_refusal request.now port }
+{
+    check_program(request.program)?;
+    match (request.variant, request.family) {
+        (SshVariant::Simple, AddressFamily::V4 | AddressFamily::V6) => Err(
+            SshRefusal::FamilyOfSimple,
+        ),
+        _ => check_port(request.variant, port),
+    }
+}
+
+/// Refuses a program that makes no remote command.
+fn check_program(program: Option<&[u8]>) -> Result<(), SshRefusal>
+    ensures { result_err result ≡ spec.program_refusal (option_map (λ t. t.now) program.entry) }
+{
+    let Some(program) = program else {
+        return Ok(());
+    };
+    if program.is_empty() {
+        Err(SshRefusal::EmptyProgram)
+    } else if !is_free_of(program, 0) {
+        Err(SshRefusal::ByteZeroInProgram)
+    } else if starts_with_byte(program, b'-') {
+        Err(SshRefusal::OptionLikeProgram)
+    } else {
+        Ok(())
+    }
+}
+
 /// Refuses a port for which the variant has no option.
-pub(super) fn check_port(variant: SshVariant, port: Option<u16>) -> Result<(), SshRefusal>
+fn check_port(variant: SshVariant, port: Option<u16>) -> Result<(), SshRefusal>
     ensures { result_err result ≡ spec.port_refusal variant port }
 {
     match (variant, port) {

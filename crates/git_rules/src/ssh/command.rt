@@ -7,21 +7,22 @@ ghost use Rattle.std.specs.Prelude.{◌≡◌, ◌<◌, IfOk, IfSome, map, optio
 ghost use Rattle.bstr.specs.Owned.{bstring_bytes};
 ghost use Rattle.git_rules.specs.SecureShell as spec;
 
-use crate::ssh::words::{destination, push, push_port, remote_command};
-use crate::ssh::{ProtocolVersion, Service, SshVariant};
+use crate::ssh::words::{destination, push, push_client, push_port, remote_command};
+use crate::ssh::{AddressFamily, ProtocolVersion, Service, SshVariant};
 use bstr::BString;
 use std::alloc::{AllocError, Global};
 use std::marker::Model;
 
 /// As many words as a command can have.
-const MOST_WORDS: usize = 6;
+const MOST_WORDS: usize = 7;
 
 /// A command of Secure Shell, by its parts: the program that is run, what it is asked for, and the parts of
 /// the location.
 ///
-/// A location lends its parts, so making a command takes no memory. [`ssh_command`](super::ssh_command) makes
-/// one; by hand one is made only of parts that it would let by, since each place that makes one has to prove
-/// that: contracts know of each command that it is safe (`IsSafeCommand`), wherever it comes from.
+/// A location lends its parts, so making a command takes no memory.
+/// [`ssh_command_for`](super::ssh_command_for) makes one; by hand one is made only of parts that it would let
+/// by, since each place that makes one has to prove that: contracts know of each command that it is safe
+/// (`IsSafeCommand`), wherever it comes from.
 ///
 /// ```
 /// /// Whether the command says who logs in.
@@ -37,6 +38,10 @@ pub struct SshCommand<'a> {
     pub version: ProtocolVersion,
     /// What the server runs.
     pub service: Service,
+    /// The program that the server runs in place of the service's.
+    pub program: Option<&'a [u8]>,
+    /// Of which family the addresses are that are connected to.
+    pub family: AddressFamily,
     /// The user, before the `@` of the destination.
     pub user: Option<&'a str>,
     /// The host. An address has no brackets.
@@ -72,7 +77,7 @@ impl SshCommand<'_> {
     pub fn git_protocol(&self) -> Option<&'static str>
         ensures { option_map (λ t. t.now) result ≡ spec.command_variable self.now }
     {
-        if !sends_version(self.variant, self.service, self.version) {
+        if !sends_version(self.variant, self.run_there(), self.version) {
             return None;
         }
         match self.version {
@@ -83,13 +88,14 @@ impl SshCommand<'_> {
     }
 
     /// The words behind the name of the program, which isn't among them. Memory is asked for once for the
-    /// list, which has 2 to 6 words, and once for each of them.
+    /// list, which has 2 to 7 words, and once for each of them.
     ///
-    /// First come the options: `-o` and `SendEnv=GIT_PROTOCOL` where a version is sent, `-batch` for
-    /// `tortoiseplink`, and where there is a port `-p` for OpenSSH or else `-P`, and its digits. Then comes
-    /// the destination, `user@host` or the host, and at last the command for the server's shell: the service,
-    /// a space, and the path in single quotes, in which `'` and `!` are written `'\''` and `'\!'`. Each word
-    /// goes to the program as one argument, with no shell on this side.
+    /// First come the options: `-o` and `SendEnv=GIT_PROTOCOL` where a version is sent, `-4` or `-6` for a
+    /// family of addresses, `-batch` for `tortoiseplink`, and where there is a port `-p` for OpenSSH or else
+    /// `-P`, and its digits. Then comes the destination, `user@host` or the host, and at last the command for
+    /// the server's shell: the service or the program in its place, a space, and the path in single quotes,
+    /// in which `'` and `!` are written `'\''` and `'\!'`. Each word goes to the program as one argument,
+    /// with no shell on this side.
     ///
     /// ```
     /// fn last_word(alloc: Global, command: &SshCommand<'_>) -> Result<Option<BString>, AllocError> {
@@ -107,17 +113,25 @@ impl SshCommand<'_> {
     {
         self.law_safe();
         let mut words = Vec::with_capacity(alloc, MOST_WORDS)?;
-        if sends_version(self.variant, self.service, self.version) {
+        if sends_version(self.variant, self.run_there(), self.version) {
             push(alloc, &mut words, b"-o")?;
             push(alloc, &mut words, b"SendEnv=GIT_PROTOCOL")?;
         }
-        if matches!(self.variant, SshVariant::TortoisePlink) {
-            push(alloc, &mut words, b"-batch")?;
-        }
+        push_client(alloc, &mut words, self.variant, self.family)?;
         push_port(alloc, &mut words, self.variant, self.port)?;
         words.push(destination(alloc, self.user, self.host)?)?;
-        words.push(remote_command(alloc, self.service, self.path)?)?;
+        words.push(remote_command(alloc, self.run_there(), self.path)?)?;
         Ok(words)
+    }
+
+    /// The program that the server runs: the one that is named, or the service's own.
+    fn run_there(&self) -> &[u8]
+        ensures { result.now ≡ spec.program_text self.now.request }
+    {
+        match self.program {
+            None => self.service.as_str().as_bytes(),
+            Some(program) => program,
+        }
     }
 
     /// Each command is safe: it can't be made otherwise.
@@ -128,14 +142,13 @@ impl SshCommand<'_> {
     }
 }
 
-/// Whether the version of the protocol is sent to the server.
-fn sends_version(variant: SshVariant, service: Service, version: ProtocolVersion) -> bool
-    ensures { result ≡ spec.sends_version variant service version }
+/// Whether the version of the protocol is sent to the server, by the program that it runs.
+fn sends_version(variant: SshVariant, program: &[u8], version: ProtocolVersion) -> bool
+    ensures { result ≡ spec.sends_version variant program.now version }
 {
-    match (variant, service, version) {
-        (SshVariant::Ssh, _, ProtocolVersion::V1) => true,
-        (SshVariant::Ssh, Service::UploadPack | Service::UploadArchive, ProtocolVersion::V2) =>
-            true,
+    match (variant, version) {
+        (SshVariant::Ssh, ProtocolVersion::V1) => true,
+        (SshVariant::Ssh, ProtocolVersion::V2) => program != b"git-receive-pack".as_slice(),
         _ => false,
     }
 }

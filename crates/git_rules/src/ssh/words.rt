@@ -1,5 +1,5 @@
-//! The words of a command: the port's option, the destination and the remote command, with the path in Git's
-//! quotes.
+//! The words of a command: the options of a family and a port, the destination and the remote command, with
+//! the path in Git's quotes.
 //!
 //! It asks for memory once for each word. Its contract: the words are those of the definitions.
 
@@ -8,7 +8,7 @@ ghost use Rattle.bstr.specs.Owned.{bstring_bytes};
 ghost use Rattle.git_rules.specs.SecureShell as spec;
 ghost use Rattle.git_rules.specs.ShellWords.{is_unquoted, quoted_byte};
 
-use crate::ssh::{Service, SshVariant};
+use crate::ssh::{AddressFamily, SshVariant};
 use bstr::BString;
 use itoa::Buffer;
 use std::alloc::{AllocError, Global};
@@ -20,6 +20,27 @@ pub(super) fn push(alloc: Global, words: &mut Vec<BString>, word: &[u8]) -> Resu
 {
     words.push(BString::from_slice(alloc, word)?)?;
     Ok(())
+}
+
+/// Appends the option of a family of addresses, if there is one, and that of TortoisePlink for no window.
+pub(super) fn push_client(
+    alloc: Global,
+    words: &mut Vec<BString>,
+    variant: SshVariant,
+    family: AddressFamily,
+) -> Result<(), AllocError>
+    ensures { OnOk result (map bstring_bytes words.new.items
+        ≡ map bstring_bytes words.old.items ++ spec.client_words variant family) }
+{
+    match family {
+        AddressFamily::Any => {}
+        AddressFamily::V4 => push(alloc, words, b"-4")?,
+        AddressFamily::V6 => push(alloc, words, b"-6")?,
+    }
+    match variant {
+        SshVariant::TortoisePlink => push(alloc, words, b"-batch"),
+        _ => Ok(()),
+    }
 }
 
 /// Appends the option of a port and its digits. The variant `simple` has no such option.
@@ -75,14 +96,13 @@ pub(super) fn destination(
 /// The command for the server's shell: the program, a space, and the path in quotes.
 pub(super) fn remote_command(
     alloc: Global,
-    service: Service,
+    program: &[u8],
     path: &[u8],
 ) -> Result<BString, AllocError>
-    ensures { IfOk result (λ t. bstring_bytes t ≡ spec.remote_command service path.now) }
+    ensures { IfOk result (λ t. bstring_bytes t ≡ spec.remote_command program.now path.now) }
 {
-    let name = service.as_str().as_bytes();
-    let mut text = with_room(alloc, name.len() as u128 + 3 + quoted_len(path))?;
-    text.extend_from_slice(name)?;
+    let mut text = with_room(alloc, program.len() as u128 + 3 + quoted_len(path))?;
+    text.extend_from_slice(program)?;
     text.extend_from_slice(b" '")?;
     push_quoted(&mut text, path)?;
     text.push(b'\'')?;

@@ -6,28 +6,28 @@ use Rattle.gix_url.specs.Location.{Location}
 use Rattle.git_rules.specs.declared.ssh.Service.TheVariants.{UploadPack}
 use Rattle.git_rules.specs.declared.ssh.SshVariant.TheVariants.{Ssh}
 use Rattle.git_rules.specs.declared.ssh.ProtocolVersion.TheVariants.{V2}
-use Rattle.git_rules.specs.SecureShell.{AreWordsFor, destination, remote_command, service_name}
+use Rattle.git_rules.specs.SecureShell.{AreWordsFor, Request, destination, run_there, service_alone, service_name}
 use Rattle.user_proofs.specs.Commands.{FetchesFrom}
 use Rattle.user_proofs.proofs.commands.words_to_fetch.Goals as goal
 
-fetches : (v : Location) (words : List (List ℕ)) → AreWordsFor v Ssh UploadPack V2 words → FetchesFrom v words
+fetches : (v : Location) (words : List (List ℕ)) → AreWordsFor v (service_alone UploadPack Ssh V2) words → FetchesFrom v words
 fetches v words are =
     let c = are.command in
     record {
       destination = destination c.user c.host;
-      remote = remote_command c.service c.path;
-      joined = are.words ∙ rw are.asked.variant (rw are.asked.service (rw are.asked.version (rw are.own.port refl)));
+      remote = run_there c;
+      joined = are.words ∙ rw are.asked (rw are.own.port refl);
       no_option = are.safe.no_options.destination;
       host = c.host;
       there = are.own.host;
       cut = subst (λ u. UserCut (destination c.user c.host) u c.host) are.own.user are.safe.cut.cut;
-      read = are.safe.words ∙ ap (λ s. Some (service_name s ∷ c.path ∷ [])) are.asked.service ∙ ap (λ p. Some (service_name UploadPack ∷ p ∷ [])) are.own.path;
+      read = are.safe.words.service (ap (λ (r : Request). r.program) are.asked) ∙ ap (λ (r : Request). Some (service_name r.service ∷ c.path ∷ [])) are.asked ∙ ap (λ p. Some (service_name UploadPack ∷ p ∷ [])) are.own.path;
     }
 
-in_result : {T E : Type 0} (v : Location) (f : T → List (List ℕ)) (r : Result T E) → IfOk r (λ t. AreWordsFor v Ssh UploadPack V2 (f t)) → IfOk r (λ t. FetchesFrom v (f t))
+in_result : {T E : Type 0} (v : Location) (f : T → List (List ℕ)) (r : Result T E) → IfOk r (λ t. AreWordsFor v (service_alone UploadPack Ssh V2) (f t)) → IfOk r (λ t. FetchesFrom v (f t))
 in_result v f (Ok t) h = fetches v (f t) h
 in_result v f (Err e) h = tt
 
 pub returns-clause-words : goal.returns-clause-words
 returns-clause-words c =
-    in_result c.args.url.now (λ words. map bstring_bytes words.items) c.ssh_words.result (subst (λ v. IfOk c.ssh_words.result (λ words. AreWordsFor v Ssh UploadPack V2 (map bstring_bytes words.items))) c.as_ref.ensures c.ssh_words.ensures.words)
+    in_result c.args.url.now (λ words. map bstring_bytes words.items) c.ssh_words.result (subst (λ v. IfOk c.ssh_words.result (λ words. AreWordsFor v (service_alone UploadPack Ssh V2) (map bstring_bytes words.items))) c.as_ref.ensures c.ssh_words.ensures.words)

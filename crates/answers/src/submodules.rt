@@ -1,0 +1,91 @@
+//! Calls of `git_modules` over the entries of a `.gitmodules` file.
+
+use crate::halt::Halt;
+use crate::order::{Order, unknown};
+use crate::report::{Out, Report, report_lent, report_member};
+use bstr::BStr;
+use git_modules::submodules::refusal::check;
+use git_modules::submodules::risk::{Risk, has_risk};
+use git_modules::submodules::{Submodule, submodules};
+use git_rules::config::Entry;
+use std::alloc::Global;
+use std::io::{self, Write};
+
+/// Calls over all entries.
+pub fn over_entries(
+    alloc: Global,
+    order: Order<'_>,
+    entries: &[Entry<'_>],
+    out: &mut Out,
+) -> Result<(), Halt> {
+    match order.call() {
+        "refusal::check" => Ok(report_refusals(entries, out)?),
+        "risk::has_risk" => report_risk(order, entries, out),
+        "submodules::submodules" => {
+            let found = submodules(alloc, entries)?;
+            let reported = report_used(found.as_slice(), out);
+            drop(found);
+            Ok(reported?)
+        }
+        call => unknown(call),
+    }
+}
+
+/// Reports whether the first entry has a risk.
+fn report_risk(order: Order<'_>, entries: &[Entry<'_>], out: &mut Out) -> Result<(), Halt> {
+    let risk = risk_named(order.needed("risk")?)?;
+    match entries.first() {
+        Some(entry) => report_lent(out, &has_risk(entry, risk)),
+        None => Err(Halt::Unprepared),
+    }
+}
+
+/// The risk with this name.
+fn risk_named(name: &str) -> Result<Risk, Halt> {
+    match name {
+        "AbsolutePath" => Ok(Risk::AbsolutePath),
+        "PathUpwards" => Ok(Risk::PathUpwards),
+        "PathIntoGit" => Ok(Risk::PathIntoGit),
+        "OptionAsBranch" => Ok(Risk::OptionAsBranch),
+        "OptionAsUpdate" => Ok(Risk::OptionAsUpdate),
+        "ControlCharacter" => Ok(Risk::ControlCharacter),
+        "NoValue" => Ok(Risk::NoValue),
+        _ => Err(Halt::Unprepared),
+    }
+}
+
+/// Reports what fsck refuses, by Git's names and in the order of the entries.
+fn report_refusals(entries: &[Entry<'_>], out: &mut Out) -> io::Result<()> {
+    out.write_all(b"[")?;
+    let mut is_first = true;
+    for entry in entries {
+        let found = check(entry);
+        for reason in [found.name, found.value] {
+            if let Some(reason) = reason {
+                if !is_first {
+                    out.write_all(b",")?;
+                }
+                is_first = false;
+                reason.as_str().report(out)?;
+            }
+        }
+    }
+    out.write_all(b"]")
+}
+
+/// Reports the submodules that have a path and a URL, each with its URL and how it is updated.
+fn report_used(found: &[Submodule<'_>], out: &mut Out) -> io::Result<()> {
+    let mut before = "{";
+    for it in found {
+        if let (Some(_), Some(url)) = (it.path, it.url) {
+            out.write_all(before.as_bytes())?;
+            before = ",";
+            BStr::new(it.name).report(out)?;
+            out.write_all(b":{\"url\":")?;
+            BStr::new(url.value).report(out)?;
+            report_member(out, "update", &it.update.map(|used| BStr::new(used.value)))?;
+            out.write_all(b"}")?;
+        }
+    }
+    out.write_all(if before == "{" { b"{}" } else { b"}" })
+}

@@ -1,0 +1,71 @@
+//! What is printed of a remote of a configuration: rows for people, one JSON object for programs.
+//!
+//! It uses what `remotes` found, and has no contract: `scripts/hostile rules` shows its answers.
+
+use crate::rule_rows::{dangers, route, transport};
+use crate::shown::row;
+use crate::style::Layout;
+use explain_report::remotes::RemoteReport;
+use explain_report::rules::Route;
+use explain_report::text::line::Quoted;
+use std::alloc::{AllocError, Global};
+use std::fmt::Write;
+
+/// The answer about a remote, in the layout that is asked for.
+pub fn answer(alloc: Global, remote: &RemoteReport, layout: Layout) -> Result<String, AllocError> {
+    match layout {
+        Layout::Quiet => Ok(String::new(alloc)),
+        Layout::Json => crate::answer::json(alloc, remote),
+        _ => rows(alloc, remote),
+    }
+}
+
+/// The heading of a remote, and its rows.
+fn rows(alloc: Global, remote: &RemoteReport) -> Result<String, AllocError> {
+    let mut out = String::new(alloc);
+    let name = Quoted(remote.remote.as_str().as_bytes());
+    writeln!(out, "remote {name}")?;
+    if let Some(at) = remote.stops_at {
+        row(
+            &mut out,
+            "stops",
+            format_args!("Git stops at the entry at byte {at}, which has no value"),
+        )?;
+    }
+    for way in &remote.fetch {
+        routed(alloc, &mut out, "fetches", way)?;
+    }
+    for way in &remote.push {
+        routed(alloc, &mut out, "pushes", way)?;
+    }
+    value(&mut out, "vcs", &remote.vcs)?;
+    value(&mut out, "proxy", &remote.proxy)?;
+    value(&mut out, "uploadpack", &remote.uploadpack)?;
+    value(&mut out, "receivepack", &remote.receivepack)?;
+    Ok(out)
+}
+
+/// The rows of a text that Git goes to: the text, its transport and what was found in it.
+fn routed(alloc: Global, out: &mut String, name: &str, way: &Route) -> Result<(), AllocError> {
+    route(out, name, way)?;
+    transport(alloc, out, way, "")?;
+    dangers(out, way)?;
+    if way.found.refused {
+        row(out, "refused", "it is read as no location")?;
+    }
+    if way.found.unsettled {
+        row(out, "unsettled", "its own text is read otherwise")?;
+    }
+    if way.found.git_differs {
+        row(out, "git", "isn't known to read the same in it")?;
+    }
+    Ok(())
+}
+
+/// The row of a value, if there is one.
+fn value(out: &mut String, name: &str, value: &Option<String>) -> Result<(), AllocError> {
+    match value {
+        None => Ok(()),
+        Some(value) => row(out, name, Quoted(value.as_str().as_bytes())),
+    }
+}

@@ -1,0 +1,2 @@
+-- What is dangerous in a text.
+pub mod HostLemmas

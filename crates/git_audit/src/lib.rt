@@ -1,0 +1,7 @@
+//! What is dangerous in a remote that a program takes from a stranger.
+//!
+//! It uses borrowed locations, what Git reads in a text, and `git_rules` for hosts. It opens no file and runs no
+//! program.
+#![tactic(auto)]
+
+pub mod danger;

@@ -1,0 +1,7 @@
+-- What is read of configuration files.
+pub mod ReadLemmas
+pub mod PlaceLemmas
+pub mod PartLemmas
+pub mod LawLemmas
+pub mod ProgressLemmas
+pub mod NameLemmas

@@ -1,0 +1,63 @@
+-- The bytes of a configuration file: those with a meaning, their classes, and a text without the carriage
+-- returns that Git leaves out.
+use Rattle.std.specs.Prelude.{ℕ, Bool, ◌&&◌, ◌||◌, ◌==◌, List, [], ◌∷◌, drop, if◌then◌else◌}
+use Rattle.std.specs.Char.{is_ascii_alphanumeric}
+use Rattle.git_syntax.specs.Bytes.{begins_with, newline, tab, space, hyphen, dot}
+
+-- `\b`
+abbrev pub backspace : ℕ
+backspace = 8
+
+-- `\r`
+abbrev pub carriage_return : ℕ
+carriage_return = 13
+
+-- `"`
+abbrev pub quote_mark : ℕ
+quote_mark = 34
+
+-- `;`
+abbrev pub semicolon : ℕ
+semicolon = 59
+
+-- a byte of a name: a letter, a digit or `-`
+abbrev pub is_key_byte : ℕ → Bool
+is_key_byte c = is_ascii_alphanumeric c || c == hyphen
+
+-- a byte of a section: that of a name, or a dot
+abbrev pub is_section_byte : ℕ → Bool
+is_section_byte c = is_key_byte c || c == dot
+
+-- white space that may follow a name
+abbrev pub is_gap : ℕ → Bool
+is_gap c = c == space || c == tab
+
+-- white space within a line
+abbrev pub is_blank : ℕ → Bool
+is_blank c = is_gap c || c == carriage_return
+
+-- the text without the carriage returns that stand before line feeds
+abbrev pub unix_text : List ℕ → List ℕ
+unix_text [] = []
+unix_text (c ∷ rest) =
+    if c == carriage_return && begins_with newline rest then unix_text rest
+    else c ∷ unix_text rest
+
+-- what Git has left to read at a place of a text
+abbrev pub left_at : List ℕ → ℕ → List ℕ
+left_at text at = unix_text (drop at text)
+
+-- the bytes from the front on that pass a test
+abbrev pub word : (ℕ → Bool) → List ℕ → List ℕ
+word test [] = []
+word test (c ∷ rest) = if test c then c ∷ word test rest else []
+
+-- what follows the bytes from the front on that pass a test
+abbrev pub past_word : (ℕ → Bool) → List ℕ → List ℕ
+past_word test [] = []
+past_word test (c ∷ rest) = if test c then past_word test rest else c ∷ rest
+
+-- what follows the first line
+abbrev pub past_line : List ℕ → List ℕ
+past_line [] = []
+past_line (c ∷ rest) = if c == newline then rest else past_line rest

@@ -1,0 +1,106 @@
+-- URLs of submodules that Git's fsck refuses. No proof says that Git keeps to it: `scripts/rules_witness`
+-- compares.
+use Rattle.std.specs.Prelude.{◌≡◌, ℕ, ◌<◌, ◌⊎◌, Bool, true, false, ◌||◌, ◌==◌, bytes_eq, codes, List, ◌++◌, length, Option, Some, None}
+use Rattle.std.specs.List.{concat, list_any, list_all}
+use Rattle.git_syntax.specs.Bytes.{newline, slash, colon, FreeOf, Lacks, Holds, begins_by, is_option_like, is_path_start, StartsPath}
+use Rattle.git_reads.specs.Credentials.{CredentialDecodes, CredentialReading, ReadsPieces}
+
+-- ---- line feeds
+
+-- a line feed is in the text
+abbrev pub has_feed : List ℕ → Bool
+has_feed bs = list_any (λ b. b == newline) bs
+
+-- the same of a part that may be missing
+abbrev pub part_has_feed : Option (List ℕ) → Bool
+part_has_feed None = false
+part_has_feed (Some bs) = has_feed bs
+
+-- the text is of several lines once Git decoded it, which leaves what precedes the first colon as it is
+abbrev pub DecodesToLines : List ℕ → Type 0
+DecodesToLines t = (decoded : List ℕ) × CredentialDecodes t decoded × (has_feed decoded ≡ true)
+
+-- ---- relative URLs
+
+-- a step up: `../`, with either separator
+abbrev pub is_step_up : List ℕ → Bool
+is_step_up s = bytes_eq s (codes "../") || bytes_eq s (codes "..\\")
+
+-- a step: `./` or `../`, with either separator
+abbrev pub is_step : List ℕ → Bool
+is_step s = is_step_up s || (bytes_eq s (codes "./") || bytes_eq s (codes ".\\"))
+
+-- the URL is relative: it begins with a step
+abbrev pub IsRelative : List ℕ → Type 0
+IsRelative t = (step : List ℕ) × (rest : List ℕ) × (is_step step ≡ true) × (t ≡ step ++ rest)
+
+-- a `:` or a `/`
+abbrev pub is_colon_or_slash : ℕ → Bool
+is_colon_or_slash b = b == colon || b == slash
+
+-- a `:` or a `/` follows the steps of the URL, and one of them goes up: appended to another URL, it may
+-- replace the host of that
+pub record ReplacesHost (t : List ℕ) : Type 0 where
+  pub steps : List (List ℕ)
+  pub rest : List ℕ
+  pub joined : t ≡ concat steps ++ rest
+  pub are : list_all is_step steps ≡ true
+  pub up : list_any is_step_up steps ≡ true
+  pub begins : begins_by is_colon_or_slash rest ≡ true
+
+-- the URL is of Git's own protocol
+abbrev pub IsOwnUrl : List ℕ → Type 0
+IsOwnUrl t = (rest : List ℕ) × (t ≡ codes "git://" ++ rest)
+
+-- ---- URLs for curl
+
+-- a scheme that the helper for curl serves, in lower case
+abbrev pub is_curl_scheme : List ℕ → Bool
+is_curl_scheme s = bytes_eq s (codes "http") || (bytes_eq s (codes "https")
+    || (bytes_eq s (codes "ftp") || bytes_eq s (codes "ftps")))
+
+-- Git gives the helper for curl this text: what follows `http::` and the like, or a whole URL
+pub data IsForCurl (t text : List ℕ) : Type 0 where
+  named : (scheme : List ℕ) → is_curl_scheme scheme ≡ true → t ≡ scheme ++ (codes "::" ++ text)
+      → IsForCurl t text
+  whole : (scheme rest : List ℕ) → is_curl_scheme scheme ≡ true → t ≡ scheme ++ (codes "://" ++ rest)
+      → text ≡ t → IsForCurl t text
+
+-- what Git's credential code finds in a text: as it reads the text, but any part may hold the end of a line
+pub record FindsParts (t : List ℕ) (r : CredentialReading) : Type 0 where
+  pub authority : List ℕ
+  pub behind : List ℕ
+  pub whole : FreeOf 0 t
+  pub protocol : 0 < length r.protocol
+  pub no_mark : ¬ Holds (codes "://") r.protocol
+  pub joined : t ≡ r.protocol ++ (codes "://" ++ (authority ++ behind))
+  pub before_path : Lacks (is_path_start true) authority
+  pub path_start : StartsPath true behind
+  pub pieces : ReadsPieces authority behind r
+
+-- a line feed is in one of the parts
+abbrev pub parts_have_feed : CredentialReading → Bool
+parts_have_feed r = has_feed r.protocol || (part_has_feed r.user || (part_has_feed r.password
+    || (has_feed r.host || part_has_feed r.path)))
+
+-- the credential code finds a host in the text, and no line feed: unlike for a helper, it takes a carriage
+-- return
+pub record FindsHost (t : List ℕ) : Type 0 where
+  pub parts : CredentialReading
+  pub found : FindsParts t parts
+  pub lines : parts_have_feed parts ≡ false
+  pub host : 0 < length parts.host
+
+-- the URL is for curl, and there is no host in what curl would be given, or a line feed
+abbrev pub LacksHost : List ℕ → Type 0
+LacksHost t = (text : List ℕ) × IsForCurl t text × ¬ FindsHost text
+
+-- ---- what fsck refuses
+
+-- fsck refuses the URL of a submodule: it looks like an option; it is relative or of Git's own protocol, and
+-- of several lines once decoded; it is relative and may replace a host; or curl would get no host by it
+pub data IsRefusedUrl (t : List ℕ) : Type 0 where
+  option : is_option_like t ≡ true → IsRefusedUrl t
+  several_lines : IsRelative t ⊎ IsOwnUrl t → DecodesToLines t → IsRefusedUrl t
+  other_host : ReplacesHost t → IsRefusedUrl t
+  no_host : LacksHost t → IsRefusedUrl t

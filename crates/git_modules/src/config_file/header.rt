@@ -1,0 +1,153 @@
+//! Headers: `[section]`, `[section "subsection"]` and the old form `[section.subsection]`.
+//!
+//! It uses `bytes`, `word` and `place`. What the keys below a header begin with is written as it is read.
+
+ghost use Rattle.std.specs.Prelude.{◌≡◌, ◌+◌, ◌<◌, ◌≤◌, ◌==◌, ◌&&◌, length, take, false, not};
+ghost use Rattle.git_syntax.specs.Bytes.{backslash, newline};
+ghost use Rattle.git_modules.specs.ConfigFileBytes as spec;
+ghost use Rattle.git_modules.specs.ConfigFileFlaws.{behind};
+ghost use Rattle.git_modules.specs.ConfigFileHeaders as header;
+ghost use Rattle.git_modules.specs.ConfigFilePieces as piece;
+
+use crate::config_file::bytes::byte_at;
+use crate::config_file::flaw::Flaw;
+use crate::config_file::place::{Wrong, flaw_at, flaw_behind};
+use crate::config_file::word::{Class, past_word, read_word};
+
+/// Writes what the keys below a header begin with into the front of the room: how long it is, and the place
+/// behind the header, which goes on at a place behind its `[`.
+pub(super) fn read_header(
+    text: &[u8],
+    start: usize,
+    room: &mut [u8],
+) -> Result<(usize, usize), Wrong>
+    requires start { start ≤ length text.now }
+    requires room { length text.now ≤ start + length room.old }
+    ensures stem { header.header_of (spec.left_at text.now start)
+        ≡ piece.read_as text.now room.new result }
+    ensures within { piece.IsWithin text.now start 0 result }
+{
+    let (len, at) = read_word(text, start, Class::Section, room);
+    read_behind(text, at, len, room)
+}
+
+/// Reads on behind the section of a header, which is the front of the room.
+fn read_behind(
+    text: &[u8],
+    start: usize,
+    len: usize,
+    room: &mut [u8],
+) -> Result<(usize, usize), Wrong>
+    requires start { start ≤ length text.now }
+    requires room { len + length text.now ≤ start + length room.old }
+    ensures stem { header.behind_section (take len room.old) (spec.left_at text.now start)
+        ≡ piece.read_as text.now room.new result }
+    ensures within { piece.IsWithin text.now start len result }
+{
+    match byte_at(text, start) {
+        None => Err(flaw_behind(Flaw::BadSection, start, text)),
+        Some((b']', behind)) => {
+            if len == 0 {
+                return Err(flaw_at(Flaw::NoSection, start));
+            }
+            Ok((len, behind))
+        }
+        Some((b'\n', _)) => Err(flaw_at(Flaw::NoQuote, start)),
+        Some((b' ' | b'\t' | b'\r', behind)) => read_subsection(text, behind, len, room),
+        Some(_) => Err(flaw_at(Flaw::BadSection, start)),
+    }
+}
+
+/// Writes a dot and a subsection behind the section that is the front of the room.
+fn read_subsection(
+    text: &[u8],
+    start: usize,
+    len: usize,
+    room: &mut [u8],
+) -> Result<(usize, usize), Wrong>
+    requires start { start ≤ length text.now }
+    requires room { len + length text.now ≤ start + length room.old }
+    ensures stem { header.subsection_of (take len room.old)
+        (spec.past_word spec.is_blank (spec.left_at text.now start))
+        ≡ piece.read_as text.now room.new result }
+    ensures within { piece.IsWithin text.now start len result }
+{
+    let at = past_word(text, start, Class::AfterSection);
+    match byte_at(text, at) {
+        Some((b'"', behind)) => {
+            room[len] = b'.';
+            let (len, at) = read_quoted(text, behind, len + 1, room)?;
+            read_end(text, at, len)
+        }
+        _ => Err(flaw_at(Flaw::NoQuote, at)),
+    }
+}
+
+/// Reads the `]` behind a subsection.
+fn read_end(text: &[u8], start: usize, len: usize) -> Result<(usize, usize), Wrong>
+    requires { start ≤ length text.now }
+    ensures { piece.ReadsEnd text.now start len result }
+{
+    match byte_at(text, start) {
+        Some((b']', behind)) => Ok((len, behind)),
+        _ => Err(flaw_behind(Flaw::OpenHeader, start, text)),
+    }
+}
+
+/// Writes what stands up to the last quote behind the front of the room.
+fn read_quoted(
+    text: &[u8],
+    start: usize,
+    front: usize,
+    room: &mut [u8],
+) -> Result<(usize, usize), Wrong>
+    requires start { start ≤ length text.now }
+    requires room { front + length text.now ≤ start + length room.old }
+    ensures subsection { behind (take front room.old)
+        (header.quoted_text false (spec.left_at text.now start))
+        ≡ piece.read_as text.now room.new result }
+    ensures within { piece.IsWithin text.now start front result }
+{
+    let mut at = start;
+    let mut len = front;
+    let mut is_escaped = false;
+    while let Some((byte, behind)) = byte_at(text, at) {
+        if byte == b'\n' {
+            return Err(flaw_at(Flaw::OpenSubsection, at));
+        }
+        if byte == 0 {
+            return Err(flaw_at(Flaw::ZeroByte, at));
+        }
+        if is_last_quote(byte, is_escaped) {
+            return Ok((len, behind));
+        }
+        (len, is_escaped) = put_quoted(byte, is_escaped, len, room);
+        at = behind;
+    }
+    Err(flaw_at(Flaw::OpenSubsection, at))
+}
+
+/// Whether a byte is the quote behind a subsection.
+fn is_last_quote(byte: u8, is_escaped: bool) -> bool
+    ensures { result ≡ (not is_escaped && (byte == spec.quote_mark)) }
+{
+    !is_escaped && byte == b'"'
+}
+
+/// Writes a byte of a subsection, unless it begins an escape: how much is written, and whether it did.
+fn put_quoted(byte: u8, is_escaped: bool, len: usize, room: &mut [u8]) -> (usize, bool)
+    requires { len < length room.old }
+    ensures bytes { piece.PutsQuoted byte is_escaped len room.old room.new result }
+    ensures least { len ≤ result.0 }
+    ensures most { result.0 ≤ len + 1 }
+{
+    if is_escaped {
+        room[len] = byte;
+        return (len + 1, false);
+    }
+    if byte == b'\\' {
+        return (len, true);
+    }
+    room[len] = byte;
+    (len + 1, false)
+}

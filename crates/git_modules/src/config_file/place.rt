@@ -1,0 +1,111 @@
+//! Places of a text: where it begins, the lines before a place, and errors.
+//!
+//! It uses `bytes` and `flaw`.
+
+ghost use Rattle.std.specs.Prelude.{◌≡◌, ◌+◌, ◌≤◌, ◌==◌, count_by, length, false};
+ghost use Rattle.git_syntax.specs.Bytes.{newline};
+ghost use Rattle.git_modules.specs.ConfigFileBytes as spec;
+ghost use Rattle.git_modules.specs.ConfigFileItems.{mark_end, mark_rest, start_of};
+ghost use Rattle.git_modules.specs.ConfigFilePieces as piece;
+ghost use Rattle.git_modules.specs.ConfigFiles.{line_at, named_line};
+
+use crate::config_file::bytes::{byte_at, ends_line};
+use crate::config_file::flaw::{FileError, Flaw};
+
+/// Why reading ends at a place.
+#[derive(Clone, Copy)]
+pub(super) struct Wrong {
+    pub(super) flaw: Flaw,
+    /// The byte offset.
+    pub(super) at: usize,
+    /// Whether Git names the line behind the one that the offset is in.
+    pub(super) is_late: bool,
+}
+
+/// A flaw at a place: Git names its line.
+pub(super) fn flaw_at(flaw: Flaw, at: usize) -> Wrong
+    ensures { result ≡ record { flaw = flaw; at = at; is_late = false } }
+{
+    Wrong {
+        flaw,
+        at,
+        is_late: false,
+    }
+}
+
+/// A flaw at a place: where a line ends there, Git has counted it.
+pub(super) fn flaw_behind(flaw: Flaw, at: usize, text: &[u8]) -> Wrong
+    ensures { result
+        ≡ record { flaw = flaw; at = at; is_late = piece.ends_line (spec.left_at text.now at) } }
+{
+    Wrong {
+        flaw,
+        at,
+        is_late: ends_line(text, at),
+    }
+}
+
+/// The first place of a text behind its byte order mark, if it has one.
+pub(super) fn first_place(text: &[u8]) -> Result<usize, Wrong>
+    ensures { piece.IsReached text.now (start_of (spec.unix_text text.now)) result }
+{
+    match byte_at(text, 0) {
+        Some((0xef, second)) => second_place(text, second),
+        _ => Ok(0),
+    }
+}
+
+/// The place behind the second and the third byte of a byte order mark.
+fn second_place(text: &[u8], at: usize) -> Result<usize, Wrong>
+    requires { at ≤ length text.now }
+    ensures { piece.IsReached text.now (mark_rest (spec.left_at text.now at)) result }
+{
+    match byte_at(text, at) {
+        Some((0xbb, third)) => third_place(text, third),
+        _ => Err(flaw_behind(Flaw::PartialMark, at, text)),
+    }
+}
+
+/// The place behind the third byte of a byte order mark.
+fn third_place(text: &[u8], at: usize) -> Result<usize, Wrong>
+    requires { at ≤ length text.now }
+    ensures { piece.IsReached text.now (mark_end (spec.left_at text.now at)) result }
+{
+    match byte_at(text, at) {
+        Some((0xbf, behind)) => Ok(behind),
+        _ => Err(flaw_behind(Flaw::PartialMark, at, text)),
+    }
+}
+
+/// How many line feeds there are between two places.
+pub(super) fn lines_between(text: &[u8], from: usize, to: usize) -> usize
+    requires order { from ≤ to }
+    requires within { to ≤ length text.now }
+    ensures { line_at text.now from + result ≡ line_at text.now to }
+{
+    count_feeds(&text[from..to])
+}
+
+/// How many line feeds there are in a text.
+fn count_feeds(text: &[u8]) -> usize
+    ensures { result ≡ count_by (λ c. c == newline) text.now }
+{
+    text.iter().filter(|byte| **byte == b'\n').count()
+}
+
+/// The error of a flaw, by a place before it and its line.
+pub(super) fn error_at(text: &[u8], from: usize, line: usize, wrong: Wrong) -> FileError
+    requires line { line ≡ line_at text.now from }
+    requires order { from ≤ wrong.at }
+    requires within { wrong.at ≤ length text.now }
+    ensures { result ≡ FileError.Refused wrong.flaw wrong.at
+        (named_line wrong.is_late (line_at text.now wrong.at)) }
+{
+    let lines = lines_between(text, from, wrong.at);
+    let late = if wrong.is_late { 1 } else { 0 };
+    FileError::Refused {
+        flaw: wrong.flaw,
+        at: wrong.at,
+        line: line + lines + late,
+    }
+}

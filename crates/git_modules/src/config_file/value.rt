@@ -1,0 +1,219 @@
+//! Values: their quotes, escapes, continued lines, comments and white space.
+//!
+//! It uses `bytes` and `place`. A value is written as it is read, with the white space at its end, of which
+//! only so much counts as other bytes follow.
+
+ghost use Rattle.std.specs.Prelude.{◌≡◌, ◌+◌, ◌<◌, ◌≤◌, length};
+ghost use Rattle.git_modules.specs.ConfigFileBytes as spec;
+ghost use Rattle.git_modules.specs.ConfigFilePieces as piece;
+ghost use Rattle.git_modules.specs.ConfigFileValuePieces as shown;
+ghost use Rattle.git_modules.specs.ConfigFileValues as value;
+
+use crate::config_file::bytes::byte_at;
+use crate::config_file::flaw::Flaw;
+use crate::config_file::place::{Wrong, flaw_at};
+
+/// How a byte of a value is read.
+#[derive(Clone, Copy)]
+pub(super) enum Mode {
+    /// Outside quotes.
+    Plain,
+    /// Within quotes.
+    Quoted,
+    /// Behind a `\`.
+    Escape,
+    /// Behind a `\` within quotes.
+    QuotedEscape,
+    /// In a comment, up to the end of the line.
+    Comment,
+}
+
+/// What a byte of a value stands for, and how the next one is read.
+#[derive(Clone, Copy)]
+pub(super) enum Part {
+    /// The line ends, and the value.
+    End,
+    /// The value can't be read.
+    Flaw(Flaw),
+    /// White space outside quotes.
+    Blank,
+    /// Nothing: a comment.
+    Nothing,
+    /// Nothing: a quote, a `\` or the end of a continued line.
+    Mark(Mode),
+    /// This byte of the value.
+    Byte(u8, Mode),
+}
+
+/// What a byte stands for.
+pub(super) fn part_of(mode: Mode, byte: u8) -> Part
+    ensures { result ≡ value.part_of mode byte }
+{
+    match mode {
+        Mode::Plain => plain_part(byte),
+        Mode::Quoted => quoted_part(byte),
+        Mode::Escape => escape_part(byte, Mode::Plain),
+        Mode::QuotedEscape => escape_part(byte, Mode::Quoted),
+        Mode::Comment => {
+            if byte == b'\n' {
+                Part::End
+            } else {
+                Part::Nothing
+            }
+        }
+    }
+}
+
+/// What a byte outside quotes stands for.
+fn plain_part(byte: u8) -> Part
+    ensures { result ≡ value.plain_part byte }
+{
+    match byte {
+        b'\n' => Part::End,
+        b' ' | b'\t' | b'\r' => Part::Blank,
+        b'#' | b';' => Part::Nothing,
+        b'"' => Part::Mark(Mode::Quoted),
+        b'\\' => Part::Mark(Mode::Escape),
+        0 => Part::Flaw(Flaw::ZeroByte),
+        _ => Part::Byte(byte, Mode::Plain),
+    }
+}
+
+/// What a byte within quotes stands for.
+fn quoted_part(byte: u8) -> Part
+    ensures { result ≡ value.quoted_part byte }
+{
+    match byte {
+        b'\n' => Part::Flaw(Flaw::OpenQuote),
+        b'"' => Part::Mark(Mode::Plain),
+        b'\\' => Part::Mark(Mode::QuotedEscape),
+        0 => Part::Flaw(Flaw::ZeroByte),
+        _ => Part::Byte(byte, Mode::Quoted),
+    }
+}
+
+/// What a byte behind a `\` stands for.
+fn escape_part(byte: u8, mode: Mode) -> Part
+    ensures { result ≡ value.escaped_part byte mode }
+{
+    match byte {
+        b'\n' => Part::Mark(mode),
+        b't' => Part::Byte(b'\t', mode),
+        b'b' => Part::Byte(8, mode),
+        b'n' => Part::Byte(b'\n', mode),
+        b'\\' | b'"' => Part::Byte(byte, mode),
+        _ => Part::Flaw(Flaw::BadEscape),
+    }
+}
+
+/// How much of a value is written: `end` bytes, of which `kept` are no white space at its end; and how the
+/// next byte is read.
+#[derive(Clone, Copy)]
+struct Written {
+    end: usize,
+    kept: usize,
+    mode: Mode,
+}
+
+/// Why a value ends at a part of it.
+#[derive(Clone, Copy)]
+enum Ending {
+    /// The line ends.
+    Line,
+    /// The value can't be read.
+    Flaw(Flaw),
+}
+
+/// Writes the value that begins at a place into the front of the room: how long it is, and the place behind
+/// its last line.
+pub(super) fn read_value(
+    text: &[u8],
+    start: usize,
+    room: &mut [u8],
+) -> Result<(usize, usize), Wrong>
+    requires start { start ≤ length text.now }
+    requires room { length text.now ≤ start + length room.old }
+    ensures value { value.value_of (spec.left_at text.now start)
+        ≡ piece.read_as text.now room.new result }
+    ensures within { piece.IsWithin text.now start 0 result }
+{
+    let mut at = start;
+    let mut written = Written {
+        end: 0,
+        kept: 0,
+        mode: Mode::Plain,
+    };
+    while let Some((byte, behind)) = byte_at(text, at) {
+        let part = part_of(written.mode, byte);
+        match put_part(written, part, room) {
+            Ok(next) => written = next,
+            Err(Ending::Line) => return Ok((written.kept, behind)),
+            Err(Ending::Flaw(flaw)) => return Err(flaw_at(flaw, at)),
+        }
+        at = behind;
+    }
+    end_value(written, at)
+}
+
+/// What is read where the text ends in a value.
+fn end_value(written: Written, at: usize) -> Result<(usize, usize), Wrong>
+    ensures { shown.EndsValue written at result }
+{
+    match written.mode {
+        Mode::Plain | Mode::Escape | Mode::Comment => Ok((written.kept, at)),
+        Mode::Quoted => Err(flaw_at(Flaw::OpenQuote, at)),
+        Mode::QuotedEscape => Err(Wrong {
+            flaw: Flaw::OpenQuote,
+            at,
+            is_late: true,
+        }),
+    }
+}
+
+/// Writes what a part of a value stands for.
+fn put_part(written: Written, part: Part, room: &mut [u8]) -> Result<Written, Ending>
+    requires tail { shown.HasTail room.old written }
+    requires room { written.end < length room.old }
+    ensures { shown.PutsPart part room.old written room.new result }
+{
+    match part {
+        Part::End => Err(Ending::Line),
+        Part::Flaw(flaw) => Err(Ending::Flaw(flaw)),
+        Part::Nothing => Ok(Written {
+            end: written.end,
+            kept: written.kept,
+            mode: Mode::Comment,
+        }),
+        Part::Blank => Ok(put_blank(written, room)),
+        Part::Mark(mode) => Ok(Written {
+            end: written.end,
+            kept: written.end,
+            mode,
+        }),
+        Part::Byte(byte, mode) => {
+            room[written.end] = byte;
+            Ok(Written {
+                end: written.end + 1,
+                kept: written.end + 1,
+                mode,
+            })
+        }
+    }
+}
+
+/// Writes a space, unless nothing precedes it.
+fn put_blank(written: Written, room: &mut [u8]) -> Written
+    requires tail { shown.HasTail room.old written }
+    requires room { written.end < length room.old }
+    ensures { shown.PutsBlank room.old written room.new result }
+{
+    if written.end == 0 {
+        return written;
+    }
+    room[written.end] = b' ';
+    Written {
+        end: written.end + 1,
+        kept: written.kept,
+        mode: written.mode,
+    }
+}

@@ -1,0 +1,202 @@
+//! A submodule's URL, resolved against the URL of the superproject's remote.
+//!
+//! It uses the cuts of `git_syntax`. Its contract: the resolved URL is the text that Git stores, there is an
+//! error exactly where Git stops, and `climbs` is true exactly if the URL leaves the path of its parent. Only
+//! `to_bstring` takes memory. Inside: `step` has the steps `./` and `../`, `left` what they leave of a
+//! parent, and `root` what a URL keeps that doesn't climb.
+
+ghost use Rattle.std.specs.Prelude.{◌≡◌, option_map};
+ghost use Rattle.git_rules.specs.Patterns as pattern;
+ghost use Rattle.git_modules.specs.Resolve.{join, resolution};
+ghost use Rattle.git_modules.specs.ResolveRoots as spec;
+ghost use Rattle.git_modules.specs.ResolveRoots.{keeps_root, root_of, text_left};
+ghost use Rattle.git_modules.specs.ResolveSteps as steps;
+
+pub mod law;
+mod left;
+pub mod outcome;
+mod root;
+mod step;
+
+use crate::resolve::left::{Left, left_of};
+use crate::resolve::outcome::Resolved;
+use crate::resolve::root::root_of;
+use crate::resolve::step::{behind_here, behind_up};
+use git_syntax::bytes::before;
+use thiserror::Error;
+
+/// Why Git resolves no URL. [`resolve`] has an example.
+#[derive(Clone, Copy, Debug, PartialEq, Eq, Error)]
+pub enum ResolveError {
+    /// The URL is relative, and the parent is empty.
+    #[error("the URL of the remote is empty")]
+    EmptyParent,
+    /// The URL has more `../` than Git can take elements off the parent.
+    #[error("the URL of the remote has too few elements")]
+    NothingLeft,
+}
+
+/// Whether Git resolves a URL: whether it begins with `./` or `../`. It takes no memory.
+///
+/// ```
+/// /// How many of the URLs depend on where the superproject is fetched from.
+/// fn relative(urls: &[&[u8]]) -> usize {
+///     let mut count: usize = 0;
+///     for url in urls {
+///         if is_relative(url) {
+///             count = count.saturating_add(1); // of `../b` and `./b`, and not of `b`
+///         }
+///     }
+///     count
+/// }
+/// ```
+pub fn is_relative(url: &[u8]) -> bool
+    ensures { result ≡ steps.is_relative url.now }
+{
+    behind_here(url).is_some() || behind_up(url).is_some()
+}
+
+/// The URL that `git submodule init` stores for a submodule, in `submodule.<name>.url`.
+///
+/// `url` is the URL of the submodule in `.gitmodules`. `parent` is the URL of the superproject's remote as it
+/// is configured: the last value of `remote.<name>.url`, to which no `url.<base>.insteadOf` is applied. The
+/// name is that of the remote of the current branch, or `origin`. Where the remote has no URL, Git takes the
+/// path of the superproject's folder. The rules are those of `relative_url` in `remote.c` of Git 2.39.5:
+///
+/// 1. A URL that begins with neither `./` nor `../` stays as it is, whatever the parent is.
+/// 2. One `/` at the end of the parent doesn't count. It is then a relative path if it doesn't begin with `/`
+///    and has no colon before its first `/`. A `./` at the front of a relative path doesn't count either.
+/// 3. Each `../` at the front of the URL takes the last `/` of the parent off, with what follows it. Where
+///    there is no `/`, it takes the last `:` off in the same way, and the URL is then joined by `:`. Where
+///    there is neither, it takes all of the parent, unless that is a `.`. A relative path has no such colon:
+///    its last element is all of it. Each `./` among the `../` is left out.
+/// 4. The resolved URL is what is left of the parent, the `/` or `:`, and what follows the steps in the URL,
+///    without one `/` at its end. Where nothing is left of the parent, it is what follows the steps, with a
+///    `.:` before it if a colon was taken off.
+///
+/// So `./c` against the parent `./a:b`, a path, is `a:b/c`, which is a remote in the scp form.
+///
+/// This call takes no memory. Its time grows at most with the number of `../` times the length of the parent.
+///
+/// ```
+/// /// Whether a submodule is fetched from the host of the superproject; none where Git stores no URL, or a
+/// /// URL isn't read, or is longer than 1,024 bytes.
+/// fn stays_on_host(alloc: Global, parent: &[u8], url: &[u8]) -> Result<Option<bool>, AllocError> {
+///     let Ok(resolved) = resolve(parent, url) else {
+///         return Ok(None); // of `a`, `../../b`
+///     };
+///     let text = resolved.to_bstring(alloc)?; // `https://h/b` of `https://h/a`, `../b`
+///     let mut buffer = [0u8; 1024];
+///     let mut other = [0u8; 1024];
+///     Ok(texts_name_same_host(parent, &mut buffer, text.as_bytes(), &mut other).ok())
+/// }
+/// ```
+///
+/// # Errors
+///
+/// - [`ResolveError::EmptyParent`]: the URL is relative, and the parent is empty. Git aborts.
+/// - [`ResolveError::NothingLeft`]: a `../` finds nothing that it can take off. All of the parent is taken
+///   off already, or a `.` is left of a parent that is no relative path, or no `/` of one that begins with
+///   `../`. Git stops with "cannot strip one component off url".
+pub fn resolve<'a>(parent: &'a [u8], url: &'a [u8]) -> Result<Resolved<'a>, ResolveError>
+    ensures { result ≡ resolution parent.now url.now }
+{
+    if !is_relative(url) {
+        return Ok(Resolved {
+            front: b"",
+            separator: b"",
+            rest: url,
+        });
+    }
+    if parent.is_empty() {
+        return Err(ResolveError::EmptyParent);
+    }
+    match left_of(parent, url) {
+        None => Err(ResolveError::NothingLeft),
+        Some((left, rest)) => Ok(join(&left, without_last_slash(rest))),
+    }
+}
+
+/// What is left of a parent, and the rest of a URL.
+fn join<'a>(left: &Left<'a>, rest: &'a [u8]) -> Resolved<'a>
+    ensures { result ≡ join left.now.text left.now.by_colon rest.now }
+{
+    match (left.text, left.by_colon) {
+        (Some(front), false) => Resolved {
+            front,
+            separator: b"/",
+            rest,
+        },
+        (Some(front), true) => Resolved {
+            front,
+            separator: b":",
+            rest,
+        },
+        (None, false) => Resolved {
+            front: b"",
+            separator: b"",
+            rest,
+        },
+        (None, true) => Resolved {
+            front: b".",
+            separator: b":",
+            rest,
+        },
+    }
+}
+
+/// The text without one `/` at its end.
+fn without_last_slash(text: &[u8]) -> &[u8]
+    ensures { result.now ≡ pattern.without_last_slash text.now }
+{
+    match before(text, b'/') {
+        None => text,
+        Some(front) => front,
+    }
+}
+
+/// Whether a relative URL leaves the path of its parent: what is left of the parent doesn't begin with its
+/// root, or nothing is left. It takes no memory.
+///
+/// The root is `scheme://authority` of a URL, and in the scp form what precedes the colon of its host, with
+/// the colon where the path is absolute. That colon is the first one outside brackets. A path has an empty
+/// root. A URL that climbs may name another host: `../../h/b` is resolved to `https://h/b` against
+/// `https://example.com/a`, and `../h:b` to `h:b` against the path `a`. Where Git stores no URL, a relative
+/// URL climbs, or its parent is empty.
+///
+/// ```
+/// /// Whether a submodule is taken from where the superproject is, as far as its URL says.
+/// fn is_below(parent: &[u8], url: &[u8]) -> bool {
+///     is_relative(url) && !climbs(parent, url)
+/// }
+/// ```
+pub fn climbs(parent: &[u8], url: &[u8]) -> bool
+    ensures { result ≡ spec.climbs parent.now url.now }
+{
+    is_relative(url) && !keeps(parent, url)
+}
+
+/// Whether what is left of the parent begins with its root.
+fn keeps(parent: &[u8], url: &[u8]) -> bool
+    ensures { result ≡ keeps_root (root_of parent.now) (text_left parent.now url.now) }
+{
+    match left_text(parent, url) {
+        None => false,
+        Some(text) => begins_with(text, root_of(parent)),
+    }
+}
+
+/// Whether the text begins with this front.
+fn begins_with(text: &[u8], front: &[u8]) -> bool
+    ensures { result ≡ keeps_root front.now (Some text.now) }
+{
+    text.starts_with(front)
+}
+
+/// The text that is left of a parent, if any is.
+fn left_text<'a>(parent: &'a [u8], url: &[u8]) -> Option<&'a [u8]>
+    ensures { option_map (λ t. t.now) result ≡ text_left parent.now url.now }
+{
+    let (left, _) = left_of(parent, url)?;
+    left.text
+}

@@ -1,8 +1,0 @@
-use Rattle.std.proofs.lemmas.Bool.Decides.{Decides-eqb}
-use Rattle.std.proofs.lemmas.Slice.Eq.{starts_is}
-use Rattle.git_rules.proofs.rewrite.table.applies.Goals as goal
-
-pub returns : goal.returns
-returns c =
-    let is = starts_is Decides-eqb c.args.text.now c.args.rule.now.front.now c.starts_with.result c.starts_with.ensures.value in
-    (λ begins. (_, is.0 begins), λ (rest, whole). is.1 rest whole)

@@ -1,0 +1,60 @@
+"""What is dangerous in a line and in the location that is read in it: a second reading of the definitions of `Danger`."""
+import re
+
+from git_reads import git_reads
+from second_reading import grammar
+from web_defined import credential_readings
+
+FRONTS = rb"ghp_|gho_|ghu_|ghs_|ghr_|github_pat_|glpat-|gldt-|glrt-|glcbt-|glptt-|glft-|glimt-|glagent-|gloas-|glsoat-|ATBB|ATCTT3"
+# A user of HTTP without a password that is so long may be a token.
+LONG_USER = 20
+# A word of a path that is a token: it has 24 bytes at least.
+WORD = re.compile(rb"(?<![0-9A-Za-z_-])(?=[0-9A-Za-z_-]{24})(?:" + FRONTS + rb")")
+# What each danger is called for people.
+WORDS = {
+    "command": "it runs a command", "option_like_user": "the user begins with -", "option_like_host": "the host begins with -",
+    "option_like_path": "the path begins with - or /-", "password": "it holds a password", "token": "it may hold a token",
+    "host_character": "the host holds a control character or a space", "line_end": "a part holds the end of a line",
+    "other_host": "Git takes another host from it",
+}
+
+
+def is_token(v):
+    """Whether the user may be a token, or a word of the path."""
+    user = v.user or b""
+    is_long = v.scheme in grammar.HTTP_SCHEMES and v.password is None and len(user) >= LONG_USER
+    return bool(re.match(FRONTS, user)) or is_long or bool(WORD.search(v.path))
+
+
+def host_name(host):
+    """The host in lower case, without brackets around it or a lone colon at its end."""
+    found = re.fullmatch(rb"\[(.*)\]:?|([^\[:][^:]*):", host, re.S)
+    return (host if found is None else found[1] if found[2] is None else found[2]).lower()
+
+
+def is_own(v, named):
+    return v.host is not None and host_name(v.host) == host_name(named)
+
+
+def is_other_host(line, v):
+    """Whether Git takes another host from the line than that of the location."""
+    if v.scheme not in grammar.HTTP_SCHEMES:
+        return any(it.host is not None and not is_own(v, it.host) for it in git_reads(line))
+    return any(not is_own(v, it.host) and not is_own(v, re.sub(rb":\d*\Z", b"", it.host)) for it in credential_readings(line))
+
+
+def dangers(line, v):
+    """The names of the dangers, in their order."""
+    parts = [it for it in (v.user, v.password, v.host, v.path) if it is not None]
+    found = {
+        "command": v.scheme == ("Ext",),
+        "option_like_user": (v.user or b"").startswith(b"-"),
+        "option_like_host": (v.host or b"").startswith(b"-"),
+        "option_like_path": v.path.startswith((b"-", b"/-")),
+        "password": v.password is not None,
+        "token": is_token(v),
+        "host_character": any(it <= 32 or it == 127 for it in v.host or b""),
+        "line_end": v.host is not None and any(it in b"\n\r\0" for part in parts for it in part),
+        "other_host": is_other_host(line, v),
+    }
+    return [name for name, is_there in found.items() if is_there]
