@@ -108,14 +108,14 @@ def credentials(case, text):
 
 
 def of_http(case, text):
-    """The entries of each name that Git uses, in the order in which the names come first. A text without a normal form has those
-    without a URL, which are the same for each place."""
-    is_place = (yield [{"call": "NormalUrl::parse_in", "text": text_of(text)}])[0]
-    is_place = not isinstance(is_place, dict) or "error" not in is_place
-    some = [it for it in placed(case.entries) if it[1].section.lower() == b"http" and (is_place or it[1].place is None)]
+    """The entries of each name that Git uses, in the order in which the names come first."""
+    place = (yield [{"call": "NormalUrl::parse_in", "text": text_of(text)}])[0]
+    has_form = not isinstance(place, dict) or "error" not in place
+    some = [it for it in placed(case.entries) if it[1].section.lower() == b"http"]
     names = dict.fromkeys(it.name.lower() for _, it in some)
-    about = {"call": "settings::settings_for", "config": text_of(listed([it for _, it in some])), "text": text_of(text if is_place else b"http://h/")}
-    said = yield [{**about, "name": text_of(name)} for name in names]
+    about = {"call": "settings::settings_for", "text": text_of(text)} if has_form else {"call": "settings::settings_without_place"}
+    config = text_of(listed([it for _, it in some]))
+    said = yield [{**about, "config": config, "name": text_of(name)} for name in names]
     return [setting(*some[at]) for used in said if isinstance(used, list) for at in used]
 
 

@@ -83,5 +83,8 @@ def orders(cases):
     """The calls of the library for the URLs that are asked, each with the headers that arrive."""
     for it in cases:
         text = it.url if it.url.endswith(b"/") else it.url + b"/"
+        about = {"config": text_of(listed(it.entries)), "name": "extraHeader"}
         if it.sent is not None and normal(text):
-            yield {"call": "settings::settings_for", "config": text_of(listed(it.entries)), "name": "extraHeader", "text": text_of(text)}, it.sent
+            yield {"call": "settings::settings_for", **about, "text": text_of(text)}, it.sent
+        elif it.sent is not None:
+            yield {"call": "settings::settings_without_place", **about}, it.sent

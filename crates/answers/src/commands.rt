@@ -84,11 +84,11 @@ pub fn over_url(
 }
 
 /// The same, with the program in place of the service's.
-fn over_program<'a>(
+fn over_program(
     alloc: Global,
     order: Order<'_>,
-    url: &UrlRef<'a>,
-    program: &'a Option<Vec<u8>>,
+    url: &UrlRef<'_>,
+    program: &Option<Vec<u8>>,
     out: &mut Out,
 ) -> Result<(), Halt> {
     let (service, variant, version) = (service(order)?, variant(order)?, version(order)?);

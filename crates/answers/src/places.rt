@@ -10,7 +10,7 @@ use git_rules::config::Entry;
 use git_rules::normal::{NormalError, NormalUrl, room_for};
 use git_rules::pattern::entries::{best_entry, entry_rank};
 use git_rules::pattern::place::place_in;
-use git_rules::pattern::settings::settings_for;
+use git_rules::pattern::settings::{settings_for, settings_without_place};
 use git_rules::pattern::{UrlPattern, best};
 use gix_url::UrlRef;
 use std::alloc::Global;
@@ -39,12 +39,7 @@ pub fn over_text(alloc: Global, order: Order<'_>, text: &[u8], out: &mut Out) ->
     let mut room = room_of(alloc, order, text.len())?;
     let outcome = match order.name() {
         "NormalUrl::parse_in" | "UrlPattern::parse_in" => read(order, text, &mut room, out),
-        _ => over_place(
-            alloc,
-            order,
-            NormalUrl::parse_in(text, false, &mut room),
-            out,
-        ),
+        _ => over_place(alloc, order, NormalUrl::parse_in(text, &mut room), out),
     };
     drop(room);
     outcome
@@ -53,10 +48,7 @@ pub fn over_text(alloc: Global, order: Order<'_>, text: &[u8], out: &mut Out) ->
 /// Reports the normal form of a text, or that it is a pattern.
 fn read(order: Order<'_>, text: &[u8], room: &mut [u8], out: &mut Out) -> Result<(), Halt> {
     match order.call() {
-        "NormalUrl::parse_in" => report_owned(
-            out,
-            NormalUrl::parse_in(text, order.is("globs"), room),
-        ),
+        "NormalUrl::parse_in" => report_owned(out, NormalUrl::parse_in(text, room)),
         "UrlPattern::parse_in" => report_owned(
             out,
             UrlPattern::parse_in(text, room).map(is_pattern),
@@ -134,7 +126,7 @@ pub fn over_entries(
     let text = order.bytes(alloc, "text")?;
     let mut own = room_of(alloc, order, text.len())?;
     let mut room = room_of(alloc, order, len)?;
-    let outcome = match NormalUrl::parse_in(text.as_slice(), false, &mut own) {
+    let outcome = match NormalUrl::parse_in(text.as_slice(), &mut own) {
         Err(error) => refused(order, error, out),
         Ok(place) => {
             let outcome = over_place_of(alloc, order, entries, &place, &mut room, out);
@@ -176,6 +168,22 @@ fn settle(
     match order.call() {
         "settings::settings_for" => {
             report_owned(out, settings_for(alloc, entries, name, place, room))
+        }
+        call => unknown(call),
+    }
+}
+
+/// Reports the indices of the entries whose values are used for a text without a normal form.
+pub fn over_no_place(
+    alloc: Global,
+    order: Order<'_>,
+    entries: &[Entry<'_>],
+    out: &mut Out,
+) -> Result<(), Halt> {
+    let name = order.needed("name")?;
+    match order.call() {
+        "settings::settings_without_place" => {
+            report_owned(out, settings_without_place(alloc, entries, name))
         }
         call => unknown(call),
     }

@@ -142,6 +142,9 @@ fn read_entries(alloc: Global, order: Order<'_>, text: &[u8], out: &mut Out) -> 
         "entries::best_entry" | "entries::entry_rank" | "settings::settings_for" => {
             places::over_entries(alloc, order, entries.as_slice(), text.len(), out)
         }
+        "settings::settings_without_place" => {
+            places::over_no_place(alloc, order, entries.as_slice(), out)
+        }
         "config::entries_of" => over_section(alloc, order, entries.as_slice(), out),
         "credentials::credentials_for" => {
             credentials::over_entries(alloc, order, entries.as_slice(), out)

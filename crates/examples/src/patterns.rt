@@ -4,7 +4,9 @@ use git_rules::config::{self, Entry};
 use git_rules::normal::{NormalError, NormalUrl};
 use git_rules::pattern::entries::{best_entry, entry_rank};
 use git_rules::pattern::place::place_in;
-use git_rules::pattern::settings::{Kind, SettingsError, kind_of, settings_for};
+use git_rules::pattern::settings::{
+    Kind, SettingsError, kind_of, settings_for, settings_without_place,
+};
 use git_rules::pattern::{UrlPattern, best};
 use gix_url::UrlRef;
 use std::alloc::Global;
@@ -88,4 +90,21 @@ fn header_lines(
         }
     }
     Ok(lines)
+}
+
+/// The proxy that Git uses for a text: that of its place, or the one for all places.
+fn proxy_of<'a>(
+    alloc: Global,
+    entries: &[Entry<'a>],
+    text: &[u8],
+    own: &mut [u8],
+    room: &mut [u8],
+) -> Result<Option<&'a [u8]>, SettingsError> {
+    let found = match NormalUrl::parse_in(text, own) {
+        Ok(place) => settings_for(alloc, entries, "proxy", &place, room)?,
+        Err(NormalError::NoRoom) => return Err(SettingsError::NoRoom),
+        Err(_) => settings_without_place(alloc, entries, "proxy")?, // of `https://h:0/`, a port that no host has
+    };
+    let best = found.first().and_then(|i| entries.get(*i));
+    Ok(best.and_then(|entry| entry.value))
 }

@@ -94,7 +94,7 @@ fn refusal_place(protocols: &Protocols<'_>, name: &str) -> Option<usize> {
 /// The host whose settings apply to a text, in a room that is made for it.
 fn host_text(alloc: Global, text: &[u8]) -> Result<Option<BString>, AllocError> {
     let mut room = vec![in alloc; 0u8; room_for(text.len())]?;
-    match NormalUrl::parse_in(text, false, &mut room) {
+    match NormalUrl::parse_in(text, &mut room) {
         Ok(place) => Ok(Some(BString::from_slice(alloc, place.host)?)),
         Err(_) => Ok(None),
     }
@@ -102,7 +102,7 @@ fn host_text(alloc: Global, text: &[u8]) -> Result<Option<BString>, AllocError> 
 
 /// The host whose settings apply to a text.
 fn host_of<'a>(text: &'a [u8], room: &'a mut [u8]) -> Option<&'a [u8]> {
-    match NormalUrl::parse_in(text, false, room) {
+    match NormalUrl::parse_in(text, room) {
         Ok(place) => Some(place.host), // `example.com` of `https://me@Example.com:443/a/../b`
         Err(_) => None,
     }

@@ -79,8 +79,8 @@ pub record ReportsPermission (policy : Policy) (name : List ℕ) (v : Verdict) (
   pub by_variable : IsVariableOf policy name permission variable
   pub by_entry : IsEntryAt policy.entries (place_of permission) entry
 
--- the indices are those of the entries of a name of `http.*` that Git uses for the place; they are none where it
--- stops at one of the entries, or where the buffer is too short for a URL
-abbrev pub AreShown : List ℕ → NormalPlace → ℕ → List ConfigEntry → List ℕ → Type 0
+-- the indices are those of the entries of a name of `http.*` that Git uses for the place, or for a text without
+-- one; they are none where it stops at one of the entries, or where the buffer is too short for a URL
+abbrev pub AreShown : List ℕ → Option NormalPlace → ℕ → List ConfigEntry → List ℕ → Type 0
 AreShown name place buffer entries found = AreSettings name place entries found
     ⊎ ((found ≡ []) × (error : SettingsError) × (¬ (error ≡ Memory)) × RefusesSettings name place buffer entries error)

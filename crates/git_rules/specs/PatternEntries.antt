@@ -1,4 +1,5 @@
--- The entries of a configuration that apply to a place, as `http.<url>.proxy` does, and the best of them.
+-- The entries of a configuration that apply to a place, as `http.<url>.proxy` does, and the best of them. Where
+-- there is no place, those apply that are for all places.
 use Rattle.std.specs.Prelude.{◌≡◌, ℕ, true, List, ◌+◌, ◌*◌, ◌<◌, ◌≤◌, length, All, Option, Some, None, IfSome, Result, Ok, Err}
 use Rattle.git_rules.specs.declared.normal.NormalError.{NormalError}
 use Rattle.git_rules.specs.declared.normal.NormalError.TheVariants.{NoRoom}
@@ -11,36 +12,40 @@ use Rattle.git_rules.specs.Patterns.{HasRank, IsBest, RanksFor}
 abbrev pub lowest_rank : Rank
 lowest_rank = record { host = 0; path = 0; user = 0 }
 
--- for all places the lowest rank; for a URL its rank, where it has a normal form and stands for the place
-abbrev pub RanksSubsection : NormalPlace → Option (List ℕ) → Rank → Type 0
+-- for all places the lowest rank; for a URL its rank, where there is a place, and the URL has a normal form that
+-- stands for it
+abbrev pub RanksSubsection : Option NormalPlace → Option (List ℕ) → Rank → Type 0
 RanksSubsection place None rank = rank ≡ lowest_rank
-RanksSubsection place (Some url) rank = (pattern : NormalPlace) × IsNormalOf true url pattern
+RanksSubsection None (Some url) rank = ⊥
+RanksSubsection (Some place) (Some url) rank = (pattern : NormalPlace) × IsNormalOf true url pattern
     × RanksFor place pattern rank
 
 -- the entry sets the variable for the place, with this rank
-abbrev pub RanksEntry : List ℕ → List ℕ → NormalPlace → ConfigEntry → Rank → Type 0
+abbrev pub RanksEntry : List ℕ → List ℕ → Option NormalPlace → ConfigEntry → Rank → Type 0
 RanksEntry section name place e rank = (sets section name e ≡ true)
     × RanksSubsection place e.subsection rank
 
--- a room of this length is enough for the URL of the entry, if it sets the variable
-abbrev pub HasRoomFor : List ℕ → List ℕ → ℕ → ConfigEntry → Type 0
-HasRoomFor section name room e = (sets section name e ≡ true)
+-- a room of this length is enough for the URL of the entry, if it sets the variable; without a place no URL is
+-- read, so each room is enough
+abbrev pub HasRoomFor : List ℕ → List ℕ → Option NormalPlace → ℕ → ConfigEntry → Type 0
+HasRoomFor section name None room e = Unit {0}
+HasRoomFor section name (Some place) room e = (sets section name e ≡ true)
     → IfSome e.subsection (λ url. 3 * length url + 1 ≤ room)
 
 -- the rank of an entry, or that the room is too short for it
-abbrev pub RanksIn : List ℕ → List ℕ → NormalPlace → ℕ → ConfigEntry → Result (Option Rank) NormalError
-    → Type 0
+abbrev pub RanksIn : List ℕ → List ℕ → Option NormalPlace → ℕ → ConfigEntry
+    → Result (Option Rank) NormalError → Type 0
 RanksIn section name place room e (Ok rank) = HasRank (RanksEntry section name place) e rank
-RanksIn section name place room e (Err error) = (error ≡ NoRoom) × ¬ HasRoomFor section name room e
+RanksIn section name place room e (Err error) = (error ≡ NoRoom) × ¬ HasRoomFor section name place room e
 
 -- the index of the best entry, or that the room is too short for one of them
-abbrev pub IsBestIn : List ℕ → List ℕ → NormalPlace → ℕ → List ConfigEntry → Result (Option ℕ) NormalError
-    → Type 0
+abbrev pub IsBestIn : List ℕ → List ℕ → Option NormalPlace → ℕ → List ConfigEntry
+    → Result (Option ℕ) NormalError → Type 0
 IsBestIn section name place room entries (Ok best) = IsBest (RanksEntry section name place) entries best
 IsBestIn section name place room entries (Err error) = (error ≡ NoRoom)
-    × ¬ All (HasRoomFor section name room) entries
+    × ¬ All (HasRoomFor section name place room) entries
 
--- the rank of a URL, or that the room is too short for it
+-- the rank of a URL for a place, or that the room is too short for it
 abbrev pub RanksUrlIn : NormalPlace → ℕ → List ℕ → Result (Option Rank) NormalError → Type 0
-RanksUrlIn place room url (Ok rank) = HasRank (RanksSubsection place) (Some url) rank
+RanksUrlIn place room url (Ok rank) = HasRank (RanksSubsection (Some place)) (Some url) rank
 RanksUrlIn place room url (Err error) = (error ≡ NoRoom) × (room < 3 * length url + 1)

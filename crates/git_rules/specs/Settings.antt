@@ -1,4 +1,5 @@
--- The entries of `http.*` whose values Git uses for a place: one for most names, and several for two names.
+-- The entries of `http.*` whose values Git uses for a place: one for most names, and several for two names. Where
+-- there is no place, as for a text without a normal form, they are among those that are for all places.
 use Rattle.std.specs.Prelude.{◌≡◌, ℕ, true, ◌<◌, ◌↔◌, ◌⊎◌, List, [], ◌∷◌, ◌++◌, codes, length, All, Contains, Option, Some, None, option_to_list, Result, Ok, Err}
 use Rattle.std.specs.List.Sorted.{IsStrictlyIncreasing}
 use Rattle.git_rules.specs.declared.pattern.Rank.{Rank}
@@ -27,12 +28,12 @@ HasKind name kind.List = IsListName name
 -- ---- entries that Git takes
 
 -- the entry sets `http.name` for the place, with this rank
-abbrev pub RanksSetting : List ℕ → NormalPlace → ConfigEntry → Rank → Type 0
+abbrev pub RanksSetting : List ℕ → Option NormalPlace → ConfigEntry → Rank → Type 0
 RanksSetting name place e rank = RanksEntry (codes "http") name place e rank
 
 -- Git takes the entry at this index: it sets `http.name` for the place, and no entry before it does with a
 -- higher rank
-pub record IsTakenAt (name : List ℕ) (place : NormalPlace) (entries : List ConfigEntry) (i : ℕ) (e : ConfigEntry) : Type 0 where
+pub record IsTakenAt (name : List ℕ) (place : Option NormalPlace) (entries : List ConfigEntry) (i : ℕ) (e : ConfigEntry) : Type 0 where
   pub before : List ConfigEntry
   pub others : List ConfigEntry
   pub rank : Rank
@@ -42,13 +43,13 @@ pub record IsTakenAt (name : List ℕ) (place : NormalPlace) (entries : List Con
   pub not_higher : All (RanksNoHigher (RanksSetting name place) rank) before
 
 -- no entry that Git takes after this index has an empty value, which clears what was added up
-abbrev pub IsNotCleared : List ℕ → NormalPlace → List ConfigEntry → ℕ → Type 0
+abbrev pub IsNotCleared : List ℕ → Option NormalPlace → List ConfigEntry → ℕ → Type 0
 IsNotCleared name place entries i = (j : ℕ) (e : ConfigEntry)
     → i < j → IsTakenAt name place entries j e → ¬ (e.value ≡ Some [])
 
 -- the value of the entry at this index is one of those that Git adds up: Git takes the entry, its value isn't
 -- empty, and none after it clears it
-pub record IsUsedAt (name : List ℕ) (place : NormalPlace) (entries : List ConfigEntry) (i : ℕ) : Type 0 where
+pub record IsUsedAt (name : List ℕ) (place : Option NormalPlace) (entries : List ConfigEntry) (i : ℕ) : Type 0 where
   pub entry : ConfigEntry
   pub taken : IsTakenAt name place entries i entry
   pub not_empty : ¬ (entry.value ≡ Some [])
@@ -58,23 +59,23 @@ pub record IsUsedAt (name : List ℕ) (place : NormalPlace) (entries : List Conf
 
 -- each entry that Git takes has a value, and these are the indices of those that it uses, each once and in
 -- their order
-pub record AreUsed (name : List ℕ) (place : NormalPlace) (entries : List ConfigEntry) (found : List ℕ) : Type 0 where
+pub record AreUsed (name : List ℕ) (place : Option NormalPlace) (entries : List ConfigEntry) (found : List ℕ) : Type 0 where
   pub values : (i : ℕ) (e : ConfigEntry) → IsTakenAt name place entries i e → ¬ (e.value ≡ None)
   pub in_order : IsStrictlyIncreasing found
   pub used : (i : ℕ) → Contains found i ↔ IsUsedAt name place entries i
 
 -- this is the index of the best entry alone, or there is none
-abbrev pub IsBestAlone : List ℕ → NormalPlace → List ConfigEntry → List ℕ → Type 0
+abbrev pub IsBestAlone : List ℕ → Option NormalPlace → List ConfigEntry → List ℕ → Type 0
 IsBestAlone name place entries found = (best : Option ℕ)
     × IsBest (RanksSetting name place) entries best × (found ≡ option_to_list best)
 
 -- these are the indices of the entries whose values Git uses: all that count for a list, else the best
-abbrev pub AreSettings : List ℕ → NormalPlace → List ConfigEntry → List ℕ → Type 0
+abbrev pub AreSettings : List ℕ → Option NormalPlace → List ConfigEntry → List ℕ → Type 0
 AreSettings name place entries found = (IsListName name × AreUsed name place entries found)
     ⊎ ((¬ IsListName name) × IsBestAlone name place entries found)
 
 -- the first entry that Git takes and that has no value begins at this byte
-pub record FirstTakenLacks (name : List ℕ) (place : NormalPlace) (entries : List ConfigEntry) (at : ℕ) : Type 0 where
+pub record FirstTakenLacks (name : List ℕ) (place : Option NormalPlace) (entries : List ConfigEntry) (at : ℕ) : Type 0 where
   pub index : ℕ
   pub entry : ConfigEntry
   pub taken : IsTakenAt name place entries index entry
@@ -83,9 +84,9 @@ pub record FirstTakenLacks (name : List ℕ) (place : NormalPlace) (entries : Li
   pub first : (j : ℕ) (e : ConfigEntry) → j < index → IsTakenAt name place entries j e → ¬ (e.value ≡ None)
 
 -- the room is too short for the URL of an entry, or an entry of a list has no value; of memory nothing is said
-abbrev pub RefusesSettings : List ℕ → NormalPlace → ℕ → List ConfigEntry → SettingsError → Type 0
+abbrev pub RefusesSettings : List ℕ → Option NormalPlace → ℕ → List ConfigEntry → SettingsError → Type 0
 RefusesSettings name place room entries Memory = Unit {0}
-RefusesSettings name place room entries NoRoom = ¬ All (HasRoomFor (codes "http") name room) entries
+RefusesSettings name place room entries NoRoom = ¬ All (HasRoomFor (codes "http") name place room) entries
 RefusesSettings name place room entries (NoValue at) = IsListName name
     × FirstTakenLacks name place entries at
 

@@ -138,7 +138,7 @@ pub fn credentials_for<'a>(
 {
     let url = credential_url(alloc, request)?;
     let mut room = vec![in alloc; 0u8; room_for(url.len())]?;
-    match NormalUrl::parse_in(&url, false, &mut room) {
+    match NormalUrl::parse_in(&url, &mut room) {
         Ok(place) => all_used(alloc, entries, request, Some(&place)),
         Err(error) => {
             if is_of_room(error) {

@@ -11,7 +11,7 @@ mod host;
 mod path;
 mod write;
 
-ghost use Rattle.std.specs.Prelude.{◌≡◌, ◌↔◌, ◌+◌, ◌-◌, ◌*◌, ◌^◌, ◌<◌, ◌≤◌, IsTrue, length, min};
+ghost use Rattle.std.specs.Prelude.{◌≡◌, ◌↔◌, ◌+◌, ◌-◌, ◌*◌, ◌^◌, ◌<◌, ◌≤◌, IsTrue, false, length, min};
 ghost use Rattle.git_rules.specs.NormalFlaws.{NormalizesIn};
 ghost use Rattle.git_rules.specs.NormalLaws.{KeepsPlace, OneNormalForm};
 
@@ -79,24 +79,33 @@ impl<'a> NormalUrl<'a> {
     /// The normal form of a text, by which Git compares the places of `http.<url>.*` and
     /// `credential.<url>.*`.
     ///
-    /// The host of a pattern may hold `*`: then `globs` is true. Room for three times as many bytes as the
-    /// text has, and one more, is asked for; no memory is.
+    /// The host has no `*`: of a pattern, which may have it,
+    /// [`UrlPattern::parse_in`](crate::pattern::UrlPattern::parse_in) makes the normal form. Room for three times
+    /// as many bytes as the text has, and one more, is asked for; no memory is.
     ///
     /// # Errors
     ///
     /// [`NormalError::NoRoom`] where the room is shorter than that, and else what the text has no normal form
-    /// for: then Git has no settings for it.
+    /// for: then Git has no settings for it, but those that are for all places
+    /// ([`settings_without_place`](crate::pattern::settings::settings_without_place)).
     ///
     /// ```
     /// /// The host whose settings apply to a text.
     /// fn host_of<'a>(text: &'a [u8], room: &'a mut [u8]) -> Option<&'a [u8]> {
-    ///     match NormalUrl::parse_in(text, false, room) {
+    ///     match NormalUrl::parse_in(text, room) {
     ///         Ok(place) => Some(place.host), // `example.com` of `https://me@Example.com:443/a/../b`
     ///         Err(_) => None,
     ///     }
     /// }
     /// ```
-    pub fn parse_in(
+    pub fn parse_in(text: &'a [u8], room: &'a mut [u8]) -> Result<NormalUrl<'a>, NormalError>
+        ensures { NormalizesIn false text.now (length room.old) result }
+    {
+        NormalUrl::read_in(text, false, room)
+    }
+
+    /// The normal form of a text, in whose host `*` is allowed where `globs` is true.
+    pub(crate) fn read_in(
         text: &'a [u8],
         globs: bool,
         room: &'a mut [u8],
@@ -124,7 +133,7 @@ impl<'a> NormalUrl<'a> {
 /// /// The host whose settings apply to a text, in a room that is made for it.
 /// fn host_text(alloc: Global, text: &[u8]) -> Result<Option<BString>, AllocError> {
 ///     let mut room = vec![in alloc; 0u8; room_for(text.len())]?;
-///     match NormalUrl::parse_in(text, false, &mut room) {
+///     match NormalUrl::parse_in(text, &mut room) {
 ///         Ok(place) => Ok(Some(BString::from_slice(alloc, place.host)?)),
 ///         Err(_) => Ok(None),
 ///     }

@@ -70,7 +70,7 @@ impl<'a> UrlPattern<'a> {
     pub fn parse_in(text: &'a [u8], room: &'a mut [u8]) -> Result<UrlPattern<'a>, NormalError>
         ensures { NormalizesIn true text.now (length room.old) result }
     {
-        match NormalUrl::parse_in(text, true, room) {
+        match NormalUrl::read_in(text, true, room) {
             Ok(url) => Ok(UrlPattern { url }),
             Err(error) => Err(error),
         }

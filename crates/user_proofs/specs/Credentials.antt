@@ -37,4 +37,4 @@ AreOwn v entries found = (i : ℕ) → Contains found i → IsOwnAt v entries i
 abbrev pub AreSent : Location → ℕ → List ConfigEntry → List ℕ → Type 0
 AreSent v room entries found = (t : List ℕ) (place : NormalPlace) → IsWeb v → AgreesWithGit v
     → text v ≡ Ok t → IsNormalOf false t place → 4 * length t + 1 ≤ room
-    → AreSettings (codes "extraHeader") place entries found
+    → AreSettings (codes "extraHeader") (Some place) entries found

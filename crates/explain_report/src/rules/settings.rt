@@ -1,9 +1,10 @@
 //! Which entries of `http.*` Git uses for a text of HTTP.
 //!
 //! It uses the settings of `git_rules`, and `setting` for what is shown of an entry. Its
-//! contract: of a name of `http.*` the entries are those that Git uses. The rest `scripts/hostile rules` shows.
+//! contract: of a name of `http.*` the entries are those that Git uses, for a place and for a text without a normal
+//! form. The rest `scripts/hostile rules` shows.
 
-ghost use Rattle.std.specs.Prelude.{IfOk, length};
+ghost use Rattle.std.specs.Prelude.{IfOk, None, Some, length};
 ghost use Rattle.explain_report.specs.Rules.{AreShown};
 
 use crate::rules::config::{Config, Variable};
@@ -21,12 +22,12 @@ pub fn settings_for(
 ) -> Result<Vec<Setting>, AllocError> {
     let mut own = vec![in alloc; 0u8; room_for(text.len())]?;
     let mut room = vec![in alloc; 0u8; config.room]?;
-    let place = NormalUrl::parse_in(text, false, own.as_mut_slice()).ok();
+    let place = NormalUrl::parse_in(text, own.as_mut_slice()).ok();
     let mut found = Vec::new(alloc);
     for variable in &config.http {
         match &place {
             Some(place) => push_used(alloc, &mut found, variable, place, room.as_mut_slice())?,
-            None => push_used_everywhere(alloc, &mut found, variable)?,
+            None => push_used_without_place(alloc, &mut found, variable)?,
         }
     }
     Ok(found)
@@ -41,7 +42,29 @@ fn push_used(
     room: &mut [u8],
 ) -> Result<(), AllocError> {
     let entries = variable.entries.as_slice();
-    for i in &used_of(alloc, entries, variable.name, place, room)? {
+    let used = used_of(alloc, entries, variable.name, place, room)?;
+    push_entries(alloc, found, entries, used.as_slice())
+}
+
+/// Appends the entries of a name of `http.*` that Git uses for a text without a normal form.
+fn push_used_without_place(
+    alloc: Global,
+    found: &mut Vec<Setting>,
+    variable: &Variable<'_>,
+) -> Result<(), AllocError> {
+    let entries = variable.entries.as_slice();
+    let used = used_without_place(alloc, entries, variable.name)?;
+    push_entries(alloc, found, entries, used.as_slice())
+}
+
+/// Appends the entries at these indices.
+fn push_entries(
+    alloc: Global,
+    found: &mut Vec<Setting>,
+    entries: &[Entry<'_>],
+    used: &[usize],
+) -> Result<(), AllocError> {
+    for i in used {
         if let Some(entry) = entries.get(*i) {
             found.push(Setting::of(alloc, entry)?)?;
         }
@@ -58,7 +81,7 @@ fn used_of(
     room: &mut [u8],
 ) -> Result<Vec<usize>, AllocError>
     ensures { IfOk result
-        (λ found. AreShown name.now place.now (length room.old) entries.now found.items) }
+        (λ found. AreShown name.now (Some place.now) (length room.old) entries.now found.items) }
 {
     match settings::settings_for(alloc, entries, name, place, room) {
         Ok(used) => Ok(used),
@@ -67,29 +90,17 @@ fn used_of(
     }
 }
 
-/// Appends those that Git uses for a text without a normal form: the entries without a URL, which are the same for
-/// each place.
-fn push_used_everywhere(
+/// The indices of those that Git uses for a text without a normal form; none where it stops at one.
+fn used_without_place(
     alloc: Global,
-    found: &mut Vec<Setting>,
-    variable: &Variable<'_>,
-) -> Result<(), AllocError> {
-    let mut entries = Vec::new(alloc);
-    for entry in &variable.entries {
-        if entry.subsection.is_none() {
-            entries.push(entry.clone()?)?;
-        }
-    }
-    let of_all = Variable {
-        name: variable.name,
-        entries,
-    };
-    let mut own = vec![in alloc; 0u8; room_for(ANYWHERE.len())]?;
-    match NormalUrl::parse_in(ANYWHERE, false, own.as_mut_slice()) {
-        Ok(place) => push_used(alloc, found, &of_all, &place, &mut []),
-        Err(_) => Ok(()),
+    entries: &[Entry<'_>],
+    name: &str,
+) -> Result<Vec<usize>, AllocError>
+    ensures { IfOk result (λ found. AreShown name.now None 0 entries.now found.items) }
+{
+    match settings::settings_without_place(alloc, entries, name) {
+        Ok(used) => Ok(used),
+        Err(SettingsError::Memory) => Err(AllocError),
+        Err(SettingsError::NoRoom | SettingsError::NoValue { at: _ }) => Ok(Vec::new(alloc)),
     }
 }
-
-/// A place of HTTP.
-const ANYWHERE: &[u8] = b"http://h/";

@@ -11,7 +11,7 @@ use Rattle.git_rules.specs.PatternEntries.{RanksIn, RanksSubsection, RanksUrlIn}
 use Rattle.git_rules.proofs.NormalForms.NormalUnique.{normal_unique}
 
 -- the rank of a URL is that of its one normal form
-pub url_ranked : (place pattern : NormalPlace) (url : List ℕ) (r : Option Rank) → IsNormalOf true url pattern → HasRank (RanksFor place) pattern r → HasRank (RanksSubsection place) (Some url) r
+pub url_ranked : (place pattern : NormalPlace) (url : List ℕ) (r : Option Rank) → IsNormalOf true url pattern → HasRank (RanksFor place) pattern r → HasRank (RanksSubsection (Some place)) (Some url) r
 url_ranked place pattern url None form none =
     λ k ranked. none k (subst (λ p. RanksFor place p k) (normal_unique true url ranked.0 pattern ranked.1 form) ranked.2)
 url_ranked place pattern url (Some rank) form ranks = (
@@ -34,12 +34,12 @@ pub too_short : (text : List ℕ) (room : ℕ) (e : NormalError) → e ≡ NoRoo
 too_short text room e same h = subst (λ x. NormalizesIn true text room (Err x)) same h
 
 -- an entry of the variable has the rank of its URL
-pub entry_ranked : (section name url : List ℕ) (place : NormalPlace) (room : ℕ) (e : ConfigEntry) (r : Result (Option Rank) NormalError) → sets section name e ≡ true → e.subsection ≡ Some url → RanksUrlIn place room url r → RanksIn section name place room e r
+pub entry_ranked : (section name url : List ℕ) (place : NormalPlace) (room : ℕ) (e : ConfigEntry) (r : Result (Option Rank) NormalError) → sets section name e ≡ true → e.subsection ≡ Some url → RanksUrlIn place room url r → RanksIn section name (Some place) room e r
 entry_ranked section name url place room e (Ok None) of same none =
-    λ k ranked. none k (subst (λ s. RanksSubsection place s k) same ranked.1)
+    λ k ranked. none k (subst (λ s. RanksSubsection (Some place) s k) same ranked.1)
 entry_ranked section name url place room e (Ok (Some rank)) of same ranks = (
-  (of, subst (λ s. RanksSubsection place s rank) (sym same) ranks.0),
-  λ k ranked. ranks.1 k (subst (λ s. RanksSubsection place s k) same ranked.1),
+  (of, subst (λ s. RanksSubsection (Some place) s rank) (sym same) ranks.0),
+  λ k ranked. ranks.1 k (subst (λ s. RanksSubsection (Some place) s k) same ranked.1),
 )
 entry_ranked section name url place room e (Err error) of same h = (
   h.0,

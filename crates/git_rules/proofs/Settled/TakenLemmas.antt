@@ -15,14 +15,14 @@ use Rattle.git_rules.proofs.Settled.ListLemmas.{at_seam, in_front, tail_same}
 -- ---- fronts
 
 -- what is taken has a place in the list
-pub place_within : (name : List ℕ) (place : NormalPlace) (entries : List ConfigEntry) (i : ℕ) (e : ConfigEntry) → IsTakenAt name place entries i e → i < length entries
+pub place_within : (name : List ℕ) (place : Option NormalPlace) (entries : List ConfigEntry) (i : ℕ) (e : ConfigEntry) → IsTakenAt name place entries i e → i < length entries
 place_within name place entries i e h =
     let size : length entries ≡ length h.before + length (e ∷ h.others) = ap length h.joined ∙ length-append h.before (e ∷ h.others) in
     let at : length h.before ≡ i = h.index in
     omega (arith, size, at)
 
 -- what is taken in a front is taken in the whole list
-pub grow : (name : List ℕ) (place : NormalPlace) (done more : List ConfigEntry) (i : ℕ) (e : ConfigEntry) → IsTakenAt name place done i e → IsTakenAt name place (done ++ more) i e
+pub grow : (name : List ℕ) (place : Option NormalPlace) (done more : List ConfigEntry) (i : ℕ) (e : ConfigEntry) → IsTakenAt name place done i e → IsTakenAt name place (done ++ more) i e
 grow name place done more i e h = record {
   before = h.before;
   others = h.others ++ more;
@@ -34,7 +34,7 @@ grow name place done more i e h = record {
 }
 
 -- what is taken in the whole list at a place of the front is taken in the front
-pub shrink : (name : List ℕ) (place : NormalPlace) (done more : List ConfigEntry) (i : ℕ) (e : ConfigEntry) → i < length done → IsTakenAt name place (done ++ more) i e → IsTakenAt name place done i e
+pub shrink : (name : List ℕ) (place : Option NormalPlace) (done more : List ConfigEntry) (i : ℕ) (e : ConfigEntry) → i < length done → IsTakenAt name place (done ++ more) i e → IsTakenAt name place done i e
 shrink name place done more i e short h =
     let at : length h.before ≡ i = h.index in
     let cut = in_front h.before h.others done more e h.joined (omega (arith, at, short)) in
@@ -49,7 +49,7 @@ shrink name place done more i e short h =
     }
 
 -- what is taken with one entry more is taken without it, or is this entry
-pub taken_cases : (name : List ℕ) (place : NormalPlace) (done : List ConfigEntry) (t : ConfigEntry) (i : ℕ) (e : ConfigEntry) → IsTakenAt name place (done ++ t ∷ []) i e → IsTakenAt name place done i e ⊎ ((i ≡ length done) × (e ≡ t))
+pub taken_cases : (name : List ℕ) (place : Option NormalPlace) (done : List ConfigEntry) (t : ConfigEntry) (i : ℕ) (e : ConfigEntry) → IsTakenAt name place (done ++ t ∷ []) i e → IsTakenAt name place done i e ⊎ ((i ≡ length done) × (e ≡ t))
 taken_cases name place done t i e h = elim (cases_lt i (length done)) [
   | inl short ↦ inl (shrink name place done (t ∷ []) i e short h)
   | inr long ↦
@@ -63,7 +63,7 @@ taken_cases name place done t i e h = elim (cases_lt i (length done)) [
 -- ---- one entry more
 
 -- an entry that is the best so far is taken
-pub taken_here : (name : List ℕ) (place : NormalPlace) (done : List ConfigEntry) (t : ConfigEntry) (rank : Rank) → IsBestSoFar (RanksSetting name place) (done ++ t ∷ []) (Some (length done, rank)) → IsTakenAt name place (done ++ t ∷ []) (length done) t
+pub taken_here : (name : List ℕ) (place : Option NormalPlace) (done : List ConfigEntry) (t : ConfigEntry) (rank : Rank) → IsBestSoFar (RanksSetting name place) (done ++ t ∷ []) (Some (length done, rank)) → IsTakenAt name place (done ++ t ∷ []) (length done) t
 taken_here name place done t rank (best, same) =
     let seam = at_seam best.before best.behind done [] best.best t best.joined best.index in
     record {
@@ -77,7 +77,7 @@ taken_here name place done t rank (best, same) =
     }
 
 -- an entry that doesn't set the variable isn't taken
-untaken_none : (name : List ℕ) (place : NormalPlace) (done : List ConfigEntry) (t e : ConfigEntry) → HasNoRank (RanksSetting name place) t → ¬ IsTakenAt name place (done ++ t ∷ []) (length done) e
+untaken_none : (name : List ℕ) (place : Option NormalPlace) (done : List ConfigEntry) (t e : ConfigEntry) → HasNoRank (RanksSetting name place) t → ¬ IsTakenAt name place (done ++ t ∷ []) (length done) e
 untaken_none name place done t e none h =
     let seam = at_seam h.before h.others done [] e t h.joined h.index in
     none h.rank (subst (λ z. RanksSetting name place z h.rank) seam.1 h.ranks)
@@ -87,7 +87,7 @@ at_cut : {T : Type 0} (before : List T) (x : T) (others : List T) → Contains (
 at_cut before x others = Contains-append_right before (x ∷ others) x (0, omega arith, refl)
 
 -- an entry with a lower rank isn't taken
-untaken_lower : (name : List ℕ) (place : NormalPlace) (done : List ConfigEntry) (t e : ConfigEntry) (j : ℕ) (best : IsBestAt (RanksSetting name place) done j) (rank : Rank) → ((k : Rank) → RanksSetting name place t k → k ≡ rank) → IsLower rank best.rank → ¬ IsTakenAt name place (done ++ t ∷ []) (length done) e
+untaken_lower : (name : List ℕ) (place : Option NormalPlace) (done : List ConfigEntry) (t e : ConfigEntry) (j : ℕ) (best : IsBestAt (RanksSetting name place) done j) (rank : Rank) → ((k : Rank) → RanksSetting name place t k → k ≡ rank) → IsLower rank best.rank → ¬ IsTakenAt name place (done ++ t ∷ []) (length done) e
 untaken_lower name place done t e j best rank one low h =
     let seam = at_seam h.before h.others done [] e t h.joined h.index in
     let own : h.rank ≡ rank = one h.rank (subst (λ z. RanksSetting name place z h.rank) seam.1 h.ranks) in
@@ -96,7 +96,7 @@ untaken_lower name place done t e j best rank one low h =
     All-contains P _ best.best all (at_cut best.before best.best best.behind) best.rank best.ranks.0 (subst (λ z. IsLower z best.rank) (sym own) low)
 
 -- an entry that isn't the best so far isn't taken
-pub untaken : (name : List ℕ) (place : NormalPlace) (done : List ConfigEntry) (t : ConfigEntry) (best r : Option (ℕ × Rank)) (rank : Option Rank) → IsBestSoFar (RanksSetting name place) done best → HasRank (RanksSetting name place) t rank → IsBetter best (length done) rank r → ¬ IsBestIndex r (length done) → (e : ConfigEntry) → ¬ IsTakenAt name place (done ++ t ∷ []) (length done) e
+pub untaken : (name : List ℕ) (place : Option NormalPlace) (done : List ConfigEntry) (t : ConfigEntry) (best r : Option (ℕ × Rank)) (rank : Option Rank) → IsBestSoFar (RanksSetting name place) done best → HasRank (RanksSetting name place) t rank → IsBetter best (length done) rank r → ¬ IsBestIndex r (length done) → (e : ConfigEntry) → ¬ IsTakenAt name place (done ++ t ∷ []) (length done) e
 untaken name place done t best r None so_far ranked better other e h = untaken_none name place done t e ranked h
 untaken name place done t None r (Some rank) so_far ranked better other e h = other (rank, better)
 untaken name place done t (Some (j, highest)) r (Some rank) so_far ranked (inl (low, same)) other e h =
@@ -106,7 +106,7 @@ untaken name place done t (Some (j, highest)) r (Some rank) so_far ranked (inr (
 -- ---- the best
 
 -- no entry after the best is taken
-not_after : (name : List ℕ) (place : NormalPlace) (entries : List ConfigEntry) (i j : ℕ) (e : ConfigEntry) (best : IsBestAt (RanksSetting name place) entries i) → i < j → ¬ IsTakenAt name place entries j e
+not_after : (name : List ℕ) (place : Option NormalPlace) (entries : List ConfigEntry) (i j : ℕ) (e : ConfigEntry) (best : IsBestAt (RanksSetting name place) entries i) → i < j → ¬ IsTakenAt name place entries j e
 not_after name place entries i j e best after h =
     let R = RanksSetting name place in
     let at : length h.before ≡ j = h.index in
@@ -119,7 +119,7 @@ not_after name place entries i j e best after h =
     All-contains (RanksNoHigher R h.rank) _ best.best all (at_cut best.before best.best cut.0) best.rank best.ranks.0 lower
 
 -- the best entry is the last that is taken
-pub best_is_last : (name : List ℕ) (place : NormalPlace) (entries : List ConfigEntry) (i : ℕ) → IsBestAt (RanksSetting name place) entries i → IsLastTaken name place entries i
+pub best_is_last : (name : List ℕ) (place : Option NormalPlace) (entries : List ConfigEntry) (i : ℕ) → IsBestAt (RanksSetting name place) entries i → IsLastTaken name place entries i
 best_is_last name place entries i best = record {
   entry = best.best;
   taken = record {
@@ -135,12 +135,12 @@ best_is_last name place entries i best = record {
 }
 
 -- where none sets the variable none is taken
-pub none_taken : (name : List ℕ) (place : NormalPlace) (entries : List ConfigEntry) (i : ℕ) (e : ConfigEntry) → All (HasNoRank (RanksSetting name place)) entries → ¬ IsTakenAt name place entries i e
+pub none_taken : (name : List ℕ) (place : Option NormalPlace) (entries : List ConfigEntry) (i : ℕ) (e : ConfigEntry) → All (HasNoRank (RanksSetting name place)) entries → ¬ IsTakenAt name place entries i e
 none_taken name place entries i e none h =
     All-contains (HasNoRank (RanksSetting name place)) entries e none (subst (λ z. Contains z e) (sym h.joined) (at_cut h.before e h.others)) h.rank h.ranks
 
 -- the best is one
-pub same_best : (name : List ℕ) (place : NormalPlace) (entries : List ConfigEntry) (a b : Option ℕ) → IsBest (RanksSetting name place) entries a → IsBest (RanksSetting name place) entries b → a ≡ b
+pub same_best : (name : List ℕ) (place : Option NormalPlace) (entries : List ConfigEntry) (a b : Option ℕ) → IsBest (RanksSetting name place) entries a → IsBest (RanksSetting name place) entries b → a ≡ b
 same_best name place entries None None h k = refl
 same_best name place entries None (Some j) h k = absurd (none_taken name place entries j _ h (best_is_last name place entries j k).taken)
 same_best name place entries (Some i) None h k = absurd (none_taken name place entries i _ k (best_is_last name place entries i h).taken)

@@ -4,7 +4,7 @@
 //! definitions give it, and the best is one of those that apply, by Git's order. It takes no memory: each URL
 //! is read into one room that the caller lends.
 
-ghost use Rattle.std.specs.Prelude.{◌≡◌, ◌↔◌, IsTrue, length};
+ghost use Rattle.std.specs.Prelude.{◌≡◌, ◌↔◌, IsTrue, Some, length, option_copied};
 ghost use Rattle.git_rules.specs.PatternEntries.{IsBestIn, RanksIn, RanksUrlIn};
 
 use crate::config::Entry;
@@ -59,14 +59,32 @@ pub fn entry_rank(
     place: &NormalUrl<'_>,
     room: &mut [u8],
 ) -> Result<Option<Rank>, NormalError>
-    ensures { RanksIn section.now name.now place.now (length room.old) entry.now result }
+    ensures { RanksIn section.now name.now (Some place.now) (length room.old) entry.now result }
+{
+    rank_in(entry, section, name, Some(place), room)
+}
+
+/// The rank of an entry for a place or for none: without a place no entry with a URL sets the variable, and no
+/// room is needed.
+pub(crate) fn rank_in(
+    entry: &Entry<'_>,
+    section: &str,
+    name: &str,
+    place: Option<&NormalUrl<'_>>,
+    room: &mut [u8],
+) -> Result<Option<Rank>, NormalError>
+    ensures { RanksIn section.now name.now (option_copied place.entry) (length room.old) entry.now
+        result }
 {
     if !entry.sets(section, name) {
         return Ok(None);
     }
     match entry.subsection {
         None => Ok(Some(LOWEST)),
-        Some(url) => url_rank(url, place, room),
+        Some(url) => match place {
+            None => Ok(None),
+            Some(place) => url_rank(url, place, room),
+        },
     }
 }
 
@@ -129,11 +147,25 @@ pub fn best_entry(
     place: &NormalUrl<'_>,
     room: &mut [u8],
 ) -> Result<Option<usize>, NormalError>
-    ensures { IsBestIn section.now name.now place.now (length room.old) entries.now result }
+    ensures { IsBestIn section.now name.now (Some place.now) (length room.old) entries.now result }
+{
+    best_in(entries, section, name, Some(place), room)
+}
+
+/// The index of the best of the entries for a place or for none, by [`rank_in`].
+pub(crate) fn best_in(
+    entries: &[Entry<'_>],
+    section: &str,
+    name: &str,
+    place: Option<&NormalUrl<'_>>,
+    room: &mut [u8],
+) -> Result<Option<usize>, NormalError>
+    ensures { IsBestIn section.now name.now (option_copied place.entry) (length room.old) entries.now
+        result }
 {
     let mut best = None;
     for (i, entry) in entries.iter().enumerate() {
-        let rank = entry_rank(entry, section, name, place, room)?;
+        let rank = rank_in(entry, section, name, place, room)?;
         best = better(best, i, rank);
     }
     match best {

@@ -32,7 +32,8 @@ pub enum PlaceError {
 ///
 /// [`PlaceError::Fault`] where the location has no text, [`PlaceError::Normal`] with [`NormalError::NoRoom`]
 /// where the room is shorter than that, and else with what the text has no normal form for: then Git has no
-/// settings for it, but those that are for all places.
+/// settings for it, but those that are for all places
+/// ([`settings_without_place`](crate::pattern::settings::settings_without_place)).
 ///
 /// ```
 /// /// Whether a pattern stands for a location.
@@ -63,7 +64,7 @@ fn normalize_front(room: &mut [u8], len: usize) -> Result<NormalUrl<'_>, PlaceEr
     ensures { FrontPlacesIn (take len room.old) (length room.old) result }
 {
     let (text, rest) = room.split_at_mut(len);
-    match NormalUrl::parse_in(text, false, rest) {
+    match NormalUrl::parse_in(text, rest) {
         Ok(url) => Ok(url),
         Err(error) => Err(PlaceError::Normal(error)),
     }

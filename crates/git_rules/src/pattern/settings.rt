@@ -1,17 +1,18 @@
-//! The entries of `http.*` whose values Git uses for a place: one for most names, several for a list.
+//! The entries of `http.*` whose values Git uses for a place, or for a text that is none: one for most names,
+//! several for a list.
 //!
 //! It uses `config`, `normal`, the patterns and `entries`. Its contract: the indices that are returned are those
 //! of the entries whose values Git uses, in its order, and an error says why there are none. The list of
 //! indices takes memory.
 
-ghost use Rattle.std.specs.Prelude.{◌≡◌, ◌↔◌, ◌++◌, ◌∷◌, [], IfErr, IfOk, IsTrue, OnOk, length};
+ghost use Rattle.std.specs.Prelude.{◌≡◌, ◌↔◌, ◌++◌, ◌∷◌, [], IfErr, IfOk, IsTrue, None, OnOk, Some, length, option_copied};
 ghost use Rattle.git_rules.specs.Settings.{AddsBest, AddsValue, AreSettings, HasKind, IsBestIndex, IsListName, RefusesSettings};
 
 pub mod law;
 
 use crate::config::Entry;
 use crate::normal::NormalUrl;
-use crate::pattern::entries::{best_entry, entry_rank};
+use crate::pattern::entries::{best_in, rank_in};
 use crate::pattern::{Rank, better};
 use crate::word::is_word;
 use std::alloc::{AllocError, Global};
@@ -54,7 +55,7 @@ fn is_list(name: &[u8]) -> bool
     is_word(name, "extraheader") || is_word(name, "curloptresolve")
 }
 
-/// Why settings were not found. [`settings_for`] has an example.
+/// Why settings were not found. [`settings_for`] and [`settings_without_place`] have examples.
 #[derive(Clone, Copy, Debug, PartialEq, Eq, Error)]
 pub enum SettingsError {
     /// Memory was refused.
@@ -85,17 +86,18 @@ impl From<AllocError> for SettingsError {
 /// ascending order, which is Git's order.
 ///
 /// Git goes through the entries in their order (`urlmatch.c` of Git 2.39.5). It takes an entry that sets the
-/// variable for the place, as [`entry_rank`] says, unless an entry before it does so with a higher [`Rank`].
-/// By the [`Kind`] of the name:
+/// variable for the place, as [`entry_rank`](crate::pattern::entries::entry_rank) says, unless an entry before it
+/// does so with a higher [`Rank`]. By the [`Kind`] of the name:
 ///
 /// - of a list the value of each entry that is taken is used, except for those before an empty value that is
 ///   taken, and for the empty value itself (`http_options` in `http.c`);
-/// - else the last entry that is taken is used alone, which is the best entry, as [`best_entry`] finds it. It
-///   may have no value. At most one index is returned.
+/// - else the last entry that is taken is used alone, which is the best entry, as
+///   [`best_entry`](crate::pattern::entries::best_entry) finds it. It may have no value. At most one index is
+///   returned.
 ///
 /// So of a list an entry for all places is used beside one for a URL that follows it, and not one that
-/// follows that. The room is for the URL of one entry after the other, as [`entry_rank`] says. Memory is asked
-/// for as the list of indices grows.
+/// follows that. The room is for the URL of one entry after the other, as
+/// [`entry_rank`](crate::pattern::entries::entry_rank) says. Memory is asked for as the list of indices grows.
 ///
 /// # Errors
 ///
@@ -129,9 +131,75 @@ pub fn settings_for(
     place: &NormalUrl<'_>,
     room: &mut [u8],
 ) -> Result<Vec<usize>, SettingsError>
-    ensures found { IfOk result (λ found. AreSettings name.now place.now entries.now found.items) }
+    ensures found { IfOk result
+        (λ found. AreSettings name.now (Some place.now) entries.now found.items) }
     ensures refused { IfErr result
-        (λ error. RefusesSettings name.now place.now (length room.old) entries.now error) }
+        (λ error. RefusesSettings name.now (Some place.now) (length room.old) entries.now error) }
+{
+    settings_in(alloc, entries, name, Some(place), room)
+}
+
+/// The indices of the entries of `http.name` whose values Git uses for a text without a normal form, in
+/// ascending order, which is Git's order.
+///
+/// [`NormalUrl::parse_in`] refuses such a text. Git matches no `<url>` with it (`match_urls` in `urlmatch.c` of
+/// Git 2.39.5), so an entry of `http.<url>.name` never counts. The entries without a subsection are for all
+/// places, and all of one rank: Git takes each of them. By the [`Kind`] of the name:
+///
+/// - of a list the value of each of them is used, except for those before an empty value, and for the empty
+///   value itself (`http_options` in `http.c`);
+/// - else the last of them is used alone. It may have no value. At most one index is returned.
+///
+/// No room is needed, as no URL is read. Memory is asked for as the list of indices grows.
+///
+/// # Errors
+///
+/// [`SettingsError::NoValue`] where the name is a list's, with the place of the first entry without a subsection
+/// that has no value, at which Git stops. [`SettingsError::Memory`] where memory is refused. No other error.
+///
+/// ```
+/// /// The proxy that Git uses for a text: that of its place, or the one for all places.
+/// fn proxy_of<'a>(
+///     alloc: Global,
+///     entries: &[Entry<'a>],
+///     text: &[u8],
+///     own: &mut [u8],
+///     room: &mut [u8],
+/// ) -> Result<Option<&'a [u8]>, SettingsError> {
+///     let found = match NormalUrl::parse_in(text, own) {
+///         Ok(place) => settings_for(alloc, entries, "proxy", &place, room)?,
+///         Err(NormalError::NoRoom) => return Err(SettingsError::NoRoom),
+///         Err(_) => settings_without_place(alloc, entries, "proxy")?, // of `https://h:0/`, a port that no host has
+///     };
+///     let best = found.first().and_then(|i| entries.get(*i));
+///     Ok(best.and_then(|entry| entry.value))
+/// }
+/// ```
+pub fn settings_without_place(
+    alloc: Global,
+    entries: &[Entry<'_>],
+    name: &str,
+) -> Result<Vec<usize>, SettingsError>
+    ensures found { IfOk result (λ found. AreSettings name.now None entries.now found.items) }
+    ensures refused { IfErr result (λ error. RefusesSettings name.now None 0 entries.now error) }
+    ensures no_room { IfErr result (λ error. ¬ (error ≡ SettingsError.NoRoom)) }
+{
+    settings_in(alloc, entries, name, None, &mut [])
+}
+
+/// The indices of the entries whose values Git uses for a place or for none.
+fn settings_in(
+    alloc: Global,
+    entries: &[Entry<'_>],
+    name: &str,
+    place: Option<&NormalUrl<'_>>,
+    room: &mut [u8],
+) -> Result<Vec<usize>, SettingsError>
+    ensures found { IfOk result
+        (λ found. AreSettings name.now (option_copied place.entry) entries.now found.items) }
+    ensures refused { IfErr result
+        (λ error. RefusesSettings name.now (option_copied place.entry) (length room.old) entries.now
+        error) }
 {
     match kind_of(name.as_bytes()) {
         Kind::Single => best_alone(alloc, entries, name, place, room),
@@ -144,15 +212,17 @@ fn best_alone(
     alloc: Global,
     entries: &[Entry<'_>],
     name: &str,
-    place: &NormalUrl<'_>,
+    place: Option<&NormalUrl<'_>>,
     room: &mut [u8],
 ) -> Result<Vec<usize>, SettingsError>
     requires { ¬ IsListName name.now }
-    ensures found { IfOk result (λ found. AreSettings name.now place.now entries.now found.items) }
+    ensures found { IfOk result
+        (λ found. AreSettings name.now (option_copied place.entry) entries.now found.items) }
     ensures refused { IfErr result
-        (λ error. RefusesSettings name.now place.now (length room.old) entries.now error) }
+        (λ error. RefusesSettings name.now (option_copied place.entry) (length room.old) entries.now
+        error) }
 {
-    match best_entry(entries, "http", name, place, room) {
+    match best_in(entries, "http", name, place, room) {
         Err(_) => Err(SettingsError::NoRoom),
         Ok(None) => Ok(Vec::new(alloc)),
         Ok(Some(best)) => {
@@ -168,18 +238,20 @@ fn all_used(
     alloc: Global,
     entries: &[Entry<'_>],
     name: &str,
-    place: &NormalUrl<'_>,
+    place: Option<&NormalUrl<'_>>,
     room: &mut [u8],
 ) -> Result<Vec<usize>, SettingsError>
     requires { IsListName name.now }
-    ensures found { IfOk result (λ found. AreSettings name.now place.now entries.now found.items) }
+    ensures found { IfOk result
+        (λ found. AreSettings name.now (option_copied place.entry) entries.now found.items) }
     ensures refused { IfErr result
-        (λ error. RefusesSettings name.now place.now (length room.old) entries.now error) }
+        (λ error. RefusesSettings name.now (option_copied place.entry) (length room.old) entries.now
+        error) }
 {
     let mut found = Vec::new(alloc);
     let mut best = None;
     for (i, entry) in entries.iter().enumerate() {
-        let Ok(rank) = entry_rank(entry, "http", name, place, room) else {
+        let Ok(rank) = rank_in(entry, "http", name, place, room) else {
             return Err(SettingsError::NoRoom);
         };
         best = better(best, i, rank);

@@ -20,7 +20,7 @@ form_of : (v : Location) (room : ℕ) (place : NormalPlace) → PlacesIn (text v
 form_of v room place h t e = (subst (λ x. PlacesIn x room (Ok place)) e h).1
 
 -- an entry that ranks for the place is for all places, or goes to its own
-goes : PickedGoesToOwn → (v : Location) (room : ℕ) (place : NormalPlace) (e : ConfigEntry) (rank : Rank) (named : Option (List ℕ)) → IsValue v → IsWeb v → AgreesWithGit v → PlacesIn (text v) room (Ok place) → e.subsection ≡ named → RanksSubsection place named rank → (e.subsection ≡ None) ⊎ GoesToOwn v e
+goes : PickedGoesToOwn → (v : Location) (room : ℕ) (place : NormalPlace) (e : ConfigEntry) (rank : Rank) (named : Option (List ℕ)) → IsValue v → IsWeb v → AgreesWithGit v → PlacesIn (text v) room (Ok place) → e.subsection ≡ named → RanksSubsection (Some place) named rank → (e.subsection ≡ None) ⊎ GoesToOwn v e
 goes law v room place e rank None value web agrees placing named ranked = inl named
 goes law v room place e rank (Some url) value web agrees placing named ranked = inr (record {
   url = url;
@@ -31,7 +31,7 @@ goes law v room place e rank (Some url) value web agrees placing named ranked = 
 })
 
 -- each entry that is used is one of these
-own : PickedGoesToOwn → (v : Location) (room : ℕ) (place : NormalPlace) (entries : List ConfigEntry) (found : List ℕ) → IsValue v → IsWeb v → AgreesWithGit v → PlacesIn (text v) room (Ok place) → AreSettings (codes "extraHeader") place entries found → AreOwn v entries found
+own : PickedGoesToOwn → (v : Location) (room : ℕ) (place : NormalPlace) (entries : List ConfigEntry) (found : List ℕ) → IsValue v → IsWeb v → AgreesWithGit v → PlacesIn (text v) room (Ok place) → AreSettings (codes "extraHeader") (Some place) entries found → AreOwn v entries found
 own law v room place entries found value web agrees placing (inl (list, are)) i held =
     let used = (are.used i).0 held in
     let taken = used.taken in
@@ -69,4 +69,4 @@ returns-clause-sent c =
     let room = length c.args.buffer.now in
     let own = c.in-Ok.place in
     let placing = subst (λ w. PlacesIn (text w) room (Ok own)) c.as_ref.ensures c.in-Ok.ensures in
-    if_ok _ _ c.settings_for.result (λ found are t place web agrees has form fits. subst (λ p. AreSettings (codes "extraHeader") p c.args.entries.now found.items) (one_place c.law_normal_form.ensures.one v t room own place has form placing) are) c.settings_for.ensures.found
+    if_ok _ _ c.settings_for.result (λ found are t place web agrees has form fits. subst (λ p. AreSettings (codes "extraHeader") (Some p) c.args.entries.now found.items) (one_place c.law_normal_form.ensures.one v t room own place has form placing) are) c.settings_for.ensures.found

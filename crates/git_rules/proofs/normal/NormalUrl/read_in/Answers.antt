@@ -4,7 +4,7 @@ use Rattle.std.specs.Option.{option_copied}
 use Rattle.std.proofs.lemmas.Result.{err_from_is_err_and}
 use Rattle.git_rules.specs.NormalFlaws.{AuthorityFlaw, NormalizesIn}
 use Rattle.git_rules.proofs.NormalForms.NormalUnique.{part_flawed, parts_normalize}
-use Rattle.git_rules.proofs.normal.NormalUrl.parse_in.Goals as goal
+use Rattle.git_rules.proofs.normal.NormalUrl.read_in.Goals as goal
 
 pub returns-in_err-authority : goal.returns-in_err-authority
 returns-in_err-authority c =
