@@ -1,10 +1,11 @@
-//! What Git reads in a text, and why readers of HTTP may differ, as JSON.
+//! What Git reads in a text, and why readers may differ, as JSON.
 
 use crate::report::{Out, Report, report_member};
 use bstr::BStr;
 use gix_url::WebCondition;
 use gix_url::credential::Request;
 use gix_url::transport::{GitPlace, Unread};
+use gix_url::unambiguous::Condition;
 use std::io::{self, Write};
 
 impl Report for GitPlace<'_> {
@@ -38,6 +39,12 @@ impl Report for Request<'_> {
 }
 
 impl Report for WebCondition {
+    fn report(&self, out: &mut Out) -> io::Result<()> {
+        write!(out, "\"{self:?}\"")
+    }
+}
+
+impl Report for Condition {
     fn report(&self, out: &mut Out) -> io::Result<()> {
         write!(out, "\"{self:?}\"")
     }

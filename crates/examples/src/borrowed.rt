@@ -1,6 +1,7 @@
 //! Examples of locations that are borrowed.
 
 use bstr::{BStr, BString};
+use gix_url::unambiguous::{Condition, is_unambiguous, unmet_condition};
 use gix_url::{
     ArgumentSafety, Error, PathComponents, Scheme, SchemeRef, Url, UrlRef, WebCondition,
     WriteError, WriteFault,
@@ -124,6 +125,16 @@ fn write_for_git(out: &mut Vec<u8>, url: &UrlRef<'_>) -> Result<bool, WriteError
 /// Whether a part of the path is written as a segment that readers remove.
 fn has_dots(url: &UrlRef<'_>) -> bool {
     url.unmet_web_condition() == Some(WebCondition::NoDotSegment) // of `http://h/a/../b`
+}
+
+/// Whether a checker may pass on a remote: what connects to it finds the host that was checked.
+fn may_pass_on(url: &UrlRef<'_>) -> bool {
+    is_unambiguous(url) // not `ssh://::1:22/p`, where some read the port 22
+}
+
+/// Whether readers may find another host in the text of the location.
+fn is_host_odd(url: &UrlRef<'_>) -> bool {
+    unmet_condition(url) == Some(Condition::Host) // of `https://a_b/p`
 }
 
 fn is_refused(url: &UrlRef<'_>) -> bool {

@@ -3,6 +3,7 @@
 use bstr::{BStr, BString};
 use gix_url::lines::{self, RunError};
 use gix_url::testing::TestUrlExtension;
+use gix_url::unambiguous::Condition;
 use gix_url::{Error, Scheme, Url, WebCondition, WriteError};
 use std::alloc::{AllocError, Global};
 
@@ -43,6 +44,16 @@ fn for_git(alloc: Global, url: &Url) -> Result<Option<BString>, Error> {
 /// Whether the path is refused for a segment `.` or `..`, which other readers remove.
 fn is_refused_for_dots(url: &Url) -> bool {
     url.unmet_web_condition() == Some(WebCondition::NoDotSegment) // of `http://h/a/../b`
+}
+
+/// Whether what connects to a remote finds the host that was checked.
+fn may_pass_on(url: &Url) -> bool {
+    url.is_unambiguous() // not `ssh://::1:22/p`, where some read the port 22
+}
+
+/// Whether readers may find another host in the text of the location.
+fn may_host_differ(url: &Url) -> bool {
+    url.unmet_condition() == Some(Condition::Host) // of `https://a_b/p`
 }
 
 fn log_line(alloc: Global, url: &Url) -> Result<String, AllocError> {

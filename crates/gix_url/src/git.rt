@@ -1,15 +1,18 @@
-//! Locations in whose texts Git reads the same place: the answers of the borrowed location.
+//! Locations in whose texts Git reads the same place, or every reader does: the answers of the borrowed location.
 //!
-//! It uses `location`, and takes no memory.
+//! It uses `location` and `git_readers`, and takes no memory.
 
 ghost use Rattle.std.specs.Prelude.{◌↔◌, IsTrue, IsNone, IfSome};
 ghost use Rattle.git_location.specs.GitClass.{AgreesWithGit};
 ghost use Rattle.git_location.specs.Settled.{IsWeb};
 ghost use Rattle.git_location.specs.WebClass.{AgreesOverWeb};
 ghost use Rattle.git_location.specs.WebConditions.{IsFirstUnmet};
+ghost use Rattle.git_readers.specs.Conditions as conditions;
+ghost use Rattle.git_readers.specs.Conditions.{IsUnambiguous};
 
 use crate::location::Url;
 use git_location::git::conditions::WebCondition;
+use git_readers::unambiguous::{Condition, is_unambiguous, unmet_condition};
 
 impl Url {
     /// Whether Git reads this very place in the text of the location: the same scheme, user, host, port and
@@ -74,5 +77,42 @@ impl Url {
         ensures first { IfSome result (λ condition. IsFirstUnmet condition self.now) }
     {
         self.as_ref().unmet_web_condition()
+    }
+
+    /// Whether every reader finds the same parts in the text of the location. It takes no memory.
+    ///
+    /// Where the answer is yes, Git agrees as well, and every reader of a family (`LeavesPlain`) finds the
+    /// location's own scheme, user, password, host, port and path in its text
+    /// ([`law_unambiguous`](crate::laws::law_unambiguous)): whichever `@` or `:` it cuts at, whether `?`, `#`,
+    /// `;` or `\` end its authority, and whatever it decodes. Hand on the text that [`Url::to_bstring`] writes.
+    /// The answer is no for many texts that most readers read alike. `docs/READERS.md` has the conditions, and
+    /// what readers that people use made of texts that don't meet them.
+    ///
+    /// ```
+    /// /// Whether what connects to a remote finds the host that was checked.
+    /// fn may_pass_on(url: &Url) -> bool {
+    ///     url.is_unambiguous() // not `ssh://::1:22/p`, where some read the port 22
+    /// }
+    /// ```
+    pub fn is_unambiguous(&self) -> bool
+        ensures { IsTrue result ↔ IsUnambiguous self.now }
+    {
+        is_unambiguous(&self.as_ref())
+    }
+
+    /// The first condition that the location doesn't meet of those by which [`Url::is_unambiguous`] accepts one, in
+    /// the order of [`Condition`], or none where that answer is yes. It takes no memory.
+    ///
+    /// ```
+    /// /// Whether readers may find another host in the text of the location.
+    /// fn may_host_differ(url: &Url) -> bool {
+    ///     url.unmet_condition() == Some(Condition::Host) // of `https://a_b/p`
+    /// }
+    /// ```
+    pub fn unmet_condition(&self) -> Option<Condition>
+        ensures met { IsNone result ↔ IsUnambiguous self.now }
+        ensures first { IfSome result (λ condition. conditions.IsFirstUnmet condition self.now) }
+    {
+        unmet_condition(&self.as_ref())
     }
 }

@@ -18,6 +18,7 @@ pub use git_laws::laws::{
 };
 pub use git_location::argument::law_arguments;
 pub use git_location::display::law_hidden_password;
+pub use git_readers::law::{law_known_readers, law_unambiguous};
 pub use git_syntax::address_law::law_address_test;
 pub use git_syntax::escape::law_sets;
 

@@ -54,6 +54,7 @@ pub use git_location::git::conditions::WebCondition;
 pub use git_location::parse_error::ParseError;
 pub use git_location::url_ref::UrlRef;
 pub use git_location::write_error::{WriteError, WriteFault};
+pub use git_readers::unambiguous;
 pub use git_reads::{credential, transport};
 pub use git_refusals::parts::{PartForm, Parts, Span, parts_of};
 pub use git_refusals::reason::{Reason, RefusalKind};

@@ -9,6 +9,7 @@ use crate::parts::first_name;
 use crate::report::{Out, Taking, report_lent, report_member, report_name, report_owned};
 use crate::shown::{show, show_display};
 use bstr::{BStr, BString};
+use gix_url::unambiguous::{is_unambiguous, unmet_condition};
 use gix_url::{Error, PathComponents, Url, UrlRef, WriteError, laws};
 use std::alloc::Global;
 use std::io::Write;
@@ -70,6 +71,8 @@ fn look(alloc: Global, order: Order<'_>, url: &Url, out: &mut Out) -> Result<(),
         "Url::is_settled" => report_lent(out, &url.is_settled()),
         "Url::agrees_with_git" => report_lent(out, &url.agrees_with_git()),
         "Url::unmet_web_condition" => report_lent(out, &url.unmet_web_condition()),
+        "Url::is_unambiguous" => report_lent(out, &url.is_unambiguous()),
+        "Url::unmet_condition" => report_lent(out, &url.unmet_condition()),
         "Url::user" => report_lent(out, &url.user()),
         "Url::password" => report_lent(out, &url.password()),
         "Url::host" => report_lent(out, &url.host()),
@@ -102,6 +105,8 @@ fn look_at_borrowed(alloc: Global, order: Order<'_>, url: &Url, out: &mut Out) -
         "Url::as_ref" => report_lent(out, &borrowed),
         "UrlRef::agrees_with_git" => report_lent(out, &borrowed.agrees_with_git()),
         "UrlRef::unmet_web_condition" => report_lent(out, &borrowed.unmet_web_condition()),
+        "unambiguous::is_unambiguous" => report_lent(out, &is_unambiguous(&borrowed)),
+        "unambiguous::unmet_condition" => report_lent(out, &unmet_condition(&borrowed)),
         "UrlRef::is_settled" => report_lent(out, &borrowed.is_settled()),
         "UrlRef::original_path" => report_lent(out, &borrowed.original_path()),
         "UrlRef::port_or_default" => report_lent(out, &borrowed.port_or_default()),

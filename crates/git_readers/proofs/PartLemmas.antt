@@ -1,0 +1,116 @@
+-- Labels and segments by the dots and slashes between them.
+use Rattle.std.proofs.Common.{◌≡◌, ◌∙◌, ◌<◌, ◌==◌, not, zero, suc, ◌⊎◌, ℕ, true, false, List, [], ◌∷◌, ◌++◌, inl, inr, refl, sym, ap, subst, arith, length, append_assoc}
+use Rattle.std.proofs.lemmas.Bool.{false≢true}
+use Rattle.std.proofs.lemmas.Bool.Decides.{nat_tests}
+use Rattle.std.specs.List.{list_all}
+use Rattle.std.specs.Char.{is_ascii_digit, is_ascii_lowercase}
+use Rattle.git_syntax.specs.Bytes.{dot, slash, FreeOf, Holds, begins_by, begins_with}
+use Rattle.git_syntax.proofs.Texts.CutLemmas.{cut_unique, free_of_all, free_or_cut, not_free}
+use Rattle.git_readers.specs.Unambiguous.{AreLabels, HasDots, HasSlashBefore, IsDots, IsPlainLabel, is_label_byte, slashes}
+
+-- ---- labels
+
+-- a plain label is free of dots
+pub label_free : (label : List ℕ) → IsPlainLabel label → FreeOf dot label
+label_free label plain = free_of_all is_label_byte dot label plain.bytes refl
+
+-- labels are cut at the first dot
+pub labels_cut : (t label rest : List ℕ) → FreeOf dot label → t ≡ label ++ dot ∷ rest → AreLabels t → IsPlainLabel label × AreLabels rest
+labels_cut t label rest free joined (AreLabels.last _ plain letter) =
+    absurd (not_free dot label rest (subst (λ y. FreeOf dot y) joined (label_free t plain)))
+labels_cut t label rest free joined (AreLabels.more x l r plain others e) =
+    let same = cut_unique dot l label r rest (label_free l plain) free (sym e ∙ joined) in
+    (subst IsPlainLabel same.0 plain, subst AreLabels same.1 others)
+
+-- without a dot there is one label
+pub label_alone : (t : List ℕ) → FreeOf dot t → AreLabels t → IsPlainLabel t × (begins_by is_ascii_lowercase t ≡ true)
+label_alone t free (AreLabels.last x plain letter) = (plain, letter)
+label_alone t free (AreLabels.more x l r plain others e) = absurd (not_free dot l r (subst (λ y. FreeOf dot y) e free))
+
+-- ---- numbers
+
+-- digits before a byte that is none are what is before the first such byte
+pub number_same : (c : ℕ) (digits rest front behind : List ℕ) → is_ascii_digit c ≡ false → list_all is_ascii_digit digits ≡ true → FreeOf c front → digits ++ c ∷ rest ≡ front ++ c ∷ behind → digits ≡ front
+number_same c digits rest front behind other all free joined =
+    (cut_unique c digits front rest behind (free_of_all is_ascii_digit c digits all other) free joined).0
+
+-- so that is of digits
+pub number_first : (c : ℕ) (digits rest front behind : List ℕ) → is_ascii_digit c ≡ false → list_all is_ascii_digit digits ≡ true → FreeOf c front → digits ++ c ∷ rest ≡ front ++ c ∷ behind → list_all is_ascii_digit front ≡ true
+number_first c digits rest front behind other all free joined =
+    subst (λ x. list_all is_ascii_digit x ≡ true) (number_same c digits rest front behind other all free joined) all
+
+-- and the rest is what follows
+pub number_rest : (c : ℕ) (digits rest front behind : List ℕ) → is_ascii_digit c ≡ false → list_all is_ascii_digit digits ≡ true → FreeOf c front → digits ++ c ∷ rest ≡ front ++ c ∷ behind → rest ≡ behind
+number_rest c digits rest front behind other all free joined =
+    (cut_unique c digits front rest behind (free_of_all is_ascii_digit c digits all other) free joined).1
+
+-- ---- segments
+
+-- `.` and `..` are free of slashes
+pub dots_free : (segment : List ℕ) → IsDots segment → FreeOf slash segment
+dots_free segment (inl one) = subst (λ y. FreeOf slash y) (sym one) refl
+dots_free segment (inr two) = subst (λ y. FreeOf slash y) (sym two) refl
+
+-- a segment behind a `/` is in the rest behind the first one
+later_dots : (segment rest front r : List ℕ) → FreeOf slash segment → segment ++ slash ∷ rest ≡ front ++ slash ∷ r → HasDots r → HasDots rest
+later_dots segment rest front r free joined has = elim (free_or_cut slash front) [
+  | inl none ↦ subst HasDots (sym (cut_unique slash segment front rest r free none joined).1) has
+  | inr (x, y, none, e) ↦
+      let whole = joined ∙ ap (λ z. z ++ slash ∷ r) e ∙ append_assoc x (slash ∷ y) (slash ∷ r) in
+      HasDots.later rest y r has (cut_unique slash segment x rest (y ++ slash ∷ r) free none whole).1
+]
+
+-- segments are cut at the first `/`
+pub dots_cut : (t segment rest : List ℕ) → FreeOf slash segment → t ≡ segment ++ slash ∷ rest → HasDots t → IsDots segment ⊎ HasDots rest
+dots_cut t segment rest free joined (HasDots.whole x dots) =
+    absurd (not_free slash segment rest (subst (λ y. FreeOf slash y) joined (dots_free t dots)))
+dots_cut t segment rest free joined (HasDots.first x s r dots e) =
+    inl (subst IsDots (cut_unique slash s segment r rest (dots_free s dots) free (sym e ∙ joined)).0 dots)
+dots_cut t segment rest free joined (HasDots.later x f r has e) = inr (later_dots segment rest f r free (sym joined ∙ e) has)
+
+-- without a `/` there is one segment
+pub dots_alone : (t : List ℕ) → FreeOf slash t → HasDots t → IsDots t
+dots_alone t free (HasDots.whole x dots) = dots
+dots_alone t free (HasDots.first x s r dots e) = absurd (not_free slash s r (subst (λ y. FreeOf slash y) e free))
+dots_alone t free (HasDots.later x f r has e) = absurd (not_free slash f r (subst (λ y. FreeOf slash y) e free))
+
+-- ---- two slashes
+
+-- `//` begins at the first `/`, or is behind it
+pub slashes_cut : (t front behind : List ℕ) → FreeOf slash front → t ≡ front ++ slash ∷ behind → Holds slashes t → (begins_with slash behind ≡ true) ⊎ Holds slashes behind
+slashes_cut t front behind free joined (x, y, e) = elim (free_or_cut slash x) [
+  | inl none ↦ inl (ap (λ z. begins_with slash z) (cut_unique slash front x behind (slash ∷ y) free none (sym joined ∙ e)).1)
+  | inr (p, q, none, cut) ↦
+      let whole = sym joined ∙ e ∙ ap (λ z. z ++ (slashes ++ y)) cut ∙ append_assoc p (slash ∷ q) (slashes ++ y) in
+      inr (q, y, (cut_unique slash front p behind (q ++ (slashes ++ y)) free none whole).1)
+]
+
+-- `//` behind a `/` is in the whole
+pub slashes_later : (t front behind : List ℕ) → t ≡ front ++ slash ∷ behind → Holds slashes behind → Holds slashes t
+slashes_later t front behind joined (x, y, e) =
+    (front ++ slash ∷ x, y, joined ∙ ap (λ z. front ++ slash ∷ z) e ∙ sym (append_assoc front (slash ∷ x) (slashes ++ y)))
+
+-- ---- a byte behind a `/`
+
+-- a text with a byte in it isn't empty
+some_length : (q : List ℕ) (c : ℕ) (x : List ℕ) → 0 < length (q ++ c ∷ x)
+some_length [] c x = omega arith
+some_length (d ∷ q) c x = omega arith
+
+-- the first `/` has a byte behind it where one does
+pub before_cut : (t front behind : List ℕ) → FreeOf slash front → t ≡ front ++ slash ∷ behind → HasSlashBefore t → 0 < length behind
+before_cut t front behind free joined has = elim (free_or_cut slash has.front) [
+  | inl none ↦ subst (λ x. 0 < length x) (sym (cut_unique slash front has.front behind has.behind free none (sym joined ∙ has.joined)).1) has.nonempty
+  | inr (p, q, none, cut) ↦
+      let whole = sym joined ∙ has.joined ∙ ap (λ z. z ++ slash ∷ has.behind) cut ∙ append_assoc p (slash ∷ q) (slash ∷ has.behind) in
+      subst (λ x. 0 < length x) (sym (cut_unique slash front p behind (q ++ slash ∷ has.behind) free none whole).1) (some_length q slash has.behind)
+]
+
+-- a length that isn't 0
+pub some_from : (n : ℕ) → not (n == 0) ≡ true → 0 < n
+some_from zero none = absurd (false≢true none)
+some_from (suc n) some = omega arith
+
+pub some_to : (n : ℕ) → 0 < n → not (n == 0) ≡ true
+some_to zero none = absurd (omega (arith, none))
+some_to (suc n) some = grind (arith, nat_tests)

@@ -1,0 +1,11 @@
+-- The rest holds `//` where the path does.
+use Rattle.std.proofs.Common.{◌↔◌, length}
+use Rattle.git_syntax.specs.Bytes.{Holds}
+use Rattle.git_readers.specs.Unambiguous.{slashes}
+use Rattle.git_readers.proofs.path.has_slashes.Given as goal
+
+abbrev pub invariant-loop-behind : goal.invariant-loop-behind
+invariant-loop-behind l = Holds slashes l.rest ↔ Holds slashes l.path
+
+abbrev pub decreases-loop-behind : goal.decreases-loop-behind
+decreases-loop-behind l = length l.rest

@@ -1,0 +1,95 @@
+-- The class of locations whose texts nobody misreads, condition by condition.
+use Rattle.std.specs.Prelude.{◌≡◌, ℕ, ◌<◌, Bool, true, false, List, Option, Some, IfSome, IsUtf8}
+use Rattle.std.specs.List.{list_all}
+use Rattle.git_syntax.specs.Location.{Scheme, Location}
+use Rattle.git_syntax.specs.Location.Scheme.{file, ssh, http, https}
+use Rattle.git_syntax.specs.Bytes.{slash, Lacks, begins_with}
+use Rattle.git_syntax.specs.Escapes.{matches}
+use Rattle.git_location.specs.Settled.{begins_with_slashes}
+use Rattle.git_location.specs.GitClass.{AgreesWithGit}
+use Rattle.git_readers.specs.declared.unambiguous.Condition.{Condition}
+use Rattle.git_readers.specs.declared.unambiguous.Form.{Form}
+use Rattle.git_readers.specs.declared.unambiguous.Form.TheVariants.{Web, Transport, Scp, Local}
+use Rattle.git_readers.specs.declared.unambiguous.Condition.TheVariants as condition
+use Rattle.git_readers.specs.Unambiguous.{BeginsWithPort, HasInnerSlash, HasDots, IsPlainHost, IsPlainLocal, IsPlainScpHost, IsPlainWord, begins_oddly, is_odd_local, is_path_byte, is_scp_byte}
+
+-- the form of a location, by its scheme and the flag of the form that is no URL
+abbrev pub form_of : Scheme → Bool → Form
+form_of file true = Local
+form_of ssh true = Scp
+form_of http flag = Web
+form_of https flag = Web
+form_of _ flag = Transport
+
+-- the form of the location
+abbrev pub form : Location → Form
+form v = form_of v.scheme v.flag
+
+-- each byte of the path is one by which no reader cuts or changes it
+abbrev pub HasPlainBytes : Form → List ℕ → Type 0
+HasPlainBytes Scp path = list_all is_scp_byte path ≡ true
+HasPlainBytes Local path = IsUtf8 path × Lacks is_odd_local path
+HasPlainBytes _ path = list_all is_path_byte path ≡ true
+
+-- the path is laid out in a way that no reader changes
+abbrev pub BeginsPlainly : Form → List ℕ → Type 0
+BeginsPlainly Web path = begins_with_slashes path ≡ false
+BeginsPlainly Transport path = (begins_with slash path ≡ true) × (begins_with_slashes path ≡ false)
+    × (begins_oddly path ≡ false)
+BeginsPlainly Scp path = ¬ BeginsWithPort path
+BeginsPlainly Local path = IsPlainLocal path
+
+-- no segment `.` or `..` is in the path of a URL, nor in one of the scp form
+abbrev pub LacksDots : Form → List ℕ → Type 0
+LacksDots Local path = Unit {0}
+LacksDots _ path = ¬ HasDots path
+
+-- in the scp form the host is one that no reader takes for a scheme or a drive
+abbrev pub HasPlainScpHost : Form → Option (List ℕ) → Option (List ℕ) → Type 0
+HasPlainScpHost Scp user host = IfSome host (IsPlainScpHost user)
+HasPlainScpHost _ user host = Unit {0}
+
+-- in the scp form a `/` is in the path
+abbrev pub HasScpSlash : Form → List ℕ → Type 0
+HasScpSlash Scp path = HasInnerSlash path
+HasScpSlash _ path = Unit {0}
+
+-- the location meets the condition
+abbrev pub Meets : Condition → Location → Type 0
+Meets condition.Git v = AgreesWithGit v
+Meets condition.Escapes v = matches v.spelling v.path ≡ false
+Meets condition.Host v = IfSome v.host IsPlainHost
+Meets condition.User v = IfSome v.user IsPlainWord
+Meets condition.Password v = IfSome v.password IsPlainWord
+Meets condition.Port v = ¬ (v.port ≡ Some 0)
+Meets condition.PathBytes v = HasPlainBytes (form v) v.path
+Meets condition.PathStart v = BeginsPlainly (form v) v.path
+Meets condition.DotSegment v = LacksDots (form v) v.path
+Meets condition.ScpHost v = HasPlainScpHost (form v) v.user v.host
+Meets condition.ScpPath v = HasScpSlash (form v) v.path
+
+-- nobody misreads the text of the location: it meets every condition
+abbrev pub IsUnambiguous : Location → Type 0
+IsUnambiguous v = (each : Condition) → Meets each v
+
+-- the place of a condition in the order in which the conditions are declared
+abbrev pub place : Condition → ℕ
+place condition.Git = 0
+place condition.Escapes = 1
+place condition.Host = 2
+place condition.User = 3
+place condition.Password = 4
+place condition.Port = 5
+place condition.PathBytes = 6
+place condition.PathStart = 7
+place condition.DotSegment = 8
+place condition.ScpHost = 9
+place condition.ScpPath = 10
+
+-- the location meets each condition that comes before this one
+abbrev pub MeetsBefore : Condition → Location → Type 0
+MeetsBefore this v = (other : Condition) → place other < place this → Meets other v
+
+-- the location doesn't meet the condition, and meets each one that comes before it
+abbrev pub IsFirstUnmet : Condition → Location → Type 0
+IsFirstUnmet this v = (¬ Meets this v) × MeetsBefore this v

@@ -1,0 +1,6 @@
+-- What a user reads.
+pub mod Unambiguous
+pub mod Conditions
+pub mod Readers
+pub mod ReaderLaws
+pub mod KnownReaders

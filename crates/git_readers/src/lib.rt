@@ -1,0 +1,11 @@
+//! Which locations have a text that nobody misreads.
+//!
+//! Programs that check a remote and programs that connect to it often read its text by different rules.
+//! [`unambiguous::unmet_condition`] decides a class of locations in whose texts every reader of a family finds the
+//! same parts; [`law::law_unambiguous`] says so for each reader of that family.
+#![tactic(auto)]
+
+mod host;
+pub mod law;
+mod path;
+pub mod unambiguous;

@@ -1,0 +1,216 @@
+//! Paths that every reader cuts where they are cut, and changes nothing of.
+//!
+//! It uses cuts of `git_syntax`. Its contract: each test decides the condition or the definition that it is named
+//! for.
+
+ghost use Rattle.std.specs.Prelude.{◌≡◌, ◌↔◌, IsTrue, codes};
+ghost use Rattle.std.specs.List.{list_all, list_any};
+ghost use Rattle.git_location.specs.Settled.{begins_with_slashes};
+ghost use Rattle.git_syntax.specs.Bytes.{Holds};
+ghost use Rattle.git_readers.specs.Conditions.{BeginsPlainly, Meets};
+ghost use Rattle.git_readers.specs.Unambiguous as byte;
+ghost use Rattle.git_readers.specs.Unambiguous.{BeginsWithPort, HasDots, HasInnerSlash, HasSlashBefore, IsDots, IsPlainLocal, slashes};
+ghost use Rattle.git_readers.specs.declared.unambiguous.Condition.TheVariants as condition;
+ghost use Rattle.git_readers.specs.declared.unambiguous.Form.TheVariants as form;
+
+use crate::host::is_number;
+use crate::unambiguous::{Form, form_of};
+use git_location::url_ref::UrlRef;
+use git_syntax::bytes::{cut, is_free_of, starts_with_byte};
+use git_syntax::text::is_text;
+
+/// Whether each byte of the path is one by which no reader cuts or changes it.
+pub(crate) fn has_plain_bytes(url: &UrlRef<'_>) -> bool
+    ensures { IsTrue result ↔ Meets condition.PathBytes url.now }
+{
+    match form_of(url) {
+        Form::Web | Form::Transport => are_path_bytes(url.path),
+        Form::Scp => are_scp_bytes(url.path),
+        Form::Local => is_text(url.path) && !has_odd_local(url.path),
+    }
+}
+
+/// Whether each byte is one of the path of a URL.
+fn are_path_bytes(path: &[u8]) -> bool
+    ensures { result ≡ list_all byte.is_path_byte path.now }
+{
+    path.iter().all(|it| is_path_byte(*it))
+}
+
+/// Whether the byte is a letter, a digit, or a mark of the path of a URL.
+fn is_path_byte(it: u8) -> bool
+    ensures { result ≡ byte.is_path_byte it }
+{
+    it.is_ascii_alphanumeric() || b"-._~!$&()*+,=:@/".contains(&it)
+}
+
+/// Whether each byte is one of a path in the scp form.
+fn are_scp_bytes(path: &[u8]) -> bool
+    ensures { result ≡ list_all byte.is_scp_byte path.now }
+{
+    path.iter().all(|it| is_scp_byte(*it))
+}
+
+/// Whether the byte is a letter, a digit, or a mark of a path in the scp form.
+fn is_scp_byte(it: u8) -> bool
+    ensures { result ≡ byte.is_scp_byte it }
+{
+    it.is_ascii_alphanumeric() || b"-._~+,=/".contains(&it)
+}
+
+/// Whether a byte is in the local path by which readers take it for something else.
+fn has_odd_local(path: &[u8]) -> bool
+    ensures { result ≡ list_any byte.is_odd_local path.now }
+{
+    path.iter().any(|it| is_odd_local(*it))
+}
+
+/// Whether the byte is a control character, `:` or `\`.
+fn is_odd_local(it: u8) -> bool
+    ensures { result ≡ byte.is_odd_local it }
+{
+    it < b' ' || it == 127 || it == b':' || it == b'\\'
+}
+
+/// Whether the path begins in a way that no reader changes.
+pub(crate) fn begins_plainly(url: &UrlRef<'_>) -> bool
+    ensures { IsTrue result ↔ Meets condition.PathStart url.now }
+{
+    match form_of(url) {
+        Form::Web => !begins_with_slashes(url.path),
+        Form::Local => is_plain_local(url.path),
+        Form::Transport => begins_as_transport(url.path),
+        Form::Scp => !begins_with_port(url.path),
+    }
+}
+
+/// Whether the path of a transport begins with `/`, and not with `//`, `/~`, `/-` or `/x:`.
+fn begins_as_transport(path: &[u8]) -> bool
+    ensures { IsTrue result ↔ BeginsPlainly form.Transport path.now }
+{
+    starts_with_byte(path, b'/') && !begins_with_slashes(path) && !begins_oddly(path)
+}
+
+/// Whether the text begins with `//`.
+fn begins_with_slashes(text: &[u8]) -> bool
+    ensures { result ≡ begins_with_slashes text.now }
+{
+    match text {
+        [first, second, ..] => *first == b'/' && *second == b'/',
+        _ => false,
+    }
+}
+
+/// Whether the second byte is `~` or `-`, or the third is `:`.
+fn begins_oddly(path: &[u8]) -> bool
+    ensures { result ≡ byte.begins_oddly path.now }
+{
+    match path {
+        [_, second, rest @ ..] => {
+            *second == b'~' || *second == b'-' || starts_with_byte(rest, b':')
+        }
+        _ => false,
+    }
+}
+
+/// Whether the path begins with digits and `/`.
+fn begins_with_port(path: &[u8]) -> bool
+    ensures { IsTrue result ↔ BeginsWithPort path.now }
+{
+    match cut(path, b'/') {
+        None => false,
+        Some((digits, _)) => is_number(digits),
+    }
+}
+
+/// Whether no segment of the path is `.` or `..`, or the path is a local one.
+pub(crate) fn lacks_dots(url: &UrlRef<'_>) -> bool
+    ensures { IsTrue result ↔ Meets condition.DotSegment url.now }
+{
+    match form_of(url) {
+        Form::Web | Form::Transport | Form::Scp => !has_dots(url.path),
+        Form::Local => true,
+    }
+}
+
+/// Whether a segment of the path is `.` or `..`.
+fn has_dots(path: &[u8]) -> bool
+    ensures { IsTrue result ↔ HasDots path.now }
+{
+    let mut rest = path;
+    while let Some((segment, behind)) = cut(rest, b'/') {
+        if is_dots(segment) {
+            return true;
+        }
+        rest = behind;
+    }
+    is_dots(rest)
+}
+
+/// Whether the segment is `.` or `..`.
+fn is_dots(segment: &[u8]) -> bool
+    ensures { IsTrue result ↔ IsDots segment.now }
+{
+    match segment {
+        [b'.'] | [b'.', b'.'] => true,
+        _ => false,
+    }
+}
+
+/// Whether a path in the scp form has a `/` between two bytes.
+pub(crate) fn has_scp_slash(url: &UrlRef<'_>) -> bool
+    ensures { IsTrue result ↔ Meets condition.ScpPath url.now }
+{
+    match form_of(url) {
+        Form::Scp => has_inner_slash(url.path),
+        Form::Web | Form::Transport | Form::Local => true,
+    }
+}
+
+/// Whether a `/` is in the path between two bytes.
+fn has_inner_slash(path: &[u8]) -> bool
+    ensures { IsTrue result ↔ HasInnerSlash path.now }
+{
+    match path {
+        [] => false,
+        [_, rest @ ..] => has_slash_before(rest),
+    }
+}
+
+/// Whether a byte follows a `/` of the text.
+fn has_slash_before(text: &[u8]) -> bool
+    ensures { IsTrue result ↔ HasSlashBefore text.now }
+{
+    match cut(text, b'/') {
+        None => false,
+        Some((_, behind)) => !behind.is_empty(),
+    }
+}
+
+/// Whether the local path is one that no reader takes for a host and a path.
+fn is_plain_local(path: &[u8]) -> bool
+    ensures { IsTrue result ↔ IsPlainLocal path.now }
+{
+    !has_slashes(path) && !is_root(path) && (starts_with_byte(path, b'/') || is_free_of(path, b'@'))
+}
+
+/// Whether the path is `/`.
+fn is_root(path: &[u8]) -> bool
+    ensures { IsTrue result ↔ (path.now ≡ codes "/") }
+{
+    matches!(path, [b'/'])
+}
+
+/// Whether `//` is in the path.
+fn has_slashes(path: &[u8]) -> bool
+    ensures { IsTrue result ↔ Holds slashes path.now }
+{
+    let mut rest = path;
+    while let Some((_, behind)) = cut(rest, b'/') {
+        if starts_with_byte(behind, b'/') {
+            return true;
+        }
+        rest = behind;
+    }
+    false
+}
