@@ -8,6 +8,7 @@ Its modules, each of which uses only those above it:
 
   octets, hosts, grammar               bytes and escapes; addresses, hosts and ports; which location a text spells
   writing, settled_class, git_class    the text of a location; whether it comes back; whether Git reads the same
+  unambiguous                          the texts that no reader is known to read otherwise
   records, fault_places                components and records; where a refused text is wrong, and for which reason
   errors, line_answers                 why a text is refused; the answers of `locations`
   laws, worked_rows, short_inputs      laws that all this has to meet; rows in a file; the stored run of `locations`
