@@ -46,10 +46,19 @@ number_rest c digits rest front behind other all free joined =
 
 -- ---- segments
 
+-- a text with a byte isn't empty
+pub no_cons : {b : ℕ} {x : List ℕ} → ¬ (b ∷ x ≡ [])
+no_cons e = absurd (omega (arith, ap length e))
+
 -- `.` and `..` are free of slashes
 pub dots_free : (segment : List ℕ) → IsDots segment → FreeOf slash segment
 dots_free segment (inl one) = subst (λ y. FreeOf slash y) (sym one) refl
 dots_free segment (inr two) = subst (λ y. FreeOf slash y) (sym two) refl
+
+-- nothing isn't such a segment
+pub no_empty_dots : ¬ IsDots []
+no_empty_dots (inl one) = no_cons (sym one)
+no_empty_dots (inr two) = no_cons (sym two)
 
 -- a segment behind a `/` is in the rest behind the first one
 later_dots : (segment rest front r : List ℕ) → FreeOf slash segment → segment ++ slash ∷ rest ≡ front ++ slash ∷ r → HasDots r → HasDots rest

@@ -16,6 +16,7 @@ use Rattle.git_syntax.specs.Bytes.{dot}
 use Rattle.git_syntax.specs.Addresses.{IsOctet}
 use Rattle.git_syntax.proofs.Addresses.AddressLemmas.{digits_pass}
 use Rattle.git_syntax.proofs.Texts.CutLemmas.{all_weaker}
+use Rattle.git_readers.proofs.PartLemmas.{no_cons}
 use Rattle.git_readers.specs.Unambiguous.{AreLabels, IsPlainHost, is_label_byte, is_path_byte, is_scp_byte, is_unreserved}
 
 -- ---- tests
@@ -42,18 +43,10 @@ digit_label b h = grind (arith, nat_tests)
 
 -- ---- texts
 
--- the text has a byte
-abbrev is_cons : List ℕ → Bool
-is_cons [] = false
-is_cons (b ∷ bs) = true
-
 -- a text with a byte in it isn't empty
-nonempty_cons : (b : ℕ) (x : List ℕ) → ¬ (b ∷ x ≡ [])
-nonempty_cons b x e = absurd (false≢true (sym (ap (λ t. is_cons t) e)))
-
 some_behind : (a : List ℕ) (b : ℕ) (x : List ℕ) → ¬ (a ++ b ∷ x ≡ [])
-some_behind [] b x e = nonempty_cons b x e
-some_behind (d ∷ a) b x e = nonempty_cons d (a ++ b ∷ x) e
+some_behind [] b x e = no_cons e
+some_behind (d ∷ a) b x e = no_cons e
 
 -- two texts of such bytes are one together
 pub all-append : (test : ℕ → Bool) (x y : List ℕ) → list_all test x ≡ true → list_all test y ≡ true → list_all test (x ++ y) ≡ true

@@ -19,14 +19,14 @@ use Rattle.git_laws.proofs.Writing.KeptLemmas.{flagged_text}
 use Rattle.git_laws.proofs.Writing.WrittenScpLemmas.{scp_value_of, scp_written}
 use Rattle.git_readers.specs.declared.unambiguous.Condition.TheVariants as condition
 use Rattle.git_readers.specs.Conditions.{HasScpSlash, IsUnambiguous, form_of}
-use Rattle.git_readers.specs.Readers.{LeavesPlain, Parts, Reader, ScpTest, UrlReader, UrlTest, at_colon, at_user, begins_mark, begins_port, cut, cut_first, ends_authority, from, front_of, front_or, has_port, has_slash, is_colon, is_no_digit, is_scp_cut, is_url, local_parts, own_parts, parts_of, reads, reads_prepared, reads_scp, reads_url, rest_or, scp_front, scp_host, scp_rest, scp_user, until}
+use Rattle.git_readers.specs.Readers.{LeavesPlain, Parts, Reader, ScpTest, UrlReader, UrlTest, at_colon, at_user, begins_mark, begins_port, cut, cut_first, ends_authority, from, front_of, front_or, has_port, has_slash, is_colon, is_no_digit, is_scp_cut, is_url, local_parts, own_parts, parts_of, path_in_text, reads, reads_prepared, reads_scp, reads_url, rest_or, scp_front, scp_host, scp_rest, scp_user, until}
 use Rattle.git_readers.specs.Readers.UrlTest.{anywhere, behind_scheme}
 use Rattle.git_readers.specs.Readers.ScpTest.{any_colon, before_slash, slash_behind}
 use Rattle.git_readers.specs.Unambiguous.{BeginsWithPort, HasDots, HasInnerSlash, IsPlainHost, IsPlainWord, is_odd_local, is_path_byte, is_scp_byte, is_unreserved}
 use Rattle.git_readers.proofs.PlainBytes.{all-append, host_plain, plain_path, port_plain, scp_path}
 use Rattle.git_readers.proofs.ReaderCuts.{cut_at, cut_first_at, cut_first_none, cut_none, from_cut, from_whole, mark_held, no_mark, no_mark_at, slashes_mark, until_cut, until_from}
-use Rattle.git_readers.proofs.ReaderTexts.{IsPlainUrl, path_meets, url_of, url_text}
-use Rattle.git_readers.proofs.ReaderUrls.{ArePlain, authority_of, parts_found, plain_information, place_text, with_at}
+use Rattle.git_readers.proofs.ReaderTexts.{IsPlainUrl, path_meets, url_of, url_path, url_text, users_plain}
+use Rattle.git_readers.proofs.ReaderUrls.{ArePlain, authority_of, parts_found, plain_information, place_text, with_at, plain_parts}
 
 -- ---- the bytes of a URL of plain parts
 
@@ -74,7 +74,7 @@ ends_lacked r leaves (b ∷ bs) plain free =
 
 url_all : (v : Location) → IsPlainUrl v → list_all is_path_byte (url_of v) ≡ true
 url_all v u =
-    all-append is_path_byte (scheme_text v.scheme) _ (plain_path (scheme_text v.scheme) u.plain) (all-append is_path_byte (authority_of v.user v.password v.host v.port) v.path (authority_all v.user v.password v.host v.port u.parts) u.path.bytes)
+    all-append is_path_byte (scheme_text v.scheme) _ (plain_path (scheme_text v.scheme) u.plain) (all-append is_path_byte (authority_of v.user v.password v.host v.port) (url_path v) (authority_all v.user v.password v.host v.port u.parts) u.path.bytes)
 
 -- ---- a URL
 
@@ -90,30 +90,34 @@ url_cut r leaves scheme authority path rest free plain no_slash rooted =
     let back = ap (λ t. from (ends_authority r) t) (after ∙ joined) ∙ from_cut (ends_authority r) authority slash rest lacked refl ∙ sym rooted in
     λ i. parts_of r (before i) (front i) (back i)
 
-url_found : (v : Location) → IsPlainUrl v → (r : UrlReader) → LeavesPlain r → reads_url r (url_of v) ≡ own_parts v
-url_found v u r leaves =
-    let (rest, rooted) = begins_cut slash v.path u.rooted in
+-- the parts of a URL are the location's own
+url_own : (v : Location) → v.flag ≡ false → plain_parts (scheme_text v.scheme) v.user v.password v.host v.port (url_path v) ≡ own_parts v
+url_own v unflagged = ap (λ b. plain_parts (scheme_text v.scheme) v.user v.password v.host v.port (path_in_text b v.path)) (sym unflagged)
+
+url_found : (v : Location) → v.flag ≡ false → IsPlainUrl v → (r : UrlReader) → LeavesPlain r → reads_url r (url_of v) ≡ own_parts v
+url_found v unflagged u r leaves =
+    let (rest, rooted) = begins_cut slash (url_path v) u.rooted in
     let prepared = ap (λ t. reads_prepared r t) (leaves.text (url_of v) (url_all v u)) in
-    let cuts = url_cut r leaves (scheme_text v.scheme) (authority_of v.user v.password v.host v.port) v.path rest (scheme_text_free (scheme_text v.scheme) colon u.scheme refl) (authority_all v.user v.password v.host v.port u.parts) (authority_free v.user v.password v.host v.port u.parts) rooted in
-    prepared ∙ cuts ∙ parts_found r leaves (scheme_text v.scheme) v.user v.password v.host v.port v.path u.parts u.path
+    let cuts = url_cut r leaves (scheme_text v.scheme) (authority_of v.user v.password v.host v.port) (url_path v) rest (scheme_text_free (scheme_text v.scheme) colon u.scheme refl) (authority_all v.user v.password v.host v.port u.parts) (authority_free v.user v.password v.host v.port u.parts) rooted in
+    prepared ∙ cuts ∙ parts_found r leaves (scheme_text v.scheme) v.user v.password v.host v.port (url_path v) u.parts u.path ∙ url_own v unflagged
 
 -- both tests take it for a URL
 url_told : (test : UrlTest) (v : Location) → IsPlainUrl v → is_url test (url_of v) ≡ true
-url_told anywhere v u = mark_held (scheme_text v.scheme) (authority_of v.user v.password v.host v.port ++ v.path)
+url_told anywhere v u = mark_held (scheme_text v.scheme) (authority_of v.user v.password v.host v.port ++ url_path v)
 url_told behind_scheme v u =
-    let behind = authority_of v.user v.password v.host v.port ++ v.path in
+    let behind = authority_of v.user v.password v.host v.port ++ url_path v in
     let free = scheme_text_free (scheme_text v.scheme) colon u.scheme refl in
     and_from _ _ (ap (λ t. is_scheme_text t) (until_cut is_colon (scheme_text v.scheme) colon (slash ∷ (slash ∷ behind)) free refl) ∙ u.scheme) (ap (λ t. begins_mark t) (from_cut is_colon (scheme_text v.scheme) colon (slash ∷ (slash ∷ behind)) free refl))
 
 pub urls_read : (v : Location) → IsValue v → IsUnambiguous v → v.flag ≡ false → (r : UrlReader) → LeavesPlain r → (t : List ℕ) → text v ≡ Ok t → reads_url r t ≡ own_parts v
 urls_read v is clear unflagged r leaves t written =
     let u = url_text v is clear unflagged in
-    ap (λ x. reads_url r x) (one_text written u.written) ∙ url_found v u r leaves
+    ap (λ x. reads_url r x) (one_text written u.written) ∙ url_found v unflagged u r leaves
 
 pub url_by_all : (v : Location) → IsValue v → IsUnambiguous v → v.flag ≡ false → (r : Reader) → LeavesPlain r.url → (t : List ℕ) → text v ≡ Ok t → reads r t ≡ own_parts v
 url_by_all v is clear unflagged r leaves t written =
     let u = url_text v is clear unflagged in
-    ap (λ x. reads r x) (one_text written u.written) ∙ cond-true _ _ _ (url_told r.url_test v u) ∙ url_found v u r.url leaves
+    ap (λ x. reads r x) (one_text written u.written) ∙ cond-true _ _ _ (url_told r.url_test v u) ∙ url_found v unflagged u r.url leaves
 
 -- ---- digits behind a colon
 
@@ -316,7 +320,7 @@ scp_read r leaves user host path t =
 scp_text_of : (v : Location) (host : List ℕ) → v.scheme ≡ ssh → v.flag ≡ true → IsUnambiguous v → v.host ≡ Some host → IsSettledScp v → IsScpText v.user host v.path
 scp_text_of v host e flagged clear there s =
     let path = path_meets v clear ssh true e flagged in record {
-      named = clear condition.User;
+      named = users_plain v.user (clear condition.User);
       place = subst (λ o. IfSome o IsPlainHost) there (clear condition.Host);
       bytes = path.bytes;
       no_port = path.start;
@@ -332,15 +336,15 @@ scp_text_written v host e s there plain =
     ap (λ l. text l) (scp_value_of v host e s there) ∙ scp_written v.user host v.path v.spelling ∙ ap Ok (raw ∙ sym (append_assoc (raw_user v.user) host (colon ∷ v.path)))
 
 -- its own parts
-scp_own : (v : Location) (host : List ℕ) → v.scheme ≡ ssh → v.host ≡ Some host → v.password ≡ None → v.port ≡ None → scp_parts v.user host v.path ≡ own_parts v
-scp_own v host e there no_password no_port =
-    λ i. record { scheme = scheme_text (sym e i); user = v.user; password = sym no_password i; host = sym there i; port = option_map decimal (sym no_port i); path = v.path }
+scp_own : (v : Location) (host : List ℕ) → v.scheme ≡ ssh → v.flag ≡ true → v.host ≡ Some host → v.password ≡ None → v.port ≡ None → scp_parts v.user host v.path ≡ own_parts v
+scp_own v host e flagged there no_password no_port =
+    λ i. record { scheme = scheme_text (sym e i); user = v.user; password = sym no_password i; host = sym there i; port = option_map decimal (sym no_port i); path = path_in_text (sym flagged i) v.path }
 
 scp_by_all : (v : Location) → v.scheme ≡ ssh → v.flag ≡ true → IsUnambiguous v → IsSettledScp v → (r : Reader) → LeavesPlain r.url → (t : List ℕ) → text v ≡ Ok t → reads r t ≡ own_parts v
 scp_by_all v e flagged clear s r leaves t written =
     let (host, there, kind, other) = s.host in
     let found = scp_text_of v host e flagged clear there s in
-    ap (λ x. reads r x) (one_text written (scp_text_written v host e s there found.place)) ∙ scp_read r leaves v.user host v.path found ∙ scp_own v host e there s.no_password s.no_port
+    ap (λ x. reads r x) (one_text written (scp_text_written v host e s there found.place)) ∙ scp_read r leaves v.user host v.path found ∙ scp_own v host e flagged there s.no_password s.no_port
 
 -- ---- a local path
 
@@ -351,7 +355,7 @@ local_untold behind_scheme t free = and_right (is_scheme_text (until is_colon t)
 
 local_own : (v : Location) → v.scheme ≡ file → IsSettledLocal v → local_parts v.path ≡ own_parts v
 local_own v e h =
-    λ i. record { scheme = scheme_text (sym e i); user = sym h.bare.1.0 i; password = sym h.bare.1.1 i; host = sym h.bare.2 i; port = option_map decimal (sym h.bare.1.2 i); path = v.path }
+    λ i. record { scheme = scheme_text (sym e i); user = sym h.bare.1.0 i; password = sym h.bare.1.1 i; host = sym h.bare.2 i; port = option_map decimal (sym h.bare.1.2 i); path = path_in_text (sym h.bare.0 i) v.path }
 
 local_by_all : (v : Location) → v.scheme ≡ file → v.flag ≡ true → IsUnambiguous v → IsSettledLocal v → (r : Reader) → (t : List ℕ) → text v ≡ Ok t → reads r t ≡ own_parts v
 local_by_all v e flagged clear h r t written =

@@ -1,18 +1,18 @@
 -- The texts of URLs of the class: plain parts, each as it is.
-use Rattle.std.proofs.Common.{◌≡◌, ◌∙◌, ◌<◌, ℕ, Bool, true, false, not, ◌&&◌, List, [], ◌∷◌, ◌++◌, Option, Some, None, IfSome, IsSome, Ok, if◌then◌else◌, unwrap_or, codes, length, inl, inr, refl, sym, ap, subst, arith, append_assoc}
+use Rattle.std.proofs.Common.{◌≡◌, ◌∙◌, ◌<◌, ℕ, Bool, true, false, not, ◌&&◌, List, [], ◌∷◌, ◌++◌, Option, Some, None, IfSome, IsSome, Ok, if◌then◌else◌, unwrap_or, codes, length, inl, inr, refl, sym, ap, subst, arith, append_assoc, ⊎_elim, ◌==◌}
 use Rattle.std.specs.List.{list_all}
 use Rattle.std.proofs.lemmas.Bool.Decides.{nat_tests}
-use Rattle.std.proofs.lemmas.Bool.{cond-false, and_left, false≢true, both_ways}
+use Rattle.std.proofs.lemmas.Bool.{cond-true, cond-false, and_left, false≢true, both_ways}
 use Rattle.percent_encoding.specs.Percent.{percent_encode}
 use Rattle.git_syntax.specs.Location.{Scheme, Location}
 use Rattle.git_syntax.specs.Location.Scheme.{file, git, ssh, http, https, ext, helper, helper_url}
-use Rattle.git_syntax.specs.Bytes.{slash, colon, at_sign, begins_by, begins_with, is_path_start, is_scheme_text}
+use Rattle.git_syntax.specs.Bytes.{slash, colon, at_sign, begins_by, begins_with, is_path_start, is_scheme_text, tilde}
 use Rattle.git_syntax.specs.Escapes.{matches, password_set, user_set}
 use Rattle.git_syntax.specs.Schemes.{requires_path, scheme_text}
 use Rattle.git_syntax.specs.AddressTest.{is_ipv6_text}
 use Rattle.git_syntax.proofs.Texts.CutLemmas.{free_of_all}
-use Rattle.git_location.specs.Text.{canonical_path, canonical_text, host_part, keeps_host, matching_or, needs_brackets, plain_path, port_part, text, user_information}
-use Rattle.git_location.specs.Settled.{HasCredentials, IsHosted, IsSettledBy, IsSettledFile, IsSettledGit, IsSettledSecure, IsSettledUrl, IsValue, IsWeb}
+use Rattle.git_location.specs.Text.{canonical_path, canonical_text, host_part, keeps_host, needs_brackets, plain_path, port_part, text, user_information, root_part}
+use Rattle.git_location.specs.Settled.{HasCredentials, IsHosted, IsSettledBy, IsSettledFile, IsSettledGit, IsSettledSecure, IsSettledUrl, IsValue, IsWeb, IsTransportPath}
 use Rattle.git_location.specs.GitClass.{AgreesBy, SuitsTransport}
 use Rattle.git_location.specs.WebClass.{AgreesOverWeb}
 use Rattle.git_location.proofs.SettledClass.SettledLemmas.{settled_as_web}
@@ -24,7 +24,9 @@ use Rattle.git_readers.specs.declared.unambiguous.Condition.TheVariants as condi
 use Rattle.git_readers.specs.Conditions.{BeginsPlainly, HasPlainBytes, IsUnambiguous, LacksDots, form_of}
 use Rattle.git_readers.specs.declared.unambiguous.Form.{Form}
 use Rattle.git_readers.specs.declared.unambiguous.Form.TheVariants as form
-use Rattle.git_readers.specs.Unambiguous.{HasDots, IsPlainHost, IsPlainWord, is_path_byte, is_unreserved}
+use Rattle.git_readers.specs.Readers.{path_in_text}
+use Rattle.git_readers.specs.Unambiguous.{HasDots, IsPlainHost, IsPlainUser, IsPlainWord, is_path_byte, is_unreserved}
+use Rattle.git_readers.proofs.PartLemmas.{dots_cut, no_empty_dots}
 use Rattle.git_readers.proofs.PlainBytes.{host_plain, password_kept, path_kept, user_kept}
 use Rattle.git_readers.proofs.ReaderUrls.{ArePlain, IsPlainPath, authority_of, plain_information, with_at}
 
@@ -65,24 +67,75 @@ no_root : (needs : Bool) (path : List ℕ) → begins_with slash path ≡ true �
 no_root false path rooted = refl
 no_root true path rooted = rw rooted refl
 
-path_written : (v : Location) → matches v.spelling v.path ≡ false → list_all is_path_byte v.path ≡ true → begins_with slash v.path ≡ true → canonical_path v ≡ v.path
-path_written v none plain rooted =
-    ap (λ x. x ++ matching_or v.spelling v.path (plain_path v.scheme v.path)) (no_root (requires_path v.scheme) v.path rooted) ∙ unmatched v.spelling v.path (plain_path v.scheme v.path) none ∙ plainly v.scheme v.path plain
+-- a `/` is written before a path below a home folder
+a_root : (needs : Bool) (path : List ℕ) → needs ≡ true → begins_with slash path ≡ false → (if needs && not (begins_with slash path) then slash ∷ [] else []) ≡ slash ∷ []
+a_root needs path needed other = rw (needed, other) refl
+
+-- a path that begins with one byte begins with no other
+other_begins : (a b : ℕ) (path : List ℕ) → (a == b) ≡ false → begins_with a path ≡ true → begins_with b path ≡ false
+other_begins a b [] apart begins = refl
+other_begins a b (c ∷ path) apart begins = grind (arith, nat_tests)
+
+-- the path as it is in the text of a URL
+abbrev pub url_path : Location → List ℕ
+url_path v = path_in_text false v.path
+
+-- a path in the text of a URL: rooted, of plain bytes, without dots
+pub record IsWrittenPath (v : Location) : Type 0 where
+  pub written : canonical_path v ≡ url_path v
+  pub rooted : begins_with slash (url_path v) ≡ true
+  pub plain : IsPlainPath (url_path v)
+
+path_written : (v : Location) → matches v.spelling v.path ≡ false → list_all is_path_byte v.path ≡ true → canonical_path v ≡ root_part v ++ v.path
+path_written v none plain =
+    ap (λ x. root_part v ++ x) (unmatched v.spelling v.path (plain_path v.scheme v.path) none ∙ plainly v.scheme v.path plain)
+
+-- a rooted path is written as it is
+rooted_written : (v : Location) → matches v.spelling v.path ≡ false → list_all is_path_byte v.path ≡ true → ¬ HasDots v.path → begins_with slash v.path ≡ true → IsWrittenPath v
+rooted_written v none plain no_dots rooted =
+    let same : url_path v ≡ v.path = cond-false _ _ _ (other_begins slash tilde v.path refl rooted) in record {
+      written = path_written v none plain ∙ ap (λ x. x ++ v.path) (no_root (requires_path v.scheme) v.path rooted) ∙ sym same;
+      rooted = ap (λ x. begins_with slash x) same ∙ rooted;
+      plain = subst IsPlainPath (sym same) record { bytes = plain; no_dots = no_dots };
+    }
+
+-- no segment is `.` or `..` where a `/` is before the path
+no_dots_behind : (path : List ℕ) → ¬ HasDots path → ¬ HasDots (slash ∷ path)
+no_dots_behind path none has = ⊎_elim (λ dots. no_empty_dots dots) none (dots_cut (slash ∷ path) [] path refl refl has)
+
+-- a path below a home folder is written with a `/` before it
+home_written : (v : Location) → matches v.spelling v.path ≡ false → list_all is_path_byte v.path ≡ true → ¬ HasDots v.path → begins_with tilde v.path ≡ true → requires_path v.scheme ≡ true → IsWrittenPath v
+home_written v none plain no_dots home needed =
+    let same : url_path v ≡ slash ∷ v.path = cond-true _ _ _ home in record {
+      written = path_written v none plain ∙ ap (λ x. x ++ v.path) (a_root (requires_path v.scheme) v.path needed (other_begins tilde slash v.path refl home)) ∙ sym same;
+      rooted = ap (λ x. begins_with slash x) same;
+      plain = subst IsPlainPath (sym same) record { bytes = plain; no_dots = no_dots_behind v.path no_dots };
+    }
+
+-- a path of Git's transports is either
+transport_written : (v : Location) → matches v.spelling v.path ≡ false → list_all is_path_byte v.path ≡ true → ¬ HasDots v.path → IsTransportPath v → requires_path v.scheme ≡ true → IsWrittenPath v
+transport_written v none plain no_dots (inl rooted) needed = rooted_written v none plain no_dots rooted.0
+transport_written v none plain no_dots (inr home) needed = home_written v none plain no_dots home.0 needed
 
 -- ---- the text
 
 -- the text of a URL of plain parts
 abbrev pub url_of : Location → List ℕ
-url_of v = scheme_text v.scheme ++ (codes "://" ++ (authority_of v.user v.password v.host v.port ++ v.path))
+url_of v = scheme_text v.scheme ++ (codes "://" ++ (authority_of v.user v.password v.host v.port ++ url_path v))
 
 -- the location is written as such a URL
 pub record IsPlainUrl (v : Location) : Type 0 where
   pub written : text v ≡ Ok (url_of v)
   pub parts : ArePlain v.user v.password v.host v.port
-  pub path : IsPlainPath v.path
-  pub rooted : begins_with slash v.path ≡ true
+  pub path : IsPlainPath (url_path v)
+  pub rooted : begins_with slash (url_path v) ≡ true
   pub scheme : is_scheme_text (scheme_text v.scheme) ≡ true
   pub plain : list_all is_unreserved (scheme_text v.scheme) ≡ true
+
+-- a plain user is a plain word
+pub users_plain : (user : Option (List ℕ)) → IfSome user IsPlainUser → IfSome user IsPlainWord
+users_plain None plain = tt
+users_plain (Some u) plain = plain.word
 
 -- a password comes with a user
 with_user : (password user : Option (List ℕ)) → IfSome password (λ p. (0 < length p) × IsSome user) → IsSome password → IsSome user
@@ -92,7 +145,7 @@ with_user (Some p) user h there = h.1
 -- what the parts of a settled URL owe to each other
 parts_plain : (v : Location) → IsValue v → IsUnambiguous v → HasCredentials v → IsHosted v → ArePlain v.user v.password v.host v.port
 parts_plain v is clear credentials hosted = record {
-  user = clear condition.User;
+  user = users_plain v.user (clear condition.User);
   password = clear condition.Password;
   host = clear condition.Host;
   port = is.port;
@@ -101,21 +154,20 @@ parts_plain v is clear credentials hosted = record {
 }
 
 -- the text of a URL of plain parts is the text of a URL
-canonical_plain : (v : Location) → IsUnambiguous v → list_all is_path_byte v.path ≡ true → begins_with slash v.path ≡ true → canonical_text v ≡ url_of v
-canonical_plain v clear plain rooted =
-    let information = information_written v.user v.password (clear condition.User) (clear condition.Password) in
+canonical_plain : (v : Location) → IsUnambiguous v → canonical_path v ≡ url_path v → canonical_text v ≡ url_of v
+canonical_plain v clear path =
+    let information = information_written v.user v.password (users_plain v.user (clear condition.User)) (clear condition.Password) in
     let host = host_written v v.host (clear condition.Host) in
-    let path = path_written v (clear condition.Escapes) plain rooted in
     let front = ap (λ x. x ++ (host_part v v.host ++ port_part v.port)) information ∙ ap (λ x. with_at (plain_information v.user v.password) ++ (x ++ port_part v.port)) host in
     canonical_cut v ∙ ap (λ x. scheme_text v.scheme ++ (codes "://" ++ (x ++ canonical_path v))) front ∙ ap (λ x. scheme_text v.scheme ++ (codes "://" ++ (authority_of v.user v.password v.host v.port ++ x))) path
 
 -- a settled URL without the flag, with a plain path, is one of plain parts
-plain_url : (v : Location) → IsValue v → IsUnambiguous v → IsSettledUrl v → text v ≡ Ok (canonical_text v) → list_all is_path_byte v.path ≡ true → ¬ HasDots v.path → begins_with slash v.path ≡ true → is_scheme_text (scheme_text v.scheme) ≡ true → list_all is_unreserved (scheme_text v.scheme) ≡ true → IsPlainUrl v
-plain_url v is clear common written bytes no_dots rooted scheme plain = record {
-  written = written ∙ ap Ok (canonical_plain v clear bytes rooted);
+plain_url : (v : Location) → IsValue v → IsUnambiguous v → IsSettledUrl v → text v ≡ Ok (canonical_text v) → IsWrittenPath v → is_scheme_text (scheme_text v.scheme) ≡ true → list_all is_unreserved (scheme_text v.scheme) ≡ true → IsPlainUrl v
+plain_url v is clear common written path scheme plain = record {
+  written = written ∙ ap Ok (canonical_plain v clear path.written);
   parts = parts_plain v is clear common.credentials common.hosted;
-  path = record { bytes = bytes; no_dots = no_dots };
-  rooted = rooted;
+  path = path.plain;
+  rooted = path.rooted;
   scheme = scheme;
   plain = plain;
 }
@@ -142,38 +194,39 @@ web_rooted (b ∷ bs) start plain = grind (arith, nat_tests)
 web_url : (v : Location) → IsWeb v → IsValue v → AgreesOverWeb v → IsUnambiguous v → v.flag ≡ false → PathMeets v form.Web → is_scheme_text (scheme_text v.scheme) ≡ true → list_all is_unreserved (scheme_text v.scheme) ≡ true → IsPlainUrl v
 web_url v web is a clear unflagged path scheme plain =
     let w = settled_as_web v web a.settled in
-    plain_url v is clear w.common ((written_web v web).canonical unflagged w.common.hosted) path.bytes path.dots (web_rooted v.path w.path path.bytes) scheme plain
+    plain_url v is clear w.common ((written_web v web).canonical unflagged w.common.hosted) (rooted_written v (clear condition.Escapes) path.bytes path.dots (web_rooted v.path w.path path.bytes)) scheme plain
 
 -- of Secure Shell
 secure_url : (v : Location) → v.scheme ≡ ssh → IsValue v → IsSettledSecure v → IsUnambiguous v → v.flag ≡ false → PathMeets v form.Transport → IsPlainUrl v
 secure_url v e is h clear unflagged path =
-    plain_url v is clear h.url.common ((written_secure v e h.path).canonical unflagged h.url.common.hosted) path.bytes path.dots path.start.0 (subst (λ s. is_scheme_text (scheme_text s) ≡ true) (sym e) refl) (subst (λ s. list_all is_unreserved (scheme_text s) ≡ true) (sym e) refl)
+    plain_url v is clear h.url.common ((written_secure v e h.path).canonical unflagged h.url.common.hosted) (transport_written v (clear condition.Escapes) path.bytes path.dots h.path (subst (λ s. requires_path s ≡ true) (sym e) refl)) (subst (λ s. is_scheme_text (scheme_text s) ≡ true) (sym e) refl) (subst (λ s. list_all is_unreserved (scheme_text s) ≡ true) (sym e) refl)
 
 -- of Git's own protocol
 git_url : (v : Location) → v.scheme ≡ git → IsValue v → IsSettledGit v → IsUnambiguous v → v.flag ≡ false → PathMeets v form.Transport → IsPlainUrl v
 git_url v e is h clear unflagged path =
-    plain_url v is clear h.url.common ((written_git v e).canonical unflagged h.url.common.hosted) path.bytes path.dots path.start.0 (subst (λ s. is_scheme_text (scheme_text s) ≡ true) (sym e) refl) (subst (λ s. list_all is_unreserved (scheme_text s) ≡ true) (sym e) refl)
+    plain_url v is clear h.url.common ((written_git v e).canonical unflagged h.url.common.hosted) (transport_written v (clear condition.Escapes) path.bytes path.dots h.path (subst (λ s. requires_path s ≡ true) (sym e) refl)) (subst (λ s. is_scheme_text (scheme_text s) ≡ true) (sym e) refl) (subst (λ s. list_all is_unreserved (scheme_text s) ≡ true) (sym e) refl)
 
 -- of a file, which has neither user nor host nor port
-file_of : (v : Location) → v.user ≡ None → v.password ≡ None → v.host ≡ None → v.port ≡ None → v.scheme ≡ file → codes "file://" ++ v.path ≡ url_of v
-file_of v user password host port e = λ i. scheme_text (sym e i) ++ (codes "://" ++ (authority_of (sym user i) (sym password i) (sym host i) (sym port i) ++ v.path))
+file_of : (v : Location) → v.user ≡ None → v.password ≡ None → v.host ≡ None → v.port ≡ None → v.scheme ≡ file → v.path ≡ url_path v → codes "file://" ++ v.path ≡ url_of v
+file_of v user password host port e path = λ i. scheme_text (sym e i) ++ (codes "://" ++ (authority_of (sym user i) (sym password i) (sym host i) (sym port i) ++ path i))
 
 file_url : (v : Location) → v.scheme ≡ file → v.host ≡ None → IsSettledFile v → PathMeets v form.Transport → IsValue v → IsUnambiguous v → IsPlainUrl v
-file_url v e none h path is clear = record {
-  written = hostless_text v e h none ∙ ap Ok (file_of v h.alone.0 h.alone.1 none h.alone.2 e);
-  parts = record {
-    user = clear condition.User;
-    password = clear condition.Password;
-    host = clear condition.Host;
-    port = is.port;
-    with_user = λ there. absurd (false≢true (subst IsSome h.alone.1 there));
-    port_hosted = λ there. absurd (false≢true (subst IsSome h.alone.2 there));
-  };
-  path = record { bytes = path.bytes; no_dots = path.dots };
-  rooted = path.start.0;
-  scheme = subst (λ s. is_scheme_text (scheme_text s) ≡ true) (sym e) refl;
-  plain = subst (λ s. list_all is_unreserved (scheme_text s) ≡ true) (sym e) refl;
-}
+file_url v e none h path is clear =
+    let same : url_path v ≡ v.path = cond-false _ _ _ (other_begins slash tilde v.path refl h.rooted) in record {
+      written = hostless_text v e h none ∙ ap Ok (file_of v h.alone.0 h.alone.1 none h.alone.2 e (sym same));
+      parts = record {
+        user = users_plain v.user (clear condition.User);
+        password = clear condition.Password;
+        host = clear condition.Host;
+        port = is.port;
+        with_user = λ there. absurd (false≢true (subst IsSome h.alone.1 there));
+        port_hosted = λ there. absurd (false≢true (subst IsSome h.alone.2 there));
+      };
+      path = subst IsPlainPath (sym same) record { bytes = path.bytes; no_dots = path.dots };
+      rooted = ap (λ x. begins_with slash x) same ∙ h.rooted;
+      scheme = subst (λ s. is_scheme_text (scheme_text s) ≡ true) (sym e) refl;
+      plain = subst (λ s. list_all is_unreserved (scheme_text s) ≡ true) (sym e) refl;
+    }
 
 -- ---- every scheme
 

@@ -3,15 +3,15 @@ use Rattle.std.specs.Prelude.{◌≡◌, ℕ, ◌<◌, Bool, true, false, List, 
 use Rattle.std.specs.List.{list_all}
 use Rattle.git_syntax.specs.Location.{Scheme, Location}
 use Rattle.git_syntax.specs.Location.Scheme.{file, ssh, http, https}
-use Rattle.git_syntax.specs.Bytes.{slash, Lacks, begins_with}
+use Rattle.git_syntax.specs.Bytes.{Lacks}
 use Rattle.git_syntax.specs.Escapes.{matches}
 use Rattle.git_location.specs.Settled.{begins_with_slashes}
-use Rattle.git_location.specs.GitClass.{AgreesWithGit}
+use Rattle.git_location.specs.GitClass.{AgreesWithGit, is_tilde_second}
 use Rattle.git_readers.specs.declared.unambiguous.Condition.{Condition}
 use Rattle.git_readers.specs.declared.unambiguous.Form.{Form}
 use Rattle.git_readers.specs.declared.unambiguous.Form.TheVariants.{Web, Transport, Scp, Local}
 use Rattle.git_readers.specs.declared.unambiguous.Condition.TheVariants as condition
-use Rattle.git_readers.specs.Unambiguous.{BeginsWithPort, HasInnerSlash, HasDots, IsPlainHost, IsPlainLocal, IsPlainScpHost, IsPlainWord, begins_oddly, is_odd_local, is_path_byte, is_scp_byte}
+use Rattle.git_readers.specs.Unambiguous.{BeginsWithPort, HasInnerSlash, HasDots, IsPlainHost, IsPlainLocal, IsPlainScpHost, IsPlainUser, IsPlainWord, behind_slash, is_odd_local, is_odd_start, is_path_byte, is_scp_byte}
 
 -- the form of a location, by its scheme and the flag of the form that is no URL
 abbrev pub form_of : Scheme → Bool → Form
@@ -34,8 +34,8 @@ HasPlainBytes _ path = list_all is_path_byte path ≡ true
 -- the path is laid out in a way that no reader changes
 abbrev pub BeginsPlainly : Form → List ℕ → Type 0
 BeginsPlainly Web path = begins_with_slashes path ≡ false
-BeginsPlainly Transport path = (begins_with slash path ≡ true) × (begins_with_slashes path ≡ false)
-    × (begins_oddly path ≡ false)
+BeginsPlainly Transport path = (begins_with_slashes path ≡ false) × (is_tilde_second path ≡ false)
+    × (is_odd_start (behind_slash path) ≡ false)
 BeginsPlainly Scp path = ¬ BeginsWithPort path
 BeginsPlainly Local path = IsPlainLocal path
 
@@ -59,7 +59,7 @@ abbrev pub Meets : Condition → Location → Type 0
 Meets condition.Git v = AgreesWithGit v
 Meets condition.Escapes v = matches v.spelling v.path ≡ false
 Meets condition.Host v = IfSome v.host IsPlainHost
-Meets condition.User v = IfSome v.user IsPlainWord
+Meets condition.User v = IfSome v.user IsPlainUser
 Meets condition.Password v = IfSome v.password IsPlainWord
 Meets condition.Port v = ¬ (v.port ≡ Some 0)
 Meets condition.PathBytes v = HasPlainBytes (form v) v.path

@@ -4,7 +4,7 @@ use Rattle.std.specs.Prelude.{◌≡◌, ℕ, Bool, true, false, not, ◌&&◌, 
 use Rattle.std.specs.List.{list_all, list_any}
 use Rattle.std.specs.Char.{is_ascii_digit}
 use Rattle.git_syntax.specs.Location.{Location}
-use Rattle.git_syntax.specs.Bytes.{slash, colon, at_sign, begins_by, begins_with, is_scheme_text}
+use Rattle.git_syntax.specs.Bytes.{slash, colon, at_sign, tilde, begins_by, begins_with, is_scheme_text}
 use Rattle.git_syntax.specs.Authority.{unless_empty}
 use Rattle.git_syntax.specs.Schemes.{scheme_text}
 use Rattle.git_readers.specs.Unambiguous.{HasDots, IsPlainHost, is_path_byte, is_unreserved}
@@ -82,6 +82,11 @@ pub record Parts : Type 0 where
   pub port : Option (List ℕ)
   pub path : List ℕ
 
+-- the path as it is in the text: in a URL a `/` is before the `~` of a home folder
+abbrev pub path_in_text : Bool → List ℕ → List ℕ
+path_in_text true path = path
+path_in_text false path = if begins_with tilde path then slash ∷ path else path
+
 -- the location's own parts
 abbrev pub own_parts : Location → Parts
 own_parts v = record {
@@ -90,7 +95,7 @@ own_parts v = record {
   password = v.password;
   host = v.host;
   port = option_map decimal v.port;
-  path = v.path;
+  path = path_in_text v.flag v.path;
 }
 
 -- ---- URLs

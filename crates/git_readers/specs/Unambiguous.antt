@@ -1,9 +1,9 @@
 -- The texts that nobody misreads: hosts, user information and paths in which no reader that was asked finds
 -- anything else than what is written.
-use Rattle.std.specs.Prelude.{◌≡◌, ℕ, ◌<◌, ◌≤◌, Bool, true, false, ◌||◌, ◌==◌, ◌⊎◌, List, [], ◌∷◌, ◌++◌, length, codes, bytes_eq, Option, None}
+use Rattle.std.specs.Prelude.{◌≡◌, ℕ, ◌<◌, ◌≤◌, Bool, true, false, ◌||◌, ◌==◌, ◌⊎◌, List, [], ◌∷◌, ◌++◌, length, codes, bytes_eq, Option, None, if◌then◌else◌}
 use Rattle.std.specs.List.{list_all}
 use Rattle.std.specs.Char.{is_ascii_alphanumeric, is_ascii_lowercase, is_ascii_digit}
-use Rattle.git_syntax.specs.Bytes.{hyphen, dot, slash, colon, at_sign, backslash, tilde, FreeOf, Holds, begins_by, begins_with, is_one_of}
+use Rattle.git_syntax.specs.Bytes.{hyphen, dot, slash, colon, at_sign, backslash, FreeOf, Holds, begins_by, begins_with, is_one_of, is_option_like}
 use Rattle.git_syntax.specs.Schemes.{is_ftp, is_known_scheme}
 use Rattle.git_syntax.specs.Addresses.{IsIpv4Text}
 use Rattle.git_location.specs.WebClass.{is_control}
@@ -67,6 +67,11 @@ pub record IsPlainWord (word : List ℕ) : Type 0 where
   pub nonempty : begins_by is_unreserved word ≡ true
   pub bytes : list_all is_unreserved word ≡ true
 
+-- a user of such bytes that isn't taken for an option
+pub record IsPlainUser (user : List ℕ) : Type 0 where
+  pub word : IsPlainWord user
+  pub no_option : is_option_like user ≡ false
+
 -- ---- paths
 
 -- a byte of the path of a URL that no reader escapes, decodes or ends the path at
@@ -81,12 +86,15 @@ is_scp_byte b = is_ascii_alphanumeric b || is_one_of (codes "-._~+,=/") b
 abbrev pub is_odd_local : ℕ → Bool
 is_odd_local b = is_control b || (b == colon || b == backslash)
 
--- the path begins by `/~`, by `/-`, or by `/`, a byte and `:`, which readers of Secure Shell, of `git://` and
--- of files change
-abbrev pub begins_oddly : List ℕ → Bool
-begins_oddly [] = false
-begins_oddly (a ∷ []) = false
-begins_oddly (a ∷ b ∷ rest) = b == tilde || (b == hyphen || begins_with colon rest)
+-- the path without a `/` at its front
+abbrev pub behind_slash : List ℕ → List ℕ
+behind_slash [] = []
+behind_slash (b ∷ rest) = if b == slash then rest else b ∷ rest
+
+-- `-`, or a byte and `:`, which readers of Secure Shell, of `git://` and of files take for an option or a drive
+abbrev pub is_odd_start : List ℕ → Bool
+is_odd_start [] = false
+is_odd_start (b ∷ rest) = b == hyphen || begins_with colon rest
 
 -- a segment that readers remove: `.` or `..`
 abbrev pub IsDots : List ℕ → Type 0

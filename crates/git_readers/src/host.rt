@@ -14,7 +14,7 @@ ghost use Rattle.git_readers.specs.declared.unambiguous.Condition.TheVariants as
 
 use crate::unambiguous::{Form, form_of};
 use git_location::url_ref::UrlRef;
-use git_syntax::bytes::{before, cut};
+use git_syntax::bytes::{before, cut, starts_with_byte};
 use git_syntax::ipv6::is_dotted;
 use git_syntax::scheme::{is_ftp, is_known_scheme};
 
@@ -160,7 +160,7 @@ pub(crate) fn has_plain_user(url: &UrlRef<'_>) -> bool
 {
     match url.user {
         None => true,
-        Some(user) => is_plain_word(user.as_bytes()),
+        Some(user) => is_plain_word(user.as_bytes()) && !starts_with_byte(user.as_bytes(), b'-'),
     }
 }
 

@@ -5,6 +5,7 @@
 
 ghost use Rattle.std.specs.Prelude.{◌≡◌, ◌↔◌, IsTrue, codes};
 ghost use Rattle.std.specs.List.{list_all, list_any};
+ghost use Rattle.git_location.specs.GitClass.{is_tilde_second};
 ghost use Rattle.git_location.specs.Settled.{begins_with_slashes};
 ghost use Rattle.git_syntax.specs.Bytes.{Holds};
 ghost use Rattle.git_readers.specs.Conditions.{BeginsPlainly, Meets};
@@ -84,11 +85,12 @@ pub(crate) fn begins_plainly(url: &UrlRef<'_>) -> bool
     }
 }
 
-/// Whether the path of a transport begins with `/`, and not with `//`, `/~`, `/-` or `/x:`.
+/// Whether the path of a transport doesn't begin with `//`, `/~~`, `/-` or `/x:` in the text; that of a file doesn't
+/// begin with `/~` either.
 fn begins_as_transport(path: &[u8]) -> bool
     ensures { IsTrue result ↔ BeginsPlainly form.Transport path.now }
 {
-    starts_with_byte(path, b'/') && !begins_with_slashes(path) && !begins_oddly(path)
+    !begins_with_slashes(path) && !is_tilde_second(path) && !is_odd_start(behind_slash(path))
 }
 
 /// Whether the text begins with `//`.
@@ -101,15 +103,33 @@ fn begins_with_slashes(text: &[u8]) -> bool
     }
 }
 
-/// Whether the second byte is `~` or `-`, or the third is `:`.
-fn begins_oddly(path: &[u8]) -> bool
-    ensures { result ≡ byte.begins_oddly path.now }
+/// Whether the second byte is `~`.
+fn is_tilde_second(text: &[u8]) -> bool
+    ensures { result ≡ is_tilde_second text.now }
+{
+    match text {
+        [_, second, ..] => *second == b'~',
+        _ => false,
+    }
+}
+
+/// The path without a `/` at its front.
+fn behind_slash(path: &[u8]) -> &[u8]
+    ensures { result.now ≡ byte.behind_slash path.now }
 {
     match path {
-        [_, second, rest @ ..] => {
-            *second == b'~' || *second == b'-' || starts_with_byte(rest, b':')
-        }
-        _ => false,
+        [b'/', rest @ ..] => rest,
+        _ => path,
+    }
+}
+
+/// Whether the text begins with `-`, or with a byte and `:`.
+fn is_odd_start(text: &[u8]) -> bool
+    ensures { result ≡ byte.is_odd_start text.now }
+{
+    match text {
+        [] => false,
+        [first, rest @ ..] => *first == b'-' || starts_with_byte(rest, b':'),
     }
 }
 

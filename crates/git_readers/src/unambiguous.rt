@@ -26,7 +26,7 @@ pub enum Condition {
     /// and inner `-`, of which none begins with `xn--` and the last begins with a letter. Of the first two labels
     /// one has another byte than digits.
     Host,
-    /// The user is of letters, digits, `-`, `.`, `_` and `~`.
+    /// The user is of letters, digits, `-`, `.`, `_` and `~`, and doesn't begin with `-`.
     User,
     /// The password is of letters, digits, `-`, `.`, `_` and `~`.
     Password,
@@ -35,8 +35,8 @@ pub enum Condition {
     /// The path is of letters, digits and a few marks, of which a path in the scp form has fewer. A local path is
     /// any text without control characters, `:` and `\`.
     PathBytes,
-    /// The path of a URL doesn't begin with `//`. That of Secure Shell, of `git://` and of a file begins with `/`
-    /// besides, and not with `/~`, `/-` or `/x:`; that of the scp form doesn't begin with digits and `/`. A local
+    /// The path of a URL doesn't begin with `//`; that of Secure Shell, of `git://` and of a file is written neither
+    /// with `/~~`, `/-` nor `/x:` at its front, and that of a file not with `/~`; that of the scp form doesn't begin with digits and `/`. A local
     /// path has no `//`, isn't `/` alone, and has no `@` where it doesn't begin with `/`.
     PathStart,
     /// The path has no segment `.` or `..`. It may in a local path.
