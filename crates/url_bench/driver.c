@@ -32,6 +32,7 @@ size_t call_bench_to_bstring(const unsigned char *bytes, size_t length);
 size_t call_bench_to_string(const unsigned char *bytes, size_t length);
 bool call_bench_is_settled(const unsigned char *bytes, size_t length, bool *settled);
 bool call_bench_agrees_with_git(const unsigned char *bytes, size_t length, bool *agrees);
+bool call_bench_is_unambiguous(const unsigned char *bytes, size_t length, bool *unambiguous);
 size_t call_bench_path_query_fragment(const unsigned char *bytes, size_t length);
 size_t call_bench_expand_path(const unsigned char *bytes, size_t length);
 size_t call_bench_clone(const unsigned char *bytes, size_t length);
@@ -64,6 +65,10 @@ static bool agrees_with_git(const struct line *line) {
     bool answer;
     return call_bench_agrees_with_git(line->bytes, line->length, &answer);
 }
+static bool is_unambiguous(const struct line *line) {
+    bool answer;
+    return call_bench_is_unambiguous(line->bytes, line->length, &answer);
+}
 static bool path_query_fragment(const struct line *line) { return call_bench_path_query_fragment(line->bytes, line->length) > 0; }
 static bool expand_path(const struct line *line) { return call_bench_expand_path(line->bytes, line->length) > 0; }
 static bool clone(const struct line *line) { return call_bench_clone(line->bytes, line->length) > 0; }
@@ -88,7 +93,8 @@ static const struct {
     bool (*call)(const struct line *);
 } calls[] = {
     CALL(parse), CALL(parse_in), CALL(refuse_in), CALL(write), CALL(settled), CALL(text_len), CALL(write_to),
-    CALL(to_bstring), CALL(to_string), CALL(is_settled), CALL(agrees_with_git), CALL(path_query_fragment), CALL(expand_path),
+    CALL(to_bstring), CALL(to_string), CALL(is_settled), CALL(agrees_with_git), CALL(is_unambiguous),
+    CALL(path_query_fragment), CALL(expand_path),
     CALL(clone), CALL(eq), CALL(cmp), CALL(hash), CALL(to_stored), CALL(to_json), CALL(from_json), CALL(reread), CALL(from_parts),
     CALL(rewrite_fetch),
 };

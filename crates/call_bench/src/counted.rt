@@ -12,6 +12,7 @@ ghost use Rattle.gix_url.specs.GitClass.{AgreesWithGit};
 ghost use Rattle.gix_url.specs.Order.{fed_location, location_cmp, location_eq};
 ghost use Rattle.gix_url.specs.Settled.{IsSettled};
 ghost use Rattle.gix_url.specs.Text as spec;
+ghost use Rattle.git_readers.specs.Conditions.{IsUnambiguous};
 ghost use Rattle.call_bench.specs.Answers.{IsCompact, IsCompactLength, IsComponentLength, IsExpansionLength, IsMadeLength, IsPathLength, IsRereadLength, IsRestoredLength, IsRewrittenLength, IsShownLength, IsTextLength};
 
 use bstr::BStr;
@@ -79,6 +80,14 @@ pub fn agrees_with_git(url: &Url) -> bool
     ensures { IsTrue result ↔ AgreesWithGit url.now }
 {
     url.agrees_with_git()
+}
+
+/// Whether every reader finds the same parts.
+#[inline(never)]
+pub fn is_unambiguous(url: &Url) -> bool
+    ensures { IsTrue result ↔ IsUnambiguous url.now }
+{
+    url.is_unambiguous()
 }
 
 /// The length of the path without query and fragment; 0 where memory is refused.

@@ -10,6 +10,7 @@ ghost use Rattle.std.specs.Prelude.{◌≡◌, ◌<◌, ◌↔◌, IsTrue, fold}
 ghost use Rattle.std.specs.Hash.DefaultHasher.{finish, initial, write};
 ghost use Rattle.std.specs.declared.cmp.Ordering.TheVariants.{Equal};
 ghost use Rattle.gix_url.specs.GitClass.{AgreesWithGit};
+ghost use Rattle.git_readers.specs.Conditions.{IsUnambiguous};
 ghost use Rattle.gix_url.specs.Grammar.{Spells};
 ghost use Rattle.gix_url.specs.Order.{fed_location, location_cmp, location_eq};
 ghost use Rattle.gix_url.specs.Settled.{IsSettled};
@@ -100,6 +101,25 @@ pub extern "C" fn call_bench_agrees_with_git(alloc: Global, bytes: &[u8], agrees
     match Url::from_bytes(alloc, BStr::new(bytes)) {
         Ok(url) => {
             *agrees = counted::agrees_with_git(&url);
+            true
+        }
+        Err(_) => false,
+    }
+}
+
+/// Whether every reader finds the same parts, where the bytes are a location.
+#[unsafe(no_mangle)]
+pub extern "C" fn call_bench_is_unambiguous(
+    alloc: Global,
+    bytes: &[u8],
+    unambiguous: &mut bool,
+) -> bool
+    ensures { IsTrue result → (v : Location) × Spells bytes.now v
+        × (IsTrue unambiguous.new ↔ IsUnambiguous v) }
+{
+    match Url::from_bytes(alloc, BStr::new(bytes)) {
+        Ok(url) => {
+            *unambiguous = counted::is_unambiguous(&url);
             true
         }
         Err(_) => false,
