@@ -15,7 +15,7 @@ FORMS = {b"http": "http", b"https": "http", b"ssh": "ssh", b"git+ssh": "ssh", b"
 URLS, PLACES = ("http", "ssh", "git", "file"), ("http", "ssh", "git", "scp")
 HELPER = re.compile(rb"[0-9A-Za-z][0-9A-Za-z+.-]*::|::")
 # The words that some reader takes for a scheme before a single colon.
-SCHEME_WORDS = (b"http", b"https", b"ssh", b"git", b"file", b"ftp", b"ftps", b"ws", b"wss", b"rsync")
+SCHEME_WORDS = (b"http", b"https", b"ssh", b"git", b"file", b"ftp", b"ftps", b"ext", b"rsync", b"svn", b"sftp", b"ws", b"wss")
 ESCAPE = re.compile(rb"%(?:20|[89A-F][0-9A-F])")
 
 
@@ -255,9 +255,9 @@ def last_label(it):
     return has(name(it), rb"(\A|\.)[0-9][^.]*\Z")
 
 
-def four_numbers(it):
-    """A name that begins with four numbers."""
-    return has(name(it), rb"\A([0-9]+\.){4}")
+def two_numbers(it):
+    """A name that begins with two numbers."""
+    return has(name(it), rb"\A([0-9]+\.){2}")
 
 
 def port_empty(it):
@@ -351,8 +351,8 @@ def path_tilde(it):
 
 
 def path_dash(it):
-    """`/-` at the front of the path, in URLs of `ssh` and `git`."""
-    return it.form in ("ssh", "git") and it.path.startswith(b"/-")
+    """`/-` at the front of the path, in URLs of `ssh`, `git` and `file`."""
+    return it.form in ("ssh", "git", "file") and it.path.startswith(b"/-")
 
 
 def file_tilde(it):
@@ -458,7 +458,7 @@ def local_utf8(it):
 ALL = (
     scheme, user_empty, user_at, user_mark, user_slash, user_escape, user_bracket, user_byte, user_dash, user_of_git, password_place,
     password_empty, password_byte, host_empty, host_of_file, host_address, host_quad, host_bracket, host_colon, host_case, host_underscore,
-    host_mark, host_escape, host_byte, host_length, label_empty, label_length, label_end, label_punycode, last_label, four_numbers,
+    host_mark, host_escape, host_byte, host_length, label_empty, label_length, label_end, label_punycode, last_label, two_numbers,
     port_empty, port_byte, port_zero, port_range, path_empty, path_space, path_letter, path_escape, path_query, path_fragment,
     path_semicolon, path_quote, path_bracket, path_byte, path_dots, path_slashes, path_drive, path_tilde, path_dash, file_tilde, scp_slash, scp_digits,
     scp_front, scp_letter, scp_scheme, scp_again, scp_at, scp_colon, scp_mark, scp_bracket, scp_byte, local_colon, local_backslash, local_bracket, local_at,
