@@ -24,9 +24,9 @@ _gix_url_explain() {
     --only) _gix_url_words "scheme user host port path query fragment text" "$now" ;;
     --color) _gix_url_words "auto always never" "$now" ;;
     --fail-on) _gix_url_words "danger unsettled refused git-differs policy any" "$now" ;;
-    -f | --file | --config) mapfile -t COMPREPLY < <(compgen -f -- "$now") ;;
+    -f | --file | --config | --gitmodules) mapfile -t COMPREPLY < <(compgen -f -- "$now") ;;
     *) case $now in
-      -*) _gix_url_words "--json --html --only --quiet --fail-on --color --file --config --remotes --null --help --version --" "$now" ;;
+      -*) _gix_url_words "--json --sarif --html --only --quiet --fail-on --color --file --config --remotes --gitmodules --parent --null --help --version --" "$now" ;;
     esac ;;
   esac
 }

@@ -61,8 +61,9 @@ def piece_faults(article, answer, line):
 
 
 def flat(answer):
-    """The members of an object, with those of its location among them."""
-    return {**answer, "location": answer["location"] is not None, **(answer["location"] or {})}
+    """The members of an object that a page shows, with those of its location among them."""
+    shown = {name: it for name, it in answer.items() if name != "dangers"}
+    return {**shown, "location": answer["location"] is not None, **(answer["location"] or {})}
 
 
 def article_faults(article, answer, line):

@@ -63,10 +63,17 @@ class Article:
         return {it: self.value(f"{name}.{it}") for it in members} if any(f"{name}.{it}" in self.values for it in members) else None
 
     def whole(self):
-        """The object of the line."""
+        """The object of the line, without the names of its dangers, which a page lacks."""
+        location = None if self.verdict == "refused" else self.location()
         return {
-            "line": self.number, "input": self.value("input"), "location": None if self.verdict == "refused" else self.location(),
-            "refusal": self.members("refusal", ERROR), "hints": [word for _, word, *_ in self.values.get("hints", [])], "rules": None}
+            "line": self.number, "input": self.value("input"), "location": location, "refusal": self.members("refusal", ERROR),
+            "findings": self.findings(location), "hints": [word for _, word, *_ in self.values.get("hints", [])], "rules": None}
+
+    def findings(self, location):
+        """The names of what is found in the line, for which a run may fail."""
+        differs = location is not None and not location["agrees_with_git"]
+        found = {"danger": self.danger is not None, self.verdict: self.verdict != "settled", "git-differs": differs}
+        return [name for name, it in found.items() if it]
 
     def location(self):
         it = {name: self.value(name) for name in ("scheme", "user", "password", "host", "port", "path")}

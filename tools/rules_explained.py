@@ -21,11 +21,13 @@ from rules_asked import entry_of as entry, is_named, listed
 from rules_library import together
 from second_reading import grammar
 from second_reading.dangers import dangers
-from second_reading.explain import lossy, shown_line
+from second_reading.explain import lossy, shown_line, told
 
 STORED = f"{ROOT}/crates/explain/golden/by_config"
 # How many of the configurations that Git is asked about are taken of each kind.
 TAKEN = 40
+# The names of what a run may fail for, in their order.
+FOUND = ("danger", "unsettled", "refused", "git-differs", "policy")
 # The values that a remote may have beside its URLs.
 VALUES = ("vcs", "proxy", "uploadpack", "receivepack")
 PERMISSIONS = {"Allowed": "allowed", "Refused": "refused", "UnknownAllowance": "unknown_allowance", "UnknownFromUser": "unknown_from_user"}
@@ -136,11 +138,22 @@ def remote(case, name):
     """What is reported of a remote. Whether a text is rewritten is left out."""
     said = (yield [{"call": "Remote::of", "config": text_of(listed(case.entries)), "name": text_of(name)}])[0]
     report = {"remote": lossy(name), "fetch": [], "push": [], **dict.fromkeys(VALUES), "stops_at": said.get("at")}
+    found = {"refused"} if "at" in said else set()
     for member, key in (("fetch", "urls"), ("push", "push_urls")):
         for text in said.get(key, []):
             way = yield from route(case, bytes_of(text), bytes_of(text))
             report[member].append({**way, "rewritten": None, "same_host": None})
-    return {**report, **{it: lossy(hidden(bytes_of(said[it]))) for it in VALUES if it in said}}
+            found |= {*found_in(bytes_of(text), way)}
+    return {**report, **{it: lossy(hidden(bytes_of(said[it]))) for it in VALUES if it in said}, "findings": [it for it in FOUND if it in found]}
+
+
+def found_in(text, way):
+    """The names of what is found in a text that Git goes to, for which a run may fail."""
+    v = grammar.spells(text)
+    report = {"settled": True, "agrees_with_git": True} if v is None else told(v)
+    is_used = way["transport"] is not None and way["transport"]["permission"] == "allowed"
+    found = (way["dangers"], not report["settled"], v is None, not report["agrees_with_git"], not is_used)
+    return [name for name, it in zip(FOUND, found) if it]
 
 
 def names_of_remotes(entries):

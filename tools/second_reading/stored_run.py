@@ -12,10 +12,18 @@ from second_reading.explain_tables import reason_examples, table
 from second_reading.hints import hints
 
 
+def found(line, v):
+    """The names of what is found in a line, for which a run may fail."""
+    if v is None:
+        return ["refused"]
+    is_found = {"danger": dangers(line, v), "unsettled": not told(v)["settled"], "git-differs": not told(v)["agrees_with_git"]}
+    return [name for name, it in is_found.items() if it]
+
+
 def answer(number, line):
     v = grammar.spells(line)
     it = {"line": number, "input": shown_line(line), "location": v and told(v), "refusal": refusal_of_line(line) if v is None else None,
-          "dangers": [] if v is None else dangers(line, v), "hints": hints(line, v), "rules": None}
+          "dangers": [] if v is None else dangers(line, v), "findings": found(line, v), "hints": hints(line, v), "rules": None}
     return json.dumps(it, separators=(",", ":"), ensure_ascii=False)
 
 

@@ -5,9 +5,11 @@
 //! out for people, `only` one part of it, and with `--json` it goes out as one object. It has no contract but
 //! that it can't abort: the stored run and `scripts/hostile` show its answers.
 
+use crate::results::Origin;
 use crate::style::{Layout, Style};
-use crate::{only, shown};
+use crate::{line_results, only, shown};
 use bstr::BStr;
+use explain_audit::kind::names_of;
 use explain_report::advice::danger::names;
 use explain_report::advice::hint::{self, Hint, Reading};
 use explain_report::finding::Findings;
@@ -29,6 +31,8 @@ pub struct Line<'a, 'e: 'a> {
     pub number: u64,
     /// The line without its end.
     pub bytes: &'a [u8],
+    /// Where it is from.
+    pub origin: &'a Origin,
     pub style: Style<'a, 'e>,
 }
 
@@ -45,6 +49,8 @@ struct Answer<'b, 'a: 'b> {
     refusal: Option<&'b Refusal>,
     /// The names of what is dangerous in it.
     dangers: &'b [&'static str],
+    /// The names of what was found in it, for which a run may fail.
+    findings: &'b [&'static str],
     /// What may be wrong with the line.
     hints: &'b [Hint],
     /// What Git does with it by the configuration, if one is given.
@@ -56,6 +62,8 @@ struct Answer<'b, 'a: 'b> {
 pub struct Notes<'b> {
     /// What is dangerous in the line, and in the location that is read in it.
     pub dangers: &'b [Danger],
+    /// What was found in the line, for which a run may fail.
+    pub found: Findings,
     /// What may be wrong with the line.
     pub hints: &'b [Hint],
     /// What Git does with it by the configuration, if one is given.
@@ -78,17 +86,17 @@ impl Line<'_, '_> {
     fn of_location(self, alloc: Global, url: &Url) -> Result<(String, Findings), AllocError> {
         let found = dangers(alloc, self.bytes, &url.as_ref())?;
         let (found, rules) = both(found, self.rules(alloc, Some(url)))?;
-        let (notes, findings) = (
-            Notes {
-                dangers: found.as_slice(),
-                hints: &[],
-                rules: rules.as_ref(),
-            },
-            Findings::of_location(url, found.as_slice()).union(found_by(rules.as_ref())),
-        );
+        let findings = Findings::of_location(url, found.as_slice()).union(found_by(rules.as_ref()));
+        let notes = Notes {
+            dangers: found.as_slice(),
+            found: findings,
+            hints: &[],
+            rules: rules.as_ref(),
+        };
         let answer = match self.style.layout {
             Layout::Quiet => Ok(String::new(alloc)),
             Layout::Only(part) => only::line(alloc, url, part),
+            Layout::Sarif => line_results::location(alloc, self, url, notes),
             _ => self.location(alloc, url, notes),
         };
         drop(rules);
@@ -104,6 +112,7 @@ impl Line<'_, '_> {
         let ((seen, report), found) = both((seen, report), found)?;
         let notes = Notes {
             dangers: notes.dangers,
+            found: notes.found,
             hints: found.as_slice(),
             rules: notes.rules,
         };
@@ -135,7 +144,7 @@ impl Line<'_, '_> {
         if !matches!(self.style.layout, Layout::Json) {
             return shown::location(alloc, self, url, report, seen, notes);
         }
-        let names = names(alloc, notes.dangers)?;
+        let (names, found) = both(names(alloc, notes.dangers)?, names_of(alloc, notes.found))?;
         let answer = json(
             alloc,
             &Answer {
@@ -144,10 +153,12 @@ impl Line<'_, '_> {
                 location: Some(report),
                 refusal: None,
                 dangers: names.as_slice(),
+                findings: found.as_slice(),
                 hints: notes.hints,
                 rules: notes.rules,
             },
         );
+        drop(found);
         drop(names);
         answer
     }
@@ -163,7 +174,8 @@ impl Line<'_, '_> {
         let answer = match self.style.layout {
             Layout::Quiet => Ok(String::new(alloc)),
             Layout::Only(_) => String::from_str(alloc, "\n"),
-            _ => self.refusal(alloc, error, rules.as_ref()),
+            Layout::Sarif => line_results::refusal(alloc, self, error, rules.as_ref()),
+            _ => self.refusal(alloc, error, findings, rules.as_ref()),
         };
         drop(rules);
         Ok((answer?, findings))
@@ -174,6 +186,7 @@ impl Line<'_, '_> {
         self,
         alloc: Global,
         error: &Error,
+        findings: Findings,
         rules: Option<&Rules>,
     ) -> Result<String, AllocError> {
         let seen = SeenLine::of(alloc, self.bytes)?;
@@ -182,6 +195,7 @@ impl Line<'_, '_> {
         let ((seen, refusal), found) = both((seen, refusal), found)?;
         let notes = Notes {
             dangers: &[],
+            found: findings,
             hints: found.as_slice(),
             rules,
         };
@@ -200,21 +214,25 @@ impl Line<'_, '_> {
         seen: &'x SeenLine<'_>,
         notes: Notes<'x>,
     ) -> Result<String, AllocError> {
-        match self.style.layout {
-            Layout::Json => json(
-                alloc,
-                &Answer {
-                    line: self.number,
-                    input: seen.input.as_str(),
-                    location: None,
-                    refusal: Some(refusal),
-                    dangers: &[],
-                    hints: notes.hints,
-                    rules: notes.rules,
-                },
-            ),
-            _ => shown::refusal(alloc, self, refusal, seen, notes),
+        if !matches!(self.style.layout, Layout::Json) {
+            return shown::refusal(alloc, self, refusal, seen, notes);
         }
+        let found = names_of(alloc, notes.found)?;
+        let answer = json(
+            alloc,
+            &Answer {
+                line: self.number,
+                input: seen.input.as_str(),
+                location: None,
+                refusal: Some(refusal),
+                dangers: &[],
+                findings: found.as_slice(),
+                hints: notes.hints,
+                rules: notes.rules,
+            },
+        );
+        drop(found);
+        answer
     }
 }
 

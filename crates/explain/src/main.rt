@@ -9,10 +9,14 @@
 #![tactic(auto)]
 
 mod answer;
+mod line_results;
+mod module_rows;
+mod modules;
 mod only;
 mod options;
 mod paint;
 mod remote_rows;
+mod results;
 mod rule_rows;
 mod shown;
 mod source;
@@ -20,12 +24,14 @@ mod style;
 
 use answer::Line;
 use clap::ArgMatches;
+use explain_audit::module::configured;
 use explain_report::remotes::{RemoteReport, names};
 use explain_report::rules::config::{self, Config, Fault};
 use git_rules::config::{Entry, entries, entries_of};
 use git_rules::protocols::Protocols;
 use gix_url::lines::RunError;
 use paint::Colors;
+use results::Origin;
 use source::Source;
 use std::alloc::{AllocError, Global};
 use std::env;
@@ -40,16 +46,33 @@ fn explain(rt: &HostRuntime, given: &ArgMatches<'_>) -> u8 {
     let style = options::style(given, colors_of(rt));
     let mut output = rt.stdout();
     let mut seen = Seen::nothing(rt.alloc());
-    let outcome = match options::config_file(given) {
-        None => answer_all(rt, given, &mut output, style, &mut seen),
-        Some(file) => answer_by_file(rt, given, file, &mut output, style, &mut seen),
+    let outcome = match results::write_head(rt.alloc(), style, &mut output) {
+        Ok(()) => answer_input(rt, given, &mut output, style, &mut seen),
+        Err(fault) => Err(fault),
     };
     let outcome = match outcome {
-        Ok(()) => seen.write_page(style, options::title(given), &mut output),
+        Ok(()) => seen.write_end(style, options::title(given), &mut output),
         Err(fault) => Err(fault),
     };
     report(rt, &outcome);
     seen.status(style.fail_on, &outcome)
+}
+
+/// Answers about submodules, by a configuration, or about lines.
+fn answer_input<W: Write>(
+    rt: &HostRuntime,
+    given: &ArgMatches<'_>,
+    output: &mut W,
+    style: Style<'_, '_>,
+    seen: &mut Seen,
+) -> Result<(), RunError> {
+    if let Some(file) = options::module_file(given) {
+        return modules::answer_file(rt, given, file, output, style, seen);
+    }
+    match options::config_file(given) {
+        None => answer_all(rt, given, output, style, seen),
+        Some(file) => answer_by_file(rt, given, file, output, style, seen),
+    }
 }
 
 /// Answers what the command line names, by the configuration in a file. Where that can't be read it is
@@ -103,7 +126,11 @@ fn answer_by_source<W: Write>(
         report_fault(rt, *fault);
     }
     if given.get_flag("remotes") {
-        return answer_remotes(rt.alloc(), &config, output, style, seen);
+        let file = options::config_file(given).unwrap_or("-");
+        seen.origin = Origin::file(rt.alloc(), style.layout, file)?;
+        answer_remotes(rt.alloc(), &config, output, style, seen)?;
+        let modules = configured(rt.alloc(), entries.as_slice(), &config)?;
+        return modules::answer_reports(rt.alloc(), modules.as_slice(), output, style, seen);
     }
     answer_by_config(rt, given, &config, output, style, seen)
 }
@@ -134,12 +161,10 @@ fn answer_remotes<W: Write>(
     for name in &names(alloc, config.remotes.as_slice())? {
         let remote = RemoteReport::of(alloc, config, name)?;
         let found = remote.found();
-        let answer = remote_rows::answer(alloc, &remote, style.layout);
+        let answer = remote_rows::answer(alloc, &remote, style.layout, &seen.origin);
         drop(remote);
         seen.found = seen.found.union(found);
-        output
-            .write_all(answer?.as_str().as_bytes())
-            .map_err(RunError::Write)?;
+        seen.write(style, answer?.as_str(), output)?;
         if style.is_over(seen) {
             break;
         }
@@ -205,10 +230,11 @@ fn answer_all<W: Write>(
     for file in files {
         answer_file(rt, file, output, style, seen)?;
     }
-    for text in texts {
+    for (index, text) in texts.iter().enumerate() {
         if *text == "-" {
             answer_file(rt, text, output, style, seen)?;
         } else {
+            seen.origin = Origin::argument(index);
             answer_line(rt.alloc(), text.as_bytes(), output, style, seen)?;
         }
     }
@@ -250,6 +276,7 @@ fn answer_file<W: Write>(
     style: Style<'_, '_>,
     seen: &mut Seen,
 ) -> Result<(), RunError> {
+    seen.origin = Origin::file(rt.alloc(), style.layout, file)?;
     if file == "-" {
         return answer_reader(rt.alloc(), rt.reader(), output, style, seen);
     }
@@ -327,9 +354,11 @@ fn answer_line<W: Write>(
     seen: &mut Seen,
 ) -> Result<(), RunError> {
     seen.lines = seen.lines.saturating_add(1);
+    seen.origin.count();
     let line = Line {
         number: seen.lines,
         bytes: line,
+        origin: &seen.origin,
         style,
     };
     if let Layout::Page = style.layout {
@@ -339,9 +368,7 @@ fn answer_line<W: Write>(
     }
     let (answer, found) = line.answer(alloc)?;
     seen.found = seen.found.union(found);
-    output
-        .write_all(answer.as_str().as_bytes())
-        .map_err(RunError::Write)
+    seen.write(style, answer.as_str(), output)
 }
 
 fn main(rt: HostRuntime) -> ExitCode {

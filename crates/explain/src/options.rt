@@ -17,7 +17,12 @@ Examples:
   explain git@github.com:a/b.git
   git config --get-all remote.origin.url | explain --only host
 
+--json, --sarif, --html, --only and --quiet exclude each other. --gitmodules excludes lines, --config, --remotes, --html and --only; --remotes excludes lines, --html and --only; --config excludes --html; --null excludes --sarif and --gitmodules.
+
 Exit status: 0 if nothing was found, 1 if something was, 2 for wrong arguments or a run that was cut short. What can be found: a danger, a location that is not settled, a refused line, a text that Git is not known to read the same (git-differs), and with --config a transport that Git does not use (policy).";
+
+/// The version of the program.
+pub const VERSION: &str = "0.40.1";
 
 /// The title of a page that is given none.
 const TITLE: &str = "Git remotes";
@@ -70,6 +75,16 @@ pub fn config_file<'a>(given: &ArgMatches<'a>) -> Option<&'a str> {
     }
 }
 
+/// The file of submodules, if one is named.
+pub fn module_file<'a>(given: &ArgMatches<'a>) -> Option<&'a str> {
+    given.get_str("gitmodules")
+}
+
+/// The URL of the superproject, if it is given.
+pub fn parent<'a>(given: &ArgMatches<'a>) -> Option<&'a str> {
+    given.get_str("parent")
+}
+
 /// Whether standard input is read for lines.
 pub fn reads_input(given: &ArgMatches<'_>) -> bool {
     let files = given.get_strs("file").unwrap_or(&[]);
@@ -93,6 +108,9 @@ fn layout(given: &ArgMatches<'_>) -> Layout {
     if given.get_flag("json") {
         return Layout::Json;
     }
+    if given.get_flag("sarif") {
+        return Layout::Sarif;
+    }
     if given.get_flag("quiet") {
         return Layout::Quiet;
     }
@@ -108,7 +126,7 @@ fn layout(given: &ArgMatches<'_>) -> Layout {
 /// What the program is and takes on its command line.
 fn command<'a>(alloc: Global) -> Result<Command<'a>, AllocError> {
     Command::new(alloc, "explain")
-        .version("0.40.1")
+        .version(VERSION)
         .about(
             "Reports what Git locations mean: arguments, or each line of files or of standard input",
         )
@@ -118,7 +136,10 @@ fn command<'a>(alloc: Global) -> Result<Command<'a>, AllocError> {
         .arg(null(alloc))?
         .arg(config(alloc)?)?
         .arg(remotes(alloc)?)?
+        .arg(gitmodules(alloc)?)?
+        .arg(parent_arg(alloc)?)?
         .arg(json(alloc)?)?
+        .arg(sarif(alloc)?)?
         .arg(html(alloc)?)?
         .arg(only(alloc)?)?
         .arg(quiet(alloc))?
@@ -172,6 +193,51 @@ fn remotes<'a>(alloc: Global) -> Result<Arg<'a>, AllocError> {
         .conflicts_with("file")?
         .conflicts_with("html")?
         .conflicts_with("only")
+}
+
+fn gitmodules<'a>(alloc: Global) -> Result<Arg<'a>, AllocError> {
+    Arg::new(alloc, "gitmodules")
+        .long("gitmodules")
+        .value_name("FILE")
+        .help(
+            "Show what is found in each submodule of a file like .gitmodules; - is standard input",
+        )
+        .conflicts_with("text")?
+        .conflicts_with("file")?
+        .conflicts_with("null")?
+        .conflicts_with("config")?
+        .conflicts_with("remotes")?
+        .conflicts_with("html")?
+        .conflicts_with("only")
+}
+
+fn parent_arg<'a>(alloc: Global) -> Result<Arg<'a>, AllocError> {
+    Arg::new(alloc, "parent")
+        .long("parent")
+        .value_name("URL")
+        .help(
+            "With --gitmodules: the URL of the superproject, against which relative URLs are resolved",
+        )
+        .conflicts_with("text")?
+        .conflicts_with("file")?
+        .conflicts_with("null")?
+        .conflicts_with("config")?
+        .conflicts_with("remotes")?
+        .conflicts_with("html")?
+        .conflicts_with("only")?
+        .requires_arg("gitmodules")
+}
+
+fn sarif<'a>(alloc: Global) -> Result<Arg<'a>, AllocError> {
+    Arg::new(alloc, "sarif")
+        .long("sarif")
+        .help("Print one log in SARIF 2.1.0 with what is found")
+        .action(ArgAction::SetTrue)
+        .conflicts_with("json")?
+        .conflicts_with("html")?
+        .conflicts_with("only")?
+        .conflicts_with("null")?
+        .conflicts_with("quiet")
 }
 
 fn json<'a>(alloc: Global) -> Result<Arg<'a>, AllocError> {

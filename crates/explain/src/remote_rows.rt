@@ -2,22 +2,54 @@
 //!
 //! It uses what `remotes` found, and has no contract: `scripts/hostile rules` shows its answers.
 
+use crate::line_results;
+use crate::results::Origin;
 use crate::rule_rows::{dangers, route, transport};
 use crate::shown::row;
 use crate::style::Layout;
+use explain_audit::kind::names_of;
 use explain_report::remotes::RemoteReport;
 use explain_report::rules::Route;
 use explain_report::text::line::Quoted;
+use serde::Serialize;
 use std::alloc::{AllocError, Global};
 use std::fmt::Write;
 
 /// The answer about a remote, in the layout that is asked for.
-pub fn answer(alloc: Global, remote: &RemoteReport, layout: Layout) -> Result<String, AllocError> {
+pub fn answer(
+    alloc: Global,
+    remote: &RemoteReport,
+    layout: Layout,
+    origin: &Origin,
+) -> Result<String, AllocError> {
     match layout {
         Layout::Quiet => Ok(String::new(alloc)),
-        Layout::Json => crate::answer::json(alloc, remote),
+        Layout::Json => json(alloc, remote),
+        Layout::Sarif => line_results::remote(alloc, remote, origin),
         _ => rows(alloc, remote),
     }
+}
+
+/// A remote, and the names of what was found in it.
+#[derive(Clone, Copy, Serialize)]
+struct FoundRemote<'a> {
+    #[serde(flatten)]
+    report: &'a RemoteReport,
+    findings: &'a [&'static str],
+}
+
+/// The object of a remote.
+fn json(alloc: Global, remote: &RemoteReport) -> Result<String, AllocError> {
+    let names = names_of(alloc, remote.found())?;
+    let answer = crate::answer::json(
+        alloc,
+        &FoundRemote {
+            report: remote,
+            findings: names.as_slice(),
+        },
+    );
+    drop(names);
+    answer
 }
 
 /// The heading of a remote, and its rows.
@@ -46,7 +78,7 @@ fn rows(alloc: Global, remote: &RemoteReport) -> Result<String, AllocError> {
 }
 
 /// The rows of a text that Git goes to: the text, its transport and what was found in it.
-fn routed(alloc: Global, out: &mut String, name: &str, way: &Route) -> Result<(), AllocError> {
+pub fn routed(alloc: Global, out: &mut String, name: &str, way: &Route) -> Result<(), AllocError> {
     route(out, name, way)?;
     transport(alloc, out, way, "")?;
     dangers(out, way)?;
@@ -63,7 +95,7 @@ fn routed(alloc: Global, out: &mut String, name: &str, way: &Route) -> Result<()
 }
 
 /// The row of a value, if there is one.
-fn value(out: &mut String, name: &str, value: &Option<String>) -> Result<(), AllocError> {
+pub fn value(out: &mut String, name: &str, value: &Option<String>) -> Result<(), AllocError> {
     match value {
         None => Ok(()),
         Some(value) => row(out, name, Quoted(value.as_str().as_bytes())),

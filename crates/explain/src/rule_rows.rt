@@ -118,14 +118,22 @@ pub fn transport(
     route: &Route,
     what_for: &str,
 ) -> Result<(), AllocError> {
+    let words = transport_words(alloc, route, what_for)?;
+    let done = row(out, "transport", words.as_str());
+    drop(words);
+    done
+}
+
+/// A transport, whether Git uses it and what decides, or why Git has none, in words.
+pub fn transport_words(alloc: Global, route: &Route, what_for: &str) -> Result<String, AllocError> {
+    let mut words = String::new(alloc);
     if let Some(transport) = &route.transport {
-        written(alloc, out, transport, what_for)?;
+        push_transport(alloc, &mut words, transport, what_for)?;
     }
     if let Some(lack) = &route.no_transport {
-        let words = lack.words.as_str();
-        row(out, "transport", format_args!("none{what_for}: {words}"))?;
+        write!(words, "none{what_for}: {}", lack.words.as_str())?;
     }
-    Ok(())
+    Ok(words)
 }
 
 /// Whether both have the same transport, of which then the same holds, or have none for the same reason.
@@ -142,8 +150,8 @@ fn reason_name(route: &Route) -> Option<&'static str> {
     route.no_transport.as_ref().map(|lack| lack.reason)
 }
 
-/// The row of a transport: its name, what it is for, and whether Git uses it, by what.
-fn written(
+/// Appends a transport in words: its name, what it is for, and whether Git uses it, by what.
+fn push_transport(
     alloc: Global,
     out: &mut String,
     transport: &Transport,
@@ -156,11 +164,7 @@ fn written(
         Verdict::Refused => "is refused",
         Verdict::UnknownAllowance | Verdict::UnknownFromUser => "is not used, as Git stops",
     };
-    let done = row(
-        out,
-        "transport",
-        format_args!("{name}{what_for} {verdict}{words}"),
-    );
+    let done = write!(out, "{name}{what_for} {verdict}{words}");
     drop(reason);
     done
 }

@@ -66,7 +66,7 @@ impl Source {
 }
 
 /// The bytes of a file; `-` is standard input.
-fn text_of(rt: &HostRuntime, file: &str) -> io::Result<Vec<u8>> {
+pub fn text_of(rt: &HostRuntime, file: &str) -> io::Result<Vec<u8>> {
     if file != "-" {
         return fs::read(rt, file);
     }

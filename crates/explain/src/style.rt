@@ -2,6 +2,7 @@
 
 use crate::only::Part;
 use crate::paint::Colors;
+use crate::results::{Origin, tail};
 use explain_page::page::Page;
 use explain_report::finding::Findings;
 use explain_report::rules::config::Config;
@@ -36,6 +37,8 @@ pub enum Layout {
     Quiet,
     /// A page for all lines together.
     Page,
+    /// The results of a log in SARIF.
+    Sarif,
 }
 
 impl Style<'_, '_> {
@@ -56,6 +59,10 @@ pub struct Seen {
     pub lacks_file: bool,
     /// The page, where one is asked for.
     pub page: Page,
+    /// Where the line is from.
+    pub origin: Origin,
+    /// Whether a result was written of a log in SARIF.
+    pub has_results: bool,
 }
 
 impl Seen {
@@ -66,11 +73,33 @@ impl Seen {
             found: Findings::none(),
             lacks_file: false,
             page: Page::new(alloc),
+            origin: Origin::unknown(),
+            has_results: false,
         }
     }
 
-    /// Writes the page with this title, where one is asked for.
-    pub fn write_page<W: Write>(
+    /// Writes an answer, and before each result of a log but the first the comma that it begins with.
+    pub fn write<W: Write>(
+        &mut self,
+        style: Style<'_, '_>,
+        answer: &str,
+        output: &mut W,
+    ) -> Result<(), RunError> {
+        let bytes = answer.as_bytes();
+        if !matches!(style.layout, Layout::Sarif) || bytes.is_empty() {
+            return output.write_all(bytes).map_err(RunError::Write);
+        }
+        let is_first = !self.has_results;
+        self.has_results = true;
+        match bytes {
+            [b',', rest @ ..] if is_first => output.write_all(rest),
+            _ => output.write_all(bytes),
+        }
+        .map_err(RunError::Write)
+    }
+
+    /// Writes what follows all answers: the page with this title, or the end of a log in SARIF.
+    pub fn write_end<W: Write>(
         &self,
         style: Style<'_, '_>,
         title: &str,
@@ -78,6 +107,9 @@ impl Seen {
     ) -> Result<(), RunError> {
         match style.layout {
             Layout::Page => self.page.write(title, output),
+            Layout::Sarif => output
+                .write_all(tail(!self.lacks_file).as_bytes())
+                .map_err(RunError::Write),
             _ => Ok(()),
         }
     }

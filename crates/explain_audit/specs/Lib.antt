@@ -1,0 +1,4 @@
+pub mod Uris
+pub mod Kinds
+pub mod Items
+pub mod Entries

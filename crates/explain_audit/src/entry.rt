@@ -1,0 +1,101 @@
+//! What is found at one entry of a file of submodules, whatever the entries around it are.
+//!
+//! It uses `submodules` of `git_modules`. Its contract: the reasons are those for which Git's fsck refuses the entry,
+//! and the risks are those that it has.
+
+ghost use Rattle.std.specs.Prelude.{◌≡◌, IfOk};
+ghost use Rattle.std.specs.List.{filter};
+ghost use Rattle.git_modules.specs.SubmoduleRisks.{has_risk};
+ghost use Rattle.explain_audit.specs.Entries.{all_risks};
+
+use crate::item::{Item, add};
+use crate::kind::Kind;
+use crate::url::{Parent, add_url};
+use git_modules::submodules::refusal::check;
+use git_modules::submodules::risk::{Risk, has_risk};
+use git_modules::submodules::submodules;
+use git_rules::config::Entry;
+use std::alloc::{AllocError, Global};
+
+/// How the URL of an entry is read.
+#[derive(Clone, Copy)]
+pub enum Reading<'a> {
+    /// As that of a file, below the superproject if it is given.
+    File(Option<Parent<'a>>),
+    /// Not here: a configuration decides where Git goes.
+    Configuration,
+}
+
+/// What was found at an entry, and the submodule that it is of.
+#[derive(Drop)]
+pub struct Audited<'a> {
+    /// The name of the submodule; none where the entry is of none, or Git refuses the name.
+    pub name: Option<&'a [u8]>,
+    /// What was found.
+    pub items: Vec<Item>,
+}
+
+/// What is found at an entry, which is also given alone in a list.
+pub fn audit<'a>(
+    alloc: Global,
+    entry: &Entry<'a>,
+    alone: &[Entry<'a>],
+    reading: Reading<'_>,
+) -> Result<Audited<'a>, AllocError> {
+    let mut items = Vec::new(alloc);
+    add_refusals(alloc, &mut items, entry)?;
+    for risk in &risks_of(alloc, entry)? {
+        add(alloc, &mut items, Kind::Risk(*risk))?;
+    }
+    let name = add_urls(alloc, &mut items, alone, reading)?;
+    Ok(Audited { name, items })
+}
+
+/// Adds what Git's fsck refuses of an entry.
+fn add_refusals(alloc: Global, found: &mut Vec<Item>, entry: &Entry<'_>) -> Result<(), AllocError> {
+    let refusals = check(entry);
+    if let Some(refused) = refusals.name {
+        add(alloc, found, Kind::Fsck(refused))?;
+    }
+    if let Some(refused) = refusals.value {
+        add(alloc, found, Kind::Fsck(refused))?;
+    }
+    Ok(())
+}
+
+/// The risks of an entry, in their order.
+fn risks_of(alloc: Global, entry: &Entry<'_>) -> Result<Vec<Risk>, AllocError>
+    ensures { IfOk result (λ found. found.items ≡ filter (λ risk. has_risk risk entry.now) all_risks) }
+{
+    let all = [
+        Risk::AbsolutePath,
+        Risk::PathUpwards,
+        Risk::PathIntoGit,
+        Risk::OptionAsBranch,
+        Risk::OptionAsUpdate,
+        Risk::ControlCharacter,
+        Risk::NoValue,
+    ];
+    all.iter()
+        .copied()
+        .filter(|risk| has_risk(entry, *risk))
+        .collect(alloc)
+}
+
+/// Adds what is found in the URL that the entries give, and returns the name of their submodule. Git uses no URL
+/// that looks like an option, and no entry whose name it refuses: fsck refuses both.
+fn add_urls<'a>(
+    alloc: Global,
+    found: &mut Vec<Item>,
+    alone: &[Entry<'a>],
+    reading: Reading<'_>,
+) -> Result<Option<&'a [u8]>, AllocError> {
+    let mut name = None;
+    for submodule in &submodules(alloc, alone)? {
+        name = Some(submodule.name);
+        if let (Some(url), Reading::File(parent)) = (submodule.url, reading) {
+            add_url(alloc, found, url.value, parent)?;
+        }
+    }
+    Ok(name)
+}

@@ -1,0 +1,307 @@
+//! What is found in the submodules of a file, or of a configuration, each with what Git uses of it.
+//!
+//! It uses `config_file` and `submodules` of `git_modules`, and `entry` for each entry. Its contract: what a run
+//! fails for because of a submodule is all that was found in it.
+
+ghost use Rattle.std.specs.Prelude.{◌≡◌, OnOk};
+ghost use Rattle.explain_report.specs.Findings.{union};
+ghost use Rattle.explain_audit.specs.Kinds.{findings_of};
+
+use crate::entry::{self, Audited, Reading};
+use crate::item::Item;
+use crate::kind::{Kind, names_of};
+use crate::place::columns_at;
+use crate::url::{Parent, resolved};
+use bstr::BString;
+use explain_report::finding::Findings;
+use explain_report::rules::Route;
+use explain_report::rules::config::Config;
+use explain_report::rules::setting::{Setting, shown_part};
+use explain_report::text::line::{input, pieces_of};
+use git_modules::config_file::flaw::FileError;
+use git_modules::config_file::{FileEntry, entries};
+use git_modules::submodules::{Submodule, Used, submodules};
+use git_rules::config::Entry;
+use serde::Serialize;
+use std::alloc::{AllocError, Global};
+use std::collections::BTreeMap;
+
+/// A submodule of a file, and what was found in it.
+#[derive(Drop, Serialize)]
+pub struct ModuleReport {
+    /// Its name; none for all entries whose name Git refuses.
+    pub submodule: Option<String>,
+    /// The folder that Git uses, if it uses one.
+    pub path: Option<String>,
+    /// The URL that Git uses, with `redacted` for its password.
+    pub url: Option<String>,
+    /// What a relative URL is resolved to, with `redacted` for its password.
+    pub resolved: Option<String>,
+    /// Where Git fetches it from by a configuration.
+    pub fetch: Vec<Route>,
+    /// How it is updated.
+    pub update: Option<String>,
+    /// The branch that it is updated to.
+    pub branch: Option<String>,
+    /// The names of what a run may fail for, and of what was found, each once.
+    pub findings: Vec<&'static str>,
+    /// What was found, and where.
+    pub places: Vec<Place>,
+    /// What a run may fail for.
+    #[serde(skip)]
+    pub found: Findings,
+}
+
+/// What was found at an entry.
+#[derive(Drop, Serialize)]
+pub struct Place {
+    /// Its name.
+    pub name: &'static str,
+    /// It in words.
+    pub words: String,
+    /// The line of the entry, from 1, if it is of a file.
+    pub line: Option<usize>,
+    /// The column of the entry, from 1.
+    pub column: Option<usize>,
+    /// The column after the end of the line of the entry.
+    pub end_column: Option<usize>,
+    /// The entry.
+    pub entry: Setting,
+    #[serde(skip)]
+    pub kind: Kind,
+}
+
+/// The submodules of the text of a file, in the order in which their names come first, and what is found in them.
+///
+/// # Errors
+///
+/// That of the text, if it is no configuration; and where memory is refused.
+pub fn reports(
+    alloc: Global,
+    text: &[u8],
+    parent: Option<Parent<'_>>,
+) -> Result<Vec<ModuleReport>, FileError> {
+    let mut buffer = vec![in alloc; 0u8; text.len()]?;
+    let found = entries(alloc, text, buffer.as_mut_slice())?;
+    Ok(reports_of(alloc, text, found.as_slice(), parent)?)
+}
+
+/// The submodules of the entries of a text.
+fn reports_of(
+    alloc: Global,
+    text: &[u8],
+    found: &[FileEntry<'_>],
+    parent: Option<Parent<'_>>,
+) -> Result<Vec<ModuleReport>, AllocError> {
+    let plain = plain(alloc, found)?;
+    let mut audit = Audit::of(alloc, plain.as_slice(), parent)?;
+    for (it, alone) in found.iter().zip(plain.chunks(1)) {
+        let audited = entry::audit(alloc, &it.entry, alone, Reading::File(parent))?;
+        audit.add(alloc, audited, &it.entry, Some((text, it.line)))?;
+    }
+    Ok(audit.reports)
+}
+
+/// The entries without their lines.
+fn plain<'a>(alloc: Global, found: &[FileEntry<'a>]) -> Result<Vec<Entry<'a>>, AllocError> {
+    let mut plain = Vec::with_capacity(alloc, found.len())?;
+    for it in found {
+        plain.push(it.entry.clone()?)?;
+    }
+    Ok(plain)
+}
+
+/// The submodules of a configuration, in the order in which their names come first, with where Git fetches them from,
+/// and what is found in them.
+pub fn configured(
+    alloc: Global,
+    entries: &[Entry<'_>],
+    config: &Config<'_>,
+) -> Result<Vec<ModuleReport>, AllocError> {
+    let mut audit = Audit::of(alloc, entries, None)?;
+    for (it, alone) in entries.iter().zip(entries.chunks(1)) {
+        let audited = entry::audit(alloc, it, alone, Reading::Configuration)?;
+        audit.add(alloc, audited, it, None)?;
+    }
+    let found = submodules(alloc, entries)?;
+    for (submodule, report) in found.iter().zip(audit.reports.iter_mut()) {
+        if let Some(url) = value_of(submodule.url) {
+            report.fetch_from(alloc, config, url)?;
+        }
+    }
+    Ok(audit.reports)
+}
+
+/// What was found so far, and the places of the reports by their names.
+#[derive(Drop)]
+struct Audit<'a> {
+    reports: Vec<ModuleReport>,
+    places: BTreeMap<&'a [u8], usize>,
+}
+
+impl<'a> Audit<'a> {
+    /// The submodules, without what is found in them.
+    fn of(
+        alloc: Global,
+        entries: &[Entry<'a>],
+        parent: Option<Parent<'_>>,
+    ) -> Result<Audit<'a>, AllocError> {
+        let mut reports = Vec::new(alloc);
+        let mut places = BTreeMap::new(alloc);
+        for submodule in &submodules(alloc, entries)? {
+            places.insert(submodule.name, reports.len())?;
+            reports.push(ModuleReport::of(alloc, submodule, parent)?)?;
+        }
+        Ok(Audit { reports, places })
+    }
+
+    /// Adds what was found at an entry, which is in this line of a text if it is of one.
+    fn add(
+        &mut self,
+        alloc: Global,
+        audited: Audited<'a>,
+        entry: &Entry<'a>,
+        line: Option<(&[u8], usize)>,
+    ) -> Result<(), AllocError> {
+        let Audited { name, items } = audited;
+        if items.is_empty() {
+            return Ok(());
+        }
+        let place = self.place_of(alloc, name.unwrap_or(b""))?;
+        match self.reports.get_mut(place) {
+            Some(report) => report.add(alloc, entry, line, items),
+            None => Ok(()),
+        }
+    }
+
+    /// The place of the report of a submodule. The empty name, which Git refuses, is for all that it refuses.
+    fn place_of(&mut self, alloc: Global, name: &'a [u8]) -> Result<usize, AllocError> {
+        if let Some(place) = self.places.get(name) {
+            return Ok(*place);
+        }
+        let place = self.reports.len();
+        self.places.insert(name, place)?;
+        self.reports.push(ModuleReport::empty(alloc))?;
+        Ok(place)
+    }
+}
+
+impl ModuleReport {
+    /// No submodule, in which nothing was found.
+    fn empty(alloc: Global) -> ModuleReport {
+        ModuleReport {
+            submodule: None,
+            path: None,
+            url: None,
+            resolved: None,
+            fetch: Vec::new(alloc),
+            update: None,
+            branch: None,
+            findings: Vec::new(alloc),
+            places: Vec::new(alloc),
+            found: Findings::none(),
+        }
+    }
+
+    /// What Git uses of a submodule.
+    fn of(
+        alloc: Global,
+        submodule: &Submodule<'_>,
+        parent: Option<Parent<'_>>,
+    ) -> Result<ModuleReport, AllocError> {
+        let mut report = ModuleReport::empty(alloc);
+        report.submodule = shown_part(alloc, Some(submodule.name))?;
+        report.path = shown_part(alloc, value_of(submodule.path))?;
+        report.update = shown_part(alloc, value_of(submodule.update))?;
+        report.branch = shown_part(alloc, value_of(submodule.branch))?;
+        if let Some(url) = value_of(submodule.url) {
+            report.url = Some(shown_url(alloc, url)?);
+            report.resolved = shown_resolved(alloc, resolved(alloc, url, parent)?)?;
+        }
+        Ok(report)
+    }
+
+    /// Adds what was found at an entry, which is in this line of a text if it is of one.
+    fn add(
+        &mut self,
+        alloc: Global,
+        entry: &Entry<'_>,
+        line: Option<(&[u8], usize)>,
+        items: Vec<Item>,
+    ) -> Result<(), AllocError> {
+        let columns = line.map(|(text, _)| columns_at(text, entry.at));
+        for Item { kind, words } in items {
+            self.note(kind)?;
+            self.places.push(Place {
+                name: kind.name(),
+                words,
+                line: line.map(|(_, number)| number),
+                column: columns.map(|it| it.start),
+                end_column: columns.map(|it| it.end),
+                entry: Setting::of(alloc, entry)?,
+                kind,
+            })?;
+        }
+        Ok(())
+    }
+
+    /// Adds where Git fetches the submodule from, and what is found in that.
+    fn fetch_from(
+        &mut self,
+        alloc: Global,
+        config: &Config<'_>,
+        url: &[u8],
+    ) -> Result<(), AllocError> {
+        let route = Route::of_rewritten(alloc, config, &config.rewrites.rewrite_fetch(url))?;
+        self.found = self.found.union(route.found);
+        for name in &names_of(alloc, route.found)? {
+            note_name(&mut self.findings, name)?;
+        }
+        for name in &route.dangers {
+            note_name(&mut self.findings, name)?;
+        }
+        self.fetch.push(route)?;
+        Ok(())
+    }
+
+    /// Notes what a run may fail for, and the name of what was found.
+    fn note(&mut self, kind: Kind) -> Result<(), AllocError>
+        ensures { OnOk result (self.new.found ≡ union self.old.found (findings_of kind)) }
+    {
+        self.found = self.found.union(kind.findings());
+        note_name(&mut self.findings, kind.class())?;
+        note_name(&mut self.findings, kind.name())
+    }
+}
+
+/// Notes a name that isn't noted yet.
+fn note_name(names: &mut Vec<&'static str>, name: &'static str) -> Result<(), AllocError> {
+    if names.iter().any(|it| *it == name) {
+        return Ok(());
+    }
+    names.push(name)?;
+    Ok(())
+}
+
+/// The value that is used, if one is.
+fn value_of<'a>(used: Option<Used<'a>>) -> Option<&'a [u8]> {
+    match used {
+        None => None,
+        Some(used) => Some(used.value),
+    }
+}
+
+/// A URL as it is shown, without its password.
+fn shown_url(alloc: Global, url: &[u8]) -> Result<String, AllocError> {
+    input(alloc, &pieces_of(url))
+}
+
+/// What a URL is resolved to, as it is shown.
+fn shown_resolved(alloc: Global, text: Option<BString>) -> Result<Option<String>, AllocError> {
+    let Some(text) = text else {
+        return Ok(None);
+    };
+    let shown = shown_url(alloc, text.as_bytes());
+    drop(text);
+    Ok(Some(shown?))
+}

@@ -1,0 +1,69 @@
+//! What is found in the URL of a submodule.
+//!
+//! It uses `resolve` of `git_modules`, and `item` for the text that Git goes to.
+
+use crate::item::{Item, add, add_text};
+use crate::kind::Kind;
+use bstr::BString;
+use git_modules::resolve::{is_relative, resolve};
+use gix_url::Url;
+use std::alloc::{AllocError, Global};
+
+/// The URL of the superproject, and what it is read as.
+#[derive(Clone, Copy)]
+pub struct Parent<'a> {
+    pub text: &'a [u8],
+    pub url: &'a Url,
+}
+
+/// Adds what is found in the URL of a submodule: in the URL itself, or in what it is resolved to if it is relative.
+pub fn add_url(
+    alloc: Global,
+    found: &mut Vec<Item>,
+    url: &[u8],
+    parent: Option<Parent<'_>>,
+) -> Result<(), AllocError> {
+    if !is_relative(url) {
+        return add_text(alloc, found, url, None);
+    }
+    match parent {
+        None => add(alloc, found, Kind::NoParent),
+        Some(parent) => add_relative(alloc, found, url, parent),
+    }
+}
+
+/// Adds what is found in what a relative URL is resolved to.
+fn add_relative(
+    alloc: Global,
+    found: &mut Vec<Item>,
+    url: &[u8],
+    parent: Parent<'_>,
+) -> Result<(), AllocError> {
+    match resolve(parent.text, url) {
+        Err(error) => add(alloc, found, Kind::Unresolved(error)),
+        Ok(resolved) => {
+            let text = resolved.to_bstring(alloc)?;
+            let added = add_text(alloc, found, text.as_bytes(), Some(parent.url));
+            drop(text);
+            added
+        }
+    }
+}
+
+/// What a relative URL is resolved to, if it is one and Git resolves it.
+pub fn resolved(
+    alloc: Global,
+    url: &[u8],
+    parent: Option<Parent<'_>>,
+) -> Result<Option<BString>, AllocError> {
+    let Some(parent) = parent else {
+        return Ok(None);
+    };
+    if !is_relative(url) {
+        return Ok(None);
+    }
+    match resolve(parent.text, url) {
+        Err(_) => Ok(None),
+        Ok(resolved) => Ok(Some(resolved.to_bstring(alloc)?)),
+    }
+}
