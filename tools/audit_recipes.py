@@ -79,7 +79,7 @@ def hook_faults(place, hook):
 
 def step_faults(place, step):
     """Whether the step ends as it should, with a log."""
-    for text, status in ((None, 0), (GOOD, 0), (BAD, 1), (CLIMBS, 1), ("x", 2)):
+    for text, status in ((None, 0), (GOOD, 0), (BAD, 1), (CLIMBS, 1), ("[x", 2)):
         folder = f"step{status}{text is None}{text == CLIMBS}"
         place.git("init", "-q", folder, folder=".")
         place.git("remote", "add", "origin", "https://example.com/group/super.git", folder=folder)
