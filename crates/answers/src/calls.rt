@@ -119,6 +119,8 @@ fn over_nothing_else(order: Order<'_>, out: &mut Out) -> Result<(), Halt> {
         "laws::law_lines" => report_lent(out, &laws::law_lines()),
         "laws::law_components" => report_lent(out, &laws::law_components()),
         "laws::law_git" => report_lent(out, &laws::law_git()),
+        "laws::law_known_readers" => report_lent(out, &laws::law_known_readers()),
+        "laws::law_unambiguous" => report_lent(out, &laws::law_unambiguous()),
         "laws::law_stripped" => report_lent(out, &laws::law_stripped()),
         "laws::law_homes" => report_lent(out, &laws::law_homes()),
         "laws::law_user_order" => report_lent(out, &laws::law_user_order()),
