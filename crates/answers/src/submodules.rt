@@ -2,7 +2,7 @@
 
 use crate::halt::Halt;
 use crate::order::{Order, unknown};
-use crate::report::{Out, Report, report_lent, report_member};
+use crate::report::{Out, Report, report_lent, report_member, report_owned};
 use bstr::BStr;
 use git_modules::submodules::refusal::check;
 use git_modules::submodules::risk::{Risk, has_risk};
@@ -21,12 +21,7 @@ pub fn over_entries(
     match order.call() {
         "refusal::check" => Ok(report_refusals(entries, out)?),
         "risk::has_risk" => report_risk(order, entries, out),
-        "submodules::submodules" => {
-            let found = submodules(alloc, entries)?;
-            let reported = report_used(found.as_slice(), out);
-            drop(found);
-            Ok(reported?)
-        }
+        "submodules::submodules" => report_owned(out, submodules(alloc, entries)),
         call => unknown(call),
     }
 }
@@ -73,19 +68,21 @@ fn report_refusals(entries: &[Entry<'_>], out: &mut Out) -> io::Result<()> {
     out.write_all(b"]")
 }
 
-/// Reports the submodules that have a path and a URL, each with its URL and how it is updated.
-fn report_used(found: &[Submodule<'_>], out: &mut Out) -> io::Result<()> {
-    let mut before = "{";
-    for it in found {
-        if let (Some(_), Some(url)) = (it.path, it.url) {
-            out.write_all(before.as_bytes())?;
-            before = ",";
-            BStr::new(it.name).report(out)?;
-            out.write_all(b":{\"url\":")?;
-            BStr::new(url.value).report(out)?;
-            report_member(out, "update", &it.update.map(|used| BStr::new(used.value)))?;
-            out.write_all(b"}")?;
+impl Report for Vec<Submodule<'_>> {
+    /// Reports those that have a path and a URL, each with its URL and how it is updated.
+    fn report(&self, out: &mut Out) -> io::Result<()> {
+        let mut before = "{";
+        for it in self {
+            if let (Some(_), Some(url)) = (it.path, it.url) {
+                out.write_all(before.as_bytes())?;
+                before = ",";
+                BStr::new(it.name).report(out)?;
+                out.write_all(b":{\"url\":")?;
+                BStr::new(url.value).report(out)?;
+                report_member(out, "update", &it.update.map(|used| BStr::new(used.value)))?;
+                out.write_all(b"}")?;
+            }
         }
+        out.write_all(if before == "{" { b"{}" } else { b"}" })
     }
-    out.write_all(if before == "{" { b"{}" } else { b"}" })
 }
