@@ -72,11 +72,16 @@ def first_line(*command):
     return ran.stdout.partition("\n")[0].strip()
 
 
+def can_ask_git(text, form):
+    """Whether Git's transports are asked: behind the end of an empty path of the scp form Git looks for a `~`, in other bytes."""
+    return form not in ("http", "other") and pieces(text).path != b""
+
+
 def own_readers():
     """Of each reader its name, its version, which texts of a form it is asked, and how."""
     git, secure = first_line("git", "--version"), first_line("ssh", "-V")
     if git and library_of_git():
-        yield "Git", git.split()[-1], lambda text, form: form not in ("http", "other"), git_places
+        yield "Git", git.split()[-1], can_ask_git, git_places
         yield "Git credential", git.split()[-1], lambda text, form: form == "http" and can_be_asked(text), credential_places
         yield "libcurl", Curl(library_of_git()).version.partition("/")[2], lambda text, form: form == "http", curl_places
     if secure:
