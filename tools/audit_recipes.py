@@ -113,4 +113,4 @@ def check(room):
     hook, step, clones = recipes()
     place = Place(room)
     faults = [*hook_faults(place, hook), *step_faults(place, step), *clone_faults(place, clones)]
-    return faults, "three recipes, with 7 pushes, 5 steps and 8 files"
+    return faults, ["three recipes, with 7 pushes, 5 steps and 8 files"]
