@@ -1,5 +1,7 @@
 -- Lemmas by topic, lowest first.
 pub mod PartLemmas
+pub mod NameLemmas
+pub mod WebLemmas
 pub mod ConditionLemmas
 pub mod ReaderCuts
 pub mod PlainBytes

@@ -1,8 +1,9 @@
 -- The bytes of plain words, hosts, ports and paths, and that none of them is written as an escape.
-use Rattle.std.proofs.Common.{◌≡◌, ◌∙◌, ◌<◌, ℕ, Bool, true, false, ◌&&◌, List, [], ◌∷◌, ◌++◌, inl, inr, refl, sym, ap, subst, arith, decimal}
+use Rattle.std.proofs.Common.{◌≡◌, ◌∙◌, ◌+◌, ◌<◌, ◌==◌, ℕ, Bool, true, false, not, ◌&&◌, List, [], ◌∷◌, ◌++◌, bit_and, drop, get_or, length, inl, inr, refl, sym, ap, subst, arith, decimal}
 use Rattle.std.specs.List.{list_all}
 use Rattle.std.proofs.lemmas.Bool.{agree_below_at, and_from, and_parts, false≢true}
 use Rattle.std.proofs.lemmas.Bool.Decides.{nat_tests}
+use Rattle.std.proofs.lemmas.List.{at_drop_more}
 use Rattle.std.proofs.lemmas.Fmt.{decimal_is_IsNumeral}
 use Rattle.std.proofs.lemmas.List.Folds.{list_all-append}
 use Rattle.std.specs.Char.{digit_value}
@@ -17,6 +18,7 @@ use Rattle.git_syntax.specs.Addresses.{IsOctet}
 use Rattle.git_syntax.proofs.Addresses.AddressLemmas.{digits_pass}
 use Rattle.git_syntax.proofs.Texts.CutLemmas.{all_weaker}
 use Rattle.git_readers.proofs.PartLemmas.{no_cons}
+use Rattle.git_readers.specs.declared.path.TheConstants.{CLASS}
 use Rattle.git_readers.specs.Unambiguous.{AreLabels, IsPlainHost, is_label_byte, is_path_byte, is_scp_byte, is_unreserved}
 
 -- ---- tests
@@ -40,6 +42,24 @@ digit_unreserved b h = grind (arith, nat_tests)
 -- and it is one of a label
 digit_label : (b : ℕ) → digit_value b < 10 → is_label_byte b ≡ true
 digit_label b h = grind (arith, nat_tests)
+
+-- ---- the table of classes
+
+-- the byte has the flag in the table
+abbrev pub has_flag : ℕ → ℕ → Bool
+has_flag flag b = not (bit_and (get_or CLASS b 0) flag == 0)
+
+-- the table is held against the definitions at each of the 256 bytes, by computing
+pub path_class : (b : ℕ) → b < 256 → has_flag 1 b ≡ is_path_byte b
+path_class b small = agree_below_at (has_flag 1) is_path_byte 256 b refl small
+
+pub scp_class : (b : ℕ) → b < 256 → has_flag 2 b ≡ is_scp_byte b
+scp_class b small = agree_below_at (has_flag 2) is_scp_byte 256 b refl small
+
+-- the bytes so far and the next one pass a test, and those behind it, as the bytes so far and the rest do
+pub all_step : (test : ℕ → Bool) (so_far : Bool) (t : List ℕ) (i : ℕ) → i < length t → ((so_far && test (get_or t i 0)) && list_all test (drop (i + 1) t)) ≡ (so_far && list_all test (drop i t))
+all_step test true t i within = sym (at_drop_more (list_all test) t i 0 within)
+all_step test false t i within = refl
 
 -- ---- texts
 

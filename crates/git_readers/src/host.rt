@@ -3,10 +3,10 @@
 //! It uses cuts and addresses of `git_syntax`. Its contract: each test decides the condition or the definition that
 //! it is named for.
 
-ghost use Rattle.std.specs.Prelude.{◌≡◌, ◌↔◌, ◌++◌, ◌∷◌, [], List, ℕ, IsTrue, true, bytes_eq, IfSome};
+ghost use Rattle.std.specs.Prelude.{◌≡◌, ◌↔◌, ◌&&◌, ◌||◌, ◌==◌, ◌++◌, ◌∷◌, [], List, ℕ, IsTrue, not, true, bytes_eq, IfSome};
 ghost use Rattle.std.specs.List.{list_all};
 ghost use Rattle.std.specs.Char.{is_ascii_digit, is_ascii_lowercase};
-ghost use Rattle.git_syntax.specs.Bytes.{begins_by, dot};
+ghost use Rattle.git_syntax.specs.Bytes.{begins_by, dot, hyphen};
 ghost use Rattle.git_readers.specs.Conditions.{Meets};
 ghost use Rattle.git_readers.specs.Unambiguous as spec;
 ghost use Rattle.git_readers.specs.Unambiguous.{AreLabels, BeginsWithNumbers, IsPlainHost, IsPlainLabel, IsPlainName, IsPlainScpHost, IsPlainWord, IsPunycode};
@@ -28,11 +28,36 @@ pub(crate) fn has_plain_host(url: &UrlRef<'_>) -> bool
     }
 }
 
-/// Whether the text is a plain name or an IPv4 address.
+/// Whether the text is a plain name or an IPv4 address. Most are common names, which one look finds.
 fn is_plain_host(host: &[u8]) -> bool
     ensures { IsTrue result ↔ IsPlainHost host.now }
 {
-    is_plain_name(host) || is_dotted(host)
+    is_common_name(host) || is_dotted(host) || is_plain_name(host)
+}
+
+/// Whether the text is a name of at most 63 bytes, in which each byte may follow the one before it.
+fn is_common_name(host: &[u8]) -> bool
+    ensures { IsTrue result → IsPlainName host.now }
+{
+    let mut before = b'.';
+    for byte in host {
+        if !may_follow(before, *byte) {
+            return false;
+        }
+        before = *byte;
+    }
+    is_label_end(before) && host.len() <= 63
+}
+
+/// Whether the byte is a lower-case letter; a digit that isn't the first byte of a label; or `-` or `.` behind a
+/// letter or a digit.
+fn may_follow(before: u8, byte: u8) -> bool
+    ensures { result ≡ (is_ascii_lowercase byte || (is_ascii_digit byte && not (before == dot)
+        || (byte == hyphen || byte == dot) && spec.is_label_end before)) }
+{
+    byte.is_ascii_lowercase()
+        || (byte.is_ascii_digit() && before != b'.')
+        || ((byte == b'-' || byte == b'.') && is_label_end(before))
 }
 
 /// Whether the text is a name that every reader takes for the same name.

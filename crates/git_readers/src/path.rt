@@ -5,7 +5,7 @@
 
 ghost use Rattle.std.specs.Prelude.{◌≡◌, ◌↔◌, IsTrue, codes};
 ghost use Rattle.std.specs.List.{list_all, list_any};
-ghost use Rattle.git_location.specs.GitClass.{is_tilde_second};
+ghost use Rattle.git_location.specs.GitClass.{AgreesWithGit, is_tilde_second};
 ghost use Rattle.git_location.specs.Settled.{begins_with_slashes};
 ghost use Rattle.git_syntax.specs.Bytes.{Holds};
 ghost use Rattle.git_readers.specs.Conditions.{BeginsPlainly, Meets};
@@ -19,6 +19,23 @@ use crate::unambiguous::{Form, form_of};
 use git_location::url_ref::UrlRef;
 use git_syntax::bytes::{cut, is_free_of, starts_with_byte};
 use git_syntax::text::is_text;
+
+/// The flag of a byte of the path of a URL.
+const PATH: u8 = 1;
+
+/// The flag of a byte of a path in the scp form.
+const SCP: u8 = 2;
+
+/// For each byte a digit, whose low two bits are the flags above.
+static CLASS: [u8; 256] = *b"\
+    00000000000000000000000000000000\
+    01001010111333333333333333100300\
+    13333333333333333333333333300003\
+    03333333333333333333333333300030\
+    00000000000000000000000000000000\
+    00000000000000000000000000000000\
+    00000000000000000000000000000000\
+    00000000000000000000000000000000";
 
 /// Whether each byte of the path is one by which no reader cuts or changes it.
 pub(crate) fn has_plain_bytes(url: &UrlRef<'_>) -> bool
@@ -35,28 +52,40 @@ pub(crate) fn has_plain_bytes(url: &UrlRef<'_>) -> bool
 fn are_path_bytes(path: &[u8]) -> bool
     ensures { result ≡ list_all byte.is_path_byte path.now }
 {
-    path.iter().all(|it| is_path_byte(*it))
+    // A loop without an early exit is compiled to a few instructions a byte.
+    let mut all = true;
+    for it in path {
+        all &= is_path_byte(*it);
+    }
+    all
 }
 
 /// Whether the byte is a letter, a digit, or a mark of the path of a URL.
+#[tactic(auto, using(crate::proofs::PlainBytes::path_class))]
 fn is_path_byte(it: u8) -> bool
     ensures { result ≡ byte.is_path_byte it }
 {
-    it.is_ascii_alphanumeric() || b"-._~!$&()*+,=:@/".contains(&it)
+    CLASS[it as usize] & PATH != 0
 }
 
 /// Whether each byte is one of a path in the scp form.
 fn are_scp_bytes(path: &[u8]) -> bool
     ensures { result ≡ list_all byte.is_scp_byte path.now }
 {
-    path.iter().all(|it| is_scp_byte(*it))
+    // A loop without an early exit is compiled to a few instructions a byte.
+    let mut all = true;
+    for it in path {
+        all &= is_scp_byte(*it);
+    }
+    all
 }
 
 /// Whether the byte is a letter, a digit, or a mark of a path in the scp form.
+#[tactic(auto, using(crate::proofs::PlainBytes::scp_class))]
 fn is_scp_byte(it: u8) -> bool
     ensures { result ≡ byte.is_scp_byte it }
 {
-    it.is_ascii_alphanumeric() || b"-._~+,=/".contains(&it)
+    CLASS[it as usize] & SCP != 0
 }
 
 /// Whether a byte is in the local path by which readers take it for something else.
@@ -73,12 +102,13 @@ fn is_odd_local(it: u8) -> bool
     it < b' ' || it == 127 || it == b':' || it == b'\\'
 }
 
-/// Whether the path begins in a way that no reader changes.
+/// Whether the path begins in a way that no reader changes. In a URL of HTTP it does where Git agrees.
 pub(crate) fn begins_plainly(url: &UrlRef<'_>) -> bool
+    requires { AgreesWithGit url.now }
     ensures { IsTrue result ↔ Meets condition.PathStart url.now }
 {
     match form_of(url) {
-        Form::Web => !begins_with_slashes(url.path),
+        Form::Web => true,
         Form::Local => is_plain_local(url.path),
         Form::Transport => begins_as_transport(url.path),
         Form::Scp => !begins_with_port(url.path),
@@ -143,12 +173,15 @@ fn begins_with_port(path: &[u8]) -> bool
     }
 }
 
-/// Whether no segment of the path is `.` or `..`, or the path is a local one.
+/// Whether no segment of the path is `.` or `..`, or the path is a local one. In a URL of HTTP none is where Git
+/// agrees.
 pub(crate) fn lacks_dots(url: &UrlRef<'_>) -> bool
+    requires { AgreesWithGit url.now }
     ensures { IsTrue result ↔ Meets condition.DotSegment url.now }
 {
     match form_of(url) {
-        Form::Web | Form::Transport | Form::Scp => !has_dots(url.path),
+        Form::Web => true,
+        Form::Transport | Form::Scp => !has_dots(url.path),
         Form::Local => true,
     }
 }
