@@ -1,11 +1,12 @@
 -- Labels and segments by the dots and slashes between them.
-use Rattle.std.proofs.Common.{◌≡◌, ◌∙◌, ◌<◌, ◌==◌, not, zero, suc, ◌⊎◌, ℕ, true, false, List, [], ◌∷◌, ◌++◌, inl, inr, refl, sym, ap, subst, arith, length, append_assoc}
-use Rattle.std.proofs.lemmas.Bool.{false≢true}
+use Rattle.std.proofs.Common.{◌≡◌, ◌∙◌, ◌<◌, ◌==◌, ◌&&◌, ◌||◌, Bool, not, zero, suc, ◌⊎◌, ℕ, true, false, List, [], ◌∷◌, ◌++◌, inl, inr, refl, sym, ap, subst, arith, codes, length, append_assoc}
+use Rattle.std.proofs.lemmas.Bool.{both_ways, false≢true, or_right}
+use Rattle.std.proofs.lemmas.List.{append-nil}
 use Rattle.std.proofs.lemmas.Bool.Decides.{nat_tests}
 use Rattle.std.specs.List.{list_all}
 use Rattle.std.specs.Char.{is_ascii_digit, is_ascii_lowercase}
 use Rattle.git_syntax.specs.Bytes.{dot, slash, FreeOf, Holds, begins_by, begins_with}
-use Rattle.git_syntax.proofs.Texts.CutLemmas.{cut_unique, free_of_all, free_or_cut, not_free}
+use Rattle.git_syntax.proofs.Texts.CutLemmas.{cut_unique, free_head_tail, free_of_all, free_or_cut, not_free}
 use Rattle.git_readers.specs.Unambiguous.{AreLabels, HasDots, HasSlashBefore, IsDots, IsPlainLabel, is_label_byte, slashes}
 
 -- ---- labels
@@ -82,6 +83,44 @@ pub dots_alone : (t : List ℕ) → FreeOf slash t → HasDots t → IsDots t
 dots_alone t free (HasDots.whole x dots) = dots
 dots_alone t free (HasDots.first x s r dots e) = absurd (not_free slash s r (subst (λ y. FreeOf slash y) e free))
 dots_alone t free (HasDots.later x f r has e) = absurd (not_free slash f r (subst (λ y. FreeOf slash y) e free))
+
+-- a segment, or what is before another dot, ends before the text
+abbrev stops : List ℕ → Bool
+stops [] = true
+stops (b ∷ bs) = b == slash || b == dot
+
+-- a dot is in the text with such an end behind it
+abbrev holds_end_dot : List ℕ → Bool
+holds_end_dot [] = false
+holds_end_dot (b ∷ bs) = (b == dot && stops bs) || holds_end_dot bs
+
+-- so it is in a text that has such a rest
+end_dot_later : (front rest : List ℕ) → holds_end_dot rest ≡ true → holds_end_dot (front ++ slash ∷ rest) ≡ true
+end_dot_later [] rest h = h
+end_dot_later (b ∷ front) rest h = or_right (b == dot && stops (front ++ slash ∷ rest)) (holds_end_dot (front ++ slash ∷ rest)) (end_dot_later front rest h)
+
+-- a segment of dots has one
+dots_end : (path : List ℕ) → HasDots path → holds_end_dot path ≡ true
+dots_end path (HasDots.whole _ (inl one)) = ap holds_end_dot one
+dots_end path (HasDots.whole _ (inr two)) = ap holds_end_dot two
+dots_end path (HasDots.first _ segment rest (inl one) e) = ap holds_end_dot (e ∙ ap (λ x. x ++ slash ∷ rest) one)
+dots_end path (HasDots.first _ segment rest (inr two) e) = ap holds_end_dot (e ∙ ap (λ x. x ++ slash ∷ rest) two)
+dots_end path (HasDots.later _ front rest has e) = ap holds_end_dot e ∙ end_dot_later front rest (dots_end rest has)
+
+-- a text without a dot has none before what is behind it
+end_dot_behind : (t rest : List ℕ) → FreeOf dot t → holds_end_dot (t ++ rest) ≡ holds_end_dot rest
+end_dot_behind [] rest free = refl
+end_dot_behind (b ∷ bs) rest free =
+    let apart = free_head_tail dot b bs free in
+    ap (λ x. (x && stops (bs ++ rest)) || holds_end_dot (bs ++ rest)) apart.0 ∙ end_dot_behind bs rest apart.1
+
+-- a path that has no dot but that of `.git` at its end has no segment of dots
+pub no_dots_git : (path t : List ℕ) → path ≡ t ++ codes ".git" → FreeOf dot t → ¬ HasDots path
+no_dots_git path t e free has = both_ways _ (ap holds_end_dot e ∙ end_dot_behind t (codes ".git") free) (dots_end path has)
+
+-- nor has one without a dot
+pub no_dots_free : (path : List ℕ) → FreeOf dot path → ¬ HasDots path
+no_dots_free path free has = both_ways _ (ap holds_end_dot (sym (append-nil path)) ∙ end_dot_behind path [] free) (dots_end path has)
 
 -- ---- two slashes
 

@@ -1,5 +1,5 @@
 -- The bytes of plain words, hosts, ports and paths, and that none of them is written as an escape.
-use Rattle.std.proofs.Common.{◌≡◌, ◌∙◌, ◌+◌, ◌<◌, ◌==◌, ℕ, Bool, true, false, not, ◌&&◌, List, [], ◌∷◌, ◌++◌, bit_and, drop, get_or, length, inl, inr, refl, sym, ap, subst, arith, decimal}
+use Rattle.std.proofs.Common.{◌≡◌, ◌∙◌, ◌+◌, ◌<◌, ◌==◌, ℕ, Bool, true, false, not, ◌&&◌, IsUtf8, List, [], ◌∷◌, ◌++◌, bit_and, drop, get_or, length, inl, inr, refl, sym, ap, subst, arith, decimal}
 use Rattle.std.specs.List.{list_all}
 use Rattle.std.proofs.lemmas.Bool.{agree_below_at, and_from, and_parts, false≢true}
 use Rattle.std.proofs.lemmas.Bool.Decides.{nat_tests}
@@ -13,13 +13,14 @@ use Rattle.percent_encoding.specs.Percent.{percent_encode}
 use Rattle.percent_encoding.proofs.AsciiSetLemmas.{kept_from_outside}
 use Rattle.percent_encoding.proofs.PercentLemmas.{percent_encode-nil, percent_encode_kept}
 use Rattle.git_syntax.specs.declared.escape.TheConstants.{PATH, PASSWORD, USER}
-use Rattle.git_syntax.specs.Bytes.{dot}
+use Rattle.git_syntax.specs.Bytes.{Lacks, dot}
 use Rattle.git_syntax.specs.Addresses.{IsOctet}
 use Rattle.git_syntax.proofs.Addresses.AddressLemmas.{digits_pass}
-use Rattle.git_syntax.proofs.Texts.CutLemmas.{all_weaker}
+use Rattle.git_syntax.proofs.Texts.EscapeLemmas.{utf8_class}
+use Rattle.git_syntax.proofs.Texts.CutLemmas.{all_weaker, lacks_of_all}
 use Rattle.git_readers.proofs.PartLemmas.{no_cons}
-use Rattle.git_readers.specs.declared.path.TheConstants.{CLASS}
-use Rattle.git_readers.specs.Unambiguous.{AreLabels, IsPlainHost, is_label_byte, is_path_byte, is_scp_byte, is_unreserved}
+use Rattle.git_readers.specs.declared.classes.TheConstants.{CLASS}
+use Rattle.git_readers.specs.Unambiguous.{AreLabels, IsPlainHost, is_label_byte, is_odd_local, is_path_byte, is_scp_byte, is_unreserved}
 
 -- ---- tests
 
@@ -43,6 +44,21 @@ digit_unreserved b h = grind (arith, nat_tests)
 digit_label : (b : ℕ) → digit_value b < 10 → is_label_byte b ≡ true
 digit_label b h = grind (arith, nat_tests)
 
+-- the bytes of paths are ASCII
+path_ascii : (b : ℕ) → is_path_byte b ≡ true → b < 128
+path_ascii b h = grind (arith, nat_tests)
+
+scp_ascii : (b : ℕ) → is_scp_byte b ≡ true → b < 128
+scp_ascii b h = path_ascii b (scp_path b h)
+
+-- no reader takes a local path for something else by a byte of the scp form
+scp_even : (b : ℕ) → is_scp_byte b ≡ true → is_odd_local b ≡ false
+scp_even b h = sym (ap (λ x. x && is_odd_local b) h) ∙ agree_below_at (λ d. is_scp_byte d && is_odd_local d) (λ d. false) 128 b refl (scp_ascii b h)
+
+-- a text of such bytes is a plain local path
+pub local_plain : (t : List ℕ) → list_all is_scp_byte t ≡ true → IsUtf8 t × Lacks is_odd_local t
+local_plain t all = (utf8_class is_scp_byte scp_ascii t all, lacks_of_all is_scp_byte is_odd_local scp_even t all)
+
 -- ---- the table of classes
 
 -- the byte has the flag in the table
@@ -55,6 +71,9 @@ path_class b small = agree_below_at (has_flag 1) is_path_byte 256 b refl small
 
 pub scp_class : (b : ℕ) → b < 256 → has_flag 2 b ≡ is_scp_byte b
 scp_class b small = agree_below_at (has_flag 2) is_scp_byte 256 b refl small
+
+pub word_class : (b : ℕ) → b < 256 → has_flag 4 b ≡ is_unreserved b
+word_class b small = agree_below_at (has_flag 4) is_unreserved 256 b refl small
 
 -- the bytes so far and the next one pass a test, and those behind it, as the bytes so far and the rest do
 pub all_step : (test : ℕ → Bool) (so_far : Bool) (t : List ℕ) (i : ℕ) → i < length t → ((so_far && test (get_or t i 0)) && list_all test (drop (i + 1) t)) ≡ (so_far && list_all test (drop i t))
@@ -120,10 +139,6 @@ pub plain_path : (t : List ℕ) → list_all is_unreserved t ≡ true → list_a
 plain_path t all = all_weaker is_unreserved is_path_byte unreserved_path t all
 
 -- ---- escapes
-
--- the bytes of paths are ASCII
-path_ascii : (b : ℕ) → is_path_byte b ≡ true → b < 128
-path_ascii b h = grind (arith, nat_tests)
 
 -- a text is written as it is whose bytes pass a test that no escaped byte of ASCII passes
 unescaped : (set : AsciiSet) (test : ℕ → Bool) → ((b : ℕ) → test b ≡ true → b < 128) → ((b : ℕ) → b < 128 → (test b && contains set b) ≡ false) → (t : List ℕ) → list_all test t ≡ true → percent_encode set t ≡ t

@@ -12,6 +12,7 @@ ghost use Rattle.git_readers.specs.Unambiguous as spec;
 ghost use Rattle.git_readers.specs.Unambiguous.{AreLabels, BeginsWithNumbers, IsPlainHost, IsPlainLabel, IsPlainName, IsPlainScpHost, IsPlainWord, IsPunycode};
 ghost use Rattle.git_readers.specs.declared.unambiguous.Condition.TheVariants as condition;
 
+use crate::classes::are_unreserved;
 use crate::unambiguous::{Form, form_of};
 use git_location::url_ref::UrlRef;
 use git_syntax::bytes::{before, cut, starts_with_byte};
@@ -203,31 +204,7 @@ pub(crate) fn has_plain_password(url: &UrlRef<'_>) -> bool
 fn is_plain_word(word: &[u8]) -> bool
     ensures { IsTrue result ↔ IsPlainWord word.now }
 {
-    begins_as_word(word) && are_unreserved(word)
-}
-
-/// Whether each byte is an unreserved one.
-fn are_unreserved(text: &[u8]) -> bool
-    ensures { result ≡ list_all spec.is_unreserved text.now }
-{
-    text.iter().all(|byte| is_unreserved(*byte))
-}
-
-/// Whether the text begins with an unreserved byte.
-fn begins_as_word(text: &[u8]) -> bool
-    ensures { result ≡ begins_by spec.is_unreserved text.now }
-{
-    match text {
-        [] => false,
-        [first, ..] => is_unreserved(*first),
-    }
-}
-
-/// Whether the byte is a letter, a digit, `-`, `.`, `_` or `~`.
-fn is_unreserved(byte: u8) -> bool
-    ensures { result ≡ spec.is_unreserved byte }
-{
-    byte.is_ascii_alphanumeric() || b"-._~".contains(&byte)
+    !word.is_empty() && are_unreserved(word)
 }
 
 /// Whether a host of the scp form is read alike.

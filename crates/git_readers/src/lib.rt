@@ -5,6 +5,7 @@
 //! same parts; [`law::law_unambiguous`] says so for each reader of that family.
 #![tactic(auto)]
 
+mod classes;
 mod host;
 pub mod law;
 mod path;

@@ -3,39 +3,23 @@
 //! It uses cuts of `git_syntax`. Its contract: each test decides the condition or the definition that it is named
 //! for.
 
-ghost use Rattle.std.specs.Prelude.{◌≡◌, ◌↔◌, IsTrue, codes};
-ghost use Rattle.std.specs.List.{list_all, list_any};
+ghost use Rattle.std.specs.Prelude.{◌≡◌, ◌↔◌, ◌++◌, ◌⊎◌, IsTrue, codes};
+ghost use Rattle.std.specs.List.{list_any};
 ghost use Rattle.git_location.specs.GitClass.{AgreesWithGit, is_tilde_second};
 ghost use Rattle.git_location.specs.Settled.{begins_with_slashes};
 ghost use Rattle.git_syntax.specs.Bytes.{Holds};
-ghost use Rattle.git_readers.specs.Conditions.{BeginsPlainly, Meets};
+ghost use Rattle.git_readers.specs.Conditions.{BeginsPlainly, HasPlainBytes, Meets};
 ghost use Rattle.git_readers.specs.Unambiguous as byte;
 ghost use Rattle.git_readers.specs.Unambiguous.{BeginsWithPort, HasDots, HasInnerSlash, HasSlashBefore, IsDots, IsPlainLocal, slashes};
 ghost use Rattle.git_readers.specs.declared.unambiguous.Condition.TheVariants as condition;
 ghost use Rattle.git_readers.specs.declared.unambiguous.Form.TheVariants as form;
 
+use crate::classes::{are_path_bytes, are_scp_bytes};
 use crate::host::is_number;
 use crate::unambiguous::{Form, form_of};
 use git_location::url_ref::UrlRef;
 use git_syntax::bytes::{cut, is_free_of, starts_with_byte};
 use git_syntax::text::is_text;
-
-/// The flag of a byte of the path of a URL.
-const PATH: u8 = 1;
-
-/// The flag of a byte of a path in the scp form.
-const SCP: u8 = 2;
-
-/// For each byte a digit, whose low two bits are the flags above.
-static CLASS: [u8; 256] = *b"\
-    00000000000000000000000000000000\
-    01001010111333333333333333100300\
-    13333333333333333333333333300003\
-    03333333333333333333333333300030\
-    00000000000000000000000000000000\
-    00000000000000000000000000000000\
-    00000000000000000000000000000000\
-    00000000000000000000000000000000";
 
 /// Whether each byte of the path is one by which no reader cuts or changes it.
 pub(crate) fn has_plain_bytes(url: &UrlRef<'_>) -> bool
@@ -44,48 +28,15 @@ pub(crate) fn has_plain_bytes(url: &UrlRef<'_>) -> bool
     match form_of(url) {
         Form::Web | Form::Transport => are_path_bytes(url.path),
         Form::Scp => are_scp_bytes(url.path),
-        Form::Local => is_text(url.path) && !has_odd_local(url.path),
+        Form::Local => are_local_bytes(url.path),
     }
 }
 
-/// Whether each byte is one of the path of a URL.
-fn are_path_bytes(path: &[u8]) -> bool
-    ensures { result ≡ list_all byte.is_path_byte path.now }
+/// Whether the path is text without a byte by which readers take a local path for something else.
+fn are_local_bytes(path: &[u8]) -> bool
+    ensures { IsTrue result ↔ HasPlainBytes form.Local path.now }
 {
-    // A loop without an early exit is compiled to a few instructions a byte.
-    let mut all = true;
-    for it in path {
-        all &= is_path_byte(*it);
-    }
-    all
-}
-
-/// Whether the byte is a letter, a digit, or a mark of the path of a URL.
-#[tactic(auto, using(crate::proofs::PlainBytes::path_class))]
-fn is_path_byte(it: u8) -> bool
-    ensures { result ≡ byte.is_path_byte it }
-{
-    CLASS[it as usize] & PATH != 0
-}
-
-/// Whether each byte is one of a path in the scp form.
-fn are_scp_bytes(path: &[u8]) -> bool
-    ensures { result ≡ list_all byte.is_scp_byte path.now }
-{
-    // A loop without an early exit is compiled to a few instructions a byte.
-    let mut all = true;
-    for it in path {
-        all &= is_scp_byte(*it);
-    }
-    all
-}
-
-/// Whether the byte is a letter, a digit, or a mark of a path in the scp form.
-#[tactic(auto, using(crate::proofs::PlainBytes::scp_class))]
-fn is_scp_byte(it: u8) -> bool
-    ensures { result ≡ byte.is_scp_byte it }
-{
-    CLASS[it as usize] & SCP != 0
+    are_scp_bytes(path) || (is_text(path) && !has_odd_local(path))
 }
 
 /// Whether a byte is in the local path by which readers take it for something else.
@@ -181,8 +132,26 @@ pub(crate) fn lacks_dots(url: &UrlRef<'_>) -> bool
 {
     match form_of(url) {
         Form::Web => true,
-        Form::Transport | Form::Scp => !has_dots(url.path),
+        Form::Transport | Form::Scp => is_dotless(url.path) || !has_dots(url.path),
         Form::Local => true,
+    }
+}
+
+/// Whether no `.` is in the path, but for that of `.git` at its end. Most paths are so, and none has a segment `.`
+/// or `..`.
+fn is_dotless(path: &[u8]) -> bool
+    ensures { IsTrue result → ¬ HasDots path.now }
+{
+    is_free_of(without_git(path), b'.')
+}
+
+/// The path without `.git` at its end.
+fn without_git(path: &[u8]) -> &[u8]
+    ensures { (path.now ≡ result.now ++ codes ".git") ⊎ (path.now ≡ result.now) }
+{
+    match path {
+        [front @ .., b'.', b'g', b'i', b't'] => front,
+        _ => path,
     }
 }
 

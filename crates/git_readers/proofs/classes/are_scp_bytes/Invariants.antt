@@ -1,0 +1,8 @@
+use Rattle.std.proofs.Common.{◌≡◌, ◌&&◌, drop}
+use Rattle.std.specs.List.{list_all}
+use Rattle.git_readers.specs.Unambiguous.{is_scp_byte}
+use Rattle.git_readers.proofs.classes.are_scp_bytes.Given as goal
+
+-- the answer for all bytes is that so far and that for the bytes that are left
+abbrev pub invariant-loop-byte : goal.invariant-loop-byte
+invariant-loop-byte l = (l.all && list_all is_scp_byte (drop l.byte-index l.path)) ≡ list_all is_scp_byte l.path
