@@ -66,8 +66,12 @@ class Article:
         """The object of the line, without the names of its dangers, which a page lacks."""
         location = None if self.verdict == "refused" else self.location()
         return {
-            "line": self.number, "input": self.value("input"), "location": location, "refusal": self.members("refusal", ERROR),
+            "line": self.number, "input": self.value("input"), "location": location, "refusal": self.refusal(),
             "findings": self.findings(location), "hints": [word for _, word, *_ in self.values.get("hints", [])], "rules": None}
+
+    def refusal(self):
+        it, read = self.members("refusal", ERROR), self.members("refusal.git_reads", ("protocol", "user", "host", "port", "path", "why"))
+        return it and {**it, "git_reads": read and {**read, "same": False}}
 
     def findings(self, location):
         """The names of what is found in the line, for which a run may fail."""
@@ -112,4 +116,5 @@ class Article:
 
     def reread(self):
         words, difference = self.value("reread.words"), self.members("reread.difference", ("field", "here", "instead"))
-        return words and {"difference": difference, "refusal": self.members("reread.refusal", ERROR), "words": words}
+        refusal = self.members("reread.refusal", ERROR)
+        return words and {"difference": difference, "refusal": refusal and {**refusal, "git_reads": None}, "words": words}

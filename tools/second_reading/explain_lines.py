@@ -76,3 +76,9 @@ SLIPS = [b"ssh://git@github.com:a/b.git", b"ssh://git@github.com:22/b.git", b"gi
          b"../a", b"..", b"..a", b"./../a", b"origin", b"my-fork_2", b"-a", b"a.b", b"\xc3\xa4", b"$ git clone git@h:a", b"> git pull x", b"$  git pull x",
          b"git remote set-url origin git@h:a", b"https://user:p/ss@h/a", b"https://u:p/s@h", b"https://u:p/s@/a", b"https://u@h:x/a@h/b",
          "https://\u4f8b\u3048.jp/a".encode(), "https://h:x/\u4f8b".encode(), "ssh://\u4f8b:x/a".encode(), b"ssh://u:p@h/a", b"git://u:p@h/a", b"file://server/x"]
+
+# Refused lines in which Git reads a place all the same, with a password or without, or another reason to read none.
+IN_REFUSED = [
+    b"ssh://h:x/p", b"ssh://u@h:x:22/p", b"git://h:x/p", b"git://h:99999/~u/p", b"ssh+git://h:x/p", b"file://\xff/p", b"file://h/%ff", b"[u@h:x]:p", b"u:p@[h:22]:p",
+    b"[u:p@h:22]:p", b"ssh://u:p%40h/p", b"git://u:p%40h/p", b"ssh://u%3ap%40h:x/p", b"ssh://:22/p\xff", b"-a\xff://h/p", b"ssh://u@h:x/a\0b", b"ssh://[ssh://h:x/p",
+    b"u@[h:p", b"h:\xff", b"[h]:\xff~u", b"rsync://h:x/", b"x://h:x y/p", b"a b:p", b"ssh://@h:x/p", b"git://h/p\n\xff".replace(b"\n", b"%0a")]

@@ -190,7 +190,7 @@ impl Line<'_, '_> {
         rules: Option<&Rules>,
     ) -> Result<String, AllocError> {
         let seen = SeenLine::of(alloc, self.bytes)?;
-        let (seen, refusal) = both(seen, Refusal::of_line(alloc, error))?;
+        let (seen, refusal) = both(seen, Refusal::with_git(alloc, self.bytes, error))?;
         let found = hint::find(alloc, self.bytes, None);
         let ((seen, refusal), found) = both((seen, refusal), found)?;
         let notes = Notes {

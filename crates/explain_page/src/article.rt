@@ -314,6 +314,9 @@ pub fn refusal(
     word(out, "<dt>reason<dd data-m=refusal.reason>", refusal.reason)?;
     number(out, "<dt>at byte<dd data-m=refusal.at>", refusal.at)?;
     number(out, "<dt>bytes<dd data-m=refusal.len>", refusal.len)?;
+    if let Some(reads) = &refusal.git_reads {
+        readers::of_refused(out, reads)?;
+    }
     out.push_template("</dl>")?;
     hints(out, found)?;
     out.push_template("</article>\n")

@@ -126,7 +126,7 @@ impl Page {
     ) -> Result<Findings, AllocError> {
         let alloc = self.alloc;
         let seen = SeenLine::of(alloc, line)?;
-        let (seen, refusal) = both(seen, Refusal::of_line(alloc, error))?;
+        let (seen, refusal) = both(seen, Refusal::with_git(alloc, line, error))?;
         let found = hint::find(alloc, line, None);
         let ((seen, refusal), found) = both((seen, refusal), found)?;
         let out = &mut self.refused;

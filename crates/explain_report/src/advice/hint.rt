@@ -366,7 +366,7 @@ impl Hint {
             Hint::HomeHere => path.starts_with(b"~"),
             Hint::SlashForColon => slip::first_element(path).is_some_and(is_user_and_host),
             Hint::Relative => path == b"..".as_slice() || path.starts_with(b"../"),
-            Hint::RemoteName => slip::is_word(path) && !path.starts_with(b"-"),
+            Hint::RemoteName => slip::is_remote_name(path),
             _ => false,
         }
     }

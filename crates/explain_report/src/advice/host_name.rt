@@ -1,6 +1,11 @@
 //! Names of hosts as people write them, and users that are written so.
 //!
-//! Hints alone decide by them. They have no contract but that they can't abort.
+//! Hints alone decide by them. Their contracts: labels and users are those of the definitions. The others have
+//! none but that they can't abort.
+
+ghost use Rattle.std.specs.Prelude.{◌≡◌};
+ghost use Rattle.std.specs.List.{list_all};
+ghost use Rattle.explain_report.specs.Hints.{is_label, is_label_byte, is_user, is_user_byte};
 
 use bstr::ByteSlice;
 use unicode::properties::Script;
@@ -27,11 +32,27 @@ pub(crate) fn is_name_of_service(name: &[u8]) -> bool {
 }
 
 /// Whether the bytes may be a label of a host.
-fn is_label(label: &[u8]) -> bool {
-    !label.is_empty()
-        && label
-            .iter()
-            .all(|byte| byte.is_ascii_alphanumeric() || *byte == b'-')
+fn is_label(label: &[u8]) -> bool
+    ensures { result ≡ is_label label.now }
+{
+    match label {
+        [] => false,
+        [first, rest @ ..] => is_label_byte(*first) && are_label_bytes(rest),
+    }
+}
+
+/// Whether the byte is a letter, a digit or `-`.
+fn is_label_byte(byte: u8) -> bool
+    ensures { result ≡ is_label_byte byte }
+{
+    byte.is_ascii_alphanumeric() || byte == b'-'
+}
+
+/// Whether each byte is a letter, a digit or `-`.
+fn are_label_bytes(bytes: &[u8]) -> bool
+    ensures { result ≡ list_all is_label_byte bytes.now }
+{
+    bytes.iter().all(|byte| is_label_byte(*byte))
 }
 
 /// Whether the bytes may be the last label of a host, and aren't the end of a bare repository's name.
@@ -50,10 +71,27 @@ pub(crate) fn is_user_and_host(bytes: &[u8]) -> bool {
 }
 
 /// Whether the bytes are a user with nothing unusual in it.
-pub(crate) fn is_user(user: &[u8]) -> bool {
-    !user.is_empty()
-        && user.iter().all(|byte| byte.is_ascii_alphanumeric()
-            || matches!(byte, b'_' | b'.' | b'-'))
+pub(crate) fn is_user(user: &[u8]) -> bool
+    ensures { result ≡ is_user user.now }
+{
+    match user {
+        [] => false,
+        [first, rest @ ..] => is_user_byte(*first) && are_user_bytes(rest),
+    }
+}
+
+/// Whether the byte is a letter, a digit, `-`, `_` or `.`.
+fn is_user_byte(byte: u8) -> bool
+    ensures { result ≡ is_user_byte byte }
+{
+    byte.is_ascii_alphanumeric() || byte == b'-' || byte == b'_' || byte == b'.'
+}
+
+/// Whether each byte is a letter, a digit, `-`, `_` or `.`.
+fn are_user_bytes(bytes: &[u8]) -> bool
+    ensures { result ≡ list_all is_user_byte bytes.now }
+{
+    bytes.iter().all(|byte| is_user_byte(*byte))
 }
 
 /// Whether a label of the host has an ASCII letter and one of another script that has letters drawn alike.

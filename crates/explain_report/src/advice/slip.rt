@@ -1,6 +1,12 @@
 //! Conditions on the bytes of a line that may be a slip, whatever they are read as.
 //!
-//! `hint` says which hint each is for. They have no contract but that they can't abort.
+//! `hint` says which hint each is for. Their contracts: a text of digits, and a word that may name a remote, are
+//! those of the definitions. The others have none but that they can't abort.
+
+ghost use Rattle.std.specs.Prelude.{◌≡◌};
+ghost use Rattle.std.specs.List.{list_all};
+ghost use Rattle.std.specs.Char.{is_ascii_digit};
+ghost use Rattle.explain_report.specs.Hints.{is_remote_name, is_word_byte};
 
 use crate::advice::host_name::is_user;
 use bstr::ByteSlice;
@@ -54,9 +60,30 @@ pub(crate) fn is_quoted(line: &[u8]) -> bool {
     )
 }
 
-/// Whether the line is of letters, digits, `_` and `-`.
-pub(crate) fn is_word(line: &[u8]) -> bool {
-    line.iter().all(|byte| byte.is_ascii_alphanumeric() || matches!(byte, b'_' | b'-'))
+/// Whether the line is a word that may be the name of a remote.
+pub(crate) fn is_remote_name(line: &[u8]) -> bool
+    ensures { result ≡ is_remote_name line.now }
+{
+    match line {
+        [] => false,
+        [first, rest @ ..] => {
+            (first.is_ascii_alphanumeric() || *first == b'_') && are_word_bytes(rest)
+        }
+    }
+}
+
+/// Whether the byte is a letter, a digit, `-` or `_`.
+fn is_word_byte(byte: u8) -> bool
+    ensures { result ≡ is_word_byte byte }
+{
+    byte.is_ascii_alphanumeric() || byte == b'-' || byte == b'_'
+}
+
+/// Whether each byte is a letter, a digit, `-` or `_`.
+fn are_word_bytes(bytes: &[u8]) -> bool
+    ensures { result ≡ list_all is_word_byte bytes.now }
+{
+    bytes.iter().all(|byte| is_word_byte(*byte))
 }
 
 /// The first element of a relative path, where something follows it.
@@ -263,7 +290,9 @@ fn is_host_and_port(bytes: &[u8]) -> bool {
 }
 
 /// Whether the bytes are digits.
-fn is_number(bytes: &[u8]) -> bool {
+fn is_number(bytes: &[u8]) -> bool
+    ensures { result ≡ list_all is_ascii_digit bytes.now }
+{
     bytes.iter().all(|byte| byte.is_ascii_digit())
 }
 
