@@ -3,7 +3,7 @@
 use crate::only::Part;
 use crate::paint::Colors;
 use crate::style::{Layout, Style};
-use clap::{Arg, ArgAction, ArgMatches, Command};
+use clap::{Arg, ArgAction, ArgGroup, ArgMatches, Command};
 use explain_report::finding::Findings;
 use std::alloc::{AllocError, Global};
 use std::rt::Env;
@@ -17,7 +17,11 @@ Examples:
   explain git@github.com:a/b.git
   git config --get-all remote.origin.url | explain --only host
 
---json, --sarif, --html, --only and --quiet exclude each other. --gitmodules excludes lines, --config, --remotes, --html and --only; --remotes excludes lines, --html and --only; --config excludes --html; --null excludes --sarif and --gitmodules.
+These can't be given together:
+  two of --json, --sarif, --html, --only and --quiet
+  --remotes, --gitmodules or --parent with TEXT, --file, --html or --only
+  --gitmodules or --parent with --config, --remotes or --null
+  --sarif with --null
 
 Exit status: 0 if nothing was found, 1 if something was, 2 for wrong arguments or a run that was cut short. What can be found: a danger, a location that is not settled, a refused line, a text that Git is not known to read the same (git-differs), and with --config a transport that Git does not use (policy).";
 
@@ -134,17 +138,41 @@ fn command<'a>(alloc: Global) -> Result<Command<'a>, AllocError> {
         .arg(texts(alloc))?
         .arg(files(alloc))?
         .arg(null(alloc))?
-        .arg(config(alloc)?)?
-        .arg(remotes(alloc)?)?
-        .arg(gitmodules(alloc)?)?
+        .arg(config(alloc))?
+        .arg(remotes(alloc))?
+        .arg(gitmodules(alloc))?
         .arg(parent_arg(alloc)?)?
-        .arg(json(alloc)?)?
+        .arg(json(alloc))?
         .arg(sarif(alloc)?)?
-        .arg(html(alloc)?)?
-        .arg(only(alloc)?)?
+        .arg(html(alloc))?
+        .arg(only(alloc))?
         .arg(quiet(alloc))?
         .arg(fail_on_arg(alloc))?
-        .arg(color(alloc))
+        .arg(color(alloc))?
+        .group(layouts(alloc)?)?
+        .group(in_place_of_lines(alloc)?)?
+        .group(about_modules(alloc)?)
+}
+
+/// How answers are laid out: in one way.
+fn layouts<'a>(alloc: Global) -> Result<ArgGroup<'a>, AllocError> {
+    ArgGroup::new(alloc, "layouts").args(["json", "sarif", "html", "only", "quiet"].as_slice())
+}
+
+/// What is answered in place of lines, which have those parts and that page.
+fn in_place_of_lines<'a>(alloc: Global) -> Result<ArgGroup<'a>, AllocError> {
+    ArgGroup::new(alloc, "in place of lines")
+        .multiple(true)
+        .args(["remotes", "gitmodules", "parent"].as_slice())?
+        .conflicts_with_all(["text", "file", "html", "only"].as_slice())
+}
+
+/// What is answered about a file of submodules, which has nothing to do with a configuration, and is one text.
+fn about_modules<'a>(alloc: Global) -> Result<ArgGroup<'a>, AllocError> {
+    ArgGroup::new(alloc, "about modules")
+        .multiple(true)
+        .args(["gitmodules", "parent"].as_slice())?
+        .conflicts_with_all(["config", "remotes", "null"].as_slice())
 }
 
 fn texts<'a>(alloc: Global) -> Arg<'a> {
@@ -172,43 +200,31 @@ fn null<'a>(alloc: Global) -> Arg<'a> {
         .action(ArgAction::SetTrue)
 }
 
-fn config<'a>(alloc: Global) -> Result<Arg<'a>, AllocError> {
+fn config<'a>(alloc: Global) -> Arg<'a> {
     Arg::new(alloc, "config")
         .long("config")
         .value_name("FILE")
         .help(
             "Show what Git does with each line by the output of git config --list -z; - is standard input",
         )
-        .conflicts_with("html")
 }
 
-fn remotes<'a>(alloc: Global) -> Result<Arg<'a>, AllocError> {
+fn remotes<'a>(alloc: Global) -> Arg<'a> {
     Arg::new(alloc, "remotes")
         .long("remotes")
         .help(
             "Show what Git fetches from and pushes to for each remote of the configuration, which is that of --config or standard input",
         )
         .action(ArgAction::SetTrue)
-        .conflicts_with("text")?
-        .conflicts_with("file")?
-        .conflicts_with("html")?
-        .conflicts_with("only")
 }
 
-fn gitmodules<'a>(alloc: Global) -> Result<Arg<'a>, AllocError> {
+fn gitmodules<'a>(alloc: Global) -> Arg<'a> {
     Arg::new(alloc, "gitmodules")
         .long("gitmodules")
         .value_name("FILE")
         .help(
             "Show what is found in each submodule of a file like .gitmodules; - is standard input",
         )
-        .conflicts_with("text")?
-        .conflicts_with("file")?
-        .conflicts_with("null")?
-        .conflicts_with("config")?
-        .conflicts_with("remotes")?
-        .conflicts_with("html")?
-        .conflicts_with("only")
 }
 
 fn parent_arg<'a>(alloc: Global) -> Result<Arg<'a>, AllocError> {
@@ -218,13 +234,6 @@ fn parent_arg<'a>(alloc: Global) -> Result<Arg<'a>, AllocError> {
         .help(
             "With --gitmodules: the URL of the superproject, against which relative URLs are resolved",
         )
-        .conflicts_with("text")?
-        .conflicts_with("file")?
-        .conflicts_with("null")?
-        .conflicts_with("config")?
-        .conflicts_with("remotes")?
-        .conflicts_with("html")?
-        .conflicts_with("only")?
         .requires_arg("gitmodules")
 }
 
@@ -233,23 +242,17 @@ fn sarif<'a>(alloc: Global) -> Result<Arg<'a>, AllocError> {
         .long("sarif")
         .help("Print one log in SARIF 2.1.0 with what is found")
         .action(ArgAction::SetTrue)
-        .conflicts_with("json")?
-        .conflicts_with("html")?
-        .conflicts_with("only")?
-        .conflicts_with("null")?
-        .conflicts_with("quiet")
+        .conflicts_with("null")
 }
 
-fn json<'a>(alloc: Global) -> Result<Arg<'a>, AllocError> {
+fn json<'a>(alloc: Global) -> Arg<'a> {
     Arg::new(alloc, "json")
         .long("json")
         .help("Print one JSON object a line")
         .action(ArgAction::SetTrue)
-        .conflicts_with("only")?
-        .conflicts_with("quiet")
 }
 
-fn html<'a>(alloc: Global) -> Result<Arg<'a>, AllocError> {
+fn html<'a>(alloc: Global) -> Arg<'a> {
     Arg::new(alloc, "html")
         .long("html")
         .value_name("TITLE")
@@ -258,18 +261,14 @@ fn html<'a>(alloc: Global) -> Result<Arg<'a>, AllocError> {
         )
         .num_args(0..=1)
         .default_missing_value(TITLE)
-        .conflicts_with("json")?
-        .conflicts_with("only")?
-        .conflicts_with("quiet")
 }
 
-fn only<'a>(alloc: Global) -> Result<Arg<'a>, AllocError> {
+fn only<'a>(alloc: Global) -> Arg<'a> {
     Arg::new(alloc, "only")
         .long("only")
         .value_name("PART")
         .help("Print this part of each location, or an empty line")
         .value_parser(Part::NAMES.as_slice())
-        .conflicts_with("quiet")
 }
 
 fn quiet<'a>(alloc: Global) -> Arg<'a> {

@@ -15,6 +15,7 @@ use explain_report::git_report::is_of_web;
 use explain_report::location_report::{Report, reading_of_git};
 use explain_report::path::{Components, Field, Home};
 use explain_report::refusal::Refusal;
+use explain_report::rules::rows;
 use explain_report::text::cut::Cut;
 use explain_report::text::line::{Quoted, SeenLine, ShellWord};
 use git_audit::danger::Danger;
@@ -118,7 +119,10 @@ fn refused_line(
 /// The rows of the rules, where a configuration is given, and of the hints.
 fn noted(alloc: Global, out: &mut String, notes: Notes<'_>) -> Result<(), AllocError> {
     if let Some(rules) = notes.rules {
-        rule_rows::rows(alloc, out, rules)?;
+        let rows = rows::of_line(alloc, rules)?;
+        let pushed = rule_rows::push(out, rows.as_slice());
+        drop(rows);
+        pushed?;
     }
     hints(out, notes.hints)
 }
