@@ -28,6 +28,13 @@ Exit status: 0 if nothing was found, 1 if something was, 2 for wrong arguments o
 /// The version of the program.
 pub const VERSION: &str = "0.40.1";
 
+/// What excludes each other: answers are laid out in one way.
+const LAYOUTS: [&str; 5] = ["json", "sarif", "html", "only", "quiet"];
+/// What is excluded by what is answered in place of lines.
+const OF_LINES: [&str; 4] = ["text", "file", "html", "only"];
+/// What is excluded by a file of submodules.
+const NOT_OF_MODULES: [&str; 3] = ["config", "remotes", "null"];
+
 /// The title of a page that is given none.
 const TITLE: &str = "Git remotes";
 
@@ -139,9 +146,9 @@ fn command<'a>(alloc: Global) -> Result<Command<'a>, AllocError> {
         .arg(files(alloc))?
         .arg(null(alloc))?
         .arg(config(alloc))?
-        .arg(remotes(alloc))?
-        .arg(gitmodules(alloc))?
-        .arg(parent_arg(alloc)?)?
+        .arg(remotes(alloc)?)?
+        .arg(of_modules(gitmodules(alloc))?)?
+        .arg(of_modules(parent_arg(alloc)?)?)?
         .arg(json(alloc))?
         .arg(sarif(alloc)?)?
         .arg(html(alloc))?
@@ -149,30 +156,14 @@ fn command<'a>(alloc: Global) -> Result<Command<'a>, AllocError> {
         .arg(quiet(alloc))?
         .arg(fail_on_arg(alloc))?
         .arg(color(alloc))?
-        .group(layouts(alloc)?)?
-        .group(in_place_of_lines(alloc)?)?
-        .group(about_modules(alloc)?)
+        .group(ArgGroup::new(alloc, "layout").args(LAYOUTS.as_slice())?)
 }
 
-/// How answers are laid out: in one way.
-fn layouts<'a>(alloc: Global) -> Result<ArgGroup<'a>, AllocError> {
-    ArgGroup::new(alloc, "layouts").args(["json", "sarif", "html", "only", "quiet"].as_slice())
-}
-
-/// What is answered in place of lines, which have those parts and that page.
-fn in_place_of_lines<'a>(alloc: Global) -> Result<ArgGroup<'a>, AllocError> {
-    ArgGroup::new(alloc, "in place of lines")
-        .multiple(true)
-        .args(["remotes", "gitmodules", "parent"].as_slice())?
-        .conflicts_with_all(["text", "file", "html", "only"].as_slice())
-}
-
-/// What is answered about a file of submodules, which has nothing to do with a configuration, and is one text.
-fn about_modules<'a>(alloc: Global) -> Result<ArgGroup<'a>, AllocError> {
-    ArgGroup::new(alloc, "about modules")
-        .multiple(true)
-        .args(["gitmodules", "parent"].as_slice())?
-        .conflicts_with_all(["config", "remotes", "null"].as_slice())
+/// An option that is about a file of submodules.
+fn of_modules<'a>(option: Arg<'a>) -> Result<Arg<'a>, AllocError> {
+    option
+        .conflicts_with_all(OF_LINES.as_slice())?
+        .conflicts_with_all(NOT_OF_MODULES.as_slice())
 }
 
 fn texts<'a>(alloc: Global) -> Arg<'a> {
@@ -209,13 +200,14 @@ fn config<'a>(alloc: Global) -> Arg<'a> {
         )
 }
 
-fn remotes<'a>(alloc: Global) -> Arg<'a> {
+fn remotes<'a>(alloc: Global) -> Result<Arg<'a>, AllocError> {
     Arg::new(alloc, "remotes")
         .long("remotes")
         .help(
             "Show what Git fetches from and pushes to for each remote of the configuration, which is that of --config or standard input",
         )
         .action(ArgAction::SetTrue)
+        .conflicts_with_all(OF_LINES.as_slice())
 }
 
 fn gitmodules<'a>(alloc: Global) -> Arg<'a> {
