@@ -9,3 +9,4 @@ pub mod ReaderUrls
 pub mod ReaderTexts
 pub mod ReaderLemmas
 pub mod KnownLemmas
+pub mod GroupLemmas

@@ -4,3 +4,4 @@ pub mod Conditions
 pub mod Readers
 pub mod ReaderLaws
 pub mod KnownReaders
+pub mod Groups

@@ -163,7 +163,7 @@ fn begins_with_number(text: &[u8]) -> bool
 }
 
 /// Whether each byte is a digit.
-fn are_digits(text: &[u8]) -> bool
+pub(crate) fn are_digits(text: &[u8]) -> bool
     ensures { result ≡ list_all is_ascii_digit text.now }
 {
     text.iter().all(|byte| byte.is_ascii_digit())
@@ -241,7 +241,7 @@ fn is_scheme_word(word: &[u8]) -> bool
 }
 
 /// Whether the word is this one.
-fn is_named(word: &[u8], name: &str) -> bool
+pub(crate) fn is_named(word: &[u8], name: &str) -> bool
     ensures { result ≡ bytes_eq word.now name.now }
 {
     word == name.as_bytes()

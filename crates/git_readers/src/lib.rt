@@ -6,6 +6,7 @@
 #![tactic(auto)]
 
 mod classes;
+pub mod groups;
 mod host;
 pub mod law;
 mod path;
