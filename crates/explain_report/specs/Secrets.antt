@@ -1,5 +1,5 @@
 -- What is shown of a text that may hold a secret: all but what is between the first `:` and the last `@`.
-use Rattle.std.specs.Prelude.{◌≡◌, ℕ, List, ◌∷◌, ◌++◌, Option, MatchOption, ◌⊎◌, ¬◌}
+use Rattle.std.specs.Prelude.{◌≡◌, ℕ, List, ◌∷◌, ◌++◌, Option, MatchOption, ◌⊎◌}
 use Rattle.std.specs.Borrow.{Bor}
 use Rattle.git_syntax.specs.Bytes.{FreeOf, Holds}
 use Rattle.git_syntax.specs.Internal.Cuts.{url_mark}

@@ -168,7 +168,7 @@ fn behind_common<'a, 'b>(text: &'a [u8], other: &'b [u8]) -> (&'a [u8], &'b [u8]
         if byte != same {
             break;
         }
-        at += 1;
+        at = at.saturating_add(1);
     }
     (from(text, at), from(other, at))
 }
