@@ -12,8 +12,8 @@ use std::fmt;
 
 /// Appends rows.
 pub fn push(out: &mut String, rows: &[Row<'_>]) -> Result<(), AllocError> {
-    for it in rows {
-        row(out, it.name, Pieces(it.pieces.as_slice()))?;
+    for line in rows {
+        row(out, line.name, Pieces(line.pieces.as_slice()))?;
     }
     Ok(())
 }
@@ -29,7 +29,7 @@ impl fmt::Display for Pieces<'_, '_> {
                 Piece::Words(words) => f.write_str(words)?,
                 Piece::Named { words, .. } => f.write_str(words)?,
                 Piece::Text { text, .. } => write!(f, "{}", Quoted(text.as_bytes()))?,
-                Piece::Entry { entry, .. } => write_entry(f, entry)?,
+                Piece::Entry { setting, .. } => write_entry(f, setting)?,
             }
         }
         Ok(())
@@ -37,10 +37,10 @@ impl fmt::Display for Pieces<'_, '_> {
 }
 
 /// Writes an entry in words.
-fn write_entry<W: fmt::Write>(f: &mut fmt::Formatter<W>, entry: &Setting) -> fmt::Result {
-    let (key, link) = (Quoted(entry.key.as_str().as_bytes()), entry.link());
+fn write_entry<W: fmt::Write>(f: &mut fmt::Formatter<W>, setting: &Setting) -> fmt::Result {
+    let (key, link) = (Quoted(setting.key.as_str().as_bytes()), setting.link());
     write!(f, "{key}{link}")?;
-    match &entry.value {
+    match &setting.value {
         None => Ok(()),
         Some(value) => write!(f, "{}", Quoted(value.as_str().as_bytes())),
     }

@@ -53,9 +53,9 @@ fn push(out: &mut Markup, of: &'static str, piece: Piece<'_>) -> Result<(), Allo
             out.push_row(">", text.as_bytes())?;
             out.push_template("</q>")
         }
-        Piece::Entry { below, entry } => {
+        Piece::Entry { below, setting } => {
             open(out, "<span class=m data-m=", of, below)?;
-            entry_in(out, entry)
+            entry(out, setting)
         }
     }
 }
@@ -91,13 +91,13 @@ fn named(
 }
 
 /// Appends the rest of the element of an entry: the byte at which that begins, its key and its value.
-fn entry_in(out: &mut Markup, entry: &Setting) -> Result<(), AllocError> {
+fn entry(out: &mut Markup, setting: &Setting) -> Result<(), AllocError> {
     out.push_template(" data-v=")?;
-    out.push_value(entry.at)?;
-    out.push_row("><q>", entry.key.as_bytes())?;
+    out.push_value(setting.at)?;
+    out.push_row("><q>", setting.key.as_bytes())?;
     out.push_template("</q>")?;
-    out.push_template(entry.link())?;
-    if let Some(value) = &entry.value {
+    out.push_template(setting.link())?;
+    if let Some(value) = &setting.value {
         out.push_row("<q>", value.as_bytes())?;
         out.push_template("</q>")?;
     }

@@ -39,7 +39,7 @@ pub enum Piece<'a> {
     /// An entry of the configuration.
     Entry {
         below: &'static str,
-        entry: &'a Setting,
+        setting: &'a Setting,
     },
 }
 
@@ -259,8 +259,8 @@ fn settings<'a>(
     of: &'static str,
     found: &'a [Setting],
 ) -> Result<(), AllocError> {
-    for entry in found {
-        add_one(alloc, rows, name, of, Piece::Entry { below: "", entry })?;
+    for setting in found {
+        add_one(alloc, rows, name, of, Piece::Entry { below: "", setting })?;
     }
     Ok(())
 }
@@ -366,11 +366,11 @@ fn push_reason<'a>(
         }
         (None, Some(_)) => {}
     }
-    if let Some(entry) = &transport.entry {
+    if let Some(setting) = &transport.entry {
         pieces.push(Piece::Words(": "))?;
         pieces.push(Piece::Entry {
             below: ".transport.entry",
-            entry,
+            setting,
         })?;
     }
     Ok(())
