@@ -81,6 +81,7 @@ CALLS = [
         ["h:p"], ["-f", "-"], ["-0"], ["--config", "-"], ["--remotes"], ["--html"], ["--only", "host"])),
     *(Call("explain", ["--sarif", *words], **WRONG) for words in (["--json"], ["--html"], ["-q"], ["-0"], ["--only", "host"])),
     *(Call("explain", ["--parent", "h:p", *words], **WRONG) for words in (["h:p"], ["-f", "-"], ["--remotes"], ["--json"], ["--config", "-"])),
+    Call("explain", ["--html", "-f", "/no/such/file"], status=2, reported=b"explain: cannot read /no/such/file: "),
     Call("explain", ["--only=path"], b""),
     Call("explain", ["--color=never", "http://h:0/"], status=1, shown=b"line 1: refused: the port of HTTP must not be 0\n    http://h:0/\n             ^\n"),
     Call("explain", ["--color=always", "http://h:0/"], status=1,
