@@ -1,2 +1,3 @@
 -- Lemmas by topic.
 pub mod Dangers
+pub mod Secrets

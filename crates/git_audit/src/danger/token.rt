@@ -71,7 +71,7 @@ pub(super) fn holds_token(text: &[u8]) -> bool
 }
 
 /// Whether the byte is none of a token.
-fn is_gap(byte: u8) -> bool
+pub(crate) fn is_gap(byte: u8) -> bool
     ensures { result ≡ spec.is_gap byte }
 {
     !(byte.is_ascii_alphanumeric() || byte == b'_' || byte == b'-')
@@ -79,7 +79,7 @@ fn is_gap(byte: u8) -> bool
 
 /// Whether the word begins as a token does, and is as long as one.
 #[tactic(auto, unfolding(crate::specs::Dangers::is_token_word))]
-fn is_token_word(word: &[u8]) -> bool
+pub(crate) fn is_token_word(word: &[u8]) -> bool
     ensures { result ≡ spec.is_token_word word.now }
 {
     word.len() >= LEAST_TOKEN && begins_as_token(word)
@@ -122,7 +122,7 @@ fn begins_as_one_of(text: &[u8], fronts: &[&str]) -> bool
 }
 
 /// Whether the text begins with this front.
-fn has_front(text: &[u8], front: &str) -> bool
+pub(crate) fn has_front(text: &[u8], front: &str) -> bool
     ensures { result ≡ spec.has_front text.now front.now }
 {
     text.starts_with(front.as_bytes())

@@ -1,0 +1,4 @@
+-- What is hidden of a text.
+pub mod MarkLemmas
+pub mod CutLemmas
+pub mod JoinLemmas

@@ -1,0 +1,7 @@
+-- No mark is in what was passed, which is behind the place.
+use Rattle.std.proofs.Common.{◌≡◌, drop, None}
+use Rattle.git_audit.specs.Secrets.{last_mark}
+use Rattle.git_audit.proofs.secret.mark.Mark.last.Given as goal
+
+abbrev pub invariant-loop-at : goal.invariant-loop-at
+invariant-loop-at l = last_mark l.self (drop l.at l.text) ≡ None

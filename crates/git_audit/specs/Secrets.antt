@@ -1,0 +1,189 @@
+-- What of a text is hidden where it is shown: what may be a password, and words that are tokens.
+use Rattle.std.specs.Prelude.{◌≡◌, ℕ, ◌+◌, Bool, if◌then◌else◌, true, false, not, ◌&&◌, ◌||◌, ◌==◌, List, [], ◌∷◌, ◌++◌, codes, length, take, drop, map, Option, Some, None, option_map}
+use Rattle.std.specs.List.{list_all, onto_first}
+use Rattle.std.specs.Option.{is_some, option_and_then, unwrap_or}
+use Rattle.std.specs.Char.{is_ascii_digit}
+use Rattle.git_syntax.specs.Bytes.{slash, colon, at_sign, left_bracket, begins_by, begins_with, is_helper_name}
+use Rattle.git_audit.specs.Dangers.{has_front, is_gap, is_token_word}
+use Rattle.git_audit.specs.declared.secret.Piece.{Piece}
+use Rattle.git_audit.specs.declared.secret.Piece.TheVariants as piece
+use Rattle.git_audit.specs.declared.secret.mark.Mark.{Mark}
+use Rattle.git_audit.specs.declared.secret.mark.Mark.TheVariants as mark
+use Rattle.git_audit.specs.declared.secret.place.Secret.{Secret}
+
+-- a piece of a text, as it is shown
+pub data Part : Type 0 where
+  shown : List ℕ → Part
+  hidden : List ℕ → Part
+
+-- the bytes of a piece
+abbrev pub part_bytes : Part → List ℕ
+part_bytes (shown bytes) = bytes
+part_bytes (hidden bytes) = bytes
+
+-- the pieces joined
+abbrev pub joined : List Part → List ℕ
+joined [] = []
+joined (part ∷ parts) = part_bytes part ++ joined parts
+
+-- a hidden piece, unless it is empty
+abbrev pub hidden_part : List ℕ → List Part
+hidden_part [] = []
+hidden_part (b ∷ bytes) = hidden (b ∷ bytes) ∷ []
+
+-- ---- marks
+
+-- the text begins with the mark; an escape of `:` or of `@` counts as the byte
+abbrev pub begins_as : Mark → List ℕ → Bool
+begins_as mark.Colon text = begins_with colon text || has_front text (codes "%3A") || has_front text (codes "%3a")
+begins_as mark.At text = begins_with at_sign text || has_front text (codes "%40")
+begins_as mark.Authority text = has_front text (codes "://")
+begins_as mark.Helper text = has_front text (codes "::")
+begins_as mark.Slash text = begins_with slash text
+begins_as mark.Gap text = begins_by is_gap text
+
+-- how many bytes a mark takes at the front of a text
+abbrev pub mark_width : Mark → List ℕ → ℕ
+mark_width mark.Colon text = if begins_with colon text then 1 else 3
+mark_width mark.At text = if begins_with at_sign text then 1 else 3
+mark_width mark.Authority text = 3
+mark_width mark.Helper text = 2
+mark_width mark.Slash text = 1
+mark_width mark.Gap text = 1
+
+-- how many bytes are before the first such mark
+abbrev pub first_mark : Mark → List ℕ → Option ℕ
+first_mark m [] = None
+first_mark m (b ∷ bs) = if begins_as m (b ∷ bs) then Some 0 else option_map (λ n. n + 1) (first_mark m bs)
+
+-- how many bytes end with the first such mark, where so many are before it
+abbrev pub mark_end : Mark → List ℕ → ℕ → ℕ
+mark_end m text n = n + mark_width m (drop n text)
+
+-- the place, if there is one, or whether a mark begins at the front of what follows
+abbrev pub later_mark : Option ℕ → Bool → Option ℕ
+later_mark (Some n) begins = Some (n + 1)
+later_mark None true = Some 0
+later_mark None false = None
+
+-- how many bytes are before the last such mark
+abbrev pub last_mark : Mark → List ℕ → Option ℕ
+last_mark m [] = None
+last_mark m (b ∷ bs) = later_mark (last_mark m bs) (begins_as m (b ∷ bs))
+
+-- ---- passwords
+
+-- what goes on from a place to the last `@`, if there is one behind it
+abbrev pub up_to_at : List ℕ → ℕ → Option Secret
+up_to_at text at = option_map (λ len. record { at = at; len = len }) (last_mark mark.At (drop at text))
+
+-- what may be a password in a stretch of a text: all between its first `:` and its last `@`
+abbrev pub password : List ℕ → Option Secret
+password text = option_and_then (λ n. up_to_at text (mark_end mark.Colon text n)) (first_mark mark.Colon text)
+
+-- how many bytes are before the first `/`, or all
+abbrev pub slash_or_len : List ℕ → ℕ
+slash_or_len text = unwrap_or (first_mark mark.Slash text) (length text)
+
+-- an authority, whose first `:` ends at this place, has a password to its own last `@`, a port, or brackets
+abbrev pub is_whole : List ℕ → ℕ → Bool
+is_whole authority at = begins_with left_bracket authority || list_all is_ascii_digit (drop at authority)
+    || is_some (last_mark mark.At (drop at authority))
+
+-- what may be a password with a `/` in it, behind `://`: if the authority isn't whole, all between its first `:` and
+-- the last `@` of the text
+abbrev pub wide_in : List ℕ → List ℕ → Option Secret
+wide_in authority text = option_and_then (λ n. if is_whole authority (mark_end mark.Colon authority n) then None
+    else up_to_at text (mark_end mark.Colon authority n)) (first_mark mark.Colon authority)
+
+-- the same, of so many bytes more
+abbrev pub moved : ℕ → Secret → Secret
+moved n s = record { at = n + s.at; len = s.len }
+
+-- what may be a password with a `/` in it
+abbrev pub wide_behind : List ℕ → ℕ → Option Secret
+wide_behind text n = option_map (moved n) (wide_in (take (slash_or_len (drop n text)) (drop n text)) (drop n text))
+
+-- what may be a password with a `/` in it, behind the first `://`
+abbrev pub wide_password : List ℕ → Option Secret
+wide_password text = option_and_then (λ n. wide_behind text (mark_end mark.Authority text n)) (first_mark mark.Authority text)
+
+-- how many bytes the name of a remote helper takes with its `::`, where a text begins with one
+abbrev pub helper_end : List ℕ → ℕ → ℕ
+helper_end text n = if is_helper_name (take n text) then mark_end mark.Helper text n else 0
+
+-- the same, or none
+abbrev pub helper_len : List ℕ → ℕ
+helper_len text = unwrap_or (option_map (helper_end text) (first_mark mark.Helper text)) 0
+
+-- ---- tokens
+
+-- a byte before the words of a text: a byte that no token has is alone, and other bytes are one word
+abbrev pub onto_word : ℕ → List (List ℕ) → List (List ℕ)
+onto_word b [] = (b ∷ []) ∷ []
+onto_word b (word ∷ words) = if begins_by is_gap word then (b ∷ []) ∷ word ∷ words else (b ∷ word) ∷ words
+
+-- the words of a text, and the bytes between them one by one
+abbrev pub words : List ℕ → List (List ℕ)
+words [] = []
+words (b ∷ bs) = if is_gap b then (b ∷ []) ∷ words bs else onto_word b (words bs)
+
+-- a word that is a token is hidden
+abbrev pub word_part : List ℕ → Part
+word_part word = if is_token_word word then hidden word else shown word
+
+-- a text with its tokens hidden
+abbrev pub tokens : List ℕ → List Part
+tokens text = map word_part (words text)
+
+-- ---- texts
+
+-- a text with this hidden, and the tokens around it
+abbrev pub around : Secret → List ℕ → List Part
+around s text = tokens (take s.at text)
+    ++ (hidden_part (take s.len (drop s.at text)) ++ tokens (drop s.len (drop s.at text)))
+
+-- a stretch with what may be a password hidden, if there may be one
+abbrev pub stretch_in : Option Secret → List ℕ → List Part
+stretch_in None text = tokens text
+stretch_in (Some s) text = around s text
+
+-- the stretches of a text, each up to its `/` and with it
+abbrev pub stretches : List ℕ → List (List ℕ)
+stretches [] = []
+stretches (b ∷ bs) = if b == slash then (b ∷ []) ∷ stretches bs else onto_first b (stretches bs)
+
+-- stretches with what may be passwords hidden
+abbrev pub stretch_parts : List (List ℕ) → List Part
+stretch_parts [] = []
+stretch_parts (text ∷ texts) = stretch_in (password text) text ++ stretch_parts texts
+
+-- a text with what may be a password hidden in each of its stretches
+abbrev pub plain_parts : List ℕ → List Part
+plain_parts text = stretch_parts (stretches text)
+
+-- a text with what may be a password with a `/` in it hidden, if there may be one, and what may be one before it
+abbrev pub wide_parts : Option Secret → List ℕ → List Part
+wide_parts None text = plain_parts text
+wide_parts (Some s) text = plain_parts (take s.at text)
+    ++ (hidden_part (take s.len (drop s.at text)) ++ tokens (drop s.len (drop s.at text)))
+
+-- a text without the name of a helper
+abbrev pub url_parts : List ℕ → List Part
+url_parts text = wide_parts (wide_password text) text
+
+-- a text as it is shown: the name of a helper, and what follows it as a text of its own
+abbrev pub parts_of : List ℕ → List Part
+parts_of text = tokens (take (helper_len text) text) ++ url_parts (drop (helper_len text) text)
+
+-- ---- pieces
+
+-- a piece that is returned
+abbrev pub piece_part : Piece → Part
+piece_part (piece.Shown bytes) = shown bytes.now
+piece_part (piece.Hidden bytes) = hidden bytes.now
+
+-- what a step gives: the next piece, or nothing at the end
+abbrev pub GivesPart : List Part → Option Piece → List Part → Type 0
+GivesPart from None next = (from ≡ []) × (next ≡ from)
+GivesPart from (Some piece) next = from ≡ piece_part piece ∷ next

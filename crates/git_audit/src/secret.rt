@@ -1,0 +1,89 @@
+//! What of a text is hidden where it is shown.
+//!
+//! It uses the words of `danger` for tokens, and takes no memory. Its contract: the pieces of a text are those of one
+//! definition (`specs/Secrets.antt`), and joined they are the text.
+
+ghost use Rattle.std.specs.Prelude.{◌≡◌};
+ghost use Rattle.git_audit.specs.Secrets.{parts_of};
+
+pub mod law;
+mod left;
+mod mark;
+mod place;
+
+use left::Left;
+use std::marker::Model;
+
+/// A piece of a text. [`secrets`] has an example.
+#[derive(Clone, Copy, Debug, PartialEq, Eq)]
+pub enum Piece<'a> {
+    /// It may be shown.
+    Shown(&'a [u8]),
+    /// It may be a secret.
+    Hidden(&'a [u8]),
+}
+
+/// The pieces of a text in their order. [`secrets`] has an example.
+#[derive(Drop)]
+pub struct Pieces<'a> {
+    left: Left<'a>,
+}
+
+impl<'a> Model for Pieces<'a> {
+    ghost use Rattle.std.specs.Prelude.{List};
+    ghost use Rattle.git_audit.specs.Secrets.{Part};
+
+    ghost Value = { List Part };
+
+    ghost use Rattle.git_audit.specs.Left.{pieces_left};
+
+    ghost view = { pieces_left };
+}
+
+/// The pieces of a text, of which some may be secrets; joined they are the text. The text may be a location or none,
+/// or a key or a value of a configuration.
+///
+/// Hidden is, of each stretch of the text up to a `/`, all between its first `:` and its last `@`; each word of
+/// letters, digits, `_` and `-` that begins as a token of GitHub, GitLab or Bitbucket and has 24 bytes or more; and,
+/// where the first `:` behind the first `://` begins neither a port nor a password that ends before the next `/`, all
+/// from there to the last `@` of the text. The escapes of `:` and `@` count as they do. The name of a remote helper
+/// is cut off first with its `::`. It takes no memory, and its time grows as the text does.
+///
+/// ```
+/// /// A text with a word in place of what may be a secret.
+/// fn shown(alloc: Global, text: &[u8]) -> Result<Vec<u8>, AllocError> {
+///     let mut out = Vec::new(alloc);
+///     for piece in secrets(text) {
+///         match piece {
+///             Piece::Shown(bytes) => out.extend_from_slice(bytes)?,
+///             Piece::Hidden(_) => out.extend_from_slice(b"redacted")?, // `https://u:redacted@h/p`
+///         }
+///     }
+///     Ok(out)
+/// }
+/// ```
+pub fn secrets(text: &[u8]) -> Pieces<'_>
+    ensures { result ≡ parts_of text.now }
+{
+    Pieces {
+        left: Left::of(text),
+    }
+}
+
+impl<'a> Iterator for Pieces<'a> {
+    ghost use Rattle.std.specs.Prelude.{length};
+    ghost use Rattle.std.specs.Iterator.{at_most};
+    ghost use Rattle.git_audit.specs.Secrets.{GivesPart};
+
+    type Item = Piece<'a>;
+
+    ghost next_gives = { GivesPart };
+
+    ghost remaining = { λ from. at_most (length from) };
+
+    fn next(&mut self) -> Option<Piece<'a>> {
+        let (piece, left) = self.left.next()?;
+        self.left = left;
+        Some(piece)
+    }
+}

@@ -1,0 +1,112 @@
+//! Where in a text what may be a password is.
+//!
+//! It uses `mark`, and takes no memory. Its contract: the place is that of the definition (`specs/Secrets.antt`), and
+//! is one of the text.
+
+ghost use Rattle.std.specs.Prelude.{◌≡◌, ◌+◌, ◌≤◌, ◌<◌, IfSome, drop, length, take};
+ghost use Rattle.std.specs.List.{list_all};
+ghost use Rattle.std.specs.Char.{is_ascii_digit};
+ghost use Rattle.git_audit.specs.Secrets as spec;
+
+use crate::secret::mark::Mark;
+use git_syntax::bytes::{is_helper_name, starts_with_byte};
+
+/// What may be a password: so many bytes, with so many before it.
+#[derive(Clone, Copy)]
+pub(super) struct Secret {
+    pub(super) at: usize,
+    pub(super) len: usize,
+}
+
+/// What may be a password in a stretch of a text.
+pub(super) fn password(text: &[u8]) -> Option<Secret>
+    ensures place { result ≡ spec.password text.now }
+    ensures within { IfSome result (λ s. s.at + s.len ≤ length text.now) }
+{
+    let colon = Mark::Colon.first(text)?;
+    up_to_at(text, Mark::Colon.end(text, colon))
+}
+
+/// What goes on from a place to the last `@`, if there is one behind it.
+fn up_to_at(text: &[u8], at: usize) -> Option<Secret>
+    requires { at ≤ length text.now }
+    ensures place { result ≡ spec.up_to_at text.now at }
+    ensures within { IfSome result (λ s. s.at + s.len ≤ length text.now) }
+{
+    let len = Mark::At.last(text.split_at(at).1)?;
+    Some(Secret { at, len })
+}
+
+/// What may be a password with a `/` in it.
+pub(super) fn wide_password(text: &[u8]) -> Option<Secret>
+    ensures place { result ≡ spec.wide_password text.now }
+    ensures within { IfSome result (λ s. s.at + s.len ≤ length text.now) }
+{
+    let authority = Mark::Authority.first(text)?;
+    wide_behind(text, Mark::Authority.end(text, authority))
+}
+
+/// What may be a password with a `/` in it, behind so many bytes.
+fn wide_behind(text: &[u8], at: usize) -> Option<Secret>
+    requires { at ≤ length text.now }
+    ensures place { result ≡ spec.wide_behind text.now at }
+    ensures within { IfSome result (λ s. s.at + s.len ≤ length text.now) }
+{
+    let rest = text.split_at(at).1;
+    let found = wide_in(authority_of(rest), rest)?;
+    Some(Secret {
+        at: at + found.at,
+        len: found.len,
+    })
+}
+
+/// What is before the first `/`, or all.
+fn authority_of(text: &[u8]) -> &[u8]
+    ensures { result.now ≡ take (spec.slash_or_len text.now) text.now }
+{
+    match Mark::Slash.first(text) {
+        Some(at) => text.split_at(at).0,
+        None => text.split_at(text.len()).0,
+    }
+}
+
+/// What may be a password with a `/` in it, in a text that begins with this authority.
+fn wide_in(authority: &[u8], text: &[u8]) -> Option<Secret>
+    requires { length authority.now ≤ length text.now }
+    ensures place { result ≡ spec.wide_in authority.now text.now }
+    ensures within { IfSome result (λ s. s.at + s.len ≤ length text.now) }
+{
+    let colon = Mark::Colon.first(authority)?;
+    let at = Mark::Colon.end(authority, colon);
+    if is_whole(authority, at) {
+        return None;
+    }
+    up_to_at(text, at)
+}
+
+/// Whether an authority, whose first `:` ends at this place, has a password to its own last `@`, a port, or brackets.
+fn is_whole(authority: &[u8], at: usize) -> bool
+    requires { at ≤ length authority.now }
+    ensures { result ≡ spec.is_whole authority.now at }
+{
+    let rest = authority.split_at(at).1;
+    starts_with_byte(authority, b'[') || are_digits(rest) || Mark::At.last(rest).is_some()
+}
+
+/// How many bytes the name of a remote helper takes with its `::`, where a text begins with one.
+pub(super) fn helper_len(text: &[u8]) -> usize
+    ensures place { result ≡ spec.helper_len text.now }
+    ensures within { result ≤ length text.now }
+{
+    match Mark::Helper.first(text) {
+        Some(at) if is_helper_name(text.split_at(at).0) => Mark::Helper.end(text, at),
+        _ => 0,
+    }
+}
+
+/// Whether the text is of digits alone.
+fn are_digits(text: &[u8]) -> bool
+    ensures { result ≡ list_all is_ascii_digit text.now }
+{
+    text.iter().all(|byte| byte.is_ascii_digit())
+}
