@@ -1,12 +1,14 @@
 -- What of a text is hidden where it is shown: what may be a password, and words that are tokens.
-use Rattle.std.specs.Prelude.{◌≡◌, ℕ, ◌+◌, Bool, if◌then◌else◌, true, false, not, ◌&&◌, ◌||◌, ◌==◌, List, [], ◌∷◌, ◌++◌, codes, length, take, drop, map, Option, Some, None, option_map}
-use Rattle.std.specs.List.{list_all, onto_first}
+use Rattle.std.specs.Prelude.{◌≡◌, ℕ, ◌+◌, Bool, if◌then◌else◌, true, false, ◌||◌, List, [], ◌∷◌, ◌++◌, codes, length, take, drop, map, Option, Some, None, option_map}
+use Rattle.std.specs.List.{list_all}
 use Rattle.std.specs.Option.{is_some, option_and_then, unwrap_or}
 use Rattle.std.specs.Char.{is_ascii_digit}
-use Rattle.git_syntax.specs.Bytes.{slash, colon, at_sign, left_bracket, begins_by, begins_with, is_helper_name}
+use Rattle.git_syntax.specs.Bytes.{colon, at_sign, left_bracket, begins_by, begins_with, is_helper_name, is_path_start}
 use Rattle.git_audit.specs.Dangers.{has_front, is_gap, is_token_word}
 use Rattle.git_audit.specs.declared.secret.Piece.{Piece}
 use Rattle.git_audit.specs.declared.secret.Piece.TheVariants as piece
+use Rattle.git_audit.specs.declared.secret.mark.Class.{Class}
+use Rattle.git_audit.specs.declared.secret.mark.Class.TheVariants as class
 use Rattle.git_audit.specs.declared.secret.mark.Mark.{Mark}
 use Rattle.git_audit.specs.declared.secret.mark.Mark.TheVariants as mark
 use Rattle.git_audit.specs.declared.secret.place.Secret.{Secret}
@@ -39,8 +41,6 @@ begins_as mark.Colon text = begins_with colon text || has_front text (codes "%3A
 begins_as mark.At text = begins_with at_sign text || has_front text (codes "%40")
 begins_as mark.Authority text = has_front text (codes "://")
 begins_as mark.Helper text = has_front text (codes "::")
-begins_as mark.Slash text = begins_with slash text
-begins_as mark.Gap text = begins_by is_gap text
 
 -- how many bytes a mark takes at the front of a text
 abbrev pub mark_width : Mark → List ℕ → ℕ
@@ -48,8 +48,6 @@ mark_width mark.Colon text = if begins_with colon text then 1 else 3
 mark_width mark.At text = if begins_with at_sign text then 1 else 3
 mark_width mark.Authority text = 3
 mark_width mark.Helper text = 2
-mark_width mark.Slash text = 1
-mark_width mark.Gap text = 1
 
 -- how many bytes are before the first such mark
 abbrev pub first_mark : Mark → List ℕ → Option ℕ
@@ -71,19 +69,68 @@ abbrev pub last_mark : Mark → List ℕ → Option ℕ
 last_mark m [] = None
 last_mark m (b ∷ bs) = later_mark (last_mark m bs) (begins_as m (b ∷ bs))
 
+-- ---- runs
+
+-- the byte is of the class: no token has it, or a path may start at it
+abbrev pub is_of : Class → ℕ → Bool
+is_of class.Gap b = is_gap b
+is_of (class.Path web) b = is_path_start web b
+
+-- how many bytes are before the first one of the class
+abbrev pub first_of : Class → List ℕ → Option ℕ
+first_of c [] = None
+first_of c (b ∷ bs) = if is_of c b then Some 0 else option_map (λ n. n + 1) (first_of c bs)
+
+-- a byte that is not of the class before the runs of a text
+abbrev pub onto_run : Class → ℕ → List (List ℕ) → List (List ℕ)
+onto_run c b [] = (b ∷ []) ∷ []
+onto_run c b (run ∷ runs) = if begins_by (is_of c) run then (b ∷ []) ∷ run ∷ runs else (b ∷ run) ∷ runs
+
+-- the runs of a text: a byte of the class is one alone, and bytes between two of them are one
+abbrev pub runs : Class → List ℕ → List (List ℕ)
+runs c [] = []
+runs c (b ∷ bs) = if is_of c b then (b ∷ []) ∷ runs c bs else onto_run c b (runs c bs)
+
+-- ---- tokens
+
+-- a word that is a token is hidden
+abbrev pub word_part : List ℕ → Part
+word_part word = if is_token_word word then hidden word else shown word
+
+-- a text with its tokens hidden
+abbrev pub tokens : List ℕ → List Part
+tokens text = map word_part (runs class.Gap text)
+
 -- ---- passwords
 
 -- what goes on from a place to the last `@`, if there is one behind it
 abbrev pub up_to_at : List ℕ → ℕ → Option Secret
 up_to_at text at = option_map (λ len. record { at = at; len = len }) (last_mark mark.At (drop at text))
 
--- what may be a password in a stretch of a text: all between its first `:` and its last `@`
+-- what may be a password in a text in which no path starts: all between its first `:` and its last `@`
 abbrev pub password : List ℕ → Option Secret
 password text = option_and_then (λ n. up_to_at text (mark_end mark.Colon text n)) (first_mark mark.Colon text)
 
--- how many bytes are before the first `/`, or all
-abbrev pub slash_or_len : List ℕ → ℕ
-slash_or_len text = unwrap_or (first_mark mark.Slash text) (length text)
+-- a text with this hidden, and the tokens around it
+abbrev pub around : Secret → List ℕ → List Part
+around s text = tokens (take s.at text)
+    ++ (hidden_part (take s.len (drop s.at text)) ++ tokens (drop s.len (drop s.at text)))
+
+-- a run with what may be a password hidden, if there may be one
+abbrev pub run_parts : Option Secret → List ℕ → List Part
+run_parts None text = tokens text
+run_parts (Some s) text = around s text
+
+-- runs with what may be passwords hidden
+abbrev pub parts_of_runs : List (List ℕ) → List Part
+parts_of_runs [] = []
+parts_of_runs (run ∷ runs) = run_parts (password run) run ++ parts_of_runs runs
+
+-- a text with what may be a password hidden in each run between bytes at which a path may start
+abbrev pub plain_parts : Bool → List ℕ → List Part
+plain_parts web text = parts_of_runs (runs (class.Path web) text)
+
+-- ---- passwords with a `/`
 
 -- an authority, whose first `:` ends at this place, has a password to its own last `@`, a port, or brackets
 abbrev pub is_whole : List ℕ → ℕ → Bool
@@ -96,81 +143,53 @@ abbrev pub wide_in : List ℕ → List ℕ → Option Secret
 wide_in authority text = option_and_then (λ n. if is_whole authority (mark_end mark.Colon authority n) then None
     else up_to_at text (mark_end mark.Colon authority n)) (first_mark mark.Colon authority)
 
+-- what is before the first byte at which a path may start, or all
+abbrev pub before_path : Bool → List ℕ → List ℕ
+before_path web text = take (unwrap_or (first_of (class.Path web) text) (length text)) text
+
 -- the same, of so many bytes more
 abbrev pub moved : ℕ → Secret → Secret
 moved n s = record { at = n + s.at; len = s.len }
 
--- what may be a password with a `/` in it
-abbrev pub wide_behind : List ℕ → ℕ → Option Secret
-wide_behind text n = option_map (moved n) (wide_in (take (slash_or_len (drop n text)) (drop n text)) (drop n text))
+-- what may be a password with a `/` in it, behind so many bytes
+abbrev pub wide_behind : Bool → List ℕ → ℕ → Option Secret
+wide_behind web text n = option_map (moved n) (wide_in (before_path web (drop n text)) (drop n text))
 
 -- what may be a password with a `/` in it, behind the first `://`
-abbrev pub wide_password : List ℕ → Option Secret
-wide_password text = option_and_then (λ n. wide_behind text (mark_end mark.Authority text n)) (first_mark mark.Authority text)
+abbrev pub wide_password : Bool → List ℕ → Option Secret
+wide_password web text = option_and_then (λ n. wide_behind web text (mark_end mark.Authority text n)) (first_mark mark.Authority text)
 
--- how many bytes the name of a remote helper takes with its `::`, where a text begins with one
-abbrev pub helper_end : List ℕ → ℕ → ℕ
-helper_end text n = if is_helper_name (take n text) then mark_end mark.Helper text n else 0
+-- a run of such a password: a byte at which a path may start is shown
+abbrev pub wide_part : Bool → List ℕ → Part
+wide_part web run = if begins_by (is_path_start web) run then shown run else hidden run
 
--- the same, or none
-abbrev pub helper_len : List ℕ → ℕ
-helper_len text = unwrap_or (option_map (helper_end text) (first_mark mark.Helper text)) 0
+-- such a password
+abbrev pub wide_parts : Bool → List ℕ → List Part
+wide_parts web text = map (wide_part web) (runs (class.Path web) text)
 
--- ---- tokens
-
--- a byte before the words of a text: a byte that no token has is alone, and other bytes are one word
-abbrev pub onto_word : ℕ → List (List ℕ) → List (List ℕ)
-onto_word b [] = (b ∷ []) ∷ []
-onto_word b (word ∷ words) = if begins_by is_gap word then (b ∷ []) ∷ word ∷ words else (b ∷ word) ∷ words
-
--- the words of a text, and the bytes between them one by one
-abbrev pub words : List ℕ → List (List ℕ)
-words [] = []
-words (b ∷ bs) = if is_gap b then (b ∷ []) ∷ words bs else onto_word b (words bs)
-
--- a word that is a token is hidden
-abbrev pub word_part : List ℕ → Part
-word_part word = if is_token_word word then hidden word else shown word
-
--- a text with its tokens hidden
-abbrev pub tokens : List ℕ → List Part
-tokens text = map word_part (words text)
+-- a text with such a password hidden, if there may be one, and what may be passwords before it
+abbrev pub authority_parts : Bool → Option Secret → List ℕ → List Part
+authority_parts web None text = plain_parts web text
+authority_parts web (Some s) text = plain_parts web (take s.at text)
+    ++ (wide_parts web (take s.len (drop s.at text)) ++ tokens (drop s.len (drop s.at text)))
 
 -- ---- texts
 
--- a text with this hidden, and the tokens around it
-abbrev pub around : Secret → List ℕ → List Part
-around s text = tokens (take s.at text)
-    ++ (hidden_part (take s.len (drop s.at text)) ++ tokens (drop s.len (drop s.at text)))
-
--- a stretch with what may be a password hidden, if there may be one
-abbrev pub stretch_in : Option Secret → List ℕ → List Part
-stretch_in None text = tokens text
-stretch_in (Some s) text = around s text
-
--- the stretches of a text, each up to its `/` and with it
-abbrev pub stretches : List ℕ → List (List ℕ)
-stretches [] = []
-stretches (b ∷ bs) = if b == slash then (b ∷ []) ∷ stretches bs else onto_first b (stretches bs)
-
--- stretches with what may be passwords hidden
-abbrev pub stretch_parts : List (List ℕ) → List Part
-stretch_parts [] = []
-stretch_parts (text ∷ texts) = stretch_in (password text) text ++ stretch_parts texts
-
--- a text with what may be a password hidden in each of its stretches
-abbrev pub plain_parts : List ℕ → List Part
-plain_parts text = stretch_parts (stretches text)
-
--- a text with what may be a password with a `/` in it hidden, if there may be one, and what may be one before it
-abbrev pub wide_parts : Option Secret → List ℕ → List Part
-wide_parts None text = plain_parts text
-wide_parts (Some s) text = plain_parts (take s.at text)
-    ++ (hidden_part (take s.len (drop s.at text)) ++ tokens (drop s.len (drop s.at text)))
+-- the text begins as a URL of HTTP does, whose path may start with `?` or `#`
+abbrev pub is_web : List ℕ → Bool
+is_web text = has_front text (codes "http://") || has_front text (codes "https://")
 
 -- a text without the name of a helper
 abbrev pub url_parts : List ℕ → List Part
-url_parts text = wide_parts (wide_password text) text
+url_parts text = authority_parts (is_web text) (wide_password (is_web text) text) text
+
+-- how many bytes the name of a remote helper takes with its `::`, if so many are before them
+abbrev pub helper_end : List ℕ → ℕ → ℕ
+helper_end text n = if is_helper_name (take n text) then mark_end mark.Helper text n else 0
+
+-- the same, where a text begins with one
+abbrev pub helper_len : List ℕ → ℕ
+helper_len text = unwrap_or (option_map (helper_end text) (first_mark mark.Helper text)) 0
 
 -- a text as it is shown: the name of a helper, and what follows it as a text of its own
 abbrev pub parts_of : List ℕ → List Part

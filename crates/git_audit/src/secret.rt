@@ -43,11 +43,12 @@ impl<'a> Model for Pieces<'a> {
 /// The pieces of a text, of which some may be secrets; joined they are the text. The text may be a location or none,
 /// or a key or a value of a configuration.
 ///
-/// Hidden is, of each stretch of the text up to a `/`, all between its first `:` and its last `@`; each word of
-/// letters, digits, `_` and `-` that begins as a token of GitHub, GitLab or Bitbucket and has 24 bytes or more; and,
-/// where the first `:` behind the first `://` begins neither a port nor a password that ends before the next `/`, all
-/// from there to the last `@` of the text. The escapes of `:` and `@` count as they do. The name of a remote helper
-/// is cut off first with its `::`. It takes no memory, and its time grows as the text does.
+/// Hidden is, between bytes at which a path may start (`/`, and of HTTP `?` and `#`), all between the first `:` and
+/// the last `@`; where the authority behind the first `://` has a `:` that begins neither a port nor a password that
+/// ends in it, all from there to the last `@` of the text but such bytes; and each word of letters, digits, `_` and
+/// `-` that begins as a token of GitHub, GitLab or Bitbucket and has 24 bytes or more. Escapes of `:` and `@` count as
+/// they do. The name of a remote helper is cut off first, with its `::`. It takes no memory, and its time grows as the
+/// text does.
 ///
 /// ```
 /// /// A text with a word in place of what may be a secret.

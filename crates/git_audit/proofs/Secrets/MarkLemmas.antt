@@ -1,11 +1,11 @@
 -- Where marks are: what is found behind a place is found in the text, if none was found before it.
-use Rattle.std.proofs.Common.{◌≡◌, ◌∙◌, ℕ, ◌+◌, ◌<◌, Bool, true, false, if◌then◌else◌, List, [], ◌∷◌, length, drop, get_or, Option, Some, None, option_map, refl, sym, ap, subst, arith, zero, suc, ◌-◌}
+use Rattle.std.proofs.Common.{◌≡◌, ◌∙◌, ℕ, ◌+◌, ◌<◌, Bool, true, false, if◌then◌else◌, List, [], ◌∷◌, length, drop, get_or, Option, Some, None, option_map, refl, sym, ap, subst, arith, zero, suc}
 use Rattle.std.proofs.Math.Seq.{drop-cons, drop-length}
 use Rattle.git_audit.specs.declared.secret.mark.Mark.{Mark}
 use Rattle.git_audit.specs.Secrets.{begins_as, first_mark, last_mark, later_mark}
 
 -- a byte and what follows it
-cut_at : (text : List ℕ) (n : ℕ) → n < length text → drop n text ≡ get_or text n 0 ∷ drop (n + 1) text
+pub cut_at : (text : List ℕ) (n : ℕ) → n < length text → drop n text ≡ get_or text n 0 ∷ drop (n + 1) text
 cut_at text n within = drop-cons text n 0 within ∙ ap (λ k. get_or text n 0 ∷ drop k text) {x = suc n} (omega arith)
 
 -- the place of a first mark, if so many bytes are before the text that it was found in
@@ -16,11 +16,13 @@ place_behind n found = option_map (λ k. k + n) found
 abbrev pub Passed : Mark → List ℕ → ℕ → Type 0
 Passed m text n = first_mark m text ≡ place_behind n (first_mark m (drop n text))
 
-none_before : (found : Option ℕ) → found ≡ place_behind 0 found
+-- before no byte the place is the same
+pub none_before : (found : Option ℕ) → found ≡ place_behind 0 found
 none_before None = refl
 none_before (Some k) = ap Some (omega arith)
 
-one_more : (n : ℕ) (found : Option ℕ) → place_behind n (option_map (λ k. k + 1) found) ≡ place_behind (n + 1) found
+-- behind one byte more
+pub one_more : (n : ℕ) (found : Option ℕ) → place_behind n (option_map (λ k. k + 1) found) ≡ place_behind (n + 1) found
 one_more n None = refl
 one_more n (Some k) = ap Some (omega arith)
 

@@ -9,21 +9,24 @@ ghost use Rattle.git_audit.specs.Secrets as spec;
 
 use crate::danger::token::is_token_word;
 use crate::secret::Piece;
-use crate::secret::mark::Mark;
-use crate::secret::place::{helper_len, password, wide_password};
+use crate::secret::mark::Class;
+use crate::secret::place::{helper_len, is_web, password, wide_password};
+use git_syntax::bytes::is_path_start;
 
 /// What is left of a text, in its order.
 #[derive(Clone, Copy)]
 pub(super) struct Left<'a> {
+    /// Whether it is of HTTP.
+    web: bool,
     /// Shown, but for its tokens.
     words: &'a [u8],
     /// Hidden.
     secret: &'a [u8],
     /// Shown, but for its tokens.
     more: &'a [u8],
-    /// Not cut yet.
-    stretches: &'a [u8],
-    /// Hidden.
+    /// What may have passwords between bytes at which a path may start.
+    plain: &'a [u8],
+    /// Hidden, but for the bytes at which a path may start.
     wide: &'a [u8],
     /// Shown, but for its tokens.
     end: &'a [u8],
@@ -37,38 +40,39 @@ impl<'a> Left<'a> {
         let (helper, url) = text.split_at(helper_len(text));
         Left {
             words: helper,
-            ..Left::of_url(url)
+            ..Left::of_url(is_web(url), url)
         }
     }
 
     /// All of a text without the name of a helper.
-    fn of_url(text: &'a [u8]) -> Left<'a>
-        ensures parts { left result ≡ spec.url_parts text.now }
+    fn of_url(web: bool, text: &'a [u8]) -> Left<'a>
+        ensures parts { left result ≡ spec.authority_parts web (spec.wide_password web text.now) text.now }
         ensures words { result.words.now ≡ [] }
     {
-        let Some(found) = wide_password(text) else {
-            return Left::stretches(text);
+        let Some(found) = wide_password(web, text) else {
+            return Left::plain(web, text);
         };
         let (front, rest) = text.split_at(found.at);
         let (wide, end) = rest.split_at(found.len);
         Left {
             wide,
             end,
-            ..Left::stretches(front)
+            ..Left::plain(web, front)
         }
     }
 
-    /// A text whose stretches are to be cut.
-    fn stretches(text: &'a [u8]) -> Left<'a>
-        ensures stretches { result.stretches.now ≡ text.now }
+    /// A text that may have passwords between bytes at which a path may start.
+    fn plain(web: bool, text: &'a [u8]) -> Left<'a>
+        ensures plain { (result.web ≡ web) × (result.plain.now ≡ text.now) }
         ensures rest { (result.words.now ≡ []) × (result.secret.now ≡ []) × (result.more.now ≡ [])
             × (result.wide.now ≡ []) × (result.end.now ≡ []) }
     {
         Left {
+            web,
             words: b"",
             secret: b"",
             more: b"",
-            stretches: text,
+            plain: text,
             wide: b"",
             end: b"",
         }
@@ -78,40 +82,44 @@ impl<'a> Left<'a> {
     pub(super) fn next(self) -> Option<(Piece<'a>, Left<'a>)>
         ensures { MatchOption result (left self.entry ≡ []) (λ p. left self.entry ≡ spec.piece_part p.0 ∷ left p.1) }
     {
-        match self.taken() {
-            Some(found) => Some(found),
-            None => self.refilled().taken(),
-        }
+        self.filled().taken()
     }
 
-    /// The next piece, if a word or what may be a password is at the front.
+    /// The next piece, if what is first is cut.
     fn taken(self) -> Option<(Piece<'a>, Left<'a>)>
-        ensures { MatchOption result ((self.entry.words.now ≡ []) × (self.entry.secret.now ≡ []))
-            (λ p. left self.entry ≡ spec.piece_part p.0 ∷ left p.1) }
+        requires { self.words.now ≡ [] → self.secret.now ≡ []
+            → (self.more.now ≡ []) × (self.plain.now ≡ []) × (self.wide.now ≡ [] → self.end.now ≡ []) }
+        ensures { MatchOption result (left self.entry ≡ []) (λ p. left self.entry ≡ spec.piece_part p.0 ∷ left p.1) }
     {
         if !self.words.is_empty() {
-            let (word, words) = cut_word(self.words);
-            return Some((piece_of(word), Left { words, ..self }));
+            let (word, words) = cut_run(Class::Gap, self.words);
+            return Some((word_piece(word), Left { words, ..self }));
         }
-        if self.secret.is_empty() {
+        if !self.secret.is_empty() {
+            return Some((
+                Piece::Hidden(self.secret),
+                Left {
+                    secret: b"",
+                    ..self
+                },
+            ));
+        }
+        if self.wide.is_empty() {
             return None;
         }
-        Some((
-            Piece::Hidden(self.secret),
-            Left {
-                secret: b"",
-                ..self
-            },
-        ))
+        let (run, wide) = cut_run(Class::Path(self.web), self.wide);
+        Some((wide_piece(self.web, run), Left { wide, ..self }))
     }
 
-    /// What is left, with a word or what may be a password at the front, unless nothing is left.
-    fn refilled(self) -> Left<'a>
-        requires words { self.words.now ≡ [] }
-        requires secret { self.secret.now ≡ [] }
+    /// What is left, with what is first cut.
+    fn filled(self) -> Left<'a>
         ensures same { left result ≡ left self.entry }
-        ensures filled { result.words.now ≡ [] → result.secret.now ≡ [] → left result ≡ [] }
+        ensures filled { result.words.now ≡ [] → result.secret.now ≡ []
+            → (result.more.now ≡ []) × (result.plain.now ≡ []) × (result.wide.now ≡ [] → result.end.now ≡ []) }
     {
+        if !self.words.is_empty() || !self.secret.is_empty() {
+            return self;
+        }
         if !self.more.is_empty() {
             return Left {
                 words: self.more,
@@ -119,8 +127,8 @@ impl<'a> Left<'a> {
                 ..self
             };
         }
-        if !self.stretches.is_empty() {
-            return self.with_stretch();
+        if !self.plain.is_empty() {
+            return self.with_run();
         }
         if self.wide.is_empty() {
             return Left {
@@ -129,62 +137,45 @@ impl<'a> Left<'a> {
                 ..self
             };
         }
-        Left {
-            secret: self.wide,
-            wide: b"",
-            more: self.end,
-            end: b"",
-            ..self
-        }
+        self
     }
 
-    /// What is left, with the first stretch cut.
-    fn with_stretch(self) -> Left<'a>
+    /// What is left, with the first run cut that may have a password.
+    fn with_run(self) -> Left<'a>
         requires words { self.words.now ≡ [] }
         requires secret { self.secret.now ≡ [] }
         requires more { self.more.now ≡ [] }
-        requires stretches { self.stretches.now ≢ [] }
+        requires plain { self.plain.now ≢ [] }
         ensures same { left result ≡ left self.entry }
         ensures filled { result.words.now ≢ [] }
     {
-        let (stretch, stretches) = cut_stretch(self.stretches);
-        let Some(found) = password(stretch) else {
+        let (run, plain) = cut_run(Class::Path(self.web), self.plain);
+        let Some(found) = password(run) else {
             return Left {
-                words: stretch,
-                stretches,
+                words: run,
+                plain,
                 ..self
             };
         };
-        let (words, rest) = stretch.split_at(found.at);
+        let (words, rest) = run.split_at(found.at);
         let (secret, more) = rest.split_at(found.len);
         Left {
             words,
             secret,
             more,
-            stretches,
+            plain,
             ..self
         }
     }
 }
 
-/// The first stretch of a text, with its `/`, and the rest.
-fn cut_stretch(text: &[u8]) -> (&[u8], &[u8])
+/// The first run of a text, and the rest.
+fn cut_run(class: Class, text: &[u8]) -> (&[u8], &[u8])
     requires { text.now ≢ [] }
-    ensures cut { spec.stretches text.now ≡ result.0.now ∷ spec.stretches result.1.now }
+    ensures cut { spec.runs class text.now ≡ result.0.now ∷ spec.runs class result.1.now }
     ensures some { result.0.now ≢ [] }
 {
-    match Mark::Slash.first(text) {
-        Some(at) => text.split_at(at + 1),
-        None => text.split_at(text.len()),
-    }
-}
-
-/// The first word of a text, or its first byte if that is of no word, and the rest.
-fn cut_word(text: &[u8]) -> (&[u8], &[u8])
-    requires { text.now ≢ [] }
-    ensures { spec.words text.now ≡ result.0.now ∷ spec.words result.1.now }
-{
-    match Mark::Gap.first(text) {
+    match class.first(text) {
         None => text.split_at(text.len()),
         Some(0) => text.split_at(1),
         Some(at) => text.split_at(at),
@@ -192,12 +183,22 @@ fn cut_word(text: &[u8]) -> (&[u8], &[u8])
 }
 
 /// A word as a piece: hidden, if it is a token.
-fn piece_of(word: &[u8]) -> Piece<'_>
+fn word_piece(word: &[u8]) -> Piece<'_>
     ensures { spec.piece_part result ≡ spec.word_part word.now }
 {
     if is_token_word(word) {
         Piece::Hidden(word)
     } else {
         Piece::Shown(word)
+    }
+}
+
+/// A run of a password with a `/` as a piece: shown, if a path may start at it.
+fn wide_piece(web: bool, run: &[u8]) -> Piece<'_>
+    ensures { spec.piece_part result ≡ spec.wide_part web run.now }
+{
+    match run {
+        [first, ..] if is_path_start(*first, web) => Piece::Shown(run),
+        _ => Piece::Hidden(run),
     }
 }

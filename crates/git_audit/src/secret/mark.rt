@@ -1,13 +1,13 @@
-//! Marks of a text: where the first and the last one of a kind is.
+//! Marks and classes of bytes: where the first and the last one of a text is.
 //!
 //! It uses the tests of `git_syntax` on bytes, and takes no memory. Its contract: the place is that of the definition
 //! (`specs/Secrets.antt`), and what a mark takes is of the text.
 
-ghost use Rattle.std.specs.Prelude.{◌≡◌, ◌+◌, ◌≤◌, ◌||◌, IfSome, codes, drop, length};
+ghost use Rattle.std.specs.Prelude.{◌≡◌, ◌<◌, ◌≤◌, ◌||◌, IfSome, codes, drop, length};
 ghost use Rattle.git_audit.specs.Secrets as spec;
 
 use crate::danger::token::{has_front, is_gap};
-use git_syntax::bytes::starts_with_byte;
+use git_syntax::bytes::{is_path_start, starts_with_byte};
 
 /// What ends or begins a part of a text.
 #[derive(Clone, Copy)]
@@ -20,10 +20,6 @@ pub(super) enum Mark {
     Authority,
     /// `::`
     Helper,
-    /// `/`
-    Slash,
-    /// A byte that no token has.
-    Gap,
 }
 
 impl Mark {
@@ -36,8 +32,6 @@ impl Mark {
             Mark::At => starts_with_byte(text, b'@') || has_front(text, "%40"),
             Mark::Authority => has_front(text, "://"),
             Mark::Helper => has_front(text, "::"),
-            Mark::Slash => starts_with_byte(text, b'/'),
-            Mark::Gap => begins_with_gap(text),
         }
     }
 
@@ -50,7 +44,6 @@ impl Mark {
             Mark::At if starts_with_byte(text, b'@') => 1,
             Mark::Colon | Mark::At | Mark::Authority => 3,
             Mark::Helper => 2,
-            Mark::Slash | Mark::Gap => 1,
         }
     }
 
@@ -96,12 +89,36 @@ fn begins_as_colon(text: &[u8]) -> bool
     starts_with_byte(text, b':') || has_front(text, "%3A") || has_front(text, "%3a")
 }
 
-/// Whether the text begins with a byte that no token has.
-fn begins_with_gap(text: &[u8]) -> bool
-    ensures { result ≡ spec.begins_as Mark.Gap text.now }
-{
-    match text {
-        [] => false,
-        [first, ..] => is_gap(*first),
+/// Bytes between which the runs of a text are.
+#[derive(Clone, Copy)]
+pub(super) enum Class {
+    /// What no token has.
+    Gap,
+    /// Where a path may start, of HTTP or not.
+    Path(bool),
+}
+
+impl Class {
+    /// Whether the byte is of it.
+    fn has(self, byte: u8) -> bool
+        ensures { result ≡ spec.is_of self byte }
+    {
+        match self {
+            Class::Gap => is_gap(byte),
+            Class::Path(web) => is_path_start(byte, web),
+        }
+    }
+
+    /// How many bytes are before the first one.
+    pub(super) fn first(self, text: &[u8]) -> Option<usize>
+        ensures place { result ≡ spec.first_of self text.now }
+        ensures within { IfSome result (λ n. n < length text.now) }
+    {
+        for at in 0..text.len() {
+            if self.has(text[at]) {
+                return Some(at);
+            }
+        }
+        None
     }
 }

@@ -3,12 +3,13 @@
 //! It uses `mark`, and takes no memory. Its contract: the place is that of the definition (`specs/Secrets.antt`), and
 //! is one of the text.
 
-ghost use Rattle.std.specs.Prelude.{◌≡◌, ◌+◌, ◌≤◌, ◌<◌, IfSome, drop, length, take};
+ghost use Rattle.std.specs.Prelude.{◌≡◌, ◌+◌, ◌≤◌, ◌||◌, IfSome, codes, length};
 ghost use Rattle.std.specs.List.{list_all};
 ghost use Rattle.std.specs.Char.{is_ascii_digit};
 ghost use Rattle.git_audit.specs.Secrets as spec;
 
-use crate::secret::mark::Mark;
+use crate::danger::token::has_front;
+use crate::secret::mark::{Class, Mark};
 use git_syntax::bytes::{is_helper_name, starts_with_byte};
 
 /// What may be a password: so many bytes, with so many before it.
@@ -18,7 +19,7 @@ pub(super) struct Secret {
     pub(super) len: usize,
 }
 
-/// What may be a password in a stretch of a text.
+/// What may be a password in a text in which no path starts.
 pub(super) fn password(text: &[u8]) -> Option<Secret>
     ensures place { result ≡ spec.password text.now }
     ensures within { IfSome result (λ s. s.at + s.len ≤ length text.now) }
@@ -38,33 +39,33 @@ fn up_to_at(text: &[u8], at: usize) -> Option<Secret>
 }
 
 /// What may be a password with a `/` in it.
-pub(super) fn wide_password(text: &[u8]) -> Option<Secret>
-    ensures place { result ≡ spec.wide_password text.now }
+pub(super) fn wide_password(web: bool, text: &[u8]) -> Option<Secret>
+    ensures place { result ≡ spec.wide_password web text.now }
     ensures within { IfSome result (λ s. s.at + s.len ≤ length text.now) }
 {
     let authority = Mark::Authority.first(text)?;
-    wide_behind(text, Mark::Authority.end(text, authority))
+    wide_behind(web, text, Mark::Authority.end(text, authority))
 }
 
 /// What may be a password with a `/` in it, behind so many bytes.
-fn wide_behind(text: &[u8], at: usize) -> Option<Secret>
+fn wide_behind(web: bool, text: &[u8], at: usize) -> Option<Secret>
     requires { at ≤ length text.now }
-    ensures place { result ≡ spec.wide_behind text.now at }
+    ensures place { result ≡ spec.wide_behind web text.now at }
     ensures within { IfSome result (λ s. s.at + s.len ≤ length text.now) }
 {
     let rest = text.split_at(at).1;
-    let found = wide_in(authority_of(rest), rest)?;
+    let found = wide_in(before_path(web, rest), rest)?;
     Some(Secret {
         at: at + found.at,
         len: found.len,
     })
 }
 
-/// What is before the first `/`, or all.
-fn authority_of(text: &[u8]) -> &[u8]
-    ensures { result.now ≡ take (spec.slash_or_len text.now) text.now }
+/// What is before the first byte at which a path may start, or all.
+fn before_path(web: bool, text: &[u8]) -> &[u8]
+    ensures { result.now ≡ spec.before_path web text.now }
 {
-    match Mark::Slash.first(text) {
+    match Class::Path(web).first(text) {
         Some(at) => text.split_at(at).0,
         None => text.split_at(text.len()).0,
     }
@@ -109,4 +110,11 @@ fn are_digits(text: &[u8]) -> bool
     ensures { result ≡ list_all is_ascii_digit text.now }
 {
     text.iter().all(|byte| byte.is_ascii_digit())
+}
+
+/// Whether the text begins as a URL of HTTP does.
+pub(super) fn is_web(text: &[u8]) -> bool
+    ensures { result ≡ spec.is_web text.now }
+{
+    has_front(text, "http://") || has_front(text, "https://")
 }

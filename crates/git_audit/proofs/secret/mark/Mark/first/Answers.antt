@@ -1,5 +1,5 @@
 -- By what was passed.
-use Rattle.std.proofs.Common.{◌≡◌, ◌∙◌, ap, arith, sym, true, false}
+use Rattle.std.proofs.Common.{◌∙◌, ap, arith, sym}
 use Rattle.git_audit.specs.Secrets.{begins_as}
 use Rattle.git_audit.proofs.Secrets.MarkLemmas.{passed_all, passed_here, passed_more, passed_none}
 use Rattle.git_audit.proofs.secret.mark.Mark.first.Goals as goal

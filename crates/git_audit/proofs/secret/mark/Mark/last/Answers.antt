@@ -1,5 +1,5 @@
 -- By what was passed.
-use Rattle.std.proofs.Common.{◌≡◌, ◌∙◌, ap, arith, sym, ◌-◌, true, false}
+use Rattle.std.proofs.Common.{◌∙◌, ap, arith, sym, ◌-◌}
 use Rattle.git_audit.specs.Secrets.{begins_as}
 use Rattle.git_audit.proofs.Secrets.MarkLemmas.{last_found, none_is_last, none_at_end, none_from}
 use Rattle.git_audit.proofs.secret.mark.Mark.last.Goals as goal

@@ -1,0 +1,6 @@
+-- No byte of the class is in what was passed.
+use Rattle.git_audit.proofs.Secrets.ClassLemmas.{Passed}
+use Rattle.git_audit.proofs.secret.mark.Class.first.Given as goal
+
+abbrev pub invariant-loop-at : goal.invariant-loop-at
+invariant-loop-at l = Passed l.self l.text l.at
