@@ -1,9 +1,9 @@
 -- What of a text is hidden where it is shown: what may be a password, and words that are tokens.
-use Rattle.std.specs.Prelude.{◌≡◌, ℕ, ◌+◌, Bool, if◌then◌else◌, true, false, ◌||◌, List, [], ◌∷◌, ◌++◌, codes, length, take, drop, map, Option, Some, None, option_map}
-use Rattle.std.specs.List.{list_all}
+use Rattle.std.specs.Prelude.{◌≡◌, ℕ, ◌+◌, Bool, if◌then◌else◌, true, false, ◌&&◌, ◌||◌, ◌==◌, List, [], ◌∷◌, ◌++◌, codes, length, take, drop, map, Option, Some, None, option_map}
+use Rattle.std.specs.List.{list_all, list_any}
 use Rattle.std.specs.Option.{is_some, option_and_then, unwrap_or}
 use Rattle.std.specs.Char.{is_ascii_digit}
-use Rattle.git_syntax.specs.Bytes.{colon, at_sign, left_bracket, begins_by, begins_with, is_helper_name, is_path_start}
+use Rattle.git_syntax.specs.Bytes.{colon, at_sign, left_bracket, right_bracket, begins_by, begins_with, is_helper_name, is_path_start}
 use Rattle.git_audit.specs.Dangers.{has_front, is_gap, is_token_word}
 use Rattle.git_audit.specs.declared.secret.Piece.{Piece}
 use Rattle.git_audit.specs.declared.secret.Piece.TheVariants as piece
@@ -132,9 +132,13 @@ plain_parts web text = parts_of_runs (runs (class.Path web) text)
 
 -- ---- passwords with a `/`
 
+-- the text begins with `[` and has a `]`
+abbrev pub has_brackets : List ℕ → Bool
+has_brackets text = begins_with left_bracket text && list_any (λ b. b == right_bracket) text
+
 -- an authority, whose first `:` ends at this place, has a password to its own last `@`, a port, or brackets
 abbrev pub is_whole : List ℕ → ℕ → Bool
-is_whole authority at = begins_with left_bracket authority || list_all is_ascii_digit (drop at authority)
+is_whole authority at = has_brackets authority || list_all is_ascii_digit (drop at authority)
     || is_some (last_mark mark.At (drop at authority))
 
 -- what may be a password with a `/` in it, behind `://`: if the authority isn't whole, all between its first `:` and

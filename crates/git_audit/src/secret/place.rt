@@ -3,9 +3,10 @@
 //! It uses `mark`, and takes no memory. Its contract: the place is that of the definition (`specs/Secrets.antt`), and
 //! is one of the text.
 
-ghost use Rattle.std.specs.Prelude.{◌≡◌, ◌+◌, ◌≤◌, ◌||◌, IfSome, codes, length};
-ghost use Rattle.std.specs.List.{list_all};
+ghost use Rattle.std.specs.Prelude.{◌≡◌, ◌+◌, ◌≤◌, ◌||◌, ◌==◌, IfSome, codes, length};
+ghost use Rattle.std.specs.List.{list_all, list_any};
 ghost use Rattle.std.specs.Char.{is_ascii_digit};
+ghost use Rattle.git_syntax.specs.Bytes.{right_bracket};
 ghost use Rattle.git_audit.specs.Secrets as spec;
 
 use crate::danger::token::has_front;
@@ -91,7 +92,21 @@ fn is_whole(authority: &[u8], at: usize) -> bool
     ensures { result ≡ spec.is_whole authority.now at }
 {
     let rest = authority.split_at(at).1;
-    starts_with_byte(authority, b'[') || are_digits(rest) || Mark::At.last(rest).is_some()
+    has_brackets(authority) || are_digits(rest) || Mark::At.last(rest).is_some()
+}
+
+/// Whether the text begins with `[` and has a `]`.
+fn has_brackets(text: &[u8]) -> bool
+    ensures { result ≡ spec.has_brackets text.now }
+{
+    starts_with_byte(text, b'[') && holds_bracket(text)
+}
+
+/// Whether the text has a `]`.
+fn holds_bracket(text: &[u8]) -> bool
+    ensures { result ≡ list_any (λ b. b == right_bracket) text.now }
+{
+    text.iter().any(|byte| *byte == b']')
 }
 
 /// How many bytes the name of a remote helper takes with its `::`, where a text begins with one.
