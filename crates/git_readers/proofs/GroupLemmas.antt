@@ -59,5 +59,5 @@ port_front test front rest t whole = before_rest (front ++ colon ∷ until test 
 pub port_short : (test : ℕ → Bool) (front rest t : List ℕ) → t ≡ front ++ colon ∷ rest → length (from test rest) ≤ length t
 port_short test front rest t whole =
     let total : length t ≡ length (front ++ colon ∷ until test rest) + length (from test rest) =
-      ap (λ x. length x) (port_joined test front rest t whole) ∙ length-append (front ++ colon ∷ until test rest) (from test rest) in
+    ap (λ x. length x) (port_joined test front rest t whole) ∙ length-append (front ++ colon ∷ until test rest) (from test rest) in
     grind arith

@@ -62,7 +62,8 @@ impl Group {
             Group::MadeUrls => "readers that make a URL of the scp form, as gh and pip",
             Group::FirstColon => "readers that cut at the first colon, as dulwich",
             Group::FirstAt => "readers that cut at the first @, as JGit and go-git",
-            Group::DigitsArePort => "readers that take digits after the colon for a port, as go-git",
+            Group::DigitsArePort =>
+                "readers that take digits after the colon for a port, as go-git",
             Group::FourNumbers => "readers that end a host after four numbers, as Boost.URL",
         }
     }
@@ -266,13 +267,7 @@ fn after_number(text: &[u8]) -> Option<&[u8]>
 {
     match at_first(text, b'.') {
         None => None,
-        Some((label, rest)) => {
-            if is_number(label) {
-                Some(rest)
-            } else {
-                None
-            }
-        }
+        Some((label, rest)) => { if is_number(label) { Some(rest) } else { None } }
     }
 }
 
