@@ -21,8 +21,7 @@ from rules_asked import entry_of as entry, is_named, listed
 from rules_library import together
 from second_reading import grammar
 from second_reading.dangers import dangers
-from second_reading.explain import lossy, told
-from second_reading.hidden import redacted
+from second_reading.explain import lossy, shown_line, told
 
 STORED = f"{ROOT}/crates/explain/golden/by_config"
 # How many of the configurations that Git is asked about are taken of each kind.
@@ -44,12 +43,20 @@ Case = namedtuple("Case", "entries lines allow_list from_user", defaults=(None, 
 
 # ---- what is expected; a generator yields orders, and is sent what the library answers
 
+def hidden(text):
+    """A text without what may be a secret: behind `://`, where that is, from the first `:` to the last `@`."""
+    begin = text.find(b"://") + 3 if b"://" in text else 0
+    at = text.rfind(b"@", begin)
+    colon = text.find(b":", begin, max(at, begin))
+    return text if at < 0 or colon < 0 else text[: colon + 1] + b"redacted" + text[at:]
+
+
 def shown_value(entry):
     if entry.value and is_named(entry, b"http", b"extraheader"):
         return "redacted"
     if is_named(entry, b"credential", b"helper") and (entry.value or b"").startswith(b"!"):
         return "!redacted"
-    return None if entry.value is None else lossy(redacted(entry.value))
+    return None if entry.value is None else lossy(hidden(entry.value))
 
 
 def placed(entries):
@@ -59,7 +66,7 @@ def placed(entries):
 
 def setting(at, it):
     """An entry as it is shown."""
-    place = b"" if it.place is None else redacted(it.place) + b"."
+    place = b"" if it.place is None else hidden(it.place) + b"."
     return {"at": at, "key": lossy(it.section.lower() + b"." + place + it.name.lower()), "value": shown_value(it)}
 
 
@@ -87,7 +94,7 @@ def route(case, line, text, *names):
     said = (yield [{"call": "text::transport_of", "text": text_of(text)}])[0]
     found = (yield from transport(case, said)) if isinstance(said, str) else None
     lack = None if found else LACKS[said["error"]]
-    return {"text": lossy(redacted(text)), "rewritten": line.startswith(tuple(fronts)), "same_host": same_host, "transport": found, "no_transport": lack,
+    return {"text": shown_line(text), "rewritten": line.startswith(tuple(fronts)), "same_host": same_host, "transport": found, "no_transport": lack,
             "dangers": [] if goal is None else dangers(text, goal)}
 
 
@@ -98,7 +105,7 @@ def credentials(case, text):
     if not used or "error" in used:
         return None
     entries, user = [*placed(case.entries)], used.get("user")
-    return {"helpers": [setting(*entries[at]) for at in used["helpers"]], "user": user if user is None else lossy(redacted(bytes_of(user))),
+    return {"helpers": [setting(*entries[at]) for at in used["helpers"]], "user": user if user is None else lossy(hidden(bytes_of(user))),
             "use_http_path": used["use_http_path"]}
 
 

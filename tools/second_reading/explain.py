@@ -6,7 +6,7 @@ What Git reads is asked of `git_reads.py`, of Git's credential code of `web_defi
 from git_classes import Case, Reading, is_careful
 from git_reads import git_reads, unread
 from second_reading import (
-    errors, fault_places, git_class, grammar, hidden, laws, octets, plain_paths, records, settled_class, writing)
+    errors, fault_places, git_class, grammar, laws, octets, plain_paths, records, settled_class, writing)
 from web_defined import credential_readings
 from web_plain import broken
 from web_reads import curl_reads
@@ -209,21 +209,28 @@ def curl(v):
     return found and {"host": lossy(found.host), "port": found.port and int(found.port), "path": lossy(found.path)}
 
 
-# Why nothing is reported of a line that is read, but whose parts may be secrets.
-WITHHELD = {"error": "Withheld", "kind": None, "fault": None, "at": None, "len": None, "reason": None,
-            "words": "what it is read as may show a secret"}
+def secret_of_refused(line):
+    """What may be a password in a refused line: from the first `:` behind `://` to the last `@`; its place, or None."""
+    begin = line.find(b"://") + 3
+    colon, at = line.find(b":", begin), line.rfind(b"@")
+    return (colon + 1, at) if 3 <= begin <= colon < at else None
+
+
+def secret_of_url(line):
+    """The place of the password that is read: from the first `:` behind `://` to the last `@` before the path."""
+    begin = line.find(b"://") + 3
+    ends = [it for it in (line.find(bytes([mark]), begin) for mark in grammar.path_starts(line[:begin - 3])) if it >= 0]
+    return line.find(b":", begin) + 1, line.rfind(b"@", begin, min(ends, default=len(line)))
 
 
 def shown_line(line):
-    """The line with the word in place of each secret, as a line is shown."""
-    has_parts = grammar.spells(line) is not None and hidden.seen(line) is not None
-    return lossy(hidden.redacted(line) if has_parts else hidden.redacted_line(line))
-
-
-def told_of_line(line):
-    """What is reported of a line that is read as a location, None where that is withheld: what it is read as, as it is shown."""
-    other = hidden.seen(line)
-    return other if other is None else told(grammar.spells(other))
+    """The line with the word in place of its password, or of what may be one in a refused line."""
+    v = grammar.spells(line)
+    place = secret_of_refused(line) if v is None else None if v.password is None else secret_of_url(line)
+    if place is None:
+        return lossy(line)
+    hidden = b"redacted" if place[0] < place[1] else b""
+    return lossy(line[:place[0]] + hidden + line[place[1]:])
 
 
 def told(v):

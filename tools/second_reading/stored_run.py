@@ -5,7 +5,7 @@ import json
 
 from second_reading import grammar
 from second_reading.dangers import dangers
-from second_reading.explain import WITHHELD, refusal_of_line, shown_line, told, told_of_line
+from second_reading.explain import refusal_of_line, shown_line, told
 from second_reading.explain_lines import (
     CURL, FILES, GIT, HELPERS, IN_REFUSED, LOCALS, PLACED, READ, REFUSED, SCPS, SLIPS, URLS, WEB)
 from second_reading.explain_tables import reason_examples, table
@@ -22,9 +22,7 @@ def found(line, v):
 
 def answer(number, line):
     v = grammar.spells(line)
-    location = v and told_of_line(line)
-    refusal = refusal_of_line(line) if v is None else WITHHELD if location is None else None
-    it = {"line": number, "input": shown_line(line), "location": location, "refusal": refusal,
+    it = {"line": number, "input": shown_line(line), "location": v and told(v), "refusal": refusal_of_line(line) if v is None else None,
           "dangers": [] if v is None else dangers(line, v), "findings": found(line, v), "hints": hints(line, v), "rules": None}
     return json.dumps(it, separators=(",", ":"), ensure_ascii=False)
 
