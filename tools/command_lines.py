@@ -57,20 +57,27 @@ CALLS = [
     Call("explain", ["--gitmodules", "-"], b"[core]\n\tbare = true\n[submodule]\n\trecurse\n"),
     Call("explain", ["--gitmodules", "-"], b'[submodule "a"]\n\tpath = a\n\turl = https://github.com/a/b\n',
          shown=b'submodule "a"\n    path        "a"\n    url         "https://github.com/a/b"\n'),
-    Call("explain", ["--gitmodules", "-"], b'[submodule "a"] url = ../x.git\n', 1,
-         b'submodule "a"\n    url         "../x.git"\n'
-         b'    unsettled   line 1, column 17, "submodule.a.url": it is relative: --parent says what it is resolved against\n'),
-    Call("explain", ["--gitmodules", "-", "--fail-on", "danger"], b'[submodule "a"] url = ../x.git\n', 0,
-         b'submodule "a"\n    url         "../x.git"\n'
-         b'    unsettled   line 1, column 17, "submodule.a.url": it is relative: --parent says what it is resolved against\n'),
-    Call("explain", ["--gitmodules", "-", "--parent", "https://h/a/b"], b'[submodule "a"] url = ../x.git\n', 0,
-         b'submodule "a"\n    url         "../x.git"\n    resolved    "https://h/a/x.git"\n'),
-    Call("explain", ["--gitmodules", "-", "--parent", "https://h/a/b"], b'[submodule "a"] url = ../../../evil.com/x\n', 1,
-         b'submodule "a"\n    url         "../../../evil.com/x"\n    resolved    "https://evil.com/x"\n'
-         b'    danger      line 1, column 17, "submodule.a.url": it leads to another host than that of the superproject\n'),
-    *(Call("explain", ["-q", "--gitmodules", "-"], b'[submodule "a"]\n' + it + b"\n", 1) for it in (
+    Call("explain", ["--gitmodules", "-"], b'[submodule "a"]\n\tpath = a\n', 1,
+         b'submodule "a"\n    path        "a"\n'
+         b'    refused     line 2, column 2, "submodule.a.path": Git has no URL for the submodule\n'),
+    Call("explain", ["-q", "--gitmodules", "-", "--fail-on", "danger"], b'[submodule "a"]\n\tpath = a\n'),
+    Call("explain", ["-q", "--gitmodules", "-", "--fail-on", "refused"], b'[submodule "a"]\n\tignore = all\n', 1),
+    Call("explain", ["-q", "--gitmodules", "-", "--fail-on", "danger"], b'[submodule "a"]\n\tpath = x\n[submodule "b"]\n\tpath = x\n', 1),
+    Call("explain", ["--gitmodules", "-"], b'[submodule "a"] path = a\n\turl = ../x.git\n', 1,
+         b'submodule "a"\n    path        "a"\n    url         "../x.git"\n'
+         b'    unsettled   line 2, column 2, "submodule.a.url": it is relative: --parent says what it is resolved against\n'),
+    Call("explain", ["--gitmodules", "-", "--fail-on", "danger"], b'[submodule "a"] path = a\n\turl = ../x.git\n', 0,
+         b'submodule "a"\n    path        "a"\n    url         "../x.git"\n'
+         b'    unsettled   line 2, column 2, "submodule.a.url": it is relative: --parent says what it is resolved against\n'),
+    Call("explain", ["--gitmodules", "-", "--parent", "https://h/a/b"], b'[submodule "a"] path = a\n\turl = ../x.git\n', 0,
+         b'submodule "a"\n    path        "a"\n    url         "../x.git"\n    resolved    "https://h/a/x.git"\n'),
+    Call("explain", ["--gitmodules", "-", "--parent", "https://h/a/b"], b'[submodule "a"] path = a\n\turl = ../../../evil.com/x\n', 1,
+         b'submodule "a"\n    path        "a"\n    url         "../../../evil.com/x"\n    resolved    "https://evil.com/x"\n'
+         b'    danger      line 2, column 2, "submodule.a.url": it leads to another host than that of the superproject\n'),
+    *(Call("explain", ["-q", "--gitmodules", "-"], b'[submodule "a"]\n\tpath = a\n\turl = https://h/a\n' + it + b"\n", 1) for it in (
         b"url = -u./payload", b"url = ext::sh -c x", b"url = ../../../:h/x", b"url = https://u:p@h/x", b"url = \"https://h/a\\nb\"",
-        b"path = -x", b"path = ../x", b"path = .git/hooks", b"update = !command", b"url", b"url = https://ghp_x@h/x")),
+        b"path = -x", b"path = ../x", b"path = .git/hooks", b"update = !command", b"url", b"url = https://ghp_x@h/x",
+        b"path =", b"[submodule \"b\"] url = https://h/b", b"[submodule \"b\"] path = b", b"[submodule \"b\"] path = a\n\turl = https://h/b")),
     Call("explain", ["-q", "--gitmodules", "-"], b'[submodule "../a"]\n\tpath = a\n', 1),
     Call("explain", ["-q", "--gitmodules", "-"], b'[submodule "a"]\n\turl = ../x\n=\n', 2, reported=b"explain: -: line 3: a byte that begins neither"),
     Call("explain", ["--gitmodules", "-"], b"# GIX URL\n\nreads *locations*\n", 2, reported=b"explain: -: line 3: "),

@@ -65,6 +65,7 @@ fn is_of_configuration(owner: &str) -> bool {
             | "submodules"
             | "refusal"
             | "risk"
+            | "defect"
     )
 }
 
@@ -153,6 +154,9 @@ fn read_entries(alloc: Global, order: Order<'_>, text: &[u8], out: &mut Out) -> 
         "SshProgram::of" => ssh_programs::over_entries(alloc, order, entries.as_slice(), out),
         "refusal::check" | "risk::has_risk" | "submodules::submodules" => {
             submodules::over_entries(alloc, order, entries.as_slice(), out)
+        }
+        "defect::defects_of" => {
+            submodules::over_submodules(alloc, order, entries.as_slice(), out)
         }
         _ => rewriting::over_entries(alloc, order, entries.as_slice(), out),
     };

@@ -4,6 +4,7 @@ use crate::halt::Halt;
 use crate::order::{Order, unknown};
 use crate::report::{Out, Report, report_lent, report_member, report_owned};
 use bstr::BStr;
+use git_modules::submodules::defect::{Defects, defects_of};
 use git_modules::submodules::refusal::check;
 use git_modules::submodules::risk::{Risk, has_risk};
 use git_modules::submodules::{Submodule, submodules};
@@ -24,6 +25,22 @@ pub fn over_entries(
         "submodules::submodules" => report_owned(out, submodules(alloc, entries)),
         call => unknown(call),
     }
+}
+
+/// Calls over the submodules of all entries.
+pub fn over_submodules(
+    alloc: Global,
+    order: Order<'_>,
+    entries: &[Entry<'_>],
+    out: &mut Out,
+) -> Result<(), Halt> {
+    let listed = submodules(alloc, entries)?;
+    let outcome = match order.call() {
+        "defect::defects_of" => report_owned(out, defects_of(alloc, listed.as_slice())),
+        call => unknown(call),
+    };
+    drop(listed);
+    outcome
 }
 
 /// Reports whether the first entry has a risk.
@@ -85,4 +102,41 @@ impl Report for Vec<Submodule<'_>> {
         }
         out.write_all(if before == "{" { b"{}" } else { b"}" })
     }
+}
+
+impl Report for Vec<Defects> {
+    /// Reports the names of the defects of each.
+    fn report(&self, out: &mut Out) -> io::Result<()> {
+        out.write_all(b"[")?;
+        let mut is_first = true;
+        for it in self {
+            if !is_first {
+                out.write_all(b",")?;
+            }
+            is_first = false;
+            report_defects(*it, out)?;
+        }
+        out.write_all(b"]")
+    }
+}
+
+/// Reports the names of the defects of a submodule.
+fn report_defects(defects: Defects, out: &mut Out) -> io::Result<()> {
+    out.write_all(b"[")?;
+    let mut is_first = true;
+    let named = [
+        ("no_path", defects.no_path),
+        ("no_url", defects.no_url),
+        ("same_path", defects.same_path),
+    ];
+    for (name, is_there) in named {
+        if is_there {
+            if !is_first {
+                out.write_all(b",")?;
+            }
+            is_first = false;
+            name.report(out)?;
+        }
+    }
+    out.write_all(b"]")
 }

@@ -2,6 +2,7 @@
 
 use git_modules::config_file;
 use git_modules::config_file::flaw::{FileError, Flaw};
+use git_modules::submodules::defect::defects_of;
 use git_modules::submodules::refusal::check;
 use git_modules::submodules::risk::{Risk, has_risk};
 use git_modules::submodules::submodules;
@@ -77,4 +78,15 @@ fn are_paths_safe(entries: &[Entry<'_>]) -> bool {
         }
     }
     true
+}
+
+/// Whether each submodule of the entries has a path of its own and a URL.
+fn are_whole(alloc: Global, entries: &[Entry<'_>]) -> Result<bool, AllocError> {
+    let found = submodules(alloc, entries)?;
+    for it in &defects_of(alloc, found.as_slice())? {
+        if it.no_path || it.no_url || it.same_path {
+            return Ok(false); // of `submodule.a.path=a` alone
+        }
+    }
+    Ok(true)
 }

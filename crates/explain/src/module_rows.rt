@@ -76,11 +76,11 @@ fn place_row(out: &mut String, place: &Place) -> Result<(), AllocError> {
 /// What a row of what was found begins with.
 fn row_name(kind: Kind) -> &'static str {
     match kind {
-        Kind::Danger(_) | Kind::ParentHost => "danger",
+        Kind::Danger(_) | Kind::ParentHost | Kind::SamePath => "danger",
         Kind::Fsck(_) => "fsck",
         Kind::Risk(_) => "risk",
         Kind::NoParent | Kind::Unsettled => "unsettled",
-        Kind::Unresolved(_) | Kind::NoLocation => "refused",
+        Kind::Unresolved(_) | Kind::NoLocation | Kind::NoPath | Kind::NoUrl => "refused",
         Kind::GitDiffers => "git",
         Kind::Policy => "transport",
     }

@@ -11,6 +11,7 @@ pub mod SubmoduleView
 pub mod SubmoduleUrls
 pub mod SubmoduleChecks
 pub mod SubmoduleRisks
+pub mod SubmoduleDefects
 pub mod ResolveSteps
 pub mod ResolveParents
 pub mod Resolve

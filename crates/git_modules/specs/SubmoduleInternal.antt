@@ -1,5 +1,5 @@
 -- Definitions that serve the proofs of this crate alone.
-use Rattle.std.specs.Prelude.{◌≡◌, ℕ, Bool, true, false, not, ◌&&◌, ◌||◌, ◌==◌, List, ◌∷◌, ◌++◌, length, Option, Some, MatchOption, bytes_eq, is_some, option_map, if◌then◌else◌}
+use Rattle.std.specs.Prelude.{◌≡◌, ℕ, Bool, true, false, not, ◌&&◌, ◌||◌, ◌==◌, List, ◌∷◌, ◌++◌, length, Option, Some, None, MatchOption, bytes_eq, is_some, nat_lt, option_map, if◌then◌else◌}
 use Rattle.std.specs.Borrow.{Bor}
 use Rattle.std.specs.BTreeMap.{BTreeMap, get_by}
 use Rattle.std.specs.Cmp.Lexicographic.{slice_cmp}
@@ -8,8 +8,9 @@ use Rattle.git_syntax.specs.Bytes.{colon, FreeOf, begins_by}
 use Rattle.git_reads.specs.Credentials.{CredentialCut, CredentialDecodes, CredentialReading, ReadsPieces}
 use Rattle.git_rules.specs.Config.{ConfigEntry}
 use Rattle.git_modules.specs.declared.submodules.Used.{Used}
-use Rattle.git_modules.specs.Submodules.{UsedValue, is_separator, used_by}
+use Rattle.git_modules.specs.Submodules.{GitSubmodule, UsedValue, is_separator, used_by}
 use Rattle.git_modules.specs.SubmoduleView.{used_value}
+use Rattle.git_modules.specs.SubmoduleDefects.{path_count}
 use Rattle.git_modules.specs.SubmoduleUrls.{IsForCurl, has_feed, part_has_feed, parts_have_feed, is_step, is_step_up}
 
 -- the piece decodes to a text that has a line feed, or hasn't
@@ -86,3 +87,23 @@ abbrev pub NotesName : BTreeMap (Bor (List ℕ)) (Unit {0}) → List ℕ
     → BTreeMap (Bor (List ℕ)) (Unit {0}) → Type 0
 NotesName seen name after = (other : List ℕ)
     → is_noted after other ≡ (bytes_eq name other || is_noted seen other)
+
+-- ---- paths
+
+-- what is noted for a path in a map, if it is noted: whether it is of several submodules
+abbrev pub noted_path : BTreeMap (Bor (List ℕ)) Bool → List ℕ → Option Bool
+noted_path paths p = get_by (λ key. slice_cmp nat_cmp p key.now) paths
+
+-- what is noted for the path of so many submodules
+abbrev pub count_note : ℕ → Option Bool
+count_note n = if n == 0 then None else Some (nat_lt 1 n)
+
+-- the map has the paths of these submodules
+abbrev pub HasPaths : List GitSubmodule → BTreeMap (Bor (List ℕ)) Bool → Type 0
+HasPaths all paths = (p : List ℕ) → noted_path paths p ≡ count_note (path_count p all)
+
+-- afterwards this path is noted, as one of several submodules if it was noted before, and the others as before
+abbrev pub NotesPath : BTreeMap (Bor (List ℕ)) Bool → List ℕ → BTreeMap (Bor (List ℕ)) Bool → Type 0
+NotesPath paths p after = (other : List ℕ)
+    → noted_path after other
+    ≡ (if bytes_eq p other then Some (is_some (noted_path paths p)) else noted_path paths other)

@@ -9,6 +9,7 @@ ghost use Rattle.git_modules.specs.Submodules.{has_component, is_refused_name, i
 ghost use Rattle.git_modules.specs.SubmoduleView.{used_value};
 ghost use Rattle.git_modules.specs.SubmoduleInternal.{HasUses, NotesName, NotesUse, is_noted, noted_use};
 
+pub mod defect;
 pub mod refusal;
 pub mod risk;
 mod url;
