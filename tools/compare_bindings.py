@@ -2,13 +2,14 @@
 
 ANSWERS are those of `bindings/tests/members.c` or of the example `members` of the Rust crate, EXPLAINED those of
 `explain --json`. Bytes that aren't UTF-8 are U+FFFD in JSON, and are compared so. Whether Git reads the same is
-compared with the rule by hand of `docs/GIT.md`, asked of what a second reading of the grammar finds in the line.
+compared with the rule by hand of `docs/GIT.md`, asked of what a second reading of the grammar finds in the line; whether
+all readers do, with the class by the bytes of the text that is written for it (`docs/READERS.md`).
 """
 import json
 import sys
 
 sys.dont_write_bytecode = True
-from second_reading import grammar, line_answers
+from second_reading import grammar, line_answers, settled_class, unambiguous, writing
 from second_reading.explain import agrees_with_git
 
 
@@ -24,9 +25,10 @@ def components(parts):
 
 
 def agreement(line):
-    """What the rule by hand says of the text that is written for what the line is read as."""
+    """What the rules by hand say of the text that is written for what the line is read as."""
     v = grammar.spells(line)
-    return "alike" if v is not None and agrees_with_git(v) else "unsure"
+    is_same = v is not None and settled_class.settled(v) and unambiguous.is_unambiguous(writing.text(v))
+    return ["alike" if v is not None and agrees_with_git(v) else "unsure", "unambiguous" if is_same else "doubtful"]
 
 
 def of_explain(said, line):
@@ -38,7 +40,7 @@ def of_explain(said, line):
     texts = [it["scheme"], it["user"], "hidden" if it["password"] else None, it["host"], it["port"], it["port_or_default"]]
     paths = [it["path"], it["original_path"], judged["user"], judged["host"], judged["path"]]
     settled = "settled" if it["settled"] else "unsettled"
-    return ["read", *texts, *paths, settled, agreement(line), it["text"], components(it["components"])]
+    return ["read", *texts, *paths, settled, *agreement(line), it["text"], components(it["components"])]
 
 
 def of_binding(line):
@@ -48,10 +50,10 @@ def of_binding(line):
         error, fault, kind, *place, reason = (None if it == "-" else it for it in words)
         # explain leaves a form out that the error can only have been of.
         return [outcome, error, fault, kind and kind.lower(), *(it and int(it) for it in place), reason]
-    scheme, user, password, host, port, default, path, original, *judged, settled, agrees, shown, parts = words
+    scheme, user, password, host, port, default, path, original, *judged, settled, agrees, unambiguous_too, shown, parts = words
     numbers = [None if it == "-" else int(it) for it in (port, default)]
     front = [text(scheme), text(user), None if password == "-" else password, text(host), *numbers]
-    return [outcome, *front, text(path), text(original), *judged, settled, agrees, text(shown), text(parts)]
+    return [outcome, *front, text(path), text(original), *judged, settled, agrees, unambiguous_too, text(shown), text(parts)]
 
 
 def lines_of(name):

@@ -23,8 +23,8 @@ FOLDER = f"{ROOT}/out/bindings"
 # Calls that all bindings have, and those that not all of them have.
 ALL = {
     "parse::parse", "Error:fmt", "Scheme::as_str", "Url::agrees_with_git", "Url::from_parts", "Url::host", "Url::host_argument_safe",
-    "Url::host_as_argument", "Url::is_settled", "Url::original_path", "Url::password", "Url::path_argument_safe",
-    "Url::path_is_root", "Url::path_query_fragment", "Url::port_or_default", "Url::text_len", "Url::to_bstring", "Url::user",
+    "Url::host_as_argument", "Url::is_settled", "Url::is_unambiguous", "Url::original_path", "Url::password", "Url::path_argument_safe",
+    "Url::path_is_root", "Url::path_query_fragment", "Url::port_or_default", "Url::text_len", "Url::to_bstring", "Url::unmet_condition", "Url::user",
     "Url::user_argument_safe", "Url::user_as_argument", "Url:fmt"}
 ONLY_RUST = {
     "ForUser::clone", "ForUser:Ord", "ForUser:into", "PathComponents::clone", "PathComponents:Eq",

@@ -43,6 +43,7 @@ uint32_t gix_url_c_read(const char *, size_t, made *, char *, size_t, told *);
 uint32_t gix_url_c_from_parts(const given *, made *, char *, size_t, told *);
 uint32_t gix_url_c_is_settled(const given *, bool *);
 uint32_t gix_url_c_agrees_with_git(const given *, bool *);
+uint32_t gix_url_c_unmet_condition(const given *, uint8_t *);
 uint32_t gix_url_c_write(const given *, char *, size_t, size_t *, told *);
 uint32_t gix_url_c_display(const given *, char *, size_t, size_t *, told *);
 uint32_t gix_url_c_look(const given *, seen *);
@@ -176,6 +177,23 @@ gix_url_error gix_url_agrees_with_git(const gix_url *url, bool *agrees) {
     if (!url || !agrees) return GIX_URL_NULL;
     given given = given_of(url);
     return (gix_url_error)gix_url_c_agrees_with_git(&given, agrees);
+}
+
+gix_url_error gix_url_unmet_condition(const gix_url *url, gix_url_condition *unmet) {
+    if (!url || !unmet) return GIX_URL_NULL;
+    uint8_t number = 0;
+    given given = given_of(url);
+    uint32_t error = gix_url_c_unmet_condition(&given, &number);
+    if (error == GIX_URL_OK) *unmet = (gix_url_condition)number;
+    return (gix_url_error)error;
+}
+
+gix_url_error gix_url_is_unambiguous(const gix_url *url, bool *unambiguous) {
+    if (!unambiguous) return GIX_URL_NULL;
+    gix_url_condition unmet = GIX_URL_CONDITION_GIT;
+    gix_url_error error = gix_url_unmet_condition(url, &unmet);
+    if (error == GIX_URL_OK) *unambiguous = unmet == GIX_URL_CONDITION_NONE;
+    return error;
 }
 
 gix_url_error gix_url_write(const gix_url *url, char *room, size_t room_len, size_t *len, gix_url_problem *problem) {
@@ -338,6 +356,24 @@ const char *gix_url_kind_name(gix_url_kind kind) {
     case GIX_URL_KIND_URL: return "Url";
     case GIX_URL_KIND_SCP: return "Scp";
     case GIX_URL_KIND_LOCAL: return "Local";
+    }
+    return "?";
+}
+
+const char *gix_url_condition_name(gix_url_condition condition) {
+    switch (condition) {
+    case GIX_URL_CONDITION_NONE: return "None";
+    case GIX_URL_CONDITION_GIT: return "Git";
+    case GIX_URL_CONDITION_ESCAPES: return "Escapes";
+    case GIX_URL_CONDITION_HOST: return "Host";
+    case GIX_URL_CONDITION_USER: return "User";
+    case GIX_URL_CONDITION_PASSWORD: return "Password";
+    case GIX_URL_CONDITION_PORT: return "Port";
+    case GIX_URL_CONDITION_PATH_BYTES: return "PathBytes";
+    case GIX_URL_CONDITION_PATH_START: return "PathStart";
+    case GIX_URL_CONDITION_DOT_SEGMENT: return "DotSegment";
+    case GIX_URL_CONDITION_SCP_HOST: return "ScpHost";
+    case GIX_URL_CONDITION_SCP_PATH: return "ScpPath";
     }
     return "?";
 }

@@ -5,6 +5,8 @@
 ('example.com', 22, b'~/repo x', False)
 >>> str(parse("https://u:secret@h/a?b=c"))
 'https://u:redacted@h/a?b=c'
+>>> parse("ssh://h:0/a").unmet_condition().name
+'PORT'
 >>> parse(b"http://h:0x/")
 Traceback (most recent call last):
 gix_url.Error: the URL has an invalid port
@@ -23,7 +25,7 @@ import enum
 import os
 import typing
 
-__all__ = ["Argument", "Components", "Error", "Scheme", "Seen", "Url", "from_parts", "parse"]
+__all__ = ["Argument", "Components", "Condition", "Error", "Scheme", "Seen", "Url", "from_parts", "parse"]
 
 _library = ctypes.CDLL(os.environ.get("GIX_URL_LIBRARY", "libgix_url.so.1"))
 _MEMORY, _NO_ROOM = 1, 102
@@ -56,6 +58,13 @@ class Argument(enum.IntEnum):
     """What a part is to a command line: DANGEROUS begins with -, and may be taken for an option."""
 
     ABSENT, USABLE, DANGEROUS = range(3)
+
+
+class Condition(enum.IntEnum):
+    """A condition under which all readers find the same parts in a location's text, in the order in which they are tested:
+    docs/READERS.md and man 3 gix_url say what each asks for."""
+
+    GIT, ESCAPES, HOST, USER, PASSWORD, PORT, PATH_BYTES, PATH_START, DOT_SEGMENT, SCP_HOST, SCP_PATH = range(1, 12)
 
 
 class Error(ValueError):
@@ -115,6 +124,16 @@ class Url:
     def agrees_with_git(self) -> bool:
         """Whether Git reads this very place in the location's text."""
         return self._truth(_library.gix_url_agrees_with_git)
+
+    def is_unambiguous(self) -> bool:
+        """Whether all readers find the same parts in the location's text, Git among them."""
+        return self._truth(_library.gix_url_is_unambiguous)
+
+    def unmet_condition(self) -> typing.Optional[Condition]:
+        """The first condition that keeps the location's text from being unambiguous; None where it is."""
+        unmet = _int()
+        _check(_library.gix_url_unmet_condition(_ref(self._lent()), _ref(unmet)))
+        return Condition(unmet.value) if unmet.value else None
 
     def __bytes__(self) -> bytes:
         """The location's text. Raises Error where it has none."""

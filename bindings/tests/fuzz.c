@@ -137,9 +137,11 @@ static void is_no_location(const gix_url *url) {
     gix_url_problem problem;
     gix_url_seen seen;
     gix_url_components parts;
+    gix_url_condition unmet;
     bool is;
     size_t len;
     HOLDS(gix_url_agrees_with_git(url, &is) == GIX_URL_NO_LOCATION && gix_url_look(url, &seen) == GIX_URL_NO_LOCATION);
+    HOLDS(gix_url_is_unambiguous(url, &is) == GIX_URL_NO_LOCATION && gix_url_unmet_condition(url, &unmet) == GIX_URL_NO_LOCATION);
     HOLDS(gix_url_write(url, NULL, 9, &len, &problem) == GIX_URL_NO_LOCATION && has_no_problem(&problem));
     HOLDS(gix_url_display(url, NULL, 9, &len, &problem) == GIX_URL_NO_LOCATION && has_no_problem(&problem));
     HOLDS(gix_url_from_parts(url, NULL, 9, &made, &len, &problem) == GIX_URL_NO_LOCATION && has_no_problem(&problem));
@@ -162,6 +164,15 @@ static void is_seen(const gix_url *url) {
     HOLDS(seen.original_path.at || seen.original_path.len == 0);
 }
 
+/* A location whose text nobody misreads agrees with Git, and the condition that isn't met has a name. */
+static void is_met(const gix_url *url, bool agrees) {
+    bool unambiguous;
+    gix_url_condition unmet;
+    HOLDS(gix_url_is_unambiguous(url, &unambiguous) == GIX_URL_OK && gix_url_unmet_condition(url, &unmet) == GIX_URL_OK);
+    HOLDS(unambiguous == (unmet == GIX_URL_CONDITION_NONE) && agrees == (unmet != GIX_URL_CONDITION_GIT));
+    HOLDS(strcmp(gix_url_condition_name(unmet), "?") != 0);
+}
+
 /* All that is asked of a location. */
 static void is_answered(const gix_url *url) {
     bool settled, agrees;
@@ -174,6 +185,7 @@ static void is_answered(const gix_url *url) {
         return;
     }
     HOLDS(gix_url_agrees_with_git(url, &agrees) == GIX_URL_OK && (settled || !agrees));
+    is_met(url, agrees);
     is_seen(url);
     char *text = put_of(gix_url_write, url, &len);
     char *shown = put_of(gix_url_display, url, &shown_len);

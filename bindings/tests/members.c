@@ -34,10 +34,10 @@ static void members(line *out, const gix_url *url) {
     gix_url_error error;
     gix_url_problem problem;
     gix_url_text text;
-    bool settled, agrees;
+    bool settled, agrees, unambiguous;
     line parts = {0};
     HOLDS(gix_url_look(url, &seen) == GIX_URL_OK && gix_url_is_settled(url, &settled) == GIX_URL_OK);
-    HOLDS(gix_url_agrees_with_git(url, &agrees) == GIX_URL_OK);
+    HOLDS(gix_url_agrees_with_git(url, &agrees) == GIX_URL_OK && gix_url_is_unambiguous(url, &unambiguous) == GIX_URL_OK);
     put_word(out, "read");
     put_member(out, gix_url_scheme_text(url));
     put_member(out, url->user);
@@ -52,6 +52,7 @@ static void members(line *out, const gix_url *url) {
     put_word(out, seen.path_is_usable ? " usable" : " withheld");
     put_word(out, settled ? " settled" : " unsettled");
     put_word(out, agrees ? " alike" : " unsure");
+    put_word(out, unambiguous ? " unambiguous" : " doubtful");
     char *room = text_of_location(gix_url_display, url, &text.len, &error, &problem);
     text.at = room;
     put_member(out, text);

@@ -15,6 +15,7 @@ typedef struct places {
     gix_url_components parts;
     gix_url_pair pairs[2];
     bool is;
+    gix_url_condition unmet;
     size_t len, count;
     gix_url_problem problem;
     char room[64];
@@ -47,6 +48,16 @@ static gix_url_error agree(const gix_url *url, places *to, size_t room, int null
     return gix_url_agrees_with_git(OR_NULL(SUBJECT, url), OR_NULL(ANSWER, &to->is));
 }
 
+static gix_url_error judge(const gix_url *url, places *to, size_t room, int null) {
+    (void)room;
+    return gix_url_is_unambiguous(OR_NULL(SUBJECT, url), OR_NULL(ANSWER, &to->is));
+}
+
+static gix_url_error meet(const gix_url *url, places *to, size_t room, int null) {
+    (void)room;
+    return gix_url_unmet_condition(OR_NULL(SUBJECT, url), OR_NULL(ANSWER, &to->unmet));
+}
+
 static gix_url_error write(const gix_url *url, places *to, size_t room, int null) {
     return gix_url_write(OR_NULL(SUBJECT, url), OR_NULL(ROOM, to->room), room, OR_NULL(LENGTH, &to->len),
                          OR_NULL(PROBLEM, &to->problem));
@@ -68,7 +79,7 @@ static gix_url_error part(const gix_url *url, places *to, size_t room, int null)
 }
 
 /* Each call with the pointers that it takes, and those of them that may not be null. */
-enum { OF_READ, OF_MAKE, OF_SETTLED, OF_AGREES, OF_WRITE, OF_SHOW, OF_LOOK, OF_PARTS, CALLS };
+enum { OF_READ, OF_MAKE, OF_SETTLED, OF_AGREES, OF_JUDGED, OF_MET, OF_WRITE, OF_SHOW, OF_LOOK, OF_PARTS, CALLS };
 static const struct {
     caller *call;
     int takes, wants;
@@ -77,6 +88,8 @@ static const struct {
     [OF_MAKE] = {make, SUBJECT | ROOM | ANSWER | LENGTH | PROBLEM, SUBJECT | ANSWER},
     [OF_SETTLED] = {settle, SUBJECT | ANSWER, SUBJECT | ANSWER},
     [OF_AGREES] = {agree, SUBJECT | ANSWER, SUBJECT | ANSWER},
+    [OF_JUDGED] = {judge, SUBJECT | ANSWER, SUBJECT | ANSWER},
+    [OF_MET] = {meet, SUBJECT | ANSWER, SUBJECT | ANSWER},
     [OF_WRITE] = {write, SUBJECT | ROOM | LENGTH | PROBLEM, SUBJECT | LENGTH},
     [OF_SHOW] = {show, SUBJECT | ROOM | LENGTH | PROBLEM, SUBJECT | LENGTH},
     [OF_LOOK] = {look, SUBJECT | ANSWER, SUBJECT | ANSWER},
@@ -116,6 +129,7 @@ static void take_over(const answer *answer, const places *got, places *to) {
     memcpy(&to->seen, &got->seen, sizeof to->seen);
     memcpy(&to->parts, &got->parts, sizeof to->parts);
     memcpy(&to->is, &got->is, sizeof to->is);
+    memcpy(&to->unmet, &got->unmet, sizeof to->unmet);
 }
 
 static void answers_so(int call, const gix_url *url, answer wanted, size_t room, int null) {
@@ -201,6 +215,8 @@ static void of_tables(void) {
         answers(OF_PARTS, url, locations[i].parted);
         answers(OF_SETTLED, url, looked);
         answers(OF_AGREES, url, looked);
+        answers(OF_JUDGED, url, looked);
+        answers(OF_MET, url, looked);
         answers(OF_LOOK, url, looked);
     }
 }
@@ -303,6 +319,7 @@ static void of_nothing(void) {
     gix_url url = {.name = no, .user = no, .password = no, .host = no, .path = no, .spelling = no}, read;
     gix_url_seen seen;
     gix_url_components parts;
+    gix_url_condition unmet = GIX_URL_CONDITION_NONE;
     bool is = true;
     size_t len = 77, pairs;
     char room[64];
@@ -318,6 +335,9 @@ static void of_nothing(void) {
     HOLDS(gix_url_is_settled(&url, &is) == GIX_URL_OK && !is);
     is = true;
     HOLDS(gix_url_agrees_with_git(&url, &is) == GIX_URL_OK && !is);
+    is = true;
+    HOLDS(gix_url_is_unambiguous(&url, &is) == GIX_URL_OK && !is);
+    HOLDS(gix_url_unmet_condition(&url, &unmet) == GIX_URL_OK && unmet == GIX_URL_CONDITION_GIT);
 }
 
 /* A spelling counts where it stands for the path, and one that is null doesn't. */
@@ -341,6 +361,7 @@ static void of_spellings(void) {
 static void of_names(void) {
     HOLDS(strcmp(gix_url_error_name(GIX_URL_NO_LOCATION), "NoLocation") == 0 && strcmp(gix_url_error_name((gix_url_error)55), "?") == 0);
     HOLDS(strcmp(gix_url_fault_name((gix_url_fault)9), "?") == 0 && strcmp(gix_url_kind_name((gix_url_kind)9), "?") == 0);
+    HOLDS(strcmp(gix_url_condition_name((gix_url_condition)12), "?") == 0);
     HOLDS(!gix_url_scheme_text(NULL).at);
     HOLDS(strcmp(gix_url_version(), "0.40.1") == 0 && strcmp(gix_url_version(), GIX_URL_VERSION) == 0);
 }

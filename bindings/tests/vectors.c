@@ -273,14 +273,24 @@ static bool tell_part(line *out, gix_url_text call, const gix_url *url) {
     return true;
 }
 
-/* Prints what a call over a location returns; what isn't settled is not for Git. */
+/* Prints the first condition that a location doesn't meet, if there is one. */
+static void tell_condition(line *out, gix_url_condition unmet) {
+    const char *name = gix_url_condition_name(unmet);
+    put_quoted(out, unmet ? (gix_url_text){name, strlen(name)} : none);
+}
+
+/* Prints what a call over a location returns; what isn't settled is not for Git, and what isn't for Git is ambiguous. */
 static void tell_call(line *out, gix_url_text call, const gix_url *url) {
-    bool settled, agrees;
+    bool settled, agrees, unambiguous;
+    gix_url_condition unmet;
     HOLDS(gix_url_is_settled(url, &settled) == GIX_URL_OK);
     HOLDS(gix_url_agrees_with_git(url, &agrees) == GIX_URL_OK);
-    HOLDS(settled || !agrees);
+    HOLDS(gix_url_is_unambiguous(url, &unambiguous) == GIX_URL_OK && gix_url_unmet_condition(url, &unmet) == GIX_URL_OK);
+    HOLDS((settled || !agrees) && (agrees || !unambiguous) && unambiguous == !unmet);
     if (is_word(call, "Url::is_settled")) put_truth(out, settled);
     else if (is_word(call, "Url::agrees_with_git")) put_truth(out, agrees);
+    else if (is_word(call, "Url::is_unambiguous")) put_truth(out, unambiguous);
+    else if (is_word(call, "Url::unmet_condition")) tell_condition(out, unmet);
     else if (is_word(call, "Url::to_bstring")) to_bstring(out, url);
     else if (is_word(call, "Url::text_len")) text_len(out, url);
     else if (is_word(call, "Url:fmt")) fmt(out, url);

@@ -80,6 +80,13 @@ def shown(url):
         return {"shown": "", "failed": True}
 
 
+def unmet_condition(url):
+    """The first condition that isn't met, by its name here, which is that of the library with `_` between words."""
+    unmet = url.unmet_condition()
+    assert (unmet is None) == url.is_unambiguous()
+    return None if unmet is None else unmet.name.title().replace("_", "")
+
+
 # What each call over a location returns.
 CALLS = {
     "Url::agrees_with_git": lambda url: url.agrees_with_git(),
@@ -87,6 +94,7 @@ CALLS = {
     "Url::host_argument_safe": lambda url: usable(url.look().host, url.host),
     "Url::host_as_argument": lambda url: judged(url.look().host, url.host),
     "Url::is_settled": lambda url: url.is_settled(),
+    "Url::is_unambiguous": lambda url: url.is_unambiguous(),
     "Url::original_path": lambda url: told(url.look().original_path),
     "Url::password": lambda url: told(url.password),
     "Url::path_argument_safe": lambda url: told(url.path) if url.look().path_is_usable else None,
@@ -95,6 +103,7 @@ CALLS = {
     "Url::port_or_default": lambda url: url.look().port,
     "Url::to_bstring": lambda url: told(bytes(url)),
     "Url::text_len": lambda url: len(bytes(url)),
+    "Url::unmet_condition": unmet_condition,
     "Url::user": lambda url: told(url.user),
     "Url::user_argument_safe": lambda url: usable(url.look().user, url.user),
     "Url::user_as_argument": lambda url: judged(url.look().user, url.user),

@@ -6,10 +6,10 @@
  * A location is a plain struct of parts, and each part is a pointer and a length in bytes. Parts may hold any bytes,
  * byte 0 among them, and don't end in one. Nothing here has to be freed: what a call returns goes into the room, a
  * buffer that the caller supplies, and a call allocates memory only for its own work. gix_url_is_settled,
- * gix_url_agrees_with_git, gix_url_write, gix_url_look and gix_url_scheme_text allocate none, and never return
- * GIX_URL_MEMORY; nor does gix_url_parse for an input of at most 256 bytes. A location that was read points into the
- * room, so the room has to stay as long as the location is used. No call keeps a pointer past its return. Calls may run
- * in several threads, as long as no room is shared.
+ * gix_url_agrees_with_git, gix_url_is_unambiguous, gix_url_unmet_condition, gix_url_write, gix_url_look and
+ * gix_url_scheme_text allocate none, and never return GIX_URL_MEMORY; nor does gix_url_parse for an input of at most 256
+ * bytes. A location that was read points into the room, so the room has to stay as long as the location is used. No call
+ * keeps a pointer past its return. Calls may run in several threads, as long as no room is shared.
  *
  * Any pointer may be null: a null part is a part that isn't there, a null input or path is empty, null room has no bytes
  * and null pairs no places, whatever the length beside them; where needed, needed_pairs or problem is null, it is not
@@ -23,8 +23,9 @@
  *   any other error  the problem, which for GIX_URL_NULL is all 0, and nothing else
  *
  * So a problem is set by each call that is given one, whatever it returns. All else keeps each byte that it held: the
- * room, pairs, url, settled, agrees, len, seen, components, needed and needed_pairs. So a call that fails leaves no
- * part of a location in the room, and no password. On GIX_URL_OK the bytes of the room behind the answer are kept. */
+ * room, pairs, url, settled, agrees, unambiguous, unmet, len, seen, components, needed and needed_pairs. So a call that
+ * fails leaves no part of a location in the room, and no password. On GIX_URL_OK the bytes of the room behind the answer
+ * are kept. */
 #ifndef GIX_URL_H
 #define GIX_URL_H
 
@@ -213,6 +214,36 @@ gix_url_error gix_url_is_settled(const gix_url *url, bool *settled);
  * brackets around an address don't count: of git://[::1]/p the host here is [::1], and Git connects to ::1. */
 gix_url_error gix_url_agrees_with_git(const gix_url *url, bool *agrees);
 
+/* A condition under which all readers find the same parts in the text of a location. The conditions are in the order in
+ * which they are tested; docs/READERS.md has what readers that people use made of texts that don't meet one. */
+typedef enum gix_url_condition {
+    GIX_URL_CONDITION_NONE = 0,        /* the location meets each condition */
+    GIX_URL_CONDITION_GIT = 1,         /* it is settled, and Git reads the same place: gix_url_agrees_with_git */
+    GIX_URL_CONDITION_ESCAPES = 2,     /* the path is written without escapes */
+    GIX_URL_CONDITION_HOST = 3,        /* the host is an IPv4 address, or a plain name in lower case */
+    GIX_URL_CONDITION_USER = 4,        /* the user is of letters, digits and ._~-, and doesn't begin with - */
+    GIX_URL_CONDITION_PASSWORD = 5,    /* the password is of letters, digits and ._~- */
+    GIX_URL_CONDITION_PORT = 6,        /* the port isn't 0 */
+    GIX_URL_CONDITION_PATH_BYTES = 7,  /* the path is of letters, digits and a few marks; a local path is any text
+                                          without control characters, colons and backslashes */
+    GIX_URL_CONDITION_PATH_START = 8,  /* the path doesn't begin with two slashes, nor as a home folder, an option, a drive
+                                          or a port may, by its form */
+    GIX_URL_CONDITION_DOT_SEGMENT = 9, /* a path that isn't local has no segment . or .. */
+    GIX_URL_CONDITION_SCP_HOST = 10,   /* a host of the scp form has two bytes or more, and isn't the name of a scheme
+                                          unless there is a user */
+    GIX_URL_CONDITION_SCP_PATH = 11    /* a path of the scp form has a slash between two bytes */
+} gix_url_condition;
+
+/* Whether every reader finds the same parts in the text that gix_url_write puts. Where the answer is yes, Git agrees as
+ * well, and every reader of a family, which the library's law_unambiguous defines, finds the location's own scheme, user,
+ * password, host, port and path in its text: whichever @ or colon it cuts at, whether ?, #, ; or a backslash end its
+ * authority, and whatever it decodes. It is false for many texts that most readers read alike. */
+gix_url_error gix_url_is_unambiguous(const gix_url *url, bool *unambiguous);
+
+/* The first condition that the location doesn't meet, of those by which gix_url_is_unambiguous answers:
+ * GIX_URL_CONDITION_NONE exactly where that answer is yes. */
+gix_url_error gix_url_unmet_condition(const gix_url *url, gix_url_condition *unmet);
+
 /* Puts the text of the location into the room, and stores its length, on GIX_URL_NO_ROOM too: SIZE_MAX where that is
  * not a size_t. No byte 0 is added. GIX_URL_UNWRITABLE says that there is none, and problem, which may be null, why. */
 gix_url_error gix_url_write(const gix_url *url, char *room, size_t room_len, size_t *len, gix_url_problem *problem);
@@ -269,12 +300,13 @@ gix_url_error gix_url_path_query_fragment(const gix_url *url, char *room, size_t
  * Of GIX_URL_TOO_LONG the library's own words end in ", in a text of N bytes", where N is total of the problem. */
 const char *gix_url_error_words(gix_url_error error, const gix_url_problem *problem);
 
-/* The name of an error, a fault or a form, as EmptyLocal, BadPort or Scp; a number that stands for none is named "?". The
- * names end in a byte 0 and are never freed. */
+/* The name of an error, a fault, a form or a condition, as EmptyLocal, BadPort, Scp or PathBytes; a number that stands for
+ * none is named "?". The names end in a byte 0 and are never freed. */
 const char *gix_url_error_name(gix_url_error error);
 const char *gix_url_fault_name(gix_url_fault fault);
 const char *gix_url_write_fault_name(gix_url_write_fault fault);
 const char *gix_url_kind_name(gix_url_kind kind);
+const char *gix_url_condition_name(gix_url_condition condition);
 
 /* Puts the name of a reason into the room, as PortZero, or the reason in one sentence, as "the port of HTTP must not be
  * 0", which holds no byte of a text; neither has more than 128 bytes. No byte 0 is added. needed is the length, on

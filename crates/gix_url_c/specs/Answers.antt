@@ -1,9 +1,11 @@
 -- What the calls answer: which answer of the library was reported, and how.
-use Rattle.std.specs.Prelude.{◌≡◌, ℕ, ◌-◌, ◌^◌, min, Bool, IsTrue, ◌↔◌, List, length, Option, Some, None, Result, Ok, Err}
+use Rattle.std.specs.Prelude.{◌≡◌, ℕ, ◌-◌, ◌^◌, min, Bool, IsTrue, ◌↔◌, ◌⊎◌, List, length, Option, Some, None, Result, Ok, Err}
 use Rattle.gix_url.specs.declared.error.Error.{Error}
 use Rattle.git_location.specs.declared.parse_error.ParseError.{ParseError}
 use Rattle.git_location.specs.declared.parse_error.ParseError.TheVariants as unread
 use Rattle.git_location.specs.declared.write_error.WriteFault.{WriteFault}
+use Rattle.git_readers.specs.declared.unambiguous.Condition.{Condition}
+use Rattle.git_readers.specs.Conditions.{IsFirstUnmet, IsUnambiguous}
 use Rattle.gix_url.specs.Location.{Location}
 use Rattle.gix_url.specs.Readings.{ReadsIn}
 use Rattle.gix_url.specs.FromParts.{MadeOf}
@@ -13,7 +15,7 @@ use Rattle.gix_url.specs.Text.{text}
 use Rattle.gix_url.specs.Display.{display}
 use Rattle.gix_url_c.specs.declared.codes.Problem.{Problem}
 use Rattle.gix_url_c.specs.declared.handed.Made.{Made}
-use Rattle.gix_url_c.specs.Codes.{ok, unwritable, error_code, Tells, refusal_code, problem_of_refusal, no_problem, write_problem}
+use Rattle.gix_url_c.specs.Codes.{ok, unwritable, condition_number, error_code, Tells, refusal_code, problem_of_refusal, no_problem, write_problem}
 use Rattle.gix_url_c.specs.Handed.{Returns, Puts}
 
 -- an answer is reported: a location returned, or an error by its number and what is told of it
@@ -44,6 +46,12 @@ ReportsSettled v settled code = (code ≡ ok) × (IsTrue settled ↔ IsSettled v
 -- whether the location is of the class in whose texts Git reads the same place is reported
 abbrev pub ReportsAgreement : Location → Bool → ℕ → Type 0
 ReportsAgreement v agrees code = (code ≡ ok) × (IsTrue agrees ↔ AgreesWithGit v)
+
+-- the first condition that the location doesn't meet is reported by its number, or 0 where it meets all, so that
+-- every reader finds the same parts in its text
+abbrev pub ReportsCondition : Location → ℕ → ℕ → Type 0
+ReportsCondition v number code = (code ≡ ok)
+    × (((number ≡ 0) × IsUnambiguous v) ⊎ ((unmet : Condition) × (number ≡ condition_number unmet) × IsFirstUnmet unmet v))
 
 -- a fault of writing is reported
 abbrev pub ReportsFault : WriteFault → Problem → ℕ → Type 0

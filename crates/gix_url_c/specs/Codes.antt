@@ -1,5 +1,5 @@
 -- The numbers by which C gets what a call returns.
-use Rattle.std.specs.Prelude.{◌≡◌, ℕ, ◌⊎◌, Bool, not, nat_lt, ◌&&◌, List, length}
+use Rattle.std.specs.Prelude.{◌≡◌, ℕ, ◌+◌, ◌⊎◌, Bool, not, nat_lt, ◌&&◌, List, length, Option, Some, None}
 use Rattle.bstr.specs.Owned.{bstring_bytes}
 use Rattle.git_syntax.specs.declared.refusal.UrlKind.{UrlKind}
 use Rattle.git_syntax.specs.declared.refusal.UrlKind.TheVariants as kind
@@ -15,6 +15,8 @@ use Rattle.git_refusals.specs.Fronts.{shown_front}
 use Rattle.git_refusals.specs.Reasons.{Refused}
 use Rattle.git_location.specs.declared.write_error.WriteFault.{WriteFault}
 use Rattle.git_location.specs.declared.write_error.WriteFault.TheVariants as unwritten
+use Rattle.git_readers.specs.declared.unambiguous.Condition.{Condition}
+use Rattle.git_readers.specs.Conditions.{place}
 use Rattle.gix_url.specs.declared.error.Error.{Error}
 use Rattle.gix_url.specs.declared.error.Error.TheVariants as error
 use Rattle.gix_url.specs.Flaws.{IsErrorOf, IsNotOfReading}
@@ -108,6 +110,15 @@ reason_number reason.ScpPathMissing = 28
 -- a reason has this number
 abbrev pub IsReason : ℕ → Type 0
 IsReason n = (r : Reason) × (reason_number r ≡ n)
+
+-- the number of a condition: its place in the order in which the conditions are tested, from 1
+abbrev pub condition_number : Condition → ℕ
+condition_number condition = place condition + 1
+
+-- the number of the first condition that a location doesn't meet, or 0 where it meets all
+abbrev pub condition_reported : Option Condition → ℕ
+condition_reported None = 0
+condition_reported (Some condition) = condition_number condition
 
 -- the number of a refusal: that of the error which it becomes where the text is copied
 abbrev pub kind_code : RefusalKind → ℕ

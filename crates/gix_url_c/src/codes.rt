@@ -7,10 +7,11 @@ ghost use Rattle.std.specs.Prelude.{◌≡◌};
 ghost use Rattle.git_refusals.specs.Kinds.{kind_of};
 ghost use Rattle.git_refusals.specs.Reasons.{Refused};
 ghost use Rattle.gix_url.specs.Flaws.{IsNotOfReading};
-ghost use Rattle.gix_url_c.specs.Codes.{Tells, error_code, error_shown, error_total, fault_number, fault_told, kind_number, kind_told, no_problem, problem_of_other, problem_of_refusal, reason_number, refusal_code, refusal_problem, write_fault_number, write_problem};
+ghost use Rattle.gix_url_c.specs.Codes.{Tells, condition_number, condition_reported, error_code, error_shown, error_total, fault_number, fault_told, kind_number, kind_told, no_problem, problem_of_other, problem_of_refusal, reason_number, refusal_code, refusal_problem, write_fault_number, write_problem};
 
 use git_refusals::front::shown_front;
 use gix_url::parse::UrlKind;
+use gix_url::unambiguous::Condition;
 use gix_url::{Error, Reason, Refusal, RefusalKind, UrlFault, WriteFault};
 
 /// The call was answered.
@@ -223,6 +224,35 @@ pub(crate) fn reason_number(reason: Reason) -> u8
         Reason::PathMissing => 26,
         Reason::FilePathMissing => 27,
         Reason::ScpPathMissing => 28,
+    }
+}
+
+/// The number of the first condition that a location doesn't meet, or 0 where it meets all.
+pub(crate) fn condition_reported(unmet: Option<Condition>) -> u8
+    ensures { result ≡ condition_reported unmet }
+{
+    match unmet {
+        None => 0,
+        Some(condition) => condition_number(condition),
+    }
+}
+
+/// The number of a condition.
+fn condition_number(condition: Condition) -> u8
+    ensures { result ≡ condition_number condition }
+{
+    match condition {
+        Condition::Git => 1,
+        Condition::Escapes => 2,
+        Condition::Host => 3,
+        Condition::User => 4,
+        Condition::Password => 5,
+        Condition::Port => 6,
+        Condition::PathBytes => 7,
+        Condition::PathStart => 8,
+        Condition::DotSegment => 9,
+        Condition::ScpHost => 10,
+        Condition::ScpPath => 11,
     }
 }
 

@@ -1,5 +1,5 @@
 //! The exports that look at the text of a location: whether it is settled, whether Git reads the same in it,
-//! the text, and what is shown of it.
+//! why other readers may not, the text, and what is shown of it.
 //!
 //! They use `given` and `room`. Their contracts: what is reported is what the library's call returns. With an
 //! error the room and the answer are as they were, and the length is, except with 102; the problem is the
@@ -7,15 +7,19 @@
 
 ghost use Rattle.std.specs.Prelude.{◌≡◌, if◌then◌else◌, nat_lt};
 ghost use Rattle.gix_url.specs.Text.{text};
-ghost use Rattle.gix_url_c.specs.Answers.{ReportsAgreement, ReportsDisplay, ReportsSettled, ReportsText, reported_length};
+ghost use Rattle.gix_url_c.specs.Answers.{ReportsAgreement, ReportsCondition, ReportsDisplay, ReportsSettled, ReportsText, reported_length};
 ghost use Rattle.gix_url_c.specs.Codes.{UnlessMemory, UnlessNone, memory, no_problem, no_room, ok};
 ghost use Rattle.gix_url_c.specs.Given.{IsNone, location_of};
 ghost use Rattle.gix_url_c.specs.Left.{LeavesLengths, LeavesProblem, LeavesRoom};
 
-use crate::codes::{MEMORY, NO_LOCATION, NO_ROOM, OK, Problem, UNWRITABLE, no_problem, unwritable};
+use crate::codes::{
+    MEMORY, NO_LOCATION, NO_ROOM, OK, Problem, UNWRITABLE, condition_reported, no_problem,
+    unwritable,
+};
 use crate::given::{Given, location_of};
 use crate::room::put_text;
 use gix_url::UrlRef;
+use gix_url::unambiguous::unmet_condition;
 use std::alloc::Global;
 
 /// Tells whether the location is settled: [`gix_url::UrlRef::is_settled`].
@@ -50,6 +54,27 @@ pub extern "C" fn gix_url_c_agrees_with_git(given: &Given<'_>, agrees: &mut bool
     match location_of(given) {
         Some(url) => {
             *agrees = url.agrees_with_git();
+            OK
+        }
+        None => NO_LOCATION,
+    }
+}
+
+/// Reports the first condition that the location doesn't meet, of those under which every reader finds the
+/// same parts in its text: [`gix_url::unambiguous::unmet_condition`]. The number is 1 to 11, in the order of
+/// [`gix_url::unambiguous::Condition`], and 0 where it meets all.
+///
+/// It answers 0, or 101 where the parts are none of a location. It takes no memory.
+#[unsafe(no_mangle)]
+pub extern "C" fn gix_url_c_unmet_condition(given: &Given<'_>, unmet: &mut u8) -> u32
+    ensures reported { UnlessNone result (IsNone given.now)
+        (ReportsCondition (location_of given.now) unmet.new result) }
+    ensures left { LeavesRoom result unmet.old unmet.new }
+    ensures no_memory { ¬ (result ≡ memory) }
+{
+    match location_of(given) {
+        Some(url) => {
+            *unmet = condition_reported(unmet_condition(&url));
             OK
         }
         None => NO_LOCATION,

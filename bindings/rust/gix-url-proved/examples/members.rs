@@ -61,6 +61,7 @@ fn members(url: &Url) -> String {
         url.path_argument_safe().map_or("withheld", |_| "usable").to_string(),
         if url.is_settled() { "settled" } else { "unsettled" }.to_string(),
         if url.agrees_with_git() { "alike" } else { "unsure" }.to_string(),
+        if url.is_unambiguous() { "unambiguous" } else { "doubtful" }.to_string(),
         shown.map_or("-".to_string(), |text| bytes(text.as_bytes())),
         bytes(&components(url.path_query_fragment())),
     ];

@@ -315,6 +315,8 @@ fn look(order: &Order, call: &str, url: &Url) -> Option<String> {
         }
         "Url::reread" => told_answer(url.reread()),
         "Url::agrees_with_git" => url.agrees_with_git().to_string(),
+        "Url::is_unambiguous" => url.is_unambiguous().to_string(),
+        "Url::unmet_condition" => or_null(url.unmet_condition().map(|unmet| quoted(format!("{unmet:?}")))),
         "Url::path_query_fragment" => told_components(&url.path_query_fragment()),
         "PathComponents::clone" => told_components(&url.path_query_fragment().clone()),
         "PathComponents:Eq" => (url.path_query_fragment() == order.url("other")?.path_query_fragment()).to_string(),

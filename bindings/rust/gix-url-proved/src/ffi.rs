@@ -9,6 +9,7 @@
 use crate::bstr::BString;
 use crate::lent::lent;
 use crate::parse::{Error, UrlFault, UrlKind, WriteFault};
+use crate::unambiguous::Condition;
 use crate::{ArgumentSafety, PathComponents, Reason, Refusal, Scheme, Url};
 use std::marker::PhantomData;
 use std::mem::MaybeUninit;
@@ -114,6 +115,7 @@ unsafe extern "C" {
     fn gix_url_c_from_parts(given: &Given, made: &mut Made, room: *mut u8, room_len: usize, told: &mut Problem) -> u32;
     fn gix_url_c_is_settled(given: &Given, settled: &mut bool) -> u32;
     fn gix_url_c_agrees_with_git(given: &Given, agrees: &mut bool) -> u32;
+    fn gix_url_c_unmet_condition(given: &Given, unmet: &mut u8) -> u32;
     fn gix_url_c_write(given: &Given, room: *mut u8, room_len: usize, len: &mut usize, told: &mut Problem) -> u32;
     fn gix_url_c_components(given: &Given, told: &mut Parted, room: *mut u8, room_len: usize, lengths: *mut usize, lengths_len: usize) -> u32;
     fn gix_url_c_argument(is_there: bool, text: *const u8, len: usize) -> u32;
@@ -446,6 +448,15 @@ pub(crate) fn is_settled(url: &Url) -> bool {
 pub(crate) fn agrees_with_git(url: &Url) -> bool {
     let mut agrees = false;
     is_answered(call!(gix_url_c_agrees_with_git, &Given::of(url), &mut agrees)) && agrees
+}
+
+/// The first condition that the location doesn't meet, of those under which every reader finds the same parts in its text.
+pub(crate) fn unmet_condition(url: &Url) -> Option<Condition> {
+    let mut unmet = 0;
+    if !is_answered(call!(gix_url_c_unmet_condition, &Given::of(url), &mut unmet)) {
+        return Some(Condition::Git);
+    }
+    (unmet != 0).then(|| Condition::numbered(unmet))
 }
 
 /// Whether a call succeeded. Its only error is that its argument isn't a location, and every value here is one.

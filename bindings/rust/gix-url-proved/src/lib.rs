@@ -40,6 +40,7 @@ mod scheme;
 #[cfg(feature = "serde")]
 mod stored;
 pub mod testing;
+pub mod unambiguous;
 mod url;
 
 pub use expand_path::expand_path;

@@ -2,6 +2,7 @@
 
 use crate::bstr::{BStr, BString};
 use crate::parse::{parse, Error, WriteFault};
+use crate::unambiguous::Condition;
 use crate::{disk, ffi, Scheme};
 use std::borrow::Cow;
 use std::ffi::OsStr;
@@ -285,6 +286,44 @@ impl Url {
     /// ```
     pub fn agrees_with_git(&self) -> bool {
         ffi::agrees_with_git(self)
+    }
+
+    /// Whether every reader finds the same parts in the text of the location.
+    ///
+    /// Where the answer is yes, Git agrees as well, and every reader of a family, which the library's `law_unambiguous`
+    /// defines, finds the location's own scheme, user, password, host, port and path in its text: whichever `@` or `:`
+    /// it cuts at, whether `?`, `#`, `;` or `\` end its authority, and whatever it decodes. Give others the text that
+    /// [`Url::to_bstring`] writes. It is false for many texts that most readers read alike. `docs/READERS.md` of the
+    /// repository has the conditions, and what readers that people use made of texts that don't meet them.
+    ///
+    /// ```
+    /// use gix_url_proved::{parse, Url};
+    ///
+    /// /// Whether what connects to a remote finds the host that was checked.
+    /// fn may_pass_on(url: &Url) -> bool {
+    ///     url.is_unambiguous()
+    /// }
+    ///
+    /// assert!(may_pass_on(&parse("git@github.com:a/b.git")?));
+    /// assert!(!may_pass_on(&parse("ssh://::1:22/p")?)); // some read the port 22
+    /// # Ok::<(), parse::Error>(())
+    /// ```
+    pub fn is_unambiguous(&self) -> bool {
+        self.unmet_condition().is_none()
+    }
+
+    /// The first condition that the location doesn't meet of those by which [`Url::is_unambiguous`] accepts one, in the
+    /// order of [`Condition`], or none where that answer is yes.
+    ///
+    /// ```
+    /// use gix_url_proved::{parse, unambiguous::Condition};
+    ///
+    /// assert_eq!(parse("https://a_b/p")?.unmet_condition(), Some(Condition::Host)); // readers may find another host
+    /// assert_eq!(parse("https://a.b/p")?.unmet_condition(), None);
+    /// # Ok::<(), parse::Error>(())
+    /// ```
+    pub fn unmet_condition(&self) -> Option<Condition> {
+        ffi::unmet_condition(self)
     }
 
     /// Writes the text of the location.

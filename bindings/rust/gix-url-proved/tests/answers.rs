@@ -2,6 +2,7 @@
 //! `locations`: `scripts/bindings` writes those of the remotes. What errors keep, the order, and a spelling that lapses.
 
 use gix_url_proved::parse::{parse, Error, UrlKind};
+use gix_url_proved::unambiguous::Condition;
 use gix_url_proved::Url;
 use std::fs;
 
@@ -52,6 +53,7 @@ fn answer(line: &[u8]) -> Vec<u8> {
     };
     comes_back(&url);
     assert!(url.is_settled() || !url.agrees_with_git());
+    assert_eq!(url.agrees_with_git(), url.unmet_condition() != Some(Condition::Git));
     match url.text() {
         Ok(text) if url.is_settled() => [b"settled\t", text.as_slice()].concat(),
         Ok(_) => format!("unsettled\t{}", url.scheme).into_bytes(),

@@ -42,7 +42,7 @@ fn ask(url: &Url) {
     black_box((url.user(), url.password(), url.host(), url.port_or_default(), url.path_is_root()));
     black_box((url.user_as_argument(), url.host_as_argument(), url.user_argument_safe(), url.host_argument_safe()));
     black_box((url.path_argument_safe(), url.original_path(), url.scheme.as_str(), url.scheme.default_port()));
-    black_box((url.is_settled(), url.agrees_with_git(), url.text_len().is_ok()));
+    black_box((url.is_settled(), url.agrees_with_git(), url.unmet_condition(), url.text_len().is_ok()));
 }
 
 #[test]
