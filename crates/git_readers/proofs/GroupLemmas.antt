@@ -1,5 +1,5 @@
 -- How the library's cuts are those of readers.
-use Rattle.std.proofs.Common.{◌≡◌, ◌∙◌, ℕ, ◌+◌, ◌-◌, ◌<◌, ◌≤◌, Bool, true, List, [], ◌∷◌, ◌++◌, length, take, Option, Some, None, MatchOption, Bor, option_map, inl, inr, refl, sym, ap, arith}
+use Rattle.std.proofs.Common.{◌≡◌, ◌∙◌, ℕ, ◌+◌, ◌-◌, ◌≤◌, Bool, true, List, [], ◌∷◌, ◌++◌, length, take, Option, Some, None, MatchOption, Bor, option_map, inl, inr, refl, sym, ap, arith}
 use Rattle.std.proofs.Math.Seq.{take-append_seam}
 use Rattle.std.proofs.lemmas.Bool.{both_ways}
 use Rattle.std.proofs.lemmas.List.{append-nil, append_assoc, length-append}
@@ -32,12 +32,6 @@ before_path front rest t whole lacks (inl none) =
     sym (ap (λ x. until (is_path_start true) x) (whole ∙ ap (λ x. front ++ x) none ∙ append-nil front) ∙ until_whole (is_path_start true) front lacks)
 before_path front rest t whole lacks (inr begins) =
     sym (ap (λ x. until (is_path_start true) x) whole ∙ before_test (is_path_start true) front rest lacks begins)
-
--- a text is longer than what is behind a byte of it
-pub behind_shorter : (c : ℕ) (a b t : List ℕ) → t ≡ a ++ c ∷ b → length b < length t
-behind_shorter c a b t whole =
-    let total : length t ≡ length a + length (c ∷ b) = ap (λ x. length x) whole ∙ length-append a (c ∷ b) in
-    grind arith
 
 -- what is before a rest, by the lengths
 pub before_rest : (p rest t : List ℕ) → t ≡ p ++ rest → take (length t - length rest) t ≡ p

@@ -1,6 +1,6 @@
 -- Names in which each byte may follow the one before it: they are plain.
-use Rattle.std.proofs.Common.{◌≡◌, ◌∙◌, ◌≤◌, ◌+◌, ◌==◌, ◌&&◌, ◌||◌, not, zero, suc, ℕ, Bool, true, false, List, [], ◌∷◌, ◌++◌, inl, inr, refl, sym, ap, subst, arith, codes, length}
-use Rattle.std.proofs.lemmas.Bool.{and_from, and_parts, eq-eqb, false≢true}
+use Rattle.std.proofs.Common.{◌≡◌, ◌∙◌, ◌≤◌, ◌+◌, ◌==◌, ◌&&◌, ◌||◌, not, zero, suc, ℕ, Bool, true, false, List, [], ◌∷◌, ◌++◌, inl, inr, refl, ap, subst, arith, length}
+use Rattle.std.proofs.lemmas.Bool.{and_from, and_parts, false≢true}
 use Rattle.std.proofs.lemmas.Bool.Decides.{nat_tests}
 use Rattle.std.proofs.lemmas.List.{length-append}
 use Rattle.std.specs.List.{list_all}
@@ -26,7 +26,7 @@ cut_at_dot a (b ∷ label) rest h =
     let later = cut_at_dot b label rest parts.1 in
     (and_from (may_follow a b) (follows b label) parts.0 later.0, later.1)
 
--- a byte that may follow and is no dot is one of a label
+-- a byte that may follow and isn't a dot is one of a label
 label_byte : (a b : ℕ) → may_follow a b ≡ true → (b == dot) ≡ false → is_label_byte b ≡ true
 label_byte a b h other = grind (arith, nat_tests)
 

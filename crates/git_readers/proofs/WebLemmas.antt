@@ -7,7 +7,7 @@ use Rattle.git_syntax.specs.Location.Scheme.{file, git, ssh, http, https, ext, h
 use Rattle.git_syntax.specs.Bytes.{slash, begins_with}
 use Rattle.git_location.specs.GitClass.{AgreesBy, AgreesWithGit}
 use Rattle.git_location.specs.WebClass.{AgreesOverWeb, HasDotSegment}
-use Rattle.git_readers.specs.Conditions.{BeginsPlainly, LacksDots, form, form_of}
+use Rattle.git_readers.specs.Conditions.{LacksDots, form, form_of}
 use Rattle.git_readers.specs.Unambiguous.{HasDots}
 use Rattle.git_readers.specs.declared.unambiguous.Form.{Form}
 use Rattle.git_readers.specs.declared.unambiguous.Form.TheVariants as form
@@ -58,7 +58,3 @@ web_lacks_dots v e agrees =
     let path = (agrees_over_web v e agrees).path in
     let none : ¬ HasDots v.path = λ has. path.no_dots (rooted_dots v.path path.rooted has) in
     subst (λ f. LacksDots f v.path) (sym e) none
-
--- and one `/` begins it
-pub web_begins : (v : Location) → form v ≡ form.Web → AgreesWithGit v → BeginsPlainly (form v) v.path
-web_begins v e agrees = subst (λ f. BeginsPlainly f v.path) (sym e) (agrees_over_web v e agrees).path.one_slash

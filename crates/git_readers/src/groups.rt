@@ -70,13 +70,6 @@ impl Group {
 
     /// The host that the readers of the group find in a text, as it is written there and without brackets, or none.
     /// Of [`Group::DigitsArePort`] the port is in it. It takes no memory.
-    ///
-    /// ```
-    /// /// The host that a checker by the URL Standard finds in a remote.
-    /// fn checked_host(text: &[u8]) -> Option<&[u8]> {
-    ///     Group::UrlStandard.host_in(text) // `github.com` of `https://github.com\@evil.com/a`
-    /// }
-    /// ```
     pub fn host_in(self, text: &[u8]) -> Option<&[u8]>
         ensures { option_map (λ t. t.now) result ≡ host_by self text.now }
     {
