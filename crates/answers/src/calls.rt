@@ -17,7 +17,8 @@ use crate::halt::Halt;
 use crate::order::{Order, unknown};
 use crate::report::{Out, report_lent, report_owned};
 use crate::shown::show;
-use crate::{build, dangers, errors, resolved, rule_words, rules};
+use crate::{build, dangers, errors, resolved, rule_words, rules, secrets};
+use git_audit::secret::law::law_secrets;
 use gix_url::lines::{fault_line, status};
 use gix_url::{Url, laws};
 use home::{over_path, over_user};
@@ -34,6 +35,8 @@ pub fn make(alloc: Global, order: &Order<'_>, out: &mut Out) -> Result<(), Halt>
         rule_words::show(order, out)
     } else if dangers::has(order.name()) {
         dangers::make(alloc, order, out)
+    } else if secrets::has(order.name()) {
+        secrets::make(alloc, order, out)
     } else if resolved::has(order.name()) {
         resolved::make(alloc, order, out)
     } else if rules::has(order.name()) {
@@ -124,6 +127,7 @@ fn over_nothing_else(order: Order<'_>, out: &mut Out) -> Result<(), Halt> {
         "laws::law_stripped" => report_lent(out, &laws::law_stripped()),
         "laws::law_homes" => report_lent(out, &laws::law_homes()),
         "laws::law_user_order" => report_lent(out, &laws::law_user_order()),
+        "laws::law_secrets" => report_lent(out, &law_secrets()),
         "laws::law_hidden_password" => report_lent(out, &laws::law_hidden_password()),
         "ArgumentSafety:Eq" => over_judgements(order, out),
         _ => rules::over_nothing(order, out),

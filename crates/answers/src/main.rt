@@ -29,6 +29,7 @@ mod rewriting;
 mod rule_outcomes;
 mod rule_words;
 mod rules;
+mod secrets;
 mod shown;
 mod ssh_programs;
 mod submodules;

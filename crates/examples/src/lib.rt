@@ -22,6 +22,7 @@ mod remotes;
 mod resolved;
 mod rewriting;
 mod rules;
+mod secrets;
 mod section;
 mod ssh;
 mod submodules;
