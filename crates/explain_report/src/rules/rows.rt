@@ -69,8 +69,8 @@ impl Way {
 }
 
 /// The rows of what Git does with a line.
-pub fn of_line(alloc: Global, rules: &Rules) -> Result<Vec<Row<'_>>, AllocError> {
-    let mut rows = Vec::new(alloc);
+pub fn of_line<'a>(alloc: Global, rules: &'a Rules) -> Result<Vec<Row<'a>>, AllocError> {
+    let mut rows: Vec<Row<'a>> = Vec::new(alloc);
     line_route(alloc, &mut rows, Way::Fetch, &rules.fetch)?;
     line_route(alloc, &mut rows, Way::Push, &rules.push)?;
     credential(alloc, &mut rows, &rules.credential)?;
@@ -86,8 +86,8 @@ pub fn of_line(alloc: Global, rules: &Rules) -> Result<Vec<Row<'_>>, AllocError>
 }
 
 /// The rows of a text that Git goes to for a remote or a submodule: the text, its transport and what is found in it.
-pub fn of_route(alloc: Global, way: Way, route: &Route) -> Result<Vec<Row<'_>>, AllocError> {
-    let mut rows = Vec::new(alloc);
+pub fn of_route<'a>(alloc: Global, way: Way, route: &'a Route) -> Result<Vec<Row<'a>>, AllocError> {
+    let mut rows: Vec<Row<'a>> = Vec::new(alloc);
     text(alloc, &mut rows, way, route)?;
     transport(alloc, &mut rows, way, route, "")?;
     found(alloc, &mut rows, way, route)?;
@@ -311,7 +311,7 @@ pub fn transport_pieces<'a>(
     route: &'a Route,
     what_for: &'static str,
 ) -> Result<Vec<Piece<'a>>, AllocError> {
-    let mut pieces = Vec::new(alloc);
+    let mut pieces: Vec<Piece<'a>> = Vec::new(alloc);
     if let Some(transport) = &route.transport {
         push_transport(&mut pieces, transport, what_for)?;
     }
