@@ -5,6 +5,7 @@ import os
 import pty
 import re
 import subprocess
+
 from rt_api import ROOT, program
 
 # A call: the program, its arguments, its input; its status, what it prints, and a part of what it reports as wrong.
