@@ -168,7 +168,8 @@ static void is_seen(const gix_url *url) {
 static void is_met(const gix_url *url, bool agrees) {
     bool unambiguous;
     gix_url_condition unmet;
-    HOLDS(gix_url_is_unambiguous(url, &unambiguous) == GIX_URL_OK && gix_url_unmet_condition(url, &unmet) == GIX_URL_OK);
+    HOLDS(gix_url_is_unambiguous(url, &unambiguous) == GIX_URL_OK);
+    HOLDS(gix_url_unmet_condition(url, &unmet) == GIX_URL_OK);
     HOLDS(unambiguous == (unmet == GIX_URL_CONDITION_NONE) && agrees == (unmet != GIX_URL_CONDITION_GIT));
     HOLDS(strcmp(gix_url_condition_name(unmet), "?") != 0);
 }

@@ -36,8 +36,10 @@ static void members(line *out, const gix_url *url) {
     gix_url_text text;
     bool settled, agrees, unambiguous;
     line parts = {0};
-    HOLDS(gix_url_look(url, &seen) == GIX_URL_OK && gix_url_is_settled(url, &settled) == GIX_URL_OK);
-    HOLDS(gix_url_agrees_with_git(url, &agrees) == GIX_URL_OK && gix_url_is_unambiguous(url, &unambiguous) == GIX_URL_OK);
+    HOLDS(gix_url_look(url, &seen) == GIX_URL_OK);
+    HOLDS(gix_url_is_settled(url, &settled) == GIX_URL_OK);
+    HOLDS(gix_url_agrees_with_git(url, &agrees) == GIX_URL_OK);
+    HOLDS(gix_url_is_unambiguous(url, &unambiguous) == GIX_URL_OK);
     put_word(out, "read");
     put_member(out, gix_url_scheme_text(url));
     put_member(out, url->user);
