@@ -115,12 +115,14 @@ def may_hold_password(t, user, host):
 def read_in_refused(t):
     """What Git reads in a refused line, unless it hands it to a remote helper: nothing of it where it may hold a password."""
     found = [*git_reads(t)]
-    protocol, user, _, host, port, path = found[0] if found else [None] * 6
+    nothing: tuple = (None,) * 6
+    protocol, user, _, host, port, path = found[0] if found else nothing
     why = None if found else unread(t)
     if why == "RemoteHelper":
         return None
     if found and may_hold_password(t, user, host):
-        protocol, user, host, port, path, why = *[None] * 5, "Password"
+        protocol = user = host = port = path = None
+        why = "Password"
     return {"protocol": protocol, "user": lossy(user), "host": lossy(host), "port": port, "path": lossy(path), "same": False, "why": why}
 
 
@@ -186,7 +188,8 @@ def read_by_git(v):
     same, why = found == [reading(v)], None if found else unread(text)
     if found and v.password is not None:
         found, why = [], "Password"
-    protocol, user, _, host, port, path = found[0] if found else [None] * 6
+    nothing: tuple = (None,) * 6
+    protocol, user, _, host, port, path = found[0] if found else nothing
     return {"protocol": protocol, "user": lossy(user), "host": lossy(host), "port": port, "path": lossy(path), "same": same, "why": why}
 
 

@@ -1,4 +1,4 @@
--- What Git reads is no part of what is reported of the refusal.
+-- The refusal is reported as before, whatever Git reads in the line.
 use Rattle.std.proofs.Common.{sym, subst}
 use Rattle.explain_report.specs.Refusals.{ReportsRefusal}
 use Rattle.explain_report.proofs.refusal.Refusal.with_git.Goals as goal
