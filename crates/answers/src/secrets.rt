@@ -31,26 +31,30 @@ pub fn make(alloc: Global, order: Order<'_>, out: &mut Out) -> Result<(), Halt> 
 /// Reports the pieces of a text.
 fn report_pieces(out: &mut Out, text: &[u8]) -> Result<(), Halt> {
     out.write_all(b"[")?;
-    let mut last = "";
+    let mut last = None;
     for piece in secrets(text) {
-        let (kind, bytes) = match piece {
-            Piece::Shown(bytes) => ("shown", bytes),
-            Piece::Hidden(bytes) => ("hidden", bytes),
+        let (is_hidden, bytes) = match piece {
+            Piece::Shown(bytes) => (false, bytes),
+            Piece::Hidden(bytes) => (true, bytes),
         };
-        if last != kind {
-            begin_piece(out, last, kind)?;
+        if last != Some(is_hidden) {
+            begin_piece(out, last.is_some(), is_hidden)?;
         }
         write_inside(out, bytes)?;
-        last = kind;
+        last = Some(is_hidden);
     }
-    out.write_all(if last.is_empty() { b"]" } else { b"\"}]" })?;
+    out.write_all(if last.is_some() { b"\"}]" } else { b"]" })?;
     Ok(())
 }
 
-/// Begins a piece of this kind, and ends the last one if there is one.
-fn begin_piece(out: &mut Out, last: &str, kind: &str) -> io::Result<()> {
-    if !last.is_empty() {
+/// Begins a piece, and ends the one before it if there is one.
+fn begin_piece(out: &mut Out, is_later: bool, is_hidden: bool) -> io::Result<()> {
+    if is_later {
         out.write_all(b"\"},")?;
     }
-    write!(out, "{{\"{kind}\":\"")
+    out.write_all(if is_hidden {
+        b"{\"hidden\":\""
+    } else {
+        b"{\"shown\":\""
+    })
 }
