@@ -9,7 +9,6 @@ use crate::style::Layout;
 use explain_audit::kind::Kind;
 use explain_audit::module::{ModuleReport, Place};
 use explain_audit::sarif::{Region, Spot};
-use explain_report::rules::rows::Way;
 use explain_report::text::line::Quoted;
 use std::alloc::{AllocError, Global};
 use std::fmt::Write;
@@ -40,7 +39,7 @@ fn rows(alloc: Global, report: &ModuleReport) -> Result<String, AllocError> {
     url(&mut out, report)?;
     value(&mut out, "resolved", &report.resolved)?;
     for way in &report.fetch {
-        routed(alloc, &mut out, Way::Fetch, way)?;
+        routed(alloc, &mut out, "fetches", way)?;
     }
     value(&mut out, "update", &report.update)?;
     value(&mut out, "branch", &report.branch)?;
@@ -76,11 +75,11 @@ fn place_row(out: &mut String, place: &Place) -> Result<(), AllocError> {
 /// What a row of what was found begins with.
 fn row_name(kind: Kind) -> &'static str {
     match kind {
-        Kind::Danger(_) | Kind::ParentHost | Kind::SamePath => "danger",
+        Kind::Danger(_) | Kind::ParentHost => "danger",
         Kind::Fsck(_) => "fsck",
         Kind::Risk(_) => "risk",
         Kind::NoParent | Kind::Unsettled => "unsettled",
-        Kind::Unresolved(_) | Kind::NoLocation | Kind::NoPath | Kind::NoUrl => "refused",
+        Kind::Unresolved(_) | Kind::NoLocation => "refused",
         Kind::GitDiffers => "git",
         Kind::Policy => "transport",
     }
@@ -99,7 +98,7 @@ fn results(alloc: Global, report: &ModuleReport, origin: &Origin) -> Result<Stri
     }
     let mut items = Vec::new(alloc);
     for way in &report.fetch {
-        add_route(alloc, &mut items, Way::Fetch, way, true)?;
+        add_route(alloc, &mut items, "fetches", way, true)?;
     }
     let spot = Spot {
         uri: origin.uri(),

@@ -2,4 +2,3 @@ pub mod Uris
 pub mod Kinds
 pub mod Items
 pub mod Entries
-pub mod Wholes

@@ -85,11 +85,8 @@ impl Counts {
     }
 
     /// Counts a line that is refused.
-    pub fn add_refused(&mut self, is_dangerous: bool) {
+    pub fn add_refused(&mut self) {
         bump(&mut self.refused);
-        if is_dangerous {
-            bump(&mut self.dangerous);
-        }
         bump(&mut self.without_host);
     }
 

@@ -14,5 +14,4 @@ pub mod page;
 mod pieces;
 mod rank;
 mod readers;
-mod rules;
 mod template;

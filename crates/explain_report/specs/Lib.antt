@@ -5,4 +5,3 @@ pub mod Refusals
 pub mod Secrets
 pub mod Rules
 pub mod Findings
-pub mod Hints
