@@ -1,13 +1,15 @@
 """The command lines of `locations` and `explain`: what each prints, and its status. The expectations are written by hand."""
+import collections
+import itertools
 import os
 import pty
+import re
 import subprocess
-from collections import namedtuple
 
 from rt_api import ROOT, program
 
 # A call: the program, its arguments, its input; its status, what it prints, and a part of what it reports as wrong.
-Call = namedtuple("Call", "program words input status shown reported", defaults=(b"", 0, b"", b""))
+Call = collections.namedtuple("Call", "program words input status shown reported", defaults=(b"", 0, b"", b""))
 LINES = b"h:p\n\nhttp://h:0/\n"
 ANSWERS = b"settled\th:p\nrefused\tEmptyLocal\nrefused\tBadUrl BadPort\n"
 WRONG = {"status": 2, "reported": b"error: "}
@@ -56,20 +58,27 @@ CALLS = [
     Call("explain", ["--gitmodules", "-"], b"[core]\n\tbare = true\n[submodule]\n\trecurse\n"),
     Call("explain", ["--gitmodules", "-"], b'[submodule "a"]\n\tpath = a\n\turl = https://github.com/a/b\n',
          shown=b'submodule "a"\n    path        "a"\n    url         "https://github.com/a/b"\n'),
-    Call("explain", ["--gitmodules", "-"], b'[submodule "a"] url = ../x.git\n', 1,
-         b'submodule "a"\n    url         "../x.git"\n'
-         b'    unsettled   line 1, column 17, "submodule.a.url": it is relative: --parent says what it is resolved against\n'),
-    Call("explain", ["--gitmodules", "-", "--fail-on", "danger"], b'[submodule "a"] url = ../x.git\n', 0,
-         b'submodule "a"\n    url         "../x.git"\n'
-         b'    unsettled   line 1, column 17, "submodule.a.url": it is relative: --parent says what it is resolved against\n'),
-    Call("explain", ["--gitmodules", "-", "--parent", "https://h/a/b"], b'[submodule "a"] url = ../x.git\n', 0,
-         b'submodule "a"\n    url         "../x.git"\n    resolved    "https://h/a/x.git"\n'),
-    Call("explain", ["--gitmodules", "-", "--parent", "https://h/a/b"], b'[submodule "a"] url = ../../../evil.com/x\n', 1,
-         b'submodule "a"\n    url         "../../../evil.com/x"\n    resolved    "https://evil.com/x"\n'
-         b'    danger      line 1, column 17, "submodule.a.url": it leads to another host than that of the superproject\n'),
-    *(Call("explain", ["-q", "--gitmodules", "-"], b'[submodule "a"]\n' + it + b"\n", 1) for it in (
+    Call("explain", ["--gitmodules", "-"], b'[submodule "a"]\n\tpath = a\n', 1,
+         b'submodule "a"\n    path        "a"\n'
+         b'    refused     line 2, column 2, "submodule.a.path": Git has no URL for the submodule\n'),
+    Call("explain", ["-q", "--gitmodules", "-", "--fail-on", "danger"], b'[submodule "a"]\n\tpath = a\n'),
+    Call("explain", ["-q", "--gitmodules", "-", "--fail-on", "refused"], b'[submodule "a"]\n\tignore = all\n', 1),
+    Call("explain", ["-q", "--gitmodules", "-", "--fail-on", "danger"], b'[submodule "a"]\n\tpath = x\n[submodule "b"]\n\tpath = x\n', 1),
+    Call("explain", ["--gitmodules", "-"], b'[submodule "a"] path = a\n\turl = ../x.git\n', 1,
+         b'submodule "a"\n    path        "a"\n    url         "../x.git"\n'
+         b'    unsettled   line 2, column 2, "submodule.a.url": it is relative: --parent says what it is resolved against\n'),
+    Call("explain", ["--gitmodules", "-", "--fail-on", "danger"], b'[submodule "a"] path = a\n\turl = ../x.git\n', 0,
+         b'submodule "a"\n    path        "a"\n    url         "../x.git"\n'
+         b'    unsettled   line 2, column 2, "submodule.a.url": it is relative: --parent says what it is resolved against\n'),
+    Call("explain", ["--gitmodules", "-", "--parent", "https://h/a/b"], b'[submodule "a"] path = a\n\turl = ../x.git\n', 0,
+         b'submodule "a"\n    path        "a"\n    url         "../x.git"\n    resolved    "https://h/a/x.git"\n'),
+    Call("explain", ["--gitmodules", "-", "--parent", "https://h/a/b"], b'[submodule "a"] path = a\n\turl = ../../../evil.com/x\n', 1,
+         b'submodule "a"\n    path        "a"\n    url         "../../../evil.com/x"\n    resolved    "https://evil.com/x"\n'
+         b'    danger      line 2, column 2, "submodule.a.url": it leads to another host than that of the superproject\n'),
+    *(Call("explain", ["-q", "--gitmodules", "-"], b'[submodule "a"]\n\tpath = a\n\turl = https://h/a\n' + it + b"\n", 1) for it in (
         b"url = -u./payload", b"url = ext::sh -c x", b"url = ../../../:h/x", b"url = https://u:p@h/x", b"url = \"https://h/a\\nb\"",
-        b"path = -x", b"path = ../x", b"path = .git/hooks", b"update = !command", b"url", b"url = https://ghp_x@h/x")),
+        b"path = -x", b"path = ../x", b"path = .git/hooks", b"update = !command", b"url", b"url = https://ghp_x@h/x",
+        b"path =", b"[submodule \"b\"] url = https://h/b", b"[submodule \"b\"] path = b", b"[submodule \"b\"] path = a\n\turl = https://h/b")),
     Call("explain", ["-q", "--gitmodules", "-"], b'[submodule "../a"]\n\tpath = a\n', 1),
     Call("explain", ["-q", "--gitmodules", "-"], b'[submodule "a"]\n\turl = ../x\n=\n', 2, reported=b"explain: -: line 3: a byte that begins neither"),
     Call("explain", ["--gitmodules", "-"], b"# GIX URL\n\nreads *locations*\n", 2, reported=b"explain: -: line 3: "),
@@ -80,11 +89,19 @@ CALLS = [
         ["h:p"], ["-f", "-"], ["-0"], ["--config", "-"], ["--remotes"], ["--html"], ["--only", "host"])),
     *(Call("explain", ["--sarif", *words], **WRONG) for words in (["--json"], ["--html"], ["-q"], ["-0"], ["--only", "host"])),
     *(Call("explain", ["--parent", "h:p", *words], **WRONG) for words in (["h:p"], ["-f", "-"], ["--remotes"], ["--json"], ["--config", "-"])),
+    Call("explain", ["--html", "-f", "/no/such/file"], status=2, reported=b"explain: cannot read /no/such/file: "),
     Call("explain", ["--only=path"], b""),
     Call("explain", ["--color=never", "http://h:0/"], status=1, shown=b"line 1: refused: the port of HTTP must not be 0\n    http://h:0/\n             ^\n"),
     Call("explain", ["--color=always", "http://h:0/"], status=1,
          shown=b"line 1: refused: the port of HTTP must not be 0\n    http://h:0/\n             \x1b[1;31m^\x1b[0m\n"),
 ]
+# Each option and TEXT as it is given, so that a run ends at once and is right.
+GIVEN = {
+    "TEXT": "h:p", "--file": "--file=/dev/null", "--null": "--null", "--config": "--config=/dev/null", "--remotes": "--remotes",
+    "--gitmodules": "--gitmodules=/dev/null", "--parent": "--parent=https://h/p", "--json": "--json", "--sarif": "--sarif",
+    "--html": "--html=x", "--only": "--only=host", "--quiet": "--quiet", "--fail-on": "--fail-on=policy", "--color": "--color=never"}
+# What an option is given with.
+NEEDED = {"--parent": "--gitmodules"}
 # The options by which `explain` prints what it is, and the files of its crate that hold the same.
 OF_ITSELF = {"--help": "help", "-h": "help", "--version": "version", "-V": "version"}
 
@@ -134,7 +151,32 @@ def colour_faults():
             yield f"answers are coloured with {variables}"
 
 
+def excluded():
+    """The pairs that can't be given together, as the help says."""
+    text = stored("help").decode().partition("These can't be given together:\n")[2].partition("\n\n")[0]
+    for line in text.splitlines():
+        first, rest = (re.findall(r"TEXT|--[\w-]+", it) for it in line.partition(" with ")[::2])
+        yield from map(frozenset, itertools.product(first, rest) if rest else itertools.combinations(first, 2))
+
+
+def pair_faults():
+    """The pairs of which the help says otherwise than the program does, and the options that no pair is tried with."""
+    listed = {*re.findall(r"(?m)^ +(?:-\w, )?(--[\w-]+)", stored("help").decode())}
+    yield from (f"no pair with {it} is tried" for it in sorted(listed - {*GIVEN, *OF_ITSELF}))
+    refused = collections.Counter(excluded())
+    yield from (f"the help says {count} times that {sorted(it)} exclude each other" for it, count in refused.items() if count > 1)
+    for pair in map(frozenset, itertools.combinations(GIVEN, 2)):
+        needed = set() if pair in refused else {NEEDED[it] for it in pair & {*NEEDED}} - pair
+        words = [GIVEN[it] for it in sorted({*pair, *needed})]
+        ran = subprocess.run([program("explain"), *words], stdin=subprocess.DEVNULL, capture_output=True, timeout=60)
+        is_right = b" cannot be used with " in ran.stderr if ran.returncode == 2 else ran.returncode == 0 and not ran.stderr
+        if not is_right or (ran.returncode == 2) != (pair in refused):
+            yield f"explain {words} ends with {ran.returncode} and says {ran.stderr!r}, which the help doesn't"
+
+
 def check(_room):
     calls = [*CALLS, *(Call("explain", [option], shown=stored(file)) for option, file in OF_ITSELF.items())]
     faults = [it for it in map(fault_of, calls) if it]
-    return [*faults, *colour_faults(), *terminal_faults()], [f"{len(calls)} command lines, and `explain` that reads a terminal"]
+    pairs = len(GIVEN) * (len(GIVEN) - 1) // 2
+    told = [f"{len(calls)} command lines, and `explain` that reads a terminal", f"{pairs} pairs of options, as the help says which exclude each other"]
+    return [*faults, *pair_faults(), *colour_faults(), *terminal_faults()], told

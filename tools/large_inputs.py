@@ -1,6 +1,6 @@
 """Size: lines of 100 MB and millions of lines, answered rightly, in linear time, with few reads and with little memory; calls
-over texts of some MB, by the program `answers`, the page of `explain --html` over 100,000 lines, and a configuration with
-100,000 rules and entries, in linear time.
+over texts of some MB, by the program `answers`, the page of `explain --html` over 100,000 lines, a configuration with
+100,000 rules and entries, and a file of 20,000 submodules, in linear time.
 
 Time is that of the processor. What looks at each byte again for each byte takes ten times as long for each byte of a
 text that is ten times as long; four times is let pass, for a machine that does other work as well.
@@ -56,6 +56,9 @@ MOST_PAGE_BYTES = 40
 # A configuration with so many rules, each with a base of its own, so many helpers and so many names of `http.*`.
 RULES = 100_000
 MOST_RULES_SECONDS = 10
+# A file with so many submodules, each with a path and a host of its own.
+MODULES = 20_000
+MOST_MODULES_SECONDS = 2
 CHUNK = 1 << 20
 
 # Calls over texts of some MB: what is repeated in what the call is over, the order by that text, and the outcome by how
@@ -166,6 +169,11 @@ def configuration_of(size):
     return [f"{rules_of(size)}{settings}".encode()], None
 
 
+def modules_of(size):
+    """A file with so many submodules, in which nothing is found."""
+    return [b'[submodule "m%d"]\n\tpath = p/%d\n\turl = https://h%d.example/m.git\n' % (n, n, n) for n in range(size)], None
+
+
 class Compared:
     """The runs over two sizes of what is made, the smaller one twice; the memory for each byte and the seconds may be limited."""
 
@@ -229,11 +237,16 @@ def compared_rules(folder):
         yield Compared(f"{name} by {RULES} rules", words, folder, make, RULES // 10, RULES, most_seconds=MOST_RULES_SECONDS)
 
 
+def compared_modules(folder):
+    words = [program("explain"), "--gitmodules", "-"]
+    yield Compared(f"a file of {MODULES} submodules", words, folder, modules_of, MODULES // 10, MODULES, most_seconds=MOST_MODULES_SECONDS)
+
+
 def check(folder):
     """The faults, and what was measured."""
     parts = {f"{len(SHAPES)} shapes of a line of {LARGE // 10**6} MB, {LINES // 10**6} million lines": compared_lines,
              f"{len(CALLS)} calls over {LARGE_ORDER // 10**6} MB": compared_calls, f"a page of {REMOTES} remotes": compared_page,
-             f"a configuration with {RULES} rules": compared_rules}
+             f"a configuration with {RULES} rules": compared_rules, f"a file of {MODULES} submodules": compared_modules}
     faults, said = [], []
     with limited(MOST_SECONDS):
         for name, compare in parts.items():

@@ -21,15 +21,15 @@ COUNTS = """[+document.querySelector('#lines b').textContent.replaceAll(',', '')
 
 def run(words, lines, end=b"\n"):
     """What the program writes for the lines."""
-    ran = subprocess.run([program("explain"), *words], input=b"".join(it + end for it in lines), stdout=subprocess.PIPE, timeout=300)
+    ran = subprocess.run([program("explain"), *words], input=b"".join(it + end for it in lines), capture_output=True, timeout=300)
     if ran.returncode not in (0, 1):
-        raise RuntimeError(f"explain {words} ended with {ran.returncode}")
+        raise RuntimeError(f"explain {words} ended with {ran.returncode}: {ran.stderr!r}")
     return ran.stdout
 
 
-def answers(lines):
-    """What `explain --json` answers, an object for each line."""
-    return [json.loads(it) for it in run(["--json"], lines).split(b"\n")[:-1]]
+def answers(lines, words=()):
+    """What `explain --json` answers with these words, an object for each line."""
+    return [json.loads(it) for it in run(["--json", *words], lines).split(b"\n")[:-1]]
 
 
 def form(answer):
@@ -41,7 +41,7 @@ def verdict(answer):
 
 
 def is_dangerous(answer):
-    return bool(answer["dangers"])
+    return "danger" in answer["findings"]
 
 
 def piece_faults(article, answer, line):
@@ -60,10 +60,28 @@ def piece_faults(article, answer, line):
         yield f"the pieces {names} are not those of {v}"
 
 
+def below(name, value):
+    """The members below a value by their whole names; a list is a value of its own."""
+    if isinstance(value, dict):
+        return {whole: it for key, inner in value.items() for whole, it in below(f"{name}.{key}", inner).items()}
+    return {name: value}
+
+
+def shown_rules(rules):
+    """What a page shows of `rules`: no dangers of a text that isn't rewritten, which are those of the line, and nothing of
+    credentials without a helper."""
+    if rules is None:
+        return None
+    ways = {way: {name: it for name, it in rules[way].items() if name != "dangers" or rules[way]["rewritten"]} for way in ("fetch", "push")}
+    credential = rules["credential"]
+    return {**rules, **ways, "credential": credential if credential and credential["helpers"] else None}
+
+
 def flat(answer):
-    """The members of an object that a page shows, with those of its location among them."""
-    shown = {name: it for name, it in answer.items() if name != "dangers"}
-    return {**shown, "location": answer["location"] is not None, **(answer["location"] or {})}
+    """The members of an object that a page shows, with those of its location and of its rules among them."""
+    shown = {name: it for name, it in answer.items() if name not in ("dangers", "rules")}
+    location = {"location": answer["location"] is not None, **(answer["location"] or {})}
+    return {**shown, **location, **below("rules", shown_rules(answer["rules"]))}
 
 
 def article_faults(article, answer, line):

@@ -12,6 +12,7 @@ import page_filter
 import page_hostile
 import page_look
 import page_markup
+import page_rules
 from rt_api import ROOT
 from second_reading import explain_lines, explain_tables, short_inputs, stored_run
 from selenium.common.exceptions import WebDriverException
@@ -44,9 +45,9 @@ def second_reading(lines):
     return [json.loads(stored_run.answer(number, line)) for number, line in enumerate(lines, 1)]
 
 
-def written(page, lines, title=None, end=b"\n"):
-    """The file of a page of lines, which is written."""
-    words = ["--html" if title is None else f"--html={title}", *(["--null"] if end == b"\0" else [])]
+def written(page, lines, title=None, end=b"\n", more=()):
+    """The file of a page of lines, which is written with these words."""
+    words = ["--html" if title is None else f"--html={title}", *(["--null"] if end == b"\0" else []), *more]
     with open(f"{page.folder}/page.html", "wb") as it:
         it.write(page_answers.run(words, lines, end))
     return it.name
@@ -118,6 +119,20 @@ def hostile(page, is_whole):
     count = sum(len(it) > MOST_LONG for it in long)
     said = f"{len(lines)} hostile lines, {len(long)} long ones, {count} of them of up to a megabyte and seen within {slowest:.1f} s"
     return faults, f"{said}, {len(page_hostile.TITLES)} titles"
+
+
+def rules(page, _is_whole):
+    """Lines by configurations: as `explain --json --config` answers them, with the rows of `explain --config`."""
+    faults, rows = [], 0
+    for case in page_rules.CASES:
+        with page_rules.given(case, f"{page.folder}/config") as words:
+            lines = [*case.lines]
+            file, wanted = written(page, lines, more=words), page_answers.answers(lines, words)
+            faults += [*shown_faults(page, file, lines, wanted), *page_rules.faults_of(page, case, words)]
+            faults += page_look.contrast_faults(page) if case is page_rules.CASES[0] else []
+            missed, tried = page_rules.missed(page, file, case, wanted, words)
+            faults, rows = faults + missed, rows + tried
+    return faults, f"{sum(len(it.lines) for it in page_rules.CASES)} lines by {len(page_rules.CASES)} configurations; {rows} rows that were left out"
 
 
 def use(page, is_whole):

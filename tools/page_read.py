@@ -22,6 +22,8 @@ ARTICLES = """(() => {
   return JSON.stringify([ranks.length, all(document, 'article', article)]);
 })()"""
 ERROR = ("error", "kind", "fault", "at", "len", "reason", "words")
+# The names of what a run may fail for, in their order.
+FOUND = ("danger", "unsettled", "refused", "git-differs", "policy")
 # Names of members that are numbers, and of those that hold words of the program, which are not escaped.
 NUMBERS = {"port", "port_or_default", "at", "len"}
 WORDS = {"reread.words", "reread.refusal.words", "refusal.words"}
@@ -58,22 +60,70 @@ class Article:
             return int(shown)
         return shown if name in WORDS else text_of(shown)
 
+    def shown(self, name):
+        """Words of the program as they are shown; None where there is no element."""
+        return self.values[name][0][2] if name in self.values else None
+
+    def names(self, name):
+        """The names that programs have for what elements show."""
+        return [word for _, word, *_ in self.values.get(name, [])]
+
     def members(self, name, members):
         """The members below a name; None where none of them is there."""
         return {it: self.value(f"{name}.{it}") for it in members} if any(f"{name}.{it}" in self.values for it in members) else None
 
     def whole(self):
         """The object of the line, without the names of its dangers, which a page lacks."""
-        location = None if self.verdict == "refused" else self.location()
+        location, rules = None if self.verdict == "refused" else self.location(), self.rules()
         return {
-            "line": self.number, "input": self.value("input"), "location": location, "refusal": self.members("refusal", ERROR),
-            "findings": self.findings(location), "hints": [word for _, word, *_ in self.values.get("hints", [])], "rules": None}
+            "line": self.number, "input": self.value("input"), "location": location, "refusal": self.refusal(),
+            "findings": self.findings(location, rules), "hints": self.names("hints"), "rules": rules}
 
-    def findings(self, location):
-        """The names of what is found in the line, for which a run may fail."""
+    def refusal(self):
+        it, read = self.members("refusal", ERROR), self.members("refusal.git_reads", ("protocol", "user", "host", "port", "path", "why"))
+        return it and {**it, "git_reads": read and {**read, "same": False}}
+
+    def findings(self, location, rules):
+        """The names of what is found in the line and in the texts that it is rewritten to, for which a run may fail."""
         differs = location is not None and not location["agrees_with_git"]
-        found = {"danger": self.danger is not None, self.verdict: self.verdict != "settled", "git-differs": differs}
-        return [name for name, it in found.items() if it]
+        routes = [] if rules is None else [rules["fetch"], rules["push"]]
+        is_used = all(it["transport"] is not None and it["transport"]["permission"] == "allowed" for it in routes)
+        found = {"danger": self.danger is not None, self.verdict: True, "git-differs": differs, "policy": not is_used}
+        found.update(dict.fromkeys([*self.names("rules.fetch"), *self.names("rules.push")], True))
+        return [name for name in FOUND if found.get(name)]
+
+    def rules(self):
+        """What Git does with the line by a configuration, without what is left out: the dangers of a text that isn't rewritten."""
+        if "rules.fetch.text" not in self.values:
+            return None
+        fetch, push = self.route("rules.fetch"), self.route("rules.push")
+        if not push["transport"] and not push["no_transport"]:
+            push.update({it: fetch[it] for it in ("transport", "no_transport")})
+        helpers = self.entries("rules.credential.helpers")
+        about = {"user": self.value("rules.credential.user"), "use_http_path": "rules.credential.use_http_path" in self.values}
+        return {"fetch": fetch, "push": push, "credential": {"helpers": helpers, **about} if helpers else None, "http": self.entries("rules.http")}
+
+    def route(self, name):
+        """Where Git goes for fetching or for pushing."""
+        is_rewritten = self.names(f"{name}.text") == ["rewritten"]
+        is_read = "refused" not in (self.verdict, *self.names(name))
+        reasons, name_of = self.names(f"{name}.no_transport"), self.shown(f"{name}.transport.name")
+        return {
+            "text": self.value(f"{name}.text"), "rewritten": is_rewritten,
+            "same_host": False if f"{name}.same_host" in self.values else True if is_read else None,
+            "transport": name_of and {"name": name_of, **self.permission(f"{name}.transport")},
+            "no_transport": {"reason": reasons[0], "words": self.shown(f"{name}.no_transport")} if reasons else None,
+            **({"dangers": self.names(f"{name}.dangers")} if is_rewritten else {})}
+
+    def permission(self, name):
+        """Whether Git uses a transport, and what decides."""
+        return {"permission": "".join(self.names(f"{name}.permission")), "variable": self.shown(f"{name}.variable"),
+                "entry": next(iter(self.entries(f"{name}.entry")), None)}
+
+    def entries(self, name):
+        """The entries of a configuration that elements of this name show."""
+        return [{"at": int(at), "key": text_of(key), "value": text_of(value[0]) if value else None}
+                for _, at, _, (key, *value) in self.values.get(name, [])]
 
     def location(self):
         it = {name: self.value(name) for name in ("scheme", "user", "password", "host", "port", "path")}
@@ -112,4 +162,5 @@ class Article:
 
     def reread(self):
         words, difference = self.value("reread.words"), self.members("reread.difference", ("field", "here", "instead"))
-        return words and {"difference": difference, "refusal": self.members("reread.refusal", ERROR), "words": words}
+        refusal = self.members("reread.refusal", ERROR)
+        return words and {"difference": difference, "refusal": refusal and {**refusal, "git_reads": None}, "words": words}

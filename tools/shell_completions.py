@@ -1,12 +1,14 @@
 """What shells complete of `explain`, by the files of `completions/`.
 
 Bash is asked itself. The files for zsh and fish are read by these shells where they are installed, which is reported.
-Each file has exactly the long options that the program's help names.
+Each file has exactly the long options that the program's help names, and the file for zsh those pairs of them that the
+help says exclude each other.
 """
 import re
 import shutil
 import subprocess
 
+import command_lines
 from rt_api import ROOT
 
 FOLDER = f"{ROOT}/completions"
@@ -65,10 +67,23 @@ def of_files():
     yield "fish", {*re.findall(r"(?m)^complete -c explain .*-l ([\w-]+)", text(f"{FOLDER}/gix_url.fish"))}
 
 
+def excluded_by_zsh():
+    """The pairs of options that exclude each other in the file for zsh, each as both have it."""
+    for excluded, option in re.findall(r"(?m)^ +'\(([^)]*)\)\*?(?:'\{-\w,)?(--[a-z][\w-]*)", text(f"{FOLDER}/_explain")):
+        yield from ((option, it) for it in re.findall(r"--[\w-]+", excluded) if it != option)
+
+
+def pair_faults():
+    """The pairs that exclude each other in one place alone."""
+    wanted = {(first, other) for pair in command_lines.excluded() for first in pair for other in pair - {first} if "TEXT" not in pair}
+    yield from (f"zsh and the help of explain differ in whether {first} excludes {other}" for first, other in sorted(wanted ^ {*excluded_by_zsh()}))
+
+
 def check(_room):
     faults = [f"bash completes {' '.join(words)!r} to {completed(words)!r}, and not {want!r}" for words, want in COMPLETED if completed(words) != want]
     wrong = [(shell, found ^ of_help()) for shell, found in of_files() if found != of_help()]
     faults += [f"{shell} and the help of explain differ in {', '.join(sorted(them))}" for shell, them in wrong]
+    faults += pair_faults()
     told = [f"{len(COMPLETED)} command lines that bash completes"]
     for shell, (*how, files) in READ.items():
         if not shutil.which(shell):

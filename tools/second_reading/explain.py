@@ -96,13 +96,34 @@ def refusal(t):
              "TooLong": f"the scheme or the authority of the URL is longer than 1024 bytes, in a text of {len(t)} bytes",
              "MissingPath": f"the {KINDS.get(kind)} has no path", "NotUtf8": f"the {KINDS.get(kind)} is not UTF-8",
              "BadUrl": f"the {KINDS.get(kind)} has {FAULTS.get(fault)}"}[name]
-    return {"error": name, "kind": kind and kind.lower(), "fault": fault, "at": None, "len": None, "reason": None, "words": words}
+    return {"error": name, "kind": kind and kind.lower(), "fault": fault, "at": None, "len": None, "reason": None, "words": words,
+            "git_reads": None}
 
 
 def refusal_of_line(t):
     """Why a line is refused, with the place and the words of its fault."""
     place = fault_places.place(t)
-    return {**refusal(t), **place._asdict(), "words": fault_places.SENTENCES[place.reason]}
+    return {**refusal(t), **place._asdict(), "words": fault_places.SENTENCES[place.reason], "git_reads": read_in_refused(t)}
+
+
+def may_hold_password(t, user, host):
+    """Whether a refused line may hold a password: a `:` before an `@` behind its scheme, also one of both as an escape."""
+    front, mark, _ = t.partition(b"://")[2 if b"://" in t else 0].rpartition(b"@")
+    return bool(mark) and b":" in front or b":" in (user or b"") or b"@" in (host or b"")
+
+
+def read_in_refused(t):
+    """What Git reads in a refused line, unless it hands it to a remote helper: nothing of it where it may hold a password."""
+    found = [*git_reads(t)]
+    nothing: tuple = (None,) * 6
+    protocol, user, _, host, port, path = found[0] if found else nothing
+    why = None if found else unread(t)
+    if why == "RemoteHelper":
+        return None
+    if found and may_hold_password(t, user, host):
+        protocol = user = host = port = path = None
+        why = "Password"
+    return {"protocol": protocol, "user": lossy(user), "host": lossy(host), "port": port, "path": lossy(path), "same": False, "why": why}
 
 
 def field_texts(v):
@@ -127,7 +148,9 @@ def reread(v):
     pairs = [it for it in zip(FIELDS, field_texts(v), field_texts(w)) if it[1] != it[2]]
     if not pairs:
         assert laws.same_fields(v, w)
-        return {"difference": None, "refusal": None, "words": "its own text is read as the same fields, which no promise covers"}
+        marked = [f": the {name} has a colon or a bracket" for name in ("host", "user") if {*b":[]"} & {*(getattr(v, name) or b"")}]
+        words = "its own text is read as the same fields, which no promise covers" + "".join(marked[:1])
+        return {"difference": None, "refusal": None, "words": words}
     field, here, instead = pairs[0]
     read = f"no {field}" if instead is None else f"the {field} {quoted(instead)}"
     words = f"its own text is read with {read} in place of {'none' if here is None else quoted(here)}"
@@ -165,7 +188,8 @@ def read_by_git(v):
     same, why = found == [reading(v)], None if found else unread(text)
     if found and v.password is not None:
         found, why = [], "Password"
-    protocol, user, _, host, port, path = found[0] if found else [None] * 6
+    nothing: tuple = (None,) * 6
+    protocol, user, _, host, port, path = found[0] if found else nothing
     return {"protocol": protocol, "user": lossy(user), "host": lossy(host), "port": port, "path": lossy(path), "same": same, "why": why}
 
 

@@ -7,7 +7,7 @@ from second_reading import grammar
 from second_reading.dangers import dangers
 from second_reading.explain import refusal_of_line, shown_line, told
 from second_reading.explain_lines import (
-    CURL, FILES, GIT, HELPERS, LOCALS, PLACED, READ, REFUSED, SCPS, SLIPS, URLS, WEB)
+    CURL, FILES, GIT, HELPERS, IN_REFUSED, LOCALS, PLACED, READ, REFUSED, SCPS, SLIPS, URLS, WEB)
 from second_reading.explain_tables import reason_examples, table
 from second_reading.hints import hints
 
@@ -30,7 +30,7 @@ def answer(number, line):
 def stored_run():
     """The files of the stored run. The texts of the tables are among its lines."""
     texts = [*(row[0].strip("`").encode() for row in table()), *reason_examples(), *PLACED]
-    lines = list(dict.fromkeys([*HELPERS, *URLS, *FILES, *SCPS, *LOCALS, *REFUSED, *GIT, *READ, *WEB, *CURL, *SLIPS, *texts]))
+    lines = list(dict.fromkeys([*HELPERS, *URLS, *FILES, *SCPS, *LOCALS, *REFUSED, *GIT, *READ, *WEB, *CURL, *SLIPS, *IN_REFUSED, *texts]))
     lines.append(b"/the/last")
     answers = "".join(answer(number, line) + "\n" for number, line in enumerate(lines, 1))
     return {"stdin": b"\n".join(lines), "stdout": answers.encode(), "args": b"--json\n", "status": b"1\n"}

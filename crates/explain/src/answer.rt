@@ -16,7 +16,7 @@ use explain_report::finding::Findings;
 use explain_report::location_report::Report;
 use explain_report::memory::both;
 use explain_report::refusal::Refusal;
-use explain_report::rules::Rules;
+use explain_report::rules::{Rules, found_by};
 use explain_report::text::line::SeenLine;
 use git_audit::danger::{Danger, dangers};
 use gix_url::parse::parse;
@@ -126,10 +126,7 @@ impl Line<'_, '_> {
     /// What Git does with the line, which is read as this location unless it is refused, by the configuration
     /// that is given.
     fn rules(self, alloc: Global, url: Option<&Url>) -> Result<Option<Rules>, AllocError> {
-        match self.style.config {
-            None => Ok(None),
-            Some(config) => Ok(Some(Rules::of(alloc, config, self.bytes, url)?)),
-        }
+        Rules::of_given(alloc, self.style.config, self.bytes, url)
     }
 
     /// The answer to a line that is read as a location.
@@ -190,7 +187,7 @@ impl Line<'_, '_> {
         rules: Option<&Rules>,
     ) -> Result<String, AllocError> {
         let seen = SeenLine::of(alloc, self.bytes)?;
-        let (seen, refusal) = both(seen, Refusal::of_line(alloc, error))?;
+        let (seen, refusal) = both(seen, Refusal::with_git(alloc, self.bytes, error))?;
         let found = hint::find(alloc, self.bytes, None);
         let ((seen, refusal), found) = both((seen, refusal), found)?;
         let notes = Notes {
@@ -233,14 +230,6 @@ impl Line<'_, '_> {
         );
         drop(found);
         answer
-    }
-}
-
-/// What is found in what the line is rewritten to by the configuration, if one is given.
-fn found_by(rules: Option<&Rules>) -> Findings {
-    match rules {
-        None => Findings::none(),
-        Some(rules) => rules.found(),
     }
 }
 

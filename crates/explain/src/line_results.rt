@@ -5,13 +5,14 @@
 
 use crate::answer::{Line, Notes};
 use crate::results::{Origin, push_items};
-use crate::rule_rows::transport_words;
+use crate::rule_rows::Pieces;
 use explain_audit::item::{self, Item, add_dangers, add_reading, add_refusal};
 use explain_audit::kind::Kind;
 use explain_audit::place::count;
 use explain_audit::sarif::{Region, Spot};
 use explain_report::refusal::Refusal;
 use explain_report::remotes::RemoteReport;
+use explain_report::rules::rows::{Way, transport_pieces};
 use explain_report::rules::{Route, Rules};
 use explain_report::text::line::Quoted;
 use gix_url::{Error, Url};
@@ -126,21 +127,28 @@ fn add_rules(
     let Some(rules) = rules else {
         return Ok(());
     };
-    add_route(alloc, items, "fetches", &rules.fetch, rules.fetch.rewritten)?;
-    add_route(alloc, items, "pushes", &rules.push, rules.push.rewritten)
+    add_route(
+        alloc,
+        items,
+        Way::Fetch,
+        &rules.fetch,
+        rules.fetch.rewritten,
+    )?;
+    add_route(alloc, items, Way::Push, &rules.push, rules.push.rewritten)
 }
 
 /// Adds what is found of a text that Git goes to: its transport, and what the text has if that is asked for.
 pub fn add_route(
     alloc: Global,
     items: &mut Vec<Item>,
-    name: &str,
+    way: Way,
     route: &Route,
     with_text: bool,
 ) -> Result<(), AllocError> {
     if route.found.policy {
-        let words = transport_words(alloc, route, "")?;
-        add(alloc, items, Kind::Policy, name, route, words.as_str())?;
+        let pieces = transport_pieces(alloc, route, "")?;
+        let words = Pieces(pieces.as_slice()).to_string(alloc)?;
+        add(alloc, items, Kind::Policy, way, route, words.as_str())?;
     }
     if !with_text {
         return Ok(());
@@ -150,19 +158,19 @@ pub fn add_route(
             alloc,
             items,
             Kind::Danger(*danger),
-            name,
+            way,
             route,
             danger.words(),
         )?;
     }
-    add_reading_of(alloc, items, name, route)
+    add_reading_of(alloc, items, way, route)
 }
 
 /// Adds how the text that Git goes to is read.
 fn add_reading_of(
     alloc: Global,
     items: &mut Vec<Item>,
-    name: &str,
+    way: Way,
     route: &Route,
 ) -> Result<(), AllocError> {
     for (kind, is_found) in [
@@ -172,7 +180,7 @@ fn add_reading_of(
     ] {
         if is_found {
             let words = kind.words(alloc)?;
-            add(alloc, items, kind, name, route, words.as_str())?;
+            add(alloc, items, kind, way, route, words.as_str())?;
         }
     }
     Ok(())
@@ -183,12 +191,12 @@ fn add(
     alloc: Global,
     items: &mut Vec<Item>,
     kind: Kind,
-    name: &str,
+    way: Way,
     route: &Route,
     words: &str,
 ) -> Result<(), AllocError> {
     let mut front = String::new(alloc);
-    let text = Quoted(route.text.as_str().as_bytes());
+    let (name, text) = (way.name(), Quoted(route.text.as_str().as_bytes()));
     write!(front, "Git {name} {text}: ")?;
     item::add_words(alloc, items, kind, front.as_str(), words)
 }
@@ -200,10 +208,10 @@ pub fn remote(alloc: Global, remote: &RemoteReport, origin: &Origin) -> Result<S
         add_stop(alloc, &mut items, at)?;
     }
     for way in &remote.fetch {
-        add_route(alloc, &mut items, "fetches", way, true)?;
+        add_route(alloc, &mut items, Way::Fetch, way, true)?;
     }
     for way in &remote.push {
-        add_route(alloc, &mut items, "pushes", way, true)?;
+        add_route(alloc, &mut items, Way::Push, way, true)?;
     }
     let mut out = String::new(alloc);
     let spot = Spot {

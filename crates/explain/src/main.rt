@@ -362,7 +362,7 @@ fn answer_line<W: Write>(
         style,
     };
     if let Layout::Page = style.layout {
-        let found = seen.page.add(line.number, line.bytes)?;
+        let found = seen.page.add(line.number, line.bytes, style.config)?;
         seen.found = seen.found.union(found);
         return Ok(());
     }

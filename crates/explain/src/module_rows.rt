@@ -9,6 +9,7 @@ use crate::style::Layout;
 use explain_audit::kind::Kind;
 use explain_audit::module::{ModuleReport, Place};
 use explain_audit::sarif::{Region, Spot};
+use explain_report::rules::rows::Way;
 use explain_report::text::line::Quoted;
 use std::alloc::{AllocError, Global};
 use std::fmt::Write;
@@ -39,7 +40,7 @@ fn rows(alloc: Global, report: &ModuleReport) -> Result<String, AllocError> {
     url(&mut out, report)?;
     value(&mut out, "resolved", &report.resolved)?;
     for way in &report.fetch {
-        routed(alloc, &mut out, "fetches", way)?;
+        routed(alloc, &mut out, Way::Fetch, way)?;
     }
     value(&mut out, "update", &report.update)?;
     value(&mut out, "branch", &report.branch)?;
@@ -75,11 +76,11 @@ fn place_row(out: &mut String, place: &Place) -> Result<(), AllocError> {
 /// What a row of what was found begins with.
 fn row_name(kind: Kind) -> &'static str {
     match kind {
-        Kind::Danger(_) | Kind::ParentHost => "danger",
+        Kind::Danger(_) | Kind::ParentHost | Kind::SamePath => "danger",
         Kind::Fsck(_) => "fsck",
         Kind::Risk(_) => "risk",
         Kind::NoParent | Kind::Unsettled => "unsettled",
-        Kind::Unresolved(_) | Kind::NoLocation => "refused",
+        Kind::Unresolved(_) | Kind::NoLocation | Kind::NoPath | Kind::NoUrl => "refused",
         Kind::GitDiffers => "git",
         Kind::Policy => "transport",
     }
@@ -98,7 +99,7 @@ fn results(alloc: Global, report: &ModuleReport, origin: &Origin) -> Result<Stri
     }
     let mut items = Vec::new(alloc);
     for way in &report.fetch {
-        add_route(alloc, &mut items, "fetches", way, true)?;
+        add_route(alloc, &mut items, Way::Fetch, way, true)?;
     }
     let spot = Spot {
         uri: origin.uri(),

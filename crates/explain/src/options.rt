@@ -3,7 +3,7 @@
 use crate::only::Part;
 use crate::paint::Colors;
 use crate::style::{Layout, Style};
-use clap::{Arg, ArgAction, ArgMatches, Command};
+use clap::{Arg, ArgAction, ArgGroup, ArgMatches, Command};
 use explain_report::finding::Findings;
 use std::alloc::{AllocError, Global};
 use std::rt::Env;
@@ -17,12 +17,23 @@ Examples:
   explain git@github.com:a/b.git
   git config --get-all remote.origin.url | explain --only host
 
---json, --sarif, --html, --only and --quiet exclude each other. --gitmodules excludes lines, --config, --remotes, --html and --only; --remotes excludes lines, --html and --only; --config excludes --html; --null excludes --sarif and --gitmodules.
+These can't be given together:
+  two of --json, --sarif, --html, --only and --quiet
+  --remotes, --gitmodules or --parent with TEXT, --file, --html or --only
+  --gitmodules or --parent with --config, --remotes or --null
+  --sarif with --null
 
 Exit status: 0 if nothing was found, 1 if something was, 2 for wrong arguments or a run that was cut short. What can be found: a danger, a location that is not settled, a refused line, a text that Git is not known to read the same (git-differs), and with --config a transport that Git does not use (policy).";
 
 /// The version of the program.
 pub const VERSION: &str = "0.40.1";
+
+/// What excludes each other: answers are laid out in one way.
+const LAYOUTS: [&str; 5] = ["json", "sarif", "html", "only", "quiet"];
+/// What is excluded by what is answered in place of lines.
+const OF_LINES: [&str; 4] = ["text", "file", "html", "only"];
+/// What is excluded by a file of submodules.
+const NOT_OF_MODULES: [&str; 3] = ["config", "remotes", "null"];
 
 /// The title of a page that is given none.
 const TITLE: &str = "Git remotes";
@@ -134,17 +145,25 @@ fn command<'a>(alloc: Global) -> Result<Command<'a>, AllocError> {
         .arg(texts(alloc))?
         .arg(files(alloc))?
         .arg(null(alloc))?
-        .arg(config(alloc)?)?
+        .arg(config(alloc))?
         .arg(remotes(alloc)?)?
-        .arg(gitmodules(alloc)?)?
-        .arg(parent_arg(alloc)?)?
-        .arg(json(alloc)?)?
+        .arg(of_modules(gitmodules(alloc))?)?
+        .arg(of_modules(parent_arg(alloc)?)?)?
+        .arg(json(alloc))?
         .arg(sarif(alloc)?)?
-        .arg(html(alloc)?)?
-        .arg(only(alloc)?)?
+        .arg(html(alloc))?
+        .arg(only(alloc))?
         .arg(quiet(alloc))?
         .arg(fail_on_arg(alloc))?
-        .arg(color(alloc))
+        .arg(color(alloc))?
+        .group(ArgGroup::new(alloc, "layout").args(LAYOUTS.as_slice())?)
+}
+
+/// An option that is about a file of submodules.
+fn of_modules<'a>(option: Arg<'a>) -> Result<Arg<'a>, AllocError> {
+    option
+        .conflicts_with_all(OF_LINES.as_slice())?
+        .conflicts_with_all(NOT_OF_MODULES.as_slice())
 }
 
 fn texts<'a>(alloc: Global) -> Arg<'a> {
@@ -172,14 +191,13 @@ fn null<'a>(alloc: Global) -> Arg<'a> {
         .action(ArgAction::SetTrue)
 }
 
-fn config<'a>(alloc: Global) -> Result<Arg<'a>, AllocError> {
+fn config<'a>(alloc: Global) -> Arg<'a> {
     Arg::new(alloc, "config")
         .long("config")
         .value_name("FILE")
         .help(
             "Show what Git does with each line by the output of git config --list -z; - is standard input",
         )
-        .conflicts_with("html")
 }
 
 fn remotes<'a>(alloc: Global) -> Result<Arg<'a>, AllocError> {
@@ -189,26 +207,16 @@ fn remotes<'a>(alloc: Global) -> Result<Arg<'a>, AllocError> {
             "Show what Git fetches from and pushes to for each remote of the configuration, which is that of --config or standard input",
         )
         .action(ArgAction::SetTrue)
-        .conflicts_with("text")?
-        .conflicts_with("file")?
-        .conflicts_with("html")?
-        .conflicts_with("only")
+        .conflicts_with_all(OF_LINES.as_slice())
 }
 
-fn gitmodules<'a>(alloc: Global) -> Result<Arg<'a>, AllocError> {
+fn gitmodules<'a>(alloc: Global) -> Arg<'a> {
     Arg::new(alloc, "gitmodules")
         .long("gitmodules")
         .value_name("FILE")
         .help(
             "Show what is found in each submodule of a file like .gitmodules; - is standard input",
         )
-        .conflicts_with("text")?
-        .conflicts_with("file")?
-        .conflicts_with("null")?
-        .conflicts_with("config")?
-        .conflicts_with("remotes")?
-        .conflicts_with("html")?
-        .conflicts_with("only")
 }
 
 fn parent_arg<'a>(alloc: Global) -> Result<Arg<'a>, AllocError> {
@@ -218,13 +226,6 @@ fn parent_arg<'a>(alloc: Global) -> Result<Arg<'a>, AllocError> {
         .help(
             "With --gitmodules: the URL of the superproject, against which relative URLs are resolved",
         )
-        .conflicts_with("text")?
-        .conflicts_with("file")?
-        .conflicts_with("null")?
-        .conflicts_with("config")?
-        .conflicts_with("remotes")?
-        .conflicts_with("html")?
-        .conflicts_with("only")?
         .requires_arg("gitmodules")
 }
 
@@ -233,23 +234,17 @@ fn sarif<'a>(alloc: Global) -> Result<Arg<'a>, AllocError> {
         .long("sarif")
         .help("Print one log in SARIF 2.1.0 with what is found")
         .action(ArgAction::SetTrue)
-        .conflicts_with("json")?
-        .conflicts_with("html")?
-        .conflicts_with("only")?
-        .conflicts_with("null")?
-        .conflicts_with("quiet")
+        .conflicts_with("null")
 }
 
-fn json<'a>(alloc: Global) -> Result<Arg<'a>, AllocError> {
+fn json<'a>(alloc: Global) -> Arg<'a> {
     Arg::new(alloc, "json")
         .long("json")
         .help("Print one JSON object a line")
         .action(ArgAction::SetTrue)
-        .conflicts_with("only")?
-        .conflicts_with("quiet")
 }
 
-fn html<'a>(alloc: Global) -> Result<Arg<'a>, AllocError> {
+fn html<'a>(alloc: Global) -> Arg<'a> {
     Arg::new(alloc, "html")
         .long("html")
         .value_name("TITLE")
@@ -258,18 +253,14 @@ fn html<'a>(alloc: Global) -> Result<Arg<'a>, AllocError> {
         )
         .num_args(0..=1)
         .default_missing_value(TITLE)
-        .conflicts_with("json")?
-        .conflicts_with("only")?
-        .conflicts_with("quiet")
 }
 
-fn only<'a>(alloc: Global) -> Result<Arg<'a>, AllocError> {
+fn only<'a>(alloc: Global) -> Arg<'a> {
     Arg::new(alloc, "only")
         .long("only")
         .value_name("PART")
         .help("Print this part of each location, or an empty line")
         .value_parser(Part::NAMES.as_slice())
-        .conflicts_with("quiet")
 }
 
 fn quiet<'a>(alloc: Global) -> Arg<'a> {

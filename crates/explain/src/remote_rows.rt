@@ -2,14 +2,14 @@
 //!
 //! It uses what `remotes` found, and has no contract: `scripts/hostile rules` shows its answers.
 
-use crate::line_results;
 use crate::results::Origin;
-use crate::rule_rows::{dangers, route, transport};
 use crate::shown::row;
 use crate::style::Layout;
+use crate::{line_results, rule_rows};
 use explain_audit::kind::names_of;
 use explain_report::remotes::RemoteReport;
 use explain_report::rules::Route;
+use explain_report::rules::rows::{Way, of_route};
 use explain_report::text::line::Quoted;
 use serde::Serialize;
 use std::alloc::{AllocError, Global};
@@ -65,10 +65,10 @@ fn rows(alloc: Global, remote: &RemoteReport) -> Result<String, AllocError> {
         )?;
     }
     for way in &remote.fetch {
-        routed(alloc, &mut out, "fetches", way)?;
+        routed(alloc, &mut out, Way::Fetch, way)?;
     }
     for way in &remote.push {
-        routed(alloc, &mut out, "pushes", way)?;
+        routed(alloc, &mut out, Way::Push, way)?;
     }
     value(&mut out, "vcs", &remote.vcs)?;
     value(&mut out, "proxy", &remote.proxy)?;
@@ -77,21 +77,12 @@ fn rows(alloc: Global, remote: &RemoteReport) -> Result<String, AllocError> {
     Ok(out)
 }
 
-/// The rows of a text that Git goes to: the text, its transport and what was found in it.
-pub fn routed(alloc: Global, out: &mut String, name: &str, way: &Route) -> Result<(), AllocError> {
-    route(out, name, way)?;
-    transport(alloc, out, way, "")?;
-    dangers(out, way)?;
-    if way.found.refused {
-        row(out, "refused", "it is read as no location")?;
-    }
-    if way.found.unsettled {
-        row(out, "unsettled", "its own text is read otherwise")?;
-    }
-    if way.found.git_differs {
-        row(out, "git", "isn't known to read the same in it")?;
-    }
-    Ok(())
+/// The rows of a text that Git goes to.
+pub fn routed(alloc: Global, out: &mut String, way: Way, route: &Route) -> Result<(), AllocError> {
+    let rows = of_route(alloc, way, route)?;
+    let pushed = rule_rows::push(out, rows.as_slice());
+    drop(rows);
+    pushed
 }
 
 /// The row of a value, if there is one.

@@ -15,8 +15,9 @@ use explain_report::git_report::is_of_web;
 use explain_report::location_report::{Report, reading_of_git};
 use explain_report::path::{Components, Field, Home};
 use explain_report::refusal::Refusal;
+use explain_report::rules::rows;
 use explain_report::text::cut::Cut;
-use explain_report::text::line::{Quoted, SeenLine};
+use explain_report::text::line::{Quoted, SeenLine, ShellWord};
 use git_audit::danger::Danger;
 use gix_url::Url;
 use std::alloc::{AllocError, Global};
@@ -84,7 +85,7 @@ fn is_shown(seen: &SeenLine<'_>, text: &str) -> bool {
     seen.input.as_str() == text && !is_long(&seen.cut)
 }
 
-/// A refusal: its heading, the line with the fault marked, and its hints.
+/// A refusal: its heading, the line with the fault marked, what Git reads in it, and its hints.
 pub fn refusal(
     alloc: Global,
     line: Line<'_, '_>,
@@ -95,6 +96,9 @@ pub fn refusal(
     let mut out = String::new(alloc);
     writeln!(out, "line {}: refused: {}", line.number, refusal.words)?;
     refused_line(&mut out, &seen.cut, refusal, line.style.colors)?;
+    if let Some(reads) = &refusal.git_reads {
+        row(&mut out, "git", reads.words.as_str())?;
+    }
     noted(alloc, &mut out, notes)?;
     Ok(out)
 }
@@ -115,7 +119,10 @@ fn refused_line(
 /// The rows of the rules, where a configuration is given, and of the hints.
 fn noted(alloc: Global, out: &mut String, notes: Notes<'_>) -> Result<(), AllocError> {
     if let Some(rules) = notes.rules {
-        rule_rows::rows(alloc, out, rules)?;
+        let rows = rows::of_line(alloc, rules)?;
+        let pushed = rule_rows::push(out, rows.as_slice());
+        drop(rows);
+        pushed?;
     }
     hints(out, notes.hints)
 }
@@ -257,9 +264,9 @@ fn on_files(out: &mut String, report: &Report<'_>) -> Result<(), AllocError> {
     if let Some(home) = &report.home {
         home_folder(out, home)?;
     }
-    match &report.shell_path {
+    match &report.shell_bytes {
         None => Ok(()),
-        Some(path) => quoted(out, "to a shell", path.as_str()),
+        Some(path) => row(out, "to a shell", ShellWord(path.as_bytes())),
     }
 }
 

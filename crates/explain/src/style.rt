@@ -98,7 +98,8 @@ impl Seen {
         .map_err(RunError::Write)
     }
 
-    /// Writes what follows all answers: the page with this title, or the end of a log in SARIF.
+    /// Writes what follows all answers: the page with this title, unless nothing could be read, or the end of a log
+    /// in SARIF.
     pub fn write_end<W: Write>(
         &self,
         style: Style<'_, '_>,
@@ -106,6 +107,7 @@ impl Seen {
         output: &mut W,
     ) -> Result<(), RunError> {
         match style.layout {
+            Layout::Page if self.lacks_file && self.lines == 0 => Ok(()),
             Layout::Page => self.page.write(title, output),
             Layout::Sarif => output
                 .write_all(tail(!self.lacks_file).as_bytes())

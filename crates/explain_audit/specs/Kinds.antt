@@ -10,6 +10,9 @@ abbrev pub findings_of : Kind → Findings
 findings_of (kind.Danger _) = record none { danger = true }
 findings_of (kind.Fsck _) = record none { danger = true }
 findings_of (kind.Risk _) = record none { danger = true }
+findings_of kind.NoPath = record none { refused = true }
+findings_of kind.NoUrl = record none { refused = true }
+findings_of kind.SamePath = record none { danger = true }
 findings_of kind.ParentHost = record none { danger = true }
 findings_of kind.NoParent = record none { unsettled = true }
 findings_of (kind.Unresolved _) = record none { refused = true }

@@ -2,3 +2,4 @@ pub mod Uris
 pub mod Kinds
 pub mod Items
 pub mod Entries
+pub mod Wholes

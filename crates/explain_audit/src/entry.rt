@@ -3,10 +3,11 @@
 //! It uses `submodules` of `git_modules`. Its contract: the reasons are those for which Git's fsck refuses the entry,
 //! and the risks are those that it has.
 
-ghost use Rattle.std.specs.Prelude.{◌≡◌, IfOk};
+ghost use Rattle.std.specs.Prelude.{◌≡◌, IfOk, OnOk};
 ghost use Rattle.std.specs.List.{filter};
 ghost use Rattle.git_modules.specs.SubmoduleRisks.{has_risk};
-ghost use Rattle.explain_audit.specs.Entries.{all_risks};
+ghost use Rattle.explain_audit.specs.Entries.{AddsRefusals, all_risks};
+ghost use Rattle.explain_audit.specs.Items.{kinds};
 
 use crate::item::{Item, add};
 use crate::kind::Kind;
@@ -51,8 +52,10 @@ pub fn audit<'a>(
     Ok(Audited { name, items })
 }
 
-/// Adds what Git's fsck refuses of an entry.
-fn add_refusals(alloc: Global, found: &mut Vec<Item>, entry: &Entry<'_>) -> Result<(), AllocError> {
+/// Adds what Git's fsck refuses of an entry: its name, then its value.
+fn add_refusals(alloc: Global, found: &mut Vec<Item>, entry: &Entry<'_>) -> Result<(), AllocError>
+    ensures { OnOk result (AddsRefusals entry.now (kinds found.old.items) (kinds found.new.items)) }
+{
     let refusals = check(entry);
     if let Some(refused) = refusals.name {
         add(alloc, found, Kind::Fsck(refused))?;

@@ -24,6 +24,12 @@ pub enum Kind {
     Fsck(Refused),
     /// An entry of a submodule is dangerous or broken, though fsck takes it.
     Risk(Risk),
+    /// Git uses no path of a submodule.
+    NoPath,
+    /// Git uses no URL of a submodule.
+    NoUrl,
+    /// Another submodule has the path of a submodule.
+    SamePath,
     /// The URL of a submodule is relative, and leads to another host than that of the superproject.
     ParentHost,
     /// The URL of a submodule is relative, and that of the superproject isn't given.
@@ -51,7 +57,7 @@ pub enum Level {
 
 impl Kind {
     /// All kinds, in the order of their rules. Git's reasons for not resolving a URL are one.
-    pub const ALL: [Kind; 27] = [
+    pub const ALL: [Kind; 30] = [
         Kind::Danger(Danger::Command),
         Kind::Danger(Danger::OptionLikeUser),
         Kind::Danger(Danger::OptionLikeHost),
@@ -72,6 +78,9 @@ impl Kind {
         Kind::Risk(Risk::OptionAsUpdate),
         Kind::Risk(Risk::ControlCharacter),
         Kind::Risk(Risk::NoValue),
+        Kind::NoPath,
+        Kind::NoUrl,
+        Kind::SamePath,
         Kind::ParentHost,
         Kind::NoParent,
         Kind::Unresolved(ResolveError::NothingLeft),
@@ -87,9 +96,9 @@ impl Kind {
     {
         let mut found = Findings::none();
         match self {
-            Kind::Danger(_) | Kind::Fsck(_) | Kind::Risk(_) | Kind::ParentHost => {
-                found.danger = true
-            }
+            Kind::Danger(_) | Kind::Fsck(_) | Kind::Risk(_) => found.danger = true,
+            Kind::SamePath | Kind::ParentHost => found.danger = true,
+            Kind::NoPath | Kind::NoUrl => found.refused = true,
             Kind::NoLocation | Kind::Unresolved(_) => found.refused = true,
             Kind::Unsettled | Kind::NoParent => found.unsettled = true,
             Kind::GitDiffers => found.git_differs = true,
@@ -101,8 +110,9 @@ impl Kind {
     /// The name of what a run may fail for where this is found.
     pub fn class(self) -> &'static str {
         match self {
-            Kind::Danger(_) | Kind::Fsck(_) | Kind::Risk(_) | Kind::ParentHost => "danger",
-            Kind::NoLocation | Kind::Unresolved(_) => "refused",
+            Kind::Danger(_) | Kind::Fsck(_) | Kind::Risk(_) => "danger",
+            Kind::SamePath | Kind::ParentHost => "danger",
+            Kind::NoPath | Kind::NoUrl | Kind::NoLocation | Kind::Unresolved(_) => "refused",
             Kind::Unsettled | Kind::NoParent => "unsettled",
             Kind::GitDiffers => "git-differs",
             Kind::Policy => "policy",
@@ -115,6 +125,9 @@ impl Kind {
             Kind::Danger(danger) => danger.name(),
             Kind::Fsck(refused) => refused.as_str(),
             Kind::Risk(risk) => risk_name(risk),
+            Kind::NoPath => "no_path",
+            Kind::NoUrl => "no_url",
+            Kind::SamePath => "same_path",
             Kind::ParentHost => "parent_host",
             Kind::NoParent => "no_parent",
             Kind::Unresolved(_) => "unresolved",
@@ -135,7 +148,8 @@ impl Kind {
     /// How urgent it is.
     pub fn level(self) -> Level {
         match self {
-            Kind::Danger(_) | Kind::Fsck(_) | Kind::Risk(_) | Kind::ParentHost => Level::Error,
+            Kind::Danger(_) | Kind::Fsck(_) | Kind::Risk(_) => Level::Error,
+            Kind::NoPath | Kind::NoUrl | Kind::SamePath | Kind::ParentHost => Level::Error,
             Kind::NoLocation | Kind::Unresolved(_) => Level::Error,
             Kind::Unsettled | Kind::NoParent | Kind::Policy => Level::Warning,
             Kind::GitDiffers => Level::Note,
@@ -158,6 +172,9 @@ impl Kind {
     /// The words of a kind that this crate finds.
     fn own_words(self) -> &'static str {
         match self {
+            Kind::NoPath => "Git has no path for the submodule",
+            Kind::NoUrl => "Git has no URL for the submodule",
+            Kind::SamePath => "another submodule has the same path",
             Kind::ParentHost => "it leads to another host than that of the superproject",
             Kind::NoParent => "it is relative: --parent says what it is resolved against",
             Kind::NoLocation => "it is read as no location",

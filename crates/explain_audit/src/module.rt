@@ -1,17 +1,18 @@
 //! What is found in the submodules of a file, or of a configuration, each with what Git uses of it.
 //!
-//! It uses `config_file` and `submodules` of `git_modules`, and `entry` for each entry. Its contract: what a run
-//! fails for because of a submodule is all that was found in it.
+//! It uses `config_file` and `submodules` of `git_modules`, `entry` for each entry, and `whole` for each submodule of a
+//! file. Its contract: what a run fails for because of a submodule is all that was found in it.
 
 ghost use Rattle.std.specs.Prelude.{◌≡◌, OnOk};
 ghost use Rattle.explain_report.specs.Findings.{union};
 ghost use Rattle.explain_audit.specs.Kinds.{findings_of};
 
 use crate::entry::{self, Audited, Reading};
-use crate::item::Item;
+use crate::item::{self, Item};
 use crate::kind::{Kind, names_of};
 use crate::place::columns_at;
 use crate::url::{Parent, resolved};
+use crate::whole::{index_of, kinds_of};
 use bstr::BString;
 use explain_report::finding::Findings;
 use explain_report::rules::Route;
@@ -20,6 +21,7 @@ use explain_report::rules::setting::{Setting, shown_part};
 use explain_report::text::line::{input, pieces_of};
 use git_modules::config_file::flaw::FileError;
 use git_modules::config_file::{FileEntry, entries};
+use git_modules::submodules::defect::{Defects, defects_of};
 use git_modules::submodules::{Submodule, Used, submodules};
 use git_rules::config::Entry;
 use serde::Serialize;
@@ -94,11 +96,14 @@ fn reports_of(
     parent: Option<Parent<'_>>,
 ) -> Result<Vec<ModuleReport>, AllocError> {
     let plain = plain(alloc, found)?;
-    let mut audit = Audit::of(alloc, plain.as_slice(), parent)?;
-    for (it, alone) in found.iter().zip(plain.chunks(1)) {
+    let listed = submodules(alloc, plain.as_slice())?;
+    let mut audit = Audit::of(alloc, listed.as_slice(), parent)?;
+    for (index, (it, alone)) in found.iter().zip(plain.chunks(1)).enumerate() {
         let audited = entry::audit(alloc, &it.entry, alone, Reading::File(parent))?;
+        audit.note_first(audited.name, index)?;
         audit.add(alloc, audited, &it.entry, Some((text, it.line)))?;
     }
+    audit.add_defects(alloc, text, found, listed.as_slice())?;
     Ok(audit.reports)
 }
 
@@ -118,12 +123,12 @@ pub fn configured(
     entries: &[Entry<'_>],
     config: &Config<'_>,
 ) -> Result<Vec<ModuleReport>, AllocError> {
-    let mut audit = Audit::of(alloc, entries, None)?;
+    let found = submodules(alloc, entries)?;
+    let mut audit = Audit::of(alloc, found.as_slice(), None)?;
     for (it, alone) in entries.iter().zip(entries.chunks(1)) {
         let audited = entry::audit(alloc, it, alone, Reading::Configuration)?;
         audit.add(alloc, audited, it, None)?;
     }
-    let found = submodules(alloc, entries)?;
     for (submodule, report) in found.iter().zip(audit.reports.iter_mut()) {
         if let Some(url) = value_of(submodule.url) {
             report.fetch_from(alloc, config, url)?;
@@ -132,27 +137,63 @@ pub fn configured(
     Ok(audit.reports)
 }
 
-/// What was found so far, and the places of the reports by their names.
+/// What was found so far, the places of the reports by their names, and the indices of the first entries of as many
+/// submodules as were noted.
 #[derive(Drop)]
 struct Audit<'a> {
     reports: Vec<ModuleReport>,
     places: BTreeMap<&'a [u8], usize>,
+    firsts: Vec<usize>,
 }
 
 impl<'a> Audit<'a> {
     /// The submodules, without what is found in them.
     fn of(
         alloc: Global,
-        entries: &[Entry<'a>],
+        listed: &[Submodule<'a>],
         parent: Option<Parent<'_>>,
     ) -> Result<Audit<'a>, AllocError> {
         let mut reports = Vec::new(alloc);
         let mut places = BTreeMap::new(alloc);
-        for submodule in &submodules(alloc, entries)? {
+        for submodule in listed {
             places.insert(submodule.name, reports.len())?;
             reports.push(ModuleReport::of(alloc, submodule, parent)?)?;
         }
-        Ok(Audit { reports, places })
+        let firsts = Vec::new(alloc);
+        Ok(Audit {
+            reports,
+            places,
+            firsts,
+        })
+    }
+
+    /// Notes the index of an entry of a submodule, if it is the first one. Submodules are in the order of these.
+    fn note_first(&mut self, name: Option<&'a [u8]>, index: usize) -> Result<(), AllocError> {
+        let Some(name) = name else {
+            return Ok(());
+        };
+        if self.places.get(name).copied() == Some(self.firsts.len()) {
+            self.firsts.push(index)?;
+        }
+        Ok(())
+    }
+
+    /// Adds what is found in each of the submodules of a text as a whole.
+    fn add_defects(
+        &mut self,
+        alloc: Global,
+        text: &[u8],
+        found: &[FileEntry<'a>],
+        listed: &[Submodule<'a>],
+    ) -> Result<(), AllocError> {
+        let all = defects_of(alloc, listed)?;
+        for (place, (submodule, defects)) in listed.iter().zip(all.iter()).enumerate() {
+            let first = self.firsts.get(place).copied().unwrap_or(0);
+            if let Some(report) = self.reports.get_mut(place) {
+                report.add_defects(alloc, text, found, submodule, *defects, first)?;
+            }
+        }
+        Ok(())
     }
 
     /// Adds what was found at an entry, which is in this line of a text if it is of one.
@@ -241,6 +282,29 @@ impl ModuleReport {
                 entry: Setting::of(alloc, entry)?,
                 kind,
             })?;
+        }
+        Ok(())
+    }
+
+    /// Adds what is found in the submodule as a whole, of which this is the index of the first entry.
+    fn add_defects(
+        &mut self,
+        alloc: Global,
+        text: &[u8],
+        found: &[FileEntry<'_>],
+        submodule: &Submodule<'_>,
+        defects: Defects,
+        first: usize,
+    ) -> Result<(), AllocError> {
+        for kind in &kinds_of(alloc, defects)? {
+            match found.get(index_of(*kind, submodule, first)) {
+                Some(it) => {
+                    let mut items = Vec::new(alloc);
+                    item::add(alloc, &mut items, *kind)?;
+                    self.add(alloc, &it.entry, Some((text, it.line)), items)?;
+                }
+                None => self.note(*kind)?,
+            }
         }
         Ok(())
     }

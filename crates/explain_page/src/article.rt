@@ -6,13 +6,15 @@
 //! nothing but text is put in is `markup`'s.
 
 use crate::markup::Markup;
-use crate::{cuts, pieces, readers};
+use crate::{cuts, pieces, readers, rules};
 use explain_report::advice::danger::push_words;
 use explain_report::advice::hint::Hint;
+use explain_report::finding::Findings;
 use explain_report::form::Form;
 use explain_report::location_report::{Arguments, Report, Safety};
 use explain_report::path::{Components, Field, Home};
 use explain_report::refusal::Refusal;
+use explain_report::rules::Rules;
 use explain_report::text::line::SeenLine;
 use git_audit::danger::Danger;
 use gix_url::Url;
@@ -23,8 +25,24 @@ use std::alloc::{AllocError, Global};
 pub struct Notes<'b> {
     /// What is dangerous in the line, and in the location that is read in it.
     pub dangers: &'b [Danger],
+    /// What was found in the line, and in the texts that it is rewritten to.
+    pub found: Findings,
     /// What may be wrong with the line.
     pub hints: &'b [Hint],
+    /// What Git does with it by the configuration, if one is given.
+    pub rules: Option<&'b Rules>,
+}
+
+impl<'b> Notes<'b> {
+    /// These notes with hints.
+    pub fn with_hints(self, hints: &'b [Hint]) -> Notes<'b> {
+        Notes {
+            dangers: self.dangers,
+            found: self.found,
+            hints,
+            rules: self.rules,
+        }
+    }
 }
 
 /// Appends the article of a location.
@@ -39,7 +57,7 @@ pub fn location(
 ) -> Result<(), AllocError> {
     let mut words = String::new(alloc);
     let written = push_words(&mut words, notes.dangers);
-    let headed = heading(out, number, report, words.as_str());
+    let headed = heading(out, number, report, words.as_str(), notes.found.danger);
     drop(words);
     written?;
     headed?;
@@ -55,6 +73,7 @@ pub fn location(
     cuts::reread(out, report)?;
     readers::table(out, url, report)?;
     cuts::with_git(alloc, out, report)?;
+    rules::rows(alloc, out, notes.rules)?;
     hints(out, notes.hints)?;
     out.push_template("</article>\n")
 }
@@ -65,6 +84,7 @@ fn heading(
     number: u64,
     report: &Report<'_>,
     dangers: &str,
+    is_dangerous: bool,
 ) -> Result<(), AllocError> {
     out.push_template("<article aria-labelledby=l")?;
     out.push_value(number)?;
@@ -80,10 +100,7 @@ fn heading(
         (" data-v=unsettled", ", not settled")
     };
     out.push_template(verdict)?;
-    if !dangers.is_empty() {
-        out.push_template(" data-d=1")?;
-    }
-    title(out, number)?;
+    title(out, number, is_dangerous)?;
     out.push_value(report.form)?;
     out.push_template(words)?;
     if !dangers.is_empty() {
@@ -95,7 +112,10 @@ fn heading(
 }
 
 /// Appends the end of the article's tag, and its heading as far as the number.
-fn title(out: &mut Markup, number: u64) -> Result<(), AllocError> {
+fn title(out: &mut Markup, number: u64, is_dangerous: bool) -> Result<(), AllocError> {
+    if is_dangerous {
+        out.push_template(" data-d=1")?;
+    }
     out.push_template("><h3 id=l")?;
     out.push_value(number)?;
     out.push_template(">Line ")?;
@@ -293,16 +313,17 @@ fn word(out: &mut Markup, row: &'static str, word: Option<&'static str>) -> Resu
 
 /// Appends the article of a line that is refused.
 pub fn refusal(
+    alloc: Global,
     out: &mut Markup,
     line: u64,
     refusal: &Refusal,
     seen: &SeenLine<'_>,
-    found: &[Hint],
+    notes: Notes<'_>,
 ) -> Result<(), AllocError> {
     out.push_template("<article aria-labelledby=l")?;
     out.push_value(line)?;
     out.push_template(" data-v=refused")?;
-    title(out, line)?;
+    title(out, line, notes.found.danger)?;
     out.push_template("refused</h3>")?;
     pieces::refused(out, seen, refusal)?;
     out.push_template("<p class=r data-m=refusal.words>")?;
@@ -314,8 +335,12 @@ pub fn refusal(
     word(out, "<dt>reason<dd data-m=refusal.reason>", refusal.reason)?;
     number(out, "<dt>at byte<dd data-m=refusal.at>", refusal.at)?;
     number(out, "<dt>bytes<dd data-m=refusal.len>", refusal.len)?;
+    if let Some(reads) = &refusal.git_reads {
+        readers::of_refused(out, reads)?;
+    }
     out.push_template("</dl>")?;
-    hints(out, found)?;
+    rules::rows(alloc, out, notes.rules)?;
+    hints(out, notes.hints)?;
     out.push_template("</article>\n")
 }
 

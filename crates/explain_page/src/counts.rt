@@ -85,8 +85,11 @@ impl Counts {
     }
 
     /// Counts a line that is refused.
-    pub fn add_refused(&mut self) {
+    pub fn add_refused(&mut self, is_dangerous: bool) {
         bump(&mut self.refused);
+        if is_dangerous {
+            bump(&mut self.dangerous);
+        }
         bump(&mut self.without_host);
     }
 

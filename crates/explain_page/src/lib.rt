@@ -14,4 +14,5 @@ pub mod page;
 mod pieces;
 mod rank;
 mod readers;
+mod rules;
 mod template;

@@ -15,8 +15,10 @@ use explain_report::finding::Findings;
 use explain_report::location_report::Report;
 use explain_report::memory::both;
 use explain_report::refusal::Refusal;
+use explain_report::rules::config::Config;
+use explain_report::rules::{Rules, found_by};
 use explain_report::text::line::SeenLine;
-use git_audit::danger::{Danger, dangers};
+use git_audit::danger::dangers;
 use gix_url::lines::RunError;
 use gix_url::parse::parse;
 use gix_url::{Error, Url};
@@ -35,10 +37,13 @@ pub struct Page {
     commands: Markup,
     misread: Markup,
     secrets: Markup,
+    rewritten: Markup,
+    policy: Markup,
     other_hosts: Markup,
     refused: Markup,
     unsettled: Markup,
     readers: Markup,
+    otherwise: Markup,
     plain: Markup,
 }
 
@@ -52,21 +57,30 @@ impl Page {
             commands: Markup::new(alloc),
             misread: Markup::new(alloc),
             secrets: Markup::new(alloc),
+            rewritten: Markup::new(alloc),
+            policy: Markup::new(alloc),
             other_hosts: Markup::new(alloc),
             refused: Markup::new(alloc),
             unsettled: Markup::new(alloc),
             readers: Markup::new(alloc),
+            otherwise: Markup::new(alloc),
             plain: Markup::new(alloc),
         }
     }
 
-    /// Adds a line, which has this number from 1. Returns what is found in it.
-    pub fn add(&mut self, number: u64, line: &[u8]) -> Result<Findings, AllocError> {
+    /// Adds a line, which has this number from 1, with what Git does with it by the configuration, if one is given.
+    /// Returns what is found in it.
+    pub fn add(
+        &mut self,
+        number: u64,
+        line: &[u8],
+        config: Option<&Config<'_>>,
+    ) -> Result<Findings, AllocError> {
         let read = parse(self.alloc, BStr::new(line));
         let added = match &read {
-            Ok(url) => self.add_location(number, line, url),
+            Ok(url) => self.add_location(number, line, url, config),
             Err(Error::Memory) => Err(AllocError),
-            Err(error) => self.add_refused(number, line, error),
+            Err(error) => self.add_error(number, line, error, config),
         };
         drop(read);
         added
@@ -78,39 +92,45 @@ impl Page {
         number: u64,
         line: &[u8],
         url: &Url,
+        config: Option<&Config<'_>>,
     ) -> Result<Findings, AllocError> {
         let found = dangers(self.alloc, line, &url.as_ref())?;
-        let findings = Findings::of_location(url, found.as_slice());
-        let added = self.add_dangerous(number, line, url, found.as_slice());
+        let (found, rules) = both(found, Rules::of_given(self.alloc, config, line, Some(url)))?;
+        let findings = Findings::of_location(url, found.as_slice()).union(found_by(rules.as_ref()));
+        let notes = Notes {
+            dangers: found.as_slice(),
+            found: findings,
+            hints: &[],
+            rules: rules.as_ref(),
+        };
+        let added = self.add_read(number, line, url, notes);
+        drop(rules);
         drop(found);
         added?;
         Ok(findings)
     }
 
-    /// Adds a line that is read as a location with these dangers.
-    fn add_dangerous(
+    /// Adds a line that is read as a location, without its hints so far.
+    fn add_read(
         &mut self,
         number: u64,
         line: &[u8],
         url: &Url,
-        dangers: &[Danger],
+        notes: Notes<'_>,
     ) -> Result<(), AllocError> {
         let alloc = self.alloc;
         let seen = SeenLine::of(alloc, line)?;
         let (seen, report) = both(seen, Report::of(alloc, url))?;
         let found = hint::find(alloc, line, Some(Reading::of(url, &report)));
         let ((seen, report), found) = both((seen, report), found)?;
-        let out = self.of_rank(Rank::of(dangers, &report));
+        let out = self.of_rank(Rank::of(notes.dangers, &report, notes.rules));
         let before = out.as_bytes().len();
-        let notes = Notes {
-            dangers,
-            hints: found.as_slice(),
-        };
-        let written = article::location(alloc, out, number, url, &report, &seen, notes);
+        let hinted = notes.with_hints(found.as_slice());
+        let written = article::location(alloc, out, number, url, &report, &seen, hinted);
         let grouped = group(out, before);
         drop(found);
         drop(seen);
-        let counted = self.counts.add(alloc, &report, !dangers.is_empty());
+        let counted = self.counts.add(alloc, &report, notes.found.danger);
         drop(report);
         written?;
         counted?;
@@ -118,28 +138,51 @@ impl Page {
     }
 
     /// Adds a line that is refused.
+    fn add_error(
+        &mut self,
+        number: u64,
+        line: &[u8],
+        error: &Error,
+        config: Option<&Config<'_>>,
+    ) -> Result<Findings, AllocError> {
+        let rules = Rules::of_given(self.alloc, config, line, None)?;
+        let findings = Findings::of_refused().union(found_by(rules.as_ref()));
+        let notes = Notes {
+            dangers: &[],
+            found: findings,
+            hints: &[],
+            rules: rules.as_ref(),
+        };
+        let added = self.add_refused(number, line, error, notes);
+        drop(rules);
+        added?;
+        Ok(findings)
+    }
+
+    /// Adds a line that is refused, without its hints so far.
     fn add_refused(
         &mut self,
         number: u64,
         line: &[u8],
         error: &Error,
-    ) -> Result<Findings, AllocError> {
+        notes: Notes<'_>,
+    ) -> Result<(), AllocError> {
         let alloc = self.alloc;
         let seen = SeenLine::of(alloc, line)?;
-        let (seen, refusal) = both(seen, Refusal::of_line(alloc, error))?;
+        let (seen, refusal) = both(seen, Refusal::with_git(alloc, line, error))?;
         let found = hint::find(alloc, line, None);
         let ((seen, refusal), found) = both((seen, refusal), found)?;
-        let out = &mut self.refused;
+        let out = self.of_rank(Rank::of_refused(notes.rules));
         let before = out.as_bytes().len();
-        let added = article::refusal(out, number, &refusal, &seen, found.as_slice());
+        let hinted = notes.with_hints(found.as_slice());
+        let added = article::refusal(alloc, out, number, &refusal, &seen, hinted);
         let grouped = group(out, before);
         drop(found);
         drop(refusal);
         drop(seen);
-        self.counts.add_refused();
+        self.counts.add_refused(notes.found.danger);
         added?;
-        grouped?;
-        Ok(Findings::of_refused())
+        grouped
     }
 
     /// The articles of a rank, to be added to.
@@ -149,10 +192,13 @@ impl Page {
             Rank::Command => &mut self.commands,
             Rank::Misread => &mut self.misread,
             Rank::Secret => &mut self.secrets,
+            Rank::Rewritten => &mut self.rewritten,
+            Rank::Policy => &mut self.policy,
             Rank::OtherHost => &mut self.other_hosts,
             Rank::Refused => &mut self.refused,
             Rank::Unsettled => &mut self.unsettled,
             Rank::Readers => &mut self.readers,
+            Rank::Otherwise => &mut self.otherwise,
             Rank::Plain => &mut self.plain,
         }
     }
@@ -164,10 +210,13 @@ impl Page {
             Rank::Command => &self.commands,
             Rank::Misread => &self.misread,
             Rank::Secret => &self.secrets,
+            Rank::Rewritten => &self.rewritten,
+            Rank::Policy => &self.policy,
             Rank::OtherHost => &self.other_hosts,
             Rank::Refused => &self.refused,
             Rank::Unsettled => &self.unsettled,
             Rank::Readers => &self.readers,
+            Rank::Otherwise => &self.otherwise,
             Rank::Plain => &self.plain,
         }
     }

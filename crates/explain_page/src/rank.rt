@@ -1,8 +1,9 @@
 //! How urgently a line should be looked at: the order of the page.
 //!
-//! It uses `danger` of `git_audit` and `location_report`, and has no contract but that it can't abort.
+//! It uses `danger` of `git_audit`, `location_report` and `rules`, and has no contract but that it can't abort.
 
 use explain_report::location_report::Report;
+use explain_report::rules::{Rules, found_by};
 use git_audit::danger::Danger;
 
 /// A rank, the most urgent first.
@@ -16,6 +17,10 @@ pub enum Rank {
     Misread,
     /// It holds a password, or what may be a token.
     Secret,
+    /// A text that it is rewritten to has a danger.
+    Rewritten,
+    /// Git has no transport for it by the configuration, or doesn't use that.
+    Policy,
     /// Its own text is read with another host.
     OtherHost,
     Refused,
@@ -23,25 +28,30 @@ pub enum Rank {
     Unsettled,
     /// It isn't known that Git and curl read the same.
     Readers,
+    /// A text that it is rewritten to is refused or isn't settled, or it isn't known that Git reads the same in it.
+    Otherwise,
     Plain,
 }
 
 impl Rank {
     /// All ranks, in order.
-    pub const ALL: [Rank; 9] = [
+    pub const ALL: [Rank; 12] = [
         Rank::Option,
         Rank::Command,
         Rank::Misread,
         Rank::Secret,
+        Rank::Rewritten,
+        Rank::Policy,
         Rank::OtherHost,
         Rank::Refused,
         Rank::Unsettled,
         Rank::Readers,
+        Rank::Otherwise,
         Rank::Plain,
     ];
 
-    /// The rank of a location.
-    pub fn of(dangers: &[Danger], report: &Report<'_>) -> Rank {
+    /// The rank of a location, with what Git does with it by the configuration, if one is given.
+    pub fn of(dangers: &[Danger], report: &Report<'_>, rules: Option<&Rules>) -> Rank {
         let has = |danger: Danger| dangers.contains(&danger);
         if has(Danger::OptionLikeUser)
             || has(Danger::OptionLikeHost)
@@ -54,14 +64,35 @@ impl Rank {
             Rank::Misread
         } else if has(Danger::Password) || has(Danger::Token) {
             Rank::Secret
+        } else if let Some(rank) = Rank::by_rules(rules) {
+            rank
         } else if reads_other_host(report) {
             Rank::OtherHost
         } else if !report.settled {
             Rank::Unsettled
         } else if report.git_reads.is_some() {
             Rank::Readers
+        } else if is_read_otherwise(rules) {
+            Rank::Otherwise
         } else {
             Rank::Plain
+        }
+    }
+
+    /// The rank of a line that is refused.
+    pub fn of_refused(rules: Option<&Rules>) -> Rank {
+        Rank::by_rules(rules).unwrap_or(Rank::Refused)
+    }
+
+    /// The rank that a line has by the configuration, where that makes it urgent.
+    fn by_rules(rules: Option<&Rules>) -> Option<Rank> {
+        let found = found_by(rules);
+        if found.danger {
+            Some(Rank::Rewritten)
+        } else if found.policy {
+            Some(Rank::Policy)
+        } else {
+            None
         }
     }
 
@@ -72,13 +103,27 @@ impl Rank {
             Rank::Command => "A command",
             Rank::Misread => "A host or a part that a program reads otherwise",
             Rank::Secret => "A password, or what may be a token",
+            Rank::Rewritten => "A danger, once the configuration has rewritten it",
+            Rank::Policy => "No transport that Git uses by the configuration",
             Rank::OtherHost => "Another host, once it is written and read again",
             Rank::Refused => "Refused",
             Rank::Unsettled => "Another location, once it is written and read again",
             Rank::Readers => "Git or curl may read another place",
+            Rank::Otherwise => "Refused, or another place, once the configuration has rewritten it",
             Rank::Plain => "Nothing unusual",
         }
     }
+}
+
+/// Whether something else than a danger is found in a text that the line is rewritten to.
+fn is_read_otherwise(rules: Option<&Rules>) -> bool {
+    let Some(rules) = rules else {
+        return false;
+    };
+    [&rules.fetch, &rules.push].iter().any(|route| {
+        let found = route.found;
+        route.rewritten && (found.refused || found.unsettled || found.git_differs)
+    })
 }
 
 /// Whether the own text of the location is read with another host.

@@ -58,6 +58,49 @@ pub fn git(out: &mut Markup, url: &Url, report: &Report<'_>) -> Result<(), Alloc
     }
 }
 
+/// Appends the rows of what Git reads in a line that is refused, in words and by its parts.
+pub fn of_refused(out: &mut Markup, reads: &GitReads) -> Result<(), AllocError> {
+    out.push_template("<dt>Git<dd data-m=refusal.git>")?;
+    out.push_text(reads.words.as_str())?;
+    if let Some(why) = reads.why {
+        out.push_template("<dt>Git reads no place<dd data-m=refusal.git_reads.why>")?;
+        return out.push_template(why);
+    }
+    let protocol = "<dt>Git’s protocol<dd data-m=refusal.git_reads.protocol>";
+    out.push_row(protocol, reads.protocol.unwrap_or("").as_bytes())?;
+    refused_part(
+        out,
+        "<dt>Git’s user<dd data-m=refusal.git_reads.user>",
+        &reads.user,
+    )?;
+    refused_part(
+        out,
+        "<dt>Git’s host<dd data-m=refusal.git_reads.host>",
+        &reads.host,
+    )?;
+    if let Some(port) = reads.port {
+        out.push_template("<dt>Git’s port<dd data-m=refusal.git_reads.port>")?;
+        out.push_value(port)?;
+    }
+    refused_part(
+        out,
+        "<dt>Git’s path<dd data-m=refusal.git_reads.path>",
+        &reads.path,
+    )
+}
+
+/// Appends the row of a part that Git reads in a line that is refused, if there is one.
+fn refused_part(
+    out: &mut Markup,
+    row: &'static str,
+    part: &Option<String>,
+) -> Result<(), AllocError> {
+    match part {
+        None => Ok(()),
+        Some(part) => out.push_row(row, part.as_bytes()),
+    }
+}
+
 /// Appends the table of the readings, if one is another than the location or may be.
 pub fn table(out: &mut Markup, url: &Url, report: &Report<'_>) -> Result<(), AllocError> {
     let readers = [

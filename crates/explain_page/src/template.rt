@@ -26,7 +26,7 @@ pub const PAGE: [Part; 19] = [
         r##"<!DOCTYPE html>
 <html lang="en">
 <meta charset="utf-8">
-<meta http-equiv="Content-Security-Policy" content="default-src 'none'; style-src 'sha256-MyycO7kcTuxlZ5E50F6ZuZqnzDJ94SDUFAdaJ11bG3o='; script-src 'sha256-s0ztrpq2N07TFiro+TitHrvs1jjYqCo6sFnd+OioHY8='; base-uri 'none'; form-action 'none'">
+<meta http-equiv="Content-Security-Policy" content="default-src 'none'; style-src 'sha256-PTv1+t400FBQzofRwQnmFdhLfFrodJUYQzyTEi1ppd8='; script-src 'sha256-s0ztrpq2N07TFiro+TitHrvs1jjYqCo6sFnd+OioHY8='; base-uri 'none'; form-action 'none'">
 <meta name="viewport" content="width=device-width, initial-scale=1">
 <meta name="color-scheme" content="light dark">
 <meta name="generator" content="explain --html">
@@ -99,6 +99,7 @@ article[data-d] { border-left: .4rem solid var(--alarm); }
 article[data-v=refused] { border-left: .4rem double var(--dim); }
 h3 a { color: inherit; }
 strong, .r { color: var(--alarm); font-weight: 600; }
+[data-m$=dangers], [data-m$=no_transport], [data-m$=permission]:not([data-v=allowed]) { color: var(--alarm); }
 .t {
   font: 1rem/1.4 ui-monospace, monospace; white-space: break-spaces; unicode-bidi: isolate; direction: ltr;
   max-height: 24rem; overflow-y: auto; margin: .5rem 0; background: var(--paper); border-radius: .25rem; padding: .35rem .5rem;
@@ -121,6 +122,7 @@ q::after { content: "\201d"; }
 q:empty::after { content: none; }
 dd[data-m]:empty::before, td[data-m]:empty::before, q:empty::before { content: "(empty)"; color: var(--dim); font-style: italic; }
 dd b, td b { font-weight: 600; }
+dd b, dd .m { unicode-bidi: isolate; }
 .m { font-family: ui-monospace, monospace; font-size: .95rem; }
 .x { color: var(--dim); font-style: italic; }
 article table { border-collapse: collapse; width: 100%; margin: .5rem 0; table-layout: fixed; }

@@ -5,3 +5,4 @@ pub mod Refusals
 pub mod Secrets
 pub mod Rules
 pub mod Findings
+pub mod Hints

@@ -1,5 +1,9 @@
 //! What people are told beside what is reported of a line: [`danger`] says what to look out for before a
-//! location is used, and [`hint`] finds what people write by mistake.
+//! location is used, and [`hint`] finds what people write by mistake, by the conditions of `slip`, `host_name`
+//! and `web_page`.
 
 pub mod danger;
 pub mod hint;
+mod host_name;
+mod slip;
+mod web_page;

@@ -89,7 +89,7 @@ impl Reread {
     {
         let difference = first_difference(alloc, url, other)?;
         Ok(Reread {
-            words: words(alloc, &difference)?,
+            words: words(alloc, url, &difference)?,
             difference,
             refusal: None,
         })
@@ -231,17 +231,34 @@ fn flag_text(url: &Url) -> &'static str
 }
 
 /// The difference in words.
-fn words(alloc: Global, difference: &Option<Difference>) -> Result<String, AllocError> {
+fn words(alloc: Global, url: &Url, difference: &Option<Difference>) -> Result<String, AllocError> {
     let Some(it) = difference else {
-        return String::from_str(
-            alloc,
-            "its own text is read as the same fields, which no promise covers",
-        );
+        return String::from_str(alloc, same_fields(url));
     };
     let mut words = String::from_str(alloc, "its own text is read with ")?;
     let written = push_change(&mut words, it.field, quoted(&it.here), quoted(&it.instead));
     let (words, ()) = both(words, written)?;
     Ok(words)
+}
+
+/// Why the location isn't settled, though its own text is read as the same fields.
+fn same_fields(url: &Url) -> &'static str {
+    if has_mark(url.host()) {
+        "its own text is read as the same fields, which no promise covers: the host has a colon or a bracket"
+    } else if has_mark(url.user()) {
+        "its own text is read as the same fields, which no promise covers: the user has a colon or a bracket"
+    } else {
+        "its own text is read as the same fields, which no promise covers"
+    }
+}
+
+/// Whether a part has a colon or a bracket.
+fn has_mark(part: Option<&str>) -> bool {
+    part.is_some_and(|part| {
+        part.as_bytes()
+            .iter()
+            .any(|byte| matches!(byte, b':' | b'[' | b']'))
+    })
 }
 
 /// The text in quotes.

@@ -1,18 +1,24 @@
-//! What Git reads in the own text of a location, where the library doesn't promise that it is the same.
+//! What Git reads in the own text of a location, where the library doesn't promise that it is the same, and
+//! in a line that is refused.
 //!
-//! It uses the public calls of `gix_url`, and `web` for words on HTTP. Its contract: no field is reported of a
-//! location that has a password, which Git reads as a part of another one. The stored run shows what it
-//! reports, and `scripts/hostile golden` its words.
+//! It uses the public calls of `gix_url`, `web` for words on HTTP, and `secret`. Its contract: no field is
+//! reported of a location that has a password, which Git reads as a part of another one, and none of a line
+//! that is refused and may hold one. The stored run shows what it reports, and `scripts/hostile golden` its
+//! words.
 
-ghost use Rattle.std.specs.Prelude.{◌≡◌, IfOk, IfSome, IsSome, None};
+ghost use Rattle.std.specs.Prelude.{◌≡◌, IfOk, IfSome, IsSome, None, Some};
+ghost use Rattle.explain_report.specs.Reports.{WithholdsSecret};
+ghost use Rattle.explain_report.specs.Secrets.{IsBehindScheme};
 
 use crate::change::push_change;
 use crate::facts::Facts;
 use crate::memory::both;
 use crate::text::line::Quoted;
+use crate::text::secret::around_secret;
 use crate::text::{lossy, lossy_part};
 use crate::web;
 use bstr::ByteSlice;
+use git_syntax::bytes::cut_at_mark;
 use gix_url::transport::{self, Buffers, GitPlace, Protocol, Unread};
 use gix_url::{Scheme, Url, WebCondition};
 use serde::Serialize;
@@ -74,7 +80,8 @@ impl GitReads {
     {
         if is_of_web(url) {
             let unmet = unmet_condition(url, is_settled);
-            return in_words(alloc, web::words(unmet), web::name(unmet));
+            let words = web::words(unmet, url.host().unwrap_or(""));
+            return in_words(alloc, words, web::name(unmet));
         }
         let mut buffers = Buffers::new(alloc);
         let report = GitReads::by_transport(alloc, url, text, &mut buffers);
@@ -123,6 +130,107 @@ impl GitReads {
     }
 }
 
+impl GitReads {
+    /// What Git reads in a line that is refused: nothing is reported of one that it hands to a remote helper.
+    pub(crate) fn in_refused(alloc: Global, line: &[u8]) -> Result<Option<GitReads>, AllocError>
+        ensures { IfOk result (WithholdsSecret line.now) }
+    {
+        let mut buffers = Buffers::new(alloc);
+        let report = match transport::reading(line, &mut buffers) {
+            Ok(found) => GitReads::of_refused(alloc, line, &found),
+            Err(Unread::RemoteHelper) => return Ok(None),
+            Err(why) => unread_refused(alloc, why),
+        };
+        drop(buffers);
+        Ok(Some(report?))
+    }
+
+    /// What is reported of a place that Git reads in a line that is refused.
+    fn of_refused(alloc: Global, line: &[u8], found: &GitPlace<'_>) -> Result<GitReads, AllocError>
+        ensures { IfOk result (λ it. WithholdsSecret line.now (Some it)) }
+    {
+        match around_secret(behind_scheme(line)) {
+            Some(_) => withheld_all_the_same(alloc),
+            None => report_all_the_same(alloc, found),
+        }
+    }
+}
+
+/// What is reported of a place that Git reads in a line that is refused and may hold a password.
+fn withheld_all_the_same(alloc: Global) -> Result<GitReads, AllocError>
+    ensures { IfOk result (λ it. (it.user ≡ None) × (it.host ≡ None) × (it.path ≡ None)) }
+{
+    let words = "reads a place in it all the same, with what may be a password";
+    in_words(alloc, words, "Password")
+}
+
+/// What is reported of a place that Git reads in a line that is refused, unless escapes in the line hold a
+/// password.
+fn report_all_the_same(alloc: Global, found: &GitPlace<'_>) -> Result<GitReads, AllocError> {
+    if holds_password(found) {
+        return withheld_all_the_same(alloc);
+    }
+    let mut words = String::new(alloc);
+    let written = all_the_same(&mut words, found);
+    let (words, ()) = both(words, written)?;
+    with_fields(alloc, found, false, words)
+}
+
+/// What is behind the first `://` of a text, or all of it.
+fn behind_scheme(text: &[u8]) -> &[u8]
+    ensures { IsBehindScheme text.now result.now }
+{
+    match cut_at_mark(text) {
+        Some((_, rest)) => rest,
+        None => text,
+    }
+}
+
+/// Whether the user or the host that Git reads has a mark that is behind a user or a password: it was an escape.
+fn holds_password(found: &GitPlace<'_>) -> bool {
+    found.user.is_some_and(|user| user.contains(&b':'))
+        || found.host.is_some_and(|host| host.contains(&b'@'))
+}
+
+/// Appends what Git does with the place that it reads in a line that is refused.
+fn all_the_same(out: &mut String, found: &GitPlace<'_>) -> Result<(), AllocError> {
+    match (found.protocol, found.host) {
+        (Protocol::File, _) => {
+            let path = Quoted(found.path);
+            write!(out, "opens the path {path}")
+        }
+        (Protocol::Ssh | Protocol::Git, None) => out.push_str("connects to a host without a name"),
+        (Protocol::Ssh | Protocol::Git, Some(host)) => {
+            let host = Quoted(host);
+            write!(out, "connects to {host}")
+        }
+    }?;
+    if let Some(port) = found.port {
+        write!(out, ", port {port}")?;
+    }
+    out.push_str(", all the same")
+}
+
+/// What is reported of a line that is refused and in which Git reads no place, unless it is memory that was
+/// refused.
+fn unread_refused(alloc: Global, why: Unread) -> Result<GitReads, AllocError>
+    ensures { IfOk result (λ it. (it.user ≡ None) × (it.host ≡ None) × (it.path ≡ None)) }
+{
+    let (name, words) = match why {
+        Unread::Memory => return Err(AllocError),
+        Unread::HomeOrHere => ("HomeOrHere", "takes it for a path that begins with ~"),
+        Unread::ByteZero => ("ByteZero", "gets it up to byte 0 alone"),
+        Unread::Option => ("Option", "takes it for an option"),
+        Unread::RemoteHelper => ("RemoteHelper", HANDED),
+        Unread::SecureShellUrl => (
+            "SecureShellUrl",
+            "gives Secure Shell a part of it that is read as a URL",
+        ),
+        Unread::Refused => ("Refused", "refuses it too"),
+    };
+    in_words(alloc, words, name)
+}
+
 /// The first condition that a location of HTTP doesn't meet, of which it isn't known that all read the same.
 fn unmet_condition(url: &Url, is_settled: bool) -> Option<WebCondition> {
     if is_settled {
@@ -134,19 +242,29 @@ fn unmet_condition(url: &Url, is_settled: bool) -> Option<WebCondition> {
 
 /// What is reported of a reading.
 fn report_reading(alloc: Global, url: &Url, found: &GitPlace<'_>) -> Result<GitReads, AllocError> {
-    let names = both(
-        lossy_part(alloc, found.user)?,
+    let words = words_of(alloc, url, found)?;
+    with_fields(alloc, found, is_same(url, found), words)
+}
+
+/// What is reported of a reading in these words.
+fn with_fields(
+    alloc: Global,
+    found: &GitPlace<'_>,
+    same: bool,
+    words: String,
+) -> Result<GitReads, AllocError> {
+    let ((words, user), host) = both(
+        both(words, lossy_part(alloc, found.user))?,
         lossy_part(alloc, found.host),
     )?;
-    let parts = both(names, lossy(alloc, found.path))?;
-    let (((user, host), path), words) = both(parts, words_of(alloc, url, found))?;
+    let (((words, user), host), path) = both(((words, user), host), lossy(alloc, found.path))?;
     Ok(GitReads {
         protocol: Some(protocol_name(found.protocol)),
         user,
         host,
         port: found.port,
         path: Some(path),
-        same: is_same(url, found),
+        same,
         why: None,
         words,
     })

@@ -56,6 +56,9 @@ pub struct Report<'a> {
     pub home: Option<Home>,
     /// The path as a shell takes it, on a system of files.
     pub shell_path: Option<String>,
+    /// The same byte for byte.
+    #[serde(skip)]
+    pub shell_bytes: Option<BString>,
     /// Whether parts may be given to a command.
     pub arguments: Arguments,
     /// The text, with `redacted` in place of the field `password`.
@@ -146,6 +149,7 @@ impl<'a> Report<'a> {
             components: meaning.components,
             home: meaning.home,
             shell_path: meaning.shell_path,
+            shell_bytes: meaning.shell_bytes,
             arguments: arguments_of(url),
             text: texts.text,
             own_text: without_password(url, facts.text),

@@ -18,17 +18,26 @@ pub struct Meaning<'a> {
     pub components: Components<'a>,
     pub home: Option<Home>,
     pub shell_path: Option<String>,
+    /// The same byte for byte.
+    pub shell_bytes: Option<BString>,
 }
 
 impl<'a> Meaning<'a> {
     /// What the path of this location means.
     pub fn of(alloc: Global, url: &'a Url) -> Result<Meaning<'a>, AllocError> {
-        let on_files = both(home_of(alloc, url)?, shell_path_of(alloc, url))?;
-        let ((home, shell_path), components) = both(on_files, components_of(alloc, url))?;
+        let shell_bytes = shell_path_of(alloc, url)?;
+        let shell_path = lossy_path(alloc, &shell_bytes);
+        let shell = both(shell_bytes, shell_path)?;
+        let on_files = both(shell, home_of(alloc, url))?;
+        let (((shell_bytes, shell_path), home), components) = both(
+            on_files,
+            components_of(alloc, url),
+        )?;
         Ok(Meaning {
             components,
             home,
             shell_path,
+            shell_bytes,
         })
     }
 }
@@ -158,11 +167,18 @@ fn reported_home(
 }
 
 /// The path as a shell takes it, where it is one of a system of files.
-fn shell_path_of(alloc: Global, url: &Url) -> Result<Option<String>, AllocError> {
+fn shell_path_of(alloc: Global, url: &Url) -> Result<Option<BString>, AllocError> {
     if !matches!(&url.scheme, Scheme::File | Scheme::Ssh | Scheme::Git) {
         return Ok(None);
     }
     let path = BString::from_slice(alloc, url.path.as_bytes())?;
-    let path = expand_path::for_shell(alloc, path).map_err(no_memory)?;
-    Ok(Some(path.as_bstr().to_string(alloc)?))
+    Ok(Some(expand_path::for_shell(alloc, path).map_err(no_memory)?))
+}
+
+/// The path with U+FFFD for bytes that are no UTF-8.
+fn lossy_path(alloc: Global, path: &Option<BString>) -> Result<Option<String>, AllocError> {
+    match path {
+        None => Ok(None),
+        Some(path) => Ok(Some(path.as_bstr().to_string(alloc)?)),
+    }
 }

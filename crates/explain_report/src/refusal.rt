@@ -2,13 +2,17 @@
 //! line.
 //!
 //! It uses the errors of `gix_url`, and their refusals. Its contract, memory permitting: of a line that is
-//! refused the place, the reason and the words are those of its one refusal. The names of the error, of the
+//! refused the place, the reason and the words are those of its one refusal, and what Git reads in it is
+//! reported without a user, a host and a path where it may hold a password. The names of the error, of the
 //! form and of the fault are no part of it: the stored run shows them.
 
 ghost use Rattle.std.specs.Prelude.{◌≡◌, ◌≢◌, ℕ, IfOk, List};
 ghost use Rattle.gix_url.specs.Flaws.{Flaw};
 ghost use Rattle.explain_report.specs.Refusals.{ReportsRefusal};
+ghost use Rattle.explain_report.specs.Reports.{WithholdsSecret};
 
+use crate::git_report::GitReads;
+use crate::memory::both;
 use gix_url::parse::UrlKind;
 use gix_url::{Error, UrlFault, WriteFault};
 use serde::Serialize;
@@ -32,6 +36,8 @@ pub struct Refusal {
     pub reason: Option<&'static str>,
     /// The same in words, which show nothing of the text.
     pub words: String,
+    /// What Git reads in a line all the same, unless it hands the line to a remote helper, as one of HTTP.
+    pub git_reads: Option<GitReads>,
 }
 
 impl Refusal {
@@ -57,6 +63,22 @@ impl Refusal {
         })
     }
 
+    /// The refusal of the line that was read with this error, and what Git reads in the line.
+    pub fn with_git(alloc: Global, line: &[u8], error: &Error) -> Result<Refusal, AllocError>
+        ensures refusal { error.now ≢ Error.Memory → Flaw line.now error.now
+            → IfOk result (ReportsRefusal line.now) }
+        ensures git { IfOk result (λ it. WithholdsSecret line.now it.git_reads) }
+    {
+        let (refusal, git_reads) = both(
+            Refusal::of_line(alloc, error)?,
+            GitReads::in_refused(alloc, line),
+        )?;
+        Ok(Refusal {
+            git_reads,
+            ..refusal
+        })
+    }
+
     /// The refusal without a place, in these words.
     fn in_words(error: &Error, words: String) -> Refusal
         ensures { result.words ≡ words }
@@ -70,6 +92,7 @@ impl Refusal {
             len: None,
             reason: None,
             words,
+            git_reads: None,
         }
     }
 }

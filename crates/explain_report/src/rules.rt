@@ -2,15 +2,16 @@
 //! with which settings.
 //!
 //! [`config`] is the configuration, read once for all lines; [`transports`], [`credentials`] and `settings` answer about what a
-//! line is rewritten to, and [`setting`] shows an entry without what may be a secret. It uses the public calls
-//! of `gix_url` and `git_rules`, and has no contract but that it can't abort: `scripts/hostile rules` shows
-//! its answers.
+//! line is rewritten to, [`setting`] shows an entry without what may be a secret, and [`rows`] has all of it in words. It
+//! uses the public calls of `gix_url` and `git_rules`, and has no contract but that it can't abort: `scripts/hostile
+//! rules` shows its answers.
 
 ghost use Rattle.std.specs.Prelude.{◌≡◌};
 ghost use Rattle.explain_report.specs.Findings.{union};
 
 pub mod config;
 pub mod credentials;
+pub mod rows;
 pub mod setting;
 mod settings;
 pub mod transports;
@@ -71,8 +72,22 @@ pub struct Route {
 }
 
 impl Rules {
+    /// What Git does with a line, which is read as this location unless it is refused, by the configuration that is
+    /// given, if one is.
+    pub fn of_given(
+        alloc: Global,
+        config: Option<&Config<'_>>,
+        line: &[u8],
+        url: Option<&Url>,
+    ) -> Result<Option<Rules>, AllocError> {
+        match config {
+            None => Ok(None),
+            Some(config) => Ok(Some(Rules::of(alloc, config, line, url)?)),
+        }
+    }
+
     /// What Git does with a line, which is read as this location unless it is refused.
-    pub fn of(
+    fn of(
         alloc: Global,
         config: &Config<'_>,
         line: &[u8],
@@ -116,6 +131,14 @@ impl Rules {
             credential,
             http,
         })
+    }
+}
+
+/// What is found in the texts that a line is rewritten to by the configuration, if one is given.
+pub fn found_by(rules: Option<&Rules>) -> Findings {
+    match rules {
+        None => Findings::none(),
+        Some(rules) => rules.found(),
     }
 }
 

@@ -3,6 +3,7 @@
 //!
 //! `scripts/hostile golden` shows the sentences.
 
+use bstr::ByteSlice;
 use gix_url::WebCondition;
 
 /// The name of the condition that isn't met.
@@ -29,8 +30,9 @@ pub(crate) fn name(unmet: Option<WebCondition>) -> &'static str {
     }
 }
 
-/// What Git, which hands the text to curl, may do, in words that follow its name.
-pub(crate) fn words(unmet: Option<WebCondition>) -> &'static str {
+/// What Git, which hands the text to curl, may do where a location with this host doesn't meet the condition, in
+/// words that follow its name.
+pub(crate) fn words(unmet: Option<WebCondition>, host: &str) -> &'static str {
     match unmet {
         Some(WebCondition::Settled) => {
             "and curl may read another place in its text, which is not settled"
@@ -40,7 +42,7 @@ pub(crate) fn words(unmet: Option<WebCondition>) -> &'static str {
         Some(WebCondition::HostBytes) => {
             "and curl may read different hosts: it has an escape or a mark"
         }
-        Some(WebCondition::LastLabel) => "and curl may read different hosts: it may be a number",
+        Some(WebCondition::LastLabel) => last_label_words(host.as_bytes()),
         Some(WebCondition::UserControl) => {
             "or curl may refuse it: the user has a control character"
         }
@@ -68,5 +70,18 @@ pub(crate) fn words(unmet: Option<WebCondition>) -> &'static str {
         }
         Some(WebCondition::PathColon) => "may ask for another path: it has a colon and an escape",
         None => "and curl may read another place in its text",
+    }
+}
+
+/// What Git and curl may do with a host for its last label.
+fn last_label_words(host: &[u8]) -> &'static str {
+    let last = match host.rsplit_once_str(b".") {
+        Some((_, last)) => last,
+        None => host,
+    };
+    match last {
+        [] => "and curl may read different hosts: a dot ends it",
+        [b'-' | b'_', ..] => "and curl may read different hosts: its last label begins with - or _",
+        _ => "and curl may read different hosts: it may be a number",
     }
 }

@@ -1,11 +1,16 @@
 //! Slips of those who type or paste a location: a closed list of hints, each with a name and a sentence.
 //!
 //! It decides by the bytes of a line and by what the line is read as, and shows neither. It uses
-//! `form` for the form, and has no contract but that it can't abort: the stored run shows which
-//! hints are found, and `scripts/hostile golden` their sentences, and that no plain remote gets one.
+//! `form` for the form, `slip`, `host_name` and `web_page` for conditions, and has no contract but that it
+//! can't abort: the stored run shows which hints are found, and `scripts/hostile golden` their sentences, and
+//! that no plain remote gets one.
 
+use crate::advice::host_name::{is_host_name, is_mixed, is_name_of_service, is_user_and_host};
+use crate::advice::slip;
+use crate::advice::web_page::is_page;
 use crate::form::Form;
 use crate::location_report::Report;
+use crate::path::Components;
 use bstr::ByteSlice;
 use gix_url::Url;
 use serde::Serialize;
@@ -19,7 +24,7 @@ use std::alloc::{AllocError, Global};
 #[serde(rename_all = "snake_case")]
 pub enum Hint {
     /// Refused: a URL of `ssh`, `git`, `http` or `https` with a host without brackets, one `:`, and a letter
-    /// or `~` behind it.
+    /// or `~` behind it, unless [`Hint::SlashInPassword`] applies.
     ColonForSlash,
     /// A local path that begins with the name of a host, `/` and any byte.
     NoScheme,
@@ -43,16 +48,54 @@ pub enum Hint {
     StoredPassword,
     /// HTTP without encryption, with a user or a password.
     Unencrypted,
-    /// The line begins with `git clone`, `git remote add` or `git submodule add`, and a space.
+    /// The line begins with a command of Git that takes a location, and a space, behind a prompt if there is
+    /// one: `$`, `%`, `#` or `>`, and a space.
     PastedCommand,
-    /// HTTP, and the path to a `?` or `#` holds `/-/tree/` or `/-/blob/`, or begins on `github.com` as
-    /// `/a/b/tree/c` or `/a/b/blob/c`.
+    /// HTTP, and the path to a `?` or `#` is one of [`is_page`].
     WebPage,
     /// A local path that begins with a user of letters, digits, `_`, `.` and `-`, `@`, the name of a host,
     /// `/` and any byte.
     SlashForColon,
     /// The first byte and the last one are `"`, `'` or `` ` `` both, or they are `<` and `>`.
     Quotes,
+    /// The scp form, with a path that begins with one to five digits and `/`.
+    ScpPort,
+    /// No URL: a host, `:` and digits are in the brackets before the first `]:`, which are at the front or
+    /// behind an `@`.
+    PortInBrackets,
+    /// Before its first `:/` the line has the name of a transport of Git but `git`, and no `/` behind it.
+    OneSlash,
+    /// Before its first `://` the line has letters and digits that are no transport of Git, and become `ssh`,
+    /// `git`, `http`, `https` or `file` where one is added, taken out or replaced, or two neighbours are swapped.
+    NearScheme,
+    /// The line begins with `git+http://`, `git+https://`, `git+file://`, `git+git://` or `git::`.
+    PackageScheme,
+    /// The scp form without a user, the host `github`, `gitlab`, `bitbucket`, `gist`, `codeberg` or `sourcehut`,
+    /// and a path that doesn't begin with `/`.
+    ShortName,
+    /// Before its first `://` the line has a user as above, `@` and the name of a transport of Git.
+    SchemeAfterUser,
+    /// HTTP with a fragment, or with a field `ref`, `rev`, `tag`, `branch`, `commit` or `version` in its query;
+    /// or Secure Shell or `git://`, with `.git#` or `.git?` in the path.
+    Revision,
+    /// A URL or the scp form, with a user that is the name of a host and ends as those of services do.
+    HostAsUser,
+    /// A label of the host has an ASCII letter and a Greek, Cyrillic, Armenian or Cherokee one. Of a refused
+    /// URL the host is what is between `://` or the last `@` behind it and a `:`, before a `/`.
+    MixedScripts,
+    /// A local path that is `..` or begins with `../`.
+    Relative,
+    /// A local path of letters, digits, `_` and `-` alone that doesn't begin with `-`.
+    RemoteName,
+    /// Refused: a URL of `ssh`, `git`, `http` or `https`, with a `:` and no `@` before the first `/`; behind that
+    /// an `@`, and behind the last one a byte and `/`.
+    SlashInPassword,
+    /// Refused: a URL of `http` or `https` with a byte beyond ASCII in its host, which is as above.
+    Punycode,
+    /// A URL of `ssh` with a password.
+    SshPassword,
+    /// A URL of `file` with a host.
+    FileHost,
 }
 
 /// What a line is read as, as far as hints ask for it.
@@ -61,23 +104,27 @@ pub struct Reading<'a> {
     pub form: Form,
     /// The text of the scheme: a remote helper's is its name.
     pub scheme: &'a str,
-    pub host: Option<&'a str>,
-    pub has_user: bool,
+    pub user: Option<&'a str>,
     pub has_password: bool,
+    pub host: Option<&'a str>,
     /// The path, decoded.
     pub path: &'a [u8],
+    /// Whether there is a fragment, or a field of the query that names a revision.
+    pub has_revision: bool,
 }
 
-/// The schemes of URLs that name a host and a port.
-const OF_HOSTS: [&[u8]; 4] = [b"ssh", b"git", b"http", b"https"];
+/// The fields of a query that name a revision.
+const REVISIONS: [&str; 6] = ["ref", "rev", "tag", "branch", "commit", "version"];
 
-/// The transports that Git has or had by these names.
-const TRANSPORTS: [&[u8]; 9] = [
-    b"ssh", b"git", b"http", b"https", b"file", b"ftp", b"ftps", b"git+ssh", b"ssh+git",
+/// The short names of forges.
+const SHORT_NAMES: [&str; 6] = [
+    "github",
+    "gitlab",
+    "bitbucket",
+    "gist",
+    "codeberg",
+    "sourcehut",
 ];
-
-/// The commands that a location is pasted with.
-const COMMANDS: [&[u8]; 3] = [b"git clone ", b"git remote add ", b"git submodule add "];
 
 /// The hints that apply to a line, of which there is no reading where it is refused.
 pub fn find(
@@ -94,7 +141,7 @@ pub fn find(
 
 impl Hint {
     /// All hints, in their order.
-    pub const ALL: [Hint; 16] = [
+    pub const ALL: [Hint; 32] = [
         Hint::ColonForSlash,
         Hint::NoScheme,
         Hint::WindowsPath,
@@ -111,6 +158,22 @@ impl Hint {
         Hint::WebPage,
         Hint::SlashForColon,
         Hint::Quotes,
+        Hint::ScpPort,
+        Hint::PortInBrackets,
+        Hint::OneSlash,
+        Hint::NearScheme,
+        Hint::PackageScheme,
+        Hint::ShortName,
+        Hint::SchemeAfterUser,
+        Hint::Revision,
+        Hint::HostAsUser,
+        Hint::MixedScripts,
+        Hint::Relative,
+        Hint::RemoteName,
+        Hint::SlashInPassword,
+        Hint::Punycode,
+        Hint::SshPassword,
+        Hint::FileHost,
     ];
 
     /// Its name, as programs are given it.
@@ -132,6 +195,22 @@ impl Hint {
             Hint::WebPage => "web_page",
             Hint::SlashForColon => "slash_for_colon",
             Hint::Quotes => "quotes",
+            Hint::ScpPort => "scp_port",
+            Hint::PortInBrackets => "port_in_brackets",
+            Hint::OneSlash => "one_slash",
+            Hint::NearScheme => "near_scheme",
+            Hint::PackageScheme => "package_scheme",
+            Hint::ShortName => "short_name",
+            Hint::SchemeAfterUser => "scheme_after_user",
+            Hint::Revision => "revision",
+            Hint::HostAsUser => "host_as_user",
+            Hint::MixedScripts => "mixed_scripts",
+            Hint::Relative => "relative",
+            Hint::RemoteName => "remote_name",
+            Hint::SlashInPassword => "slash_in_password",
+            Hint::Punycode => "punycode",
+            Hint::SshPassword => "ssh_password",
+            Hint::FileHost => "file_host",
         }
     }
 
@@ -151,7 +230,7 @@ impl Hint {
                 "capitals make it another scheme, here and for Git, which looks for a remote helper of that name: write it in small letters"
             }
             Hint::CarriageReturn => {
-                "the line ends as lines of Windows do: the carriage return at its end is part of the location"
+                "the line ends as lines of Windows do: remove the carriage return at its end, which is part of the location"
             }
             Hint::ByteOrderMark => {
                 "the byte order mark at the beginning is part of the location: leave it out"
@@ -174,20 +253,67 @@ impl Hint {
                 "the words of a command before a location are read as part of it: leave them out"
             }
             Hint::WebPage => {
-                "it is the address of a web page about a folder or a file: leave out what follows the repository"
+                "it is the address of a web page about a part of a repository: leave out what follows the repository"
             }
             Hint::SlashForColon => {
                 "it is read as a path on this machine: write a colon in place of / behind the host, or ssh:// before the user"
             }
             Hint::Quotes => "the quotes around it are part of the location: leave them out",
+            Hint::ScpPort => {
+                "no port can be written in this form, and the number begins the path: for a port write ssh://user@host:port/path"
+            }
+            Hint::PortInBrackets => {
+                "Git alone takes the number in the brackets for a port: write ssh://user@host:port/path"
+            }
+            Hint::OneSlash => {
+                "the word before the colon is read as a host: write :// behind a scheme, and file:/// before a path of this machine"
+            }
+            Hint::NearScheme => {
+                "Git looks for a remote helper of this scheme's name, which is one letter away from http, https, ssh, git or file"
+            }
+            Hint::PackageScheme => {
+                "git+ and git:: before a URL are of package managers, and Git looks for a remote helper of that name: leave them out"
+            }
+            Hint::ShortName => {
+                "Git has no short names of forges: the word before the colon is a host, unless url.*.insteadOf or ~/.ssh/config says otherwise"
+            }
+            Hint::SchemeAfterUser => {
+                "the scheme comes first: write the user behind ://, or leave the scheme out and write user@host:path"
+            }
+            Hint::Revision => {
+                "Git takes no branch, tag or commit from a URL: leave it out, and give it to git clone --branch or git checkout"
+            }
+            Hint::HostAsUser => {
+                "what is before the @ is a user, though it is written like a host: the host begins behind the @"
+            }
+            Hint::MixedScripts => {
+                "a label of the host has letters of two scripts, some of which are drawn alike: it may be another host than one reads"
+            }
+            Hint::Relative => {
+                "the path is read from the folder in which Git runs, and in .gitmodules from the URL of the superproject"
+            }
+            Hint::RemoteName => {
+                "one word is the name of a remote, if there is one of that name, and else a folder below the current one"
+            }
+            Hint::SlashInPassword => {
+                "a / ends the host of a URL: in a user or a password write it as %2F"
+            }
+            Hint::Punycode => {
+                "the host of HTTP is of ASCII characters alone: write it in Punycode, with xn-- before a label that has others"
+            }
+            Hint::SshPassword => {
+                "Secure Shell takes no password: Git passes it on as a part of the user or of the host"
+            }
+            Hint::FileHost => {
+                "Git ignores the host of a file URL, and opens the path on this machine"
+            }
         }
     }
 
     /// Whether the hint applies to a line.
     fn applies(self, line: &[u8], reading: Option<Reading<'_>>) -> bool {
         match reading {
-            None if matches!(self, Hint::ColonForSlash) => has_colon_for_slash(line),
-            None => self.is_in_bytes(line),
+            None => self.is_in_refused(line) || self.is_in_bytes(line),
             Some(reading) => self.is_in_read(line, reading) || self.is_in_bytes(line),
         }
     }
@@ -195,32 +321,91 @@ impl Hint {
     /// Whether the hint is one about bytes, whatever they are read as, and applies to these.
     fn is_in_bytes(self, line: &[u8]) -> bool {
         match self {
-            Hint::CapitalScheme => has_capital_scheme(line),
+            Hint::CapitalScheme => slip::has_capital_scheme(line),
             Hint::CarriageReturn => line.ends_with(b"\r"),
             Hint::ByteOrderMark => line.starts_with(b"\xef\xbb\xbf"),
             Hint::OuterBlank => matches!(line, [b' ' | b'\t', ..] | [.., b' ' | b'\t']),
-            Hint::PastedCommand => COMMANDS.iter().any(|command| line.starts_with(command)),
-            Hint::Quotes => is_quoted(line),
+            Hint::PastedCommand => slip::begins_with_command(line),
+            Hint::Quotes => slip::is_quoted(line),
+            Hint::PortInBrackets => slip::has_port_in_brackets(line),
+            Hint::OneSlash => slip::has_one_slash(line),
+            Hint::NearScheme => slip::has_near_scheme(line),
+            Hint::PackageScheme => slip::begins_with_package_scheme(line),
+            Hint::SchemeAfterUser => slip::has_scheme_after_user(line),
+            _ => false,
+        }
+    }
+
+    /// Whether the hint is one about refused lines, and applies to this one.
+    fn is_in_refused(self, line: &[u8]) -> bool {
+        match self {
+            Hint::ColonForSlash => {
+                slip::has_colon_for_slash(line) && !slip::has_slash_in_password(line)
+            }
+            Hint::SlashInPassword => slip::has_slash_in_password(line),
+            Hint::Punycode => slip::has_wide_host_of_web(line),
+            Hint::MixedScripts => slip::host_of_refused(line).is_some_and(is_mixed),
             _ => false,
         }
     }
 
     /// Whether the hint is one about what a line is read as, and applies to this.
     fn is_in_read(self, line: &[u8], reading: Reading<'_>) -> bool {
-        match (self, reading.form) {
-            (Hint::NoScheme, Form::Local) => first_element(line).is_some_and(is_host_name),
-            (Hint::HomeHere, Form::Local) => line.starts_with(b"~"),
-            (Hint::SlashForColon, Form::Local) => first_element(line).is_some_and(is_user_and_host),
-            (Hint::WindowsPath, Form::Scp) => begins_with_drive(line),
-            (Hint::RunsCommand, Form::RemoteHelper) => reading.scheme == "ext",
-            (Hint::HomeThere, Form::Scp | Form::Url) => {
-                matches!(reading.scheme, "ssh" | "git") && reading.path.starts_with(b"~")
+        match reading.form {
+            Form::Local => self.is_in_path(line),
+            Form::Scp => self.is_in_scp(line, reading) || self.is_in_remote(reading),
+            Form::Url => self.is_in_url(reading) || self.is_in_remote(reading),
+            Form::RemoteHelper => matches!(self, Hint::RunsCommand) && reading.scheme == "ext",
+        }
+    }
+
+    /// Whether the hint is one about local paths, and applies to this one.
+    fn is_in_path(self, path: &[u8]) -> bool {
+        match self {
+            Hint::NoScheme => slip::first_element(path).is_some_and(is_host_name),
+            Hint::HomeHere => path.starts_with(b"~"),
+            Hint::SlashForColon => slip::first_element(path).is_some_and(is_user_and_host),
+            Hint::Relative => path == b"..".as_slice() || path.starts_with(b"../"),
+            Hint::RemoteName => slip::is_remote_name(path),
+            _ => false,
+        }
+    }
+
+    /// Whether the hint is one about the scp form, and applies to this line.
+    fn is_in_scp(self, line: &[u8], reading: Reading<'_>) -> bool {
+        match self {
+            Hint::WindowsPath => slip::begins_with_drive(line),
+            Hint::ScpPort => slip::begins_with_port(reading.path),
+            Hint::ShortName => reading.has_short_name(),
+            _ => false,
+        }
+    }
+
+    /// Whether the hint is one about URLs, and applies to this one.
+    fn is_in_url(self, reading: Reading<'_>) -> bool {
+        match self {
+            Hint::StoredPassword => reading.is_of_web() && reading.has_password,
+            Hint::Unencrypted => {
+                reading.scheme == "http" && (reading.user.is_some() || reading.has_password)
             }
-            (Hint::StoredPassword, Form::Url) => reading.is_of_web() && reading.has_password,
-            (Hint::Unencrypted, Form::Url) => {
-                reading.scheme == "http" && (reading.has_user || reading.has_password)
+            Hint::WebPage => reading.is_of_web() && is_page(reading.host, reading.path),
+            Hint::SshPassword => reading.scheme == "ssh" && reading.has_password,
+            Hint::FileHost => {
+                reading.scheme == "file" && reading.host.is_some_and(|host| !host.is_empty())
             }
-            (Hint::WebPage, Form::Url) => reading.is_of_web() && reading.is_page(),
+            _ => false,
+        }
+    }
+
+    /// Whether the hint is one about locations on other machines, and applies to this one.
+    fn is_in_remote(self, reading: Reading<'_>) -> bool {
+        match self {
+            Hint::HomeThere => reading.is_of_shell_or_git() && reading.path.starts_with(b"~"),
+            Hint::Revision => reading.names_revision(),
+            Hint::HostAsUser => reading
+                .user
+                .is_some_and(|user| is_name_of_service(user.as_bytes())),
+            Hint::MixedScripts => reading.host.is_some_and(|host| is_mixed(host.as_bytes())),
             _ => false,
         }
     }
@@ -232,10 +417,11 @@ impl<'b> Reading<'b> {
         Reading {
             form: report.form,
             scheme: report.scheme,
-            host: report.host,
-            has_user: report.user.is_some(),
+            user: report.user,
             has_password: report.password.is_some(),
+            host: report.host,
             path: url.path.as_bytes(),
+            has_revision: has_revision(&report.components),
         }
     }
 
@@ -244,130 +430,30 @@ impl<'b> Reading<'b> {
         matches!(self.scheme, "http" | "https")
     }
 
-    /// Whether the path goes on behind a repository, as forges show its folders and files.
-    fn is_page(self) -> bool {
-        let path = before(before(self.path, b"?"), b"#");
-        path.contains_str(b"/-/tree/")
-            || path.contains_str(b"/-/blob/")
-            || (self.host == Some("github.com") && is_page_of_github(path).is_some())
+    /// Whether the scheme is that of Secure Shell or of `git://`.
+    fn is_of_shell_or_git(self) -> bool {
+        matches!(self.scheme, "ssh" | "git")
+    }
+
+    /// Whether a revision is named in a place of which Git knows nothing.
+    fn names_revision(self) -> bool {
+        if self.is_of_shell_or_git() {
+            return self.path.contains_str(b".git#") || self.path.contains_str(b".git?");
+        }
+        self.is_of_web() && self.has_revision
+    }
+
+    /// Whether the host is the short name of a forge, and the path one of a repository there.
+    fn has_short_name(self) -> bool {
+        let is_short = SHORT_NAMES.iter().any(|name| self.host == Some(name));
+        is_short && self.user.is_none() && !self.path.starts_with(b"/")
     }
 }
 
-/// What is before the first mark, or all where there is none.
-fn before<'a>(bytes: &'a [u8], mark: &[u8]) -> &'a [u8] {
-    match bytes.split_once_str(mark) {
-        Some((front, _)) => front,
-        None => bytes,
-    }
-}
-
-/// What is behind the last mark, or all where there is none.
-fn behind<'a>(bytes: &'a [u8], mark: &[u8]) -> &'a [u8] {
-    match bytes.rsplit_once_str(mark) {
-        Some((_, rest)) => rest,
-        None => bytes,
-    }
-}
-
-/// Whether the front of a URL names a host and behind a colon what is no port.
-fn has_colon_for_slash(line: &[u8]) -> bool {
-    let Some((scheme, rest)) = line.split_once_str(b"://") else {
-        return false;
-    };
-    let is_of_host = OF_HOSTS.iter().any(|name| *name == scheme);
-    is_of_host && is_host_and_word(behind(before(rest, b"/"), b"@"))
-}
-
-/// Whether the bytes are a host, one colon, and a word that begins with a letter or `~`.
-fn is_host_and_word(bytes: &[u8]) -> bool {
-    let Some((host, word)) = bytes.split_once_str(b":") else {
-        return false;
-    };
-    let begins = matches!(word, [b'a'..=b'z' | b'A'..=b'Z' | b'~', ..]);
-    let is_free = host.iter().all(|byte| !matches!(byte, b'[' | b']'));
-    begins && is_free && !host.is_empty() && !word.contains_str(b":")
-}
-
-/// Whether the line begins as a path of Windows that names its drive.
-fn begins_with_drive(line: &[u8]) -> bool {
-    match line {
-        [_, b':', b'/', b'~', ..] => false,
-        [letter, b':', b'\\' | b'/', ..] => letter.is_ascii_alphabetic(),
-        _ => false,
-    }
-}
-
-/// Whether the scheme is one of Git's except for its capitals.
-fn has_capital_scheme(line: &[u8]) -> bool {
-    let Some((scheme, _)) = line.split_once_str(b"://") else {
-        return false;
-    };
-    let has_capital = scheme.iter().any(|byte| byte.is_ascii_uppercase());
-    has_capital
-        && TRANSPORTS
-            .iter()
-            .any(|name| scheme.eq_ignore_ascii_case(name))
-}
-
-/// Whether the same quotes are at both ends, or angle brackets.
-fn is_quoted(line: &[u8]) -> bool {
-    matches!(
-        line,
-        [b'"', .., b'"'] | [b'\'', .., b'\''] | [b'`', .., b'`'] | [b'<', .., b'>']
-    )
-}
-
-/// The first element of a relative path, where something follows it.
-fn first_element(path: &[u8]) -> Option<&[u8]> {
-    let (first, rest) = path.split_once_str(b"/")?;
-    (!rest.is_empty()).then_some(first)
-}
-
-/// Whether the bytes are the name of a host with a `.` in it.
-fn is_host_name(name: &[u8]) -> bool {
-    match name.rsplit_once_str(b".") {
-        Some((front, last)) => is_last_label(last) && front.split_str(b".").all(is_label),
-        None => false,
-    }
-}
-
-/// Whether the bytes may be a label of a host.
-fn is_label(label: &[u8]) -> bool {
-    !label.is_empty()
-        && label
-            .iter()
-            .all(|byte| byte.is_ascii_alphanumeric() || *byte == b'-')
-}
-
-/// Whether the bytes may be the last label of a host, and aren't the end of a bare repository's name.
-fn is_last_label(label: &[u8]) -> bool {
-    label.len() > 1
-        && label != b"git".as_slice()
-        && label.iter().all(|byte| byte.is_ascii_alphabetic())
-}
-
-/// Whether the bytes are a plain user, `@` and the name of a host.
-fn is_user_and_host(bytes: &[u8]) -> bool {
-    match bytes.split_once_str(b"@") {
-        Some((user, host)) => is_user(user) && is_host_name(host),
-        None => false,
-    }
-}
-
-/// Whether the bytes are a user with nothing unusual in it.
-fn is_user(user: &[u8]) -> bool {
-    !user.is_empty()
-        && user.iter().all(|byte| byte.is_ascii_alphanumeric()
-            || matches!(byte, b'_' | b'.' | b'-'))
-}
-
-/// What is below `tree` or `blob` in a path of GitHub, behind an owner and a repository.
-fn is_page_of_github(path: &[u8]) -> Option<&[u8]> {
-    let (owner, rest) = path.strip_prefix(b"/")?.split_once_str(b"/")?;
-    let (repository, rest) = rest.split_once_str(b"/")?;
-    let (kind, rest) = rest.split_once_str(b"/")?;
-    let is_page = matches!(kind, b"tree" | b"blob");
-    let is_whole = !owner.is_empty() && !repository.is_empty();
-    let is_named = !rest.is_empty() && !rest.starts_with(b"/");
-    (is_page && is_whole && is_named).then_some(rest)
+/// Whether there is a fragment, or a field that names a revision.
+fn has_revision(components: &Components<'_>) -> bool {
+    components.fragment.is_some()
+        || components.query.as_ref().is_some_and(|fields| {
+            fields.iter().any(|field| REVISIONS.iter().any(|name| field.name.as_str() == *name))
+        })
 }

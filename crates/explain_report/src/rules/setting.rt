@@ -37,6 +37,14 @@ impl Setting {
             value,
         })
     }
+
+    /// What is between the key and the value in words, or behind the key where there is no value.
+    pub fn link(&self) -> &'static str {
+        match &self.value {
+            None => " has no value",
+            Some(_) => " is ",
+        }
+    }
 }
 
 /// The key of an entry.

@@ -41,6 +41,27 @@ pub enum Verdict {
     UnknownFromUser,
 }
 
+impl Verdict {
+    /// The name that the JSON object has for it.
+    pub fn name(self) -> &'static str {
+        match self {
+            Verdict::Allowed => "allowed",
+            Verdict::Refused => "refused",
+            Verdict::UnknownAllowance => "unknown_allowance",
+            Verdict::UnknownFromUser => "unknown_from_user",
+        }
+    }
+
+    /// It in words, behind the name of the transport.
+    pub fn words(self) -> &'static str {
+        match self {
+            Verdict::Allowed => "is allowed",
+            Verdict::Refused => "is refused",
+            Verdict::UnknownAllowance | Verdict::UnknownFromUser => "is not used, as Git stops",
+        }
+    }
+}
+
 /// Why Git has no transport for a text.
 #[derive(Drop, Serialize)]
 pub struct Lack {

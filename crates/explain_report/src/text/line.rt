@@ -147,6 +147,61 @@ impl fmt::Display for Quoted<'_> {
     }
 }
 
+/// Bytes as a word for a POSIX shell that means them: in `'..'`, a quote as `'\''`; where a character is escaped,
+/// in `$'..'`, which POSIX has since 2024.
+#[derive(Clone, Copy)]
+pub struct ShellWord<'a>(pub &'a [u8]);
+
+impl fmt::Display for ShellWord<'_> {
+    fn fmt<W: fmt::Write>(&self, f: &mut fmt::Formatter<W>) -> fmt::Result {
+        if has_escape(self.0) {
+            return write_escaped_word(f, self.0);
+        }
+        f.write_str("'")?;
+        for (_from, _to, character) in self.0.char_indices() {
+            match character {
+                '\'' => f.write_str("'\\''")?,
+                _ => f.write_char(character)?,
+            }
+        }
+        f.write_str("'")
+    }
+}
+
+/// Whether a character of the text is no `\`, and isn't shown as it is.
+fn has_escape(text: &[u8]) -> bool {
+    for (from, to, character) in text.char_indices() {
+        let spelling = spelled(character, between(text, from, to));
+        if character != '\\' && !matches!(spelling, Spelling::Plain(_)) {
+            return true;
+        }
+    }
+    false
+}
+
+/// Writes a word with escapes for a shell.
+fn write_escaped_word<W: fmt::Write>(f: &mut fmt::Formatter<W>, text: &[u8]) -> fmt::Result {
+    f.write_str("$'")?;
+    for (from, to, character) in text.char_indices() {
+        let bytes = between(text, from, to);
+        match spelled(character, bytes) {
+            Spelling::Plain(_) if character == '\'' => f.write_str("\\'")?,
+            Spelling::Plain(_) => f.write_char(character)?,
+            Spelling::Short(text) => f.write_str(text)?,
+            Spelling::Bytes | Spelling::Number => write_bytes(f, bytes)?,
+        }
+    }
+    f.write_str("'")
+}
+
+/// Writes each byte by its number.
+fn write_bytes<W: fmt::Write>(f: &mut fmt::Formatter<W>, bytes: &[u8]) -> fmt::Result {
+    for byte in bytes {
+        write!(f, "\\x{byte:02x}")?;
+    }
+    Ok(())
+}
+
 /// Writes a character as it is spelled.
 fn write_character<W: fmt::Write>(
     f: &mut fmt::Formatter<W>,
@@ -156,12 +211,7 @@ fn write_character<W: fmt::Write>(
     match spelled(character, bytes) {
         Spelling::Plain(_) => f.write_char(character),
         Spelling::Short(text) => f.write_str(text),
-        Spelling::Bytes => {
-            for byte in bytes {
-                write!(f, "\\x{byte:02x}")?;
-            }
-            Ok(())
-        }
+        Spelling::Bytes => write_bytes(f, bytes),
         Spelling::Number => {
             let number = u32::from(character);
             write!(f, "\\u{{{number:x}}}")

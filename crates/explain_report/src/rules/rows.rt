@@ -1,0 +1,377 @@
+//! What Git does by a configuration in rows for people: each row has a name, and pieces of words and of texts.
+//!
+//! A terminal and a page lay out the same rows, each in its own way, so each sentence is here alone. A piece that shows
+//! a member of `rules` in the JSON object names that member. It uses what `rules` found, and has no contract but that it
+//! can't abort: `scripts/hostile rules` and `scripts/page_test rules` show its answers.
+
+use crate::rules::credentials::Credentials;
+use crate::rules::setting::Setting;
+use crate::rules::transports::Transport;
+use crate::rules::{Route, Rules};
+use std::alloc::{AllocError, Global};
+
+/// A row.
+#[derive(Drop)]
+pub struct Row<'a> {
+    pub name: &'static str,
+    /// The member of the JSON object that the row is about.
+    pub of: &'static str,
+    pub pieces: Vec<Piece<'a>>,
+}
+
+/// A piece of a row. Where it shows a member of the JSON object, `below` is what follows the row's in the name of that.
+#[derive(Clone, Copy)]
+pub enum Piece<'a> {
+    /// Words of this program, which show no member.
+    Words(&'static str),
+    /// Words of this program, and the name that programs have for them, if there is one.
+    Named {
+        below: &'static str,
+        value: &'static str,
+        words: &'a str,
+    },
+    /// A text of the line or of the configuration, and whether a rule has made it.
+    Text {
+        below: &'static str,
+        is_made: bool,
+        text: &'a str,
+    },
+    /// An entry of the configuration.
+    Entry {
+        below: &'static str,
+        setting: &'a Setting,
+    },
+}
+
+/// What Git goes to a text for.
+#[derive(Clone, Copy)]
+pub enum Way {
+    Fetch,
+    Push,
+}
+
+impl Way {
+    /// The name of its row.
+    pub fn name(self) -> &'static str {
+        match self {
+            Way::Fetch => "fetches",
+            Way::Push => "pushes",
+        }
+    }
+
+    /// The member of the JSON object.
+    fn of(self) -> &'static str {
+        match self {
+            Way::Fetch => "rules.fetch",
+            Way::Push => "rules.push",
+        }
+    }
+}
+
+/// The rows of what Git does with a line.
+pub fn of_line<'a>(alloc: Global, rules: &'a Rules) -> Result<Vec<Row<'a>>, AllocError> {
+    let mut rows: Vec<Row<'a>> = Vec::new(alloc);
+    line_route(alloc, &mut rows, Way::Fetch, &rules.fetch)?;
+    line_route(alloc, &mut rows, Way::Push, &rules.push)?;
+    credential(alloc, &mut rows, &rules.credential)?;
+    settings(
+        alloc,
+        &mut rows,
+        "http",
+        "rules.http",
+        rules.http.as_slice(),
+    )?;
+    transports(alloc, &mut rows, rules)?;
+    Ok(rows)
+}
+
+/// The rows of a text that Git goes to for a remote or a submodule: the text, its transport and what is found in it.
+pub fn of_route<'a>(alloc: Global, way: Way, route: &'a Route) -> Result<Vec<Row<'a>>, AllocError> {
+    let mut rows: Vec<Row<'a>> = Vec::new(alloc);
+    text(alloc, &mut rows, way, route)?;
+    transport(alloc, &mut rows, way, route, "")?;
+    found(alloc, &mut rows, way, route)?;
+    Ok(rows)
+}
+
+/// Adds the rows of where Git goes from a line: the text, and what is found in it, unless it is the line.
+fn line_route<'a>(
+    alloc: Global,
+    rows: &mut Vec<Row<'a>>,
+    way: Way,
+    route: &'a Route,
+) -> Result<(), AllocError> {
+    text(alloc, rows, way, route)?;
+    if route.rewritten {
+        return found(alloc, rows, way, route);
+    }
+    Ok(())
+}
+
+/// Adds the row of a text that Git goes to, with a warning where that is on another host than the line's.
+fn text<'a>(
+    alloc: Global,
+    rows: &mut Vec<Row<'a>>,
+    way: Way,
+    route: &'a Route,
+) -> Result<(), AllocError> {
+    let mut pieces = Vec::new(alloc);
+    pieces.push(Piece::Text {
+        below: ".text",
+        is_made: route.rewritten,
+        text: route.text.as_str(),
+    })?;
+    if let Some(false) = route.same_host {
+        pieces.push(Piece::Named {
+            below: ".same_host",
+            value: "false",
+            words: ", on another host than the line's",
+        })?;
+    }
+    add(rows, way.name(), way.of(), pieces)
+}
+
+/// Adds the rows of what is found in a text that Git goes to.
+fn found<'a>(
+    alloc: Global,
+    rows: &mut Vec<Row<'a>>,
+    way: Way,
+    route: &'a Route,
+) -> Result<(), AllocError> {
+    for danger in &route.found_dangers {
+        let piece = Piece::Named {
+            below: ".dangers",
+            value: danger.name(),
+            words: danger.words(),
+        };
+        add_one(alloc, rows, "danger", way.of(), piece)?;
+    }
+    for (is_found, name, value, words) in [
+        (
+            route.found.refused,
+            "refused",
+            "refused",
+            "it is read as no location",
+        ),
+        (
+            route.found.unsettled,
+            "unsettled",
+            "unsettled",
+            "its own text is read otherwise",
+        ),
+        (
+            route.found.git_differs,
+            "git",
+            "git-differs",
+            "isn't known to read the same in it",
+        ),
+    ] {
+        if is_found {
+            let below = "";
+            add_one(
+                alloc,
+                rows,
+                name,
+                way.of(),
+                Piece::Named {
+                    below,
+                    value,
+                    words,
+                },
+            )?;
+        }
+    }
+    Ok(())
+}
+
+/// Adds a row.
+fn add<'a>(
+    rows: &mut Vec<Row<'a>>,
+    name: &'static str,
+    of: &'static str,
+    pieces: Vec<Piece<'a>>,
+) -> Result<(), AllocError> {
+    rows.push(Row { name, of, pieces })?;
+    Ok(())
+}
+
+/// Adds a row with one piece.
+fn add_one<'a>(
+    alloc: Global,
+    rows: &mut Vec<Row<'a>>,
+    name: &'static str,
+    of: &'static str,
+    piece: Piece<'a>,
+) -> Result<(), AllocError> {
+    let mut pieces = Vec::new(alloc);
+    pieces.push(piece)?;
+    add(rows, name, of, pieces)
+}
+
+/// Adds the rows of what Git's credential code uses: its helpers, for whom they are asked and with what. Without
+/// helpers there are none.
+fn credential<'a>(
+    alloc: Global,
+    rows: &mut Vec<Row<'a>>,
+    credential: &'a Option<Credentials>,
+) -> Result<(), AllocError> {
+    let Some(used) = credential else {
+        return Ok(());
+    };
+    let helpers = used.helpers.as_slice();
+    settings(
+        alloc,
+        rows,
+        "credential",
+        "rules.credential.helpers",
+        helpers,
+    )?;
+    if helpers.is_empty() {
+        return Ok(());
+    }
+    if let Some(user) = &used.user {
+        let text = Piece::Text {
+            below: ".user",
+            is_made: false,
+            text: user.as_str(),
+        };
+        let mut pieces = Vec::new(alloc);
+        pieces.push(Piece::Words("for the user "))?;
+        pieces.push(text)?;
+        add(rows, "credential", "rules.credential", pieces)?;
+    }
+    if used.use_http_path {
+        let path = Piece::Named {
+            below: ".use_http_path",
+            value: "true",
+            words: "with the path",
+        };
+        add_one(alloc, rows, "credential", "rules.credential", path)?;
+    }
+    Ok(())
+}
+
+/// Adds the rows of entries.
+fn settings<'a>(
+    alloc: Global,
+    rows: &mut Vec<Row<'a>>,
+    name: &'static str,
+    of: &'static str,
+    found: &'a [Setting],
+) -> Result<(), AllocError> {
+    for setting in found {
+        add_one(alloc, rows, name, of, Piece::Entry { below: "", setting })?;
+    }
+    Ok(())
+}
+
+/// Adds the rows of the transports: one where fetching and pushing take the same.
+fn transports<'a>(
+    alloc: Global,
+    rows: &mut Vec<Row<'a>>,
+    rules: &'a Rules,
+) -> Result<(), AllocError> {
+    transport(alloc, rows, Way::Fetch, &rules.fetch, "")?;
+    if is_same(&rules.fetch, &rules.push) {
+        Ok(())
+    } else {
+        transport(alloc, rows, Way::Push, &rules.push, " for pushing")
+    }
+}
+
+/// Whether both have the same transport, of which then the same holds, or have none for the same reason.
+fn is_same(fetch: &Route, push: &Route) -> bool {
+    match (&fetch.transport, &push.transport) {
+        (Some(fetch), Some(push)) => fetch.name.as_str() == push.name.as_str(),
+        (None, None) => reason_name(fetch) == reason_name(push),
+        _ => false,
+    }
+}
+
+/// The name of the reason why Git has no transport.
+fn reason_name(route: &Route) -> Option<&'static str> {
+    route.no_transport.as_ref().map(|lack| lack.reason)
+}
+
+/// Adds the row of a transport, or of why Git has none.
+fn transport<'a>(
+    alloc: Global,
+    rows: &mut Vec<Row<'a>>,
+    way: Way,
+    route: &'a Route,
+    what_for: &'static str,
+) -> Result<(), AllocError> {
+    let pieces = transport_pieces(alloc, route, what_for)?;
+    add(rows, "transport", way.of(), pieces)
+}
+
+/// A transport, whether Git uses it and what decides, or why Git has none.
+pub fn transport_pieces<'a>(
+    alloc: Global,
+    route: &'a Route,
+    what_for: &'static str,
+) -> Result<Vec<Piece<'a>>, AllocError> {
+    let mut pieces: Vec<Piece<'a>> = Vec::new(alloc);
+    if let Some(transport) = &route.transport {
+        push_transport(&mut pieces, transport, what_for)?;
+    }
+    if let Some(lack) = &route.no_transport {
+        pieces.push(Piece::Words("none"))?;
+        pieces.push(Piece::Words(what_for))?;
+        pieces.push(Piece::Words(": "))?;
+        pieces.push(Piece::Named {
+            below: ".no_transport",
+            value: lack.reason,
+            words: lack.words.as_str(),
+        })?;
+    }
+    Ok(pieces)
+}
+
+/// Appends a transport: its name, what it is for, and whether Git uses it, by what.
+fn push_transport<'a>(
+    pieces: &mut Vec<Piece<'a>>,
+    transport: &'a Transport,
+    what_for: &'static str,
+) -> Result<(), AllocError> {
+    pieces.push(Piece::Named {
+        below: ".transport.name",
+        value: "",
+        words: transport.name.as_str(),
+    })?;
+    pieces.push(Piece::Words(what_for))?;
+    pieces.push(Piece::Words(" "))?;
+    pieces.push(Piece::Named {
+        below: ".transport.permission",
+        value: transport.permission.name(),
+        words: transport.permission.words(),
+    })?;
+    push_reason(pieces, transport)
+}
+
+/// Appends what decides on a transport.
+fn push_reason<'a>(
+    pieces: &mut Vec<Piece<'a>>,
+    transport: &'a Transport,
+) -> Result<(), AllocError> {
+    match (transport.variable, &transport.entry) {
+        (None, None) => pieces.push(Piece::Words(" by default"))?,
+        (Some(variable), _) => {
+            pieces.push(Piece::Words(" by "))?;
+            pieces.push(Piece::Named {
+                below: ".transport.variable",
+                value: "",
+                words: variable,
+            })?;
+        }
+        (None, Some(_)) => {}
+    }
+    if let Some(setting) = &transport.entry {
+        pieces.push(Piece::Words(": "))?;
+        pieces.push(Piece::Entry {
+            below: ".transport.entry",
+            setting,
+        })?;
+    }
+    Ok(())
+}
