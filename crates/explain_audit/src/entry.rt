@@ -6,13 +6,13 @@
 ghost use Rattle.std.specs.Prelude.{◌≡◌, IfOk, OnOk};
 ghost use Rattle.std.specs.List.{filter};
 ghost use Rattle.git_modules.specs.SubmoduleRisks.{has_risk};
-ghost use Rattle.explain_audit.specs.Entries.{AddsRefusals, all_risks};
+ghost use Rattle.explain_audit.specs.Entries.{all_risks, with_reason};
 ghost use Rattle.explain_audit.specs.Items.{kinds};
 
 use crate::item::{Item, add};
 use crate::kind::Kind;
 use crate::url::{Parent, add_url};
-use git_modules::submodules::refusal::check;
+use git_modules::submodules::refusal::{Refusals, Refused, check};
 use git_modules::submodules::risk::{Risk, has_risk};
 use git_modules::submodules::submodules;
 use git_rules::config::Entry;
@@ -44,7 +44,7 @@ pub fn audit<'a>(
     reading: Reading<'_>,
 ) -> Result<Audited<'a>, AllocError> {
     let mut items = Vec::new(alloc);
-    add_refusals(alloc, &mut items, entry)?;
+    add_refusals(alloc, &mut items, check(entry))?;
     for risk in &risks_of(alloc, entry)? {
         add(alloc, &mut items, Kind::Risk(*risk))?;
     }
@@ -53,17 +53,26 @@ pub fn audit<'a>(
 }
 
 /// Adds what Git's fsck refuses of an entry: its name, then its value.
-fn add_refusals(alloc: Global, found: &mut Vec<Item>, entry: &Entry<'_>) -> Result<(), AllocError>
-    ensures { OnOk result (AddsRefusals entry.now (kinds found.old.items) (kinds found.new.items)) }
+fn add_refusals(alloc: Global, found: &mut Vec<Item>, refusals: Refusals) -> Result<(), AllocError>
+    ensures { OnOk result (kinds found.new.items
+        ≡ with_reason (with_reason (kinds found.old.items) refusals.name) refusals.value) }
 {
-    let refusals = check(entry);
-    if let Some(refused) = refusals.name {
-        add(alloc, found, Kind::Fsck(refused))?;
+    add_reason(alloc, found, refusals.name)?;
+    add_reason(alloc, found, refusals.value)
+}
+
+/// Adds what fsck refuses for this reason, if there is one.
+fn add_reason(
+    alloc: Global,
+    found: &mut Vec<Item>,
+    reason: Option<Refused>,
+) -> Result<(), AllocError>
+    ensures { OnOk result (kinds found.new.items ≡ with_reason (kinds found.old.items) reason) }
+{
+    match reason {
+        None => Ok(()),
+        Some(refused) => add(alloc, found, Kind::Fsck(refused)),
     }
-    if let Some(refused) = refusals.value {
-        add(alloc, found, Kind::Fsck(refused))?;
-    }
-    Ok(())
 }
 
 /// The risks of an entry, in their order.

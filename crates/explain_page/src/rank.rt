@@ -3,7 +3,7 @@
 //! It uses `danger` of `git_audit`, `location_report` and `rules`, and has no contract but that it can't abort.
 
 use explain_report::location_report::Report;
-use explain_report::rules::{Rules, found_by};
+use explain_report::rules::{Route, Rules, found_by};
 use git_audit::danger::Danger;
 
 /// A rank, the most urgent first.
@@ -52,30 +52,51 @@ impl Rank {
 
     /// The rank of a location, with what Git does with it by the configuration, if one is given.
     pub fn of(dangers: &[Danger], report: &Report<'_>, rules: Option<&Rules>) -> Rank {
+        if let Some(rank) = Rank::by_dangers(dangers) {
+            return rank;
+        }
+        if let Some(rank) = Rank::by_rules(rules) {
+            return rank;
+        }
+        if let Some(rank) = Rank::by_reading(report) {
+            return rank;
+        }
+        if is_read_otherwise(rules) {
+            Rank::Otherwise
+        } else {
+            Rank::Plain
+        }
+    }
+
+    /// The rank that a location has by its dangers, if there are any.
+    fn by_dangers(dangers: &[Danger]) -> Option<Rank> {
         let has = |danger: Danger| dangers.contains(&danger);
         if has(Danger::OptionLikeUser)
             || has(Danger::OptionLikeHost)
             || has(Danger::OptionLikePath)
         {
-            Rank::Option
+            Some(Rank::Option)
         } else if has(Danger::Command) {
-            Rank::Command
+            Some(Rank::Command)
         } else if has(Danger::OtherHost) || has(Danger::HostCharacter) || has(Danger::LineEnd) {
-            Rank::Misread
+            Some(Rank::Misread)
         } else if has(Danger::Password) || has(Danger::Token) {
-            Rank::Secret
-        } else if let Some(rank) = Rank::by_rules(rules) {
-            rank
-        } else if reads_other_host(report) {
-            Rank::OtherHost
-        } else if !report.settled {
-            Rank::Unsettled
-        } else if report.git_reads.is_some() {
-            Rank::Readers
-        } else if is_read_otherwise(rules) {
-            Rank::Otherwise
+            Some(Rank::Secret)
         } else {
-            Rank::Plain
+            None
+        }
+    }
+
+    /// The rank that a location has by how its own text is read, if that isn't plain.
+    fn by_reading(report: &Report<'_>) -> Option<Rank> {
+        if reads_other_host(report) {
+            Some(Rank::OtherHost)
+        } else if !report.settled {
+            Some(Rank::Unsettled)
+        } else if report.git_reads.is_some() {
+            Some(Rank::Readers)
+        } else {
+            None
         }
     }
 
@@ -117,13 +138,16 @@ impl Rank {
 
 /// Whether something else than a danger is found in a text that the line is rewritten to.
 fn is_read_otherwise(rules: Option<&Rules>) -> bool {
-    let Some(rules) = rules else {
-        return false;
-    };
-    [&rules.fetch, &rules.push].iter().any(|route| {
-        let found = route.found;
-        route.rewritten && (found.refused || found.unsettled || found.git_differs)
-    })
+    match rules {
+        None => false,
+        Some(rules) => is_rewritten_otherwise(&rules.fetch) || is_rewritten_otherwise(&rules.push),
+    }
+}
+
+/// Whether something else than a danger is found in a text that a rule has rewritten.
+fn is_rewritten_otherwise(route: &Route) -> bool {
+    let found = route.found;
+    route.rewritten && (found.refused || found.unsettled || found.git_differs)
 }
 
 /// Whether the own text of the location is read with another host.
