@@ -234,9 +234,9 @@ typedef enum gix_url_condition {
     GIX_URL_CONDITION_SCP_PATH = 11    /* a path of the scp form has a slash between two bytes */
 } gix_url_condition;
 
-/* Whether every reader finds the same parts in the text that gix_url_write puts. Where the answer is yes, Git agrees as
- * well, and every reader of a family, which the library's law_unambiguous defines, finds the location's own scheme, user,
- * password, host, port and path in its text: whichever @ or colon it cuts at, whether ?, #, ; or a backslash end its
+/* Whether every reader of a family finds the same parts in the text that gix_url_write puts. If so, Git agrees as well,
+ * and every reader of the family, which the library's law_unambiguous defines, finds the location's own scheme, user,
+ * password, host, port and path in the text: whichever @ or colon it cuts at, whether ?, #, ; or a backslash end its
  * authority, and whatever it decodes. It is false for many texts that most readers read alike. */
 gix_url_error gix_url_is_unambiguous(const gix_url *url, bool *unambiguous);
 

@@ -82,7 +82,7 @@ pub fn agrees_with_git(url: &Url) -> bool
     url.agrees_with_git()
 }
 
-/// Whether every reader finds the same parts.
+/// Whether every reader of a family finds the same parts.
 #[inline(never)]
 pub fn is_unambiguous(url: &Url) -> bool
     ensures { IsTrue result ↔ IsUnambiguous url.now }

@@ -107,7 +107,7 @@ pub extern "C" fn call_bench_agrees_with_git(alloc: Global, bytes: &[u8], agrees
     }
 }
 
-/// Whether every reader finds the same parts, where the bytes are a location.
+/// Whether every reader of a family finds the same parts, where the bytes are a location.
 #[unsafe(no_mangle)]
 pub extern "C" fn call_bench_is_unambiguous(
     alloc: Global,

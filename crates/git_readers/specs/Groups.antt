@@ -1,4 +1,4 @@
--- Groups of readers that are known to cut remotes otherwise than Git, and the host that each finds in a text.
+-- Groups of readers that cut remotes otherwise than Git, and the host that each finds in a text.
 use Rattle.std.specs.Prelude.{ℕ, ◌+◌, ◌-◌, Bool, true, not, ◌&&◌, ◌||◌, ◌==◌, nat_le, List, [], ◌∷◌, ◌++◌, length, take, codes, Option, Some, None, if◌then◌else◌}
 use Rattle.std.specs.List.{list_all}
 use Rattle.std.specs.Char.{is_ascii_digit}
@@ -45,19 +45,19 @@ after_slashes (a ∷ []) = None
 after_slashes (a ∷ b ∷ rest) = if a == slash && b == slash then Some rest else None
 
 -- the text that follows a scheme and two slashes
-abbrev pub after_scheme : List ℕ → Option (List ℕ × List ℕ) → Option (List ℕ)
-after_scheme t None = None
-after_scheme t (Some (scheme, rest)) = if is_scheme_text scheme then after_slashes rest else None
+abbrev pub after_scheme : Option (List ℕ × List ℕ) → Option (List ℕ)
+after_scheme None = None
+after_scheme (Some (scheme, rest)) = if is_scheme_text scheme then after_slashes rest else None
 
 -- the text from the authority of a URL on, or from that of a relative URL on
 abbrev pub url_rest : List ℕ → Option (List ℕ)
-url_rest t = if begins_with slash t then after_slashes t else after_scheme t (cut_first colon t)
+url_rest t = if begins_with slash t then after_slashes t else after_scheme (cut_first colon t)
 
 -- neither `/` nor `\`
 abbrev pub is_no_slash : ℕ → Bool
 is_no_slash b = not (b == slash || b == backslash)
 
--- the text behind a scheme of HTTP, its colon and any slashes
+-- the text after a scheme of HTTP, its colon and any slashes
 abbrev pub after_web_scheme : Option (List ℕ × List ℕ) → Option (List ℕ)
 after_web_scheme None = None
 after_web_scheme (Some (scheme, rest)) = if is_web_scheme scheme then Some (from is_no_slash rest) else None
@@ -185,6 +185,6 @@ group_words group.Urls = codes "readers of URLs (RFC 3986), as Go and Python"
 group_words group.UrlStandard = codes "readers of the URL Standard (WHATWG), as Node and Rust"
 group_words group.MadeUrls = codes "readers that make a URL of the scp form, as gh and pip"
 group_words group.FirstColon = codes "readers that cut at the first colon, as dulwich"
-group_words group.FirstAt = codes "readers that cut at the first @, as JGit and go-git"
+group_words group.FirstAt = codes "readers that cut at the first @, as go-git"
 group_words group.DigitsArePort = codes "readers that take digits after the colon for a port, as go-git"
 group_words group.FourNumbers = codes "readers that end a host after four numbers, as Boost.URL"

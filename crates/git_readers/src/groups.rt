@@ -1,7 +1,8 @@
 //! Groups of readers that cut remotes otherwise than Git, and the host that each finds in a text.
 //!
-//! A group stands for programs that were asked, and that cut such texts alike. It is no reader of its own: what a
-//! program makes of a host that it has cut out, and which texts it refuses, isn't said here.
+//! A group is a way to cut texts. Each program by which it is named was asked, and takes the host of the group in most
+//! texts in which it takes another host than Git; `docs/READERS.md` has in how many, and what it does in the others.
+//! Which texts a program refuses isn't said here.
 
 ghost use Rattle.std.specs.Prelude.{◌≡◌, ◌<◌, ◌||◌, ◌++◌, ◌∷◌, IfSome, Some, length, nat_le, option_map};
 ghost use Rattle.std.specs.Char.{is_ascii_digit};
@@ -30,9 +31,11 @@ pub enum Group {
     FirstColon,
     /// Readers that end the user at the first `@` of the whole text, and the host at the next `:`.
     FirstAt,
-    /// Readers that take digits at the front of the path of an scp form for a port.
+    /// Readers that take digits at the front of the path of an scp form, with a `/` or `:` after them, for a port. The
+    /// host is Git's, and the port isn't. go-git takes five digits at most, and asks for a `/` in the path after them.
     DigitsArePort,
-    /// Readers of URLs that end a host after four numbers.
+    /// Readers of URLs by RFC 3986 that end a host after four numbers with a `.` after them. Boost.URL takes numbers
+    /// to 255 without leading zeros.
     FourNumbers,
 }
 
@@ -61,15 +64,15 @@ impl Group {
             Group::UrlStandard => "readers of the URL Standard (WHATWG), as Node and Rust",
             Group::MadeUrls => "readers that make a URL of the scp form, as gh and pip",
             Group::FirstColon => "readers that cut at the first colon, as dulwich",
-            Group::FirstAt => "readers that cut at the first @, as JGit and go-git",
+            Group::FirstAt => "readers that cut at the first @, as go-git",
             Group::DigitsArePort =>
                 "readers that take digits after the colon for a port, as go-git",
             Group::FourNumbers => "readers that end a host after four numbers, as Boost.URL",
         }
     }
 
-    /// The host that the readers of the group find in a text, as it is written there and without brackets, or none.
-    /// Of [`Group::DigitsArePort`] the port is in it. It takes no memory.
+    /// The host that the group finds in a text, as it is written there and without brackets, or none. Of
+    /// [`Group::DigitsArePort`] the port is in it, and nothing else if the host is empty. It takes no memory.
     pub fn host_in(self, text: &[u8]) -> Option<&[u8]>
         ensures { option_map (λ t. t.now) result ≡ host_by self text.now }
     {
@@ -106,7 +109,7 @@ fn url_rest(text: &[u8]) -> Option<&[u8]>
 
 /// The text that follows a scheme and `://`.
 fn after_scheme(text: &[u8]) -> Option<&[u8]>
-    ensures { option_map (λ t. t.now) result ≡ spec.after_scheme text.now (cut_first colon text.now) }
+    ensures { option_map (λ t. t.now) result ≡ spec.after_scheme (cut_first colon text.now) }
 {
     match at_first(text, b':') {
         None => None,
@@ -218,7 +221,7 @@ fn standard_host(text: &[u8]) -> Option<&[u8]>
     unless_empty(host_in(before_first(authority(rest), b'\\')))
 }
 
-/// The text behind a scheme of HTTP, its colon and any slashes.
+/// The text after a scheme of HTTP, its colon and any slashes.
 fn standard_rest(text: &[u8]) -> Option<&[u8]>
     ensures { option_map (λ t. t.now) result ≡ spec.standard_rest text.now }
 {
@@ -386,7 +389,7 @@ fn host_with_port<'a>(text: &'a [u8], front: &'a [u8], rest: &'a [u8]) -> Option
     }
 }
 
-/// Whether the text begins with digits, and with `/` or `:` behind them.
+/// Whether the text begins with digits, and with `/` or `:` after them.
 fn begins_port(text: &[u8]) -> bool
     ensures { result ≡ begins_port text.now }
 {

@@ -72,7 +72,7 @@ pub(crate) fn form_of(url: &UrlRef<'_>) -> Form
     }
 }
 
-/// Whether every reader finds the same parts in the text of the location. It takes no memory.
+/// Whether every reader of a family finds the same parts in the text of the location. It takes no memory.
 ///
 /// [`law_unambiguous`](crate::law::law_unambiguous) says which readers are meant.
 ///

@@ -79,7 +79,7 @@ impl Url {
         self.as_ref().unmet_web_condition()
     }
 
-    /// Whether every reader finds the same parts in the text of the location. It takes no memory.
+    /// Whether every reader of a family finds the same parts in the text of the location. It takes no memory.
     ///
     /// Where the answer is yes, Git agrees as well, and every reader of a family (`LeavesPlain`) finds the
     /// location's own scheme, user, password, host, port and path in its text

@@ -288,7 +288,7 @@ impl Url {
         ffi::agrees_with_git(self)
     }
 
-    /// Whether every reader finds the same parts in the text of the location.
+    /// Whether every reader of a family finds the same parts in the text of the location.
     ///
     /// Where the answer is yes, Git agrees as well, and every reader of a family, which the library's `law_unambiguous`
     /// defines, finds the location's own scheme, user, password, host, port and path in its text: whichever `@` or `:`
