@@ -17,7 +17,7 @@ use crate::halt::Halt;
 use crate::order::{Order, unknown};
 use crate::report::{Out, report_lent, report_owned};
 use crate::shown::show;
-use crate::{build, dangers, errors, resolved, rule_words, rules, secrets};
+use crate::{build, dangers, errors, misreadings, resolved, rule_words, rules, secrets};
 use git_audit::secret::law::law_secrets;
 use gix_url::lines::{fault_line, status};
 use gix_url::{Url, laws};
@@ -35,6 +35,8 @@ pub fn make(alloc: Global, order: &Order<'_>, out: &mut Out) -> Result<(), Halt>
         rule_words::show(order, out)
     } else if dangers::has(order.name()) {
         dangers::make(alloc, order, out)
+    } else if misreadings::has(order.name()) {
+        misreadings::make(alloc, order, out)
     } else if secrets::has(order.name()) {
         secrets::make(alloc, order, out)
     } else if resolved::has(order.name()) {

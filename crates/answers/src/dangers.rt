@@ -58,6 +58,7 @@ fn danger_named(name: &str) -> Result<Danger, Halt> {
         "HostCharacter" => Ok(Danger::HostCharacter),
         "LineEnd" => Ok(Danger::LineEnd),
         "OtherHost" => Ok(Danger::OtherHost),
+        "MisreadHost" => Ok(Danger::MisreadHost),
         _ => Err(Halt::Unprepared),
     }
 }

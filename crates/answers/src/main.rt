@@ -18,6 +18,7 @@ mod credentials;
 mod dangers;
 mod errors;
 mod halt;
+mod misreadings;
 mod order;
 mod parts;
 mod places;

@@ -12,6 +12,7 @@ mod first_hour;
 mod git_credentials;
 mod git_readings;
 mod in_room;
+mod misreadings;
 mod parts;
 mod paths;
 mod patterns;

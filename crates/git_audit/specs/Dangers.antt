@@ -9,6 +9,7 @@ use Rattle.git_syntax.specs.Location.Scheme.{http, https, ext}
 use Rattle.git_reads.specs.Git.{GitReading, GitReads}
 use Rattle.git_reads.specs.Credentials.{CredentialReading, CredentialReads}
 use Rattle.git_rules.specs.SameHost.{host_name}
+use Rattle.git_audit.specs.Misreadings.{is_misread}
 use Rattle.git_audit.specs.declared.danger.Danger.{Danger}
 use Rattle.git_audit.specs.declared.danger.Danger.TheVariants as danger
 
@@ -146,27 +147,30 @@ ReadsOtherHost false t v = ReachesOtherHost t v
 
 -- ---- dangers
 
--- the location has the danger; `other` says whether Git takes another host from the text
-abbrev pub has_danger : Bool → Location → Danger → Bool
-has_danger other v danger.Command = is_ext v.scheme
-has_danger other v danger.OptionLikeUser = is_some_with is_option_like v.user
-has_danger other v danger.OptionLikeHost = is_some_with is_option_like v.host
-has_danger other v danger.OptionLikePath = is_option_path v.path
-has_danger other v danger.Password = is_some v.password
-has_danger other v danger.Token = has_token_user v.scheme v.user v.password || holds_token v.path
-has_danger other v danger.HostCharacter = is_some_with (list_any is_control_or_space) v.host
-has_danger other v danger.LineEnd = is_some v.host && has_end v
-has_danger other v danger.OtherHost = other
+-- the location has the danger; `other` says whether Git takes another host from the text, and `misread`
+-- whether other programs do
+abbrev pub has_danger : Bool → Bool → Location → Danger → Bool
+has_danger other misread v danger.Command = is_ext v.scheme
+has_danger other misread v danger.OptionLikeUser = is_some_with is_option_like v.user
+has_danger other misread v danger.OptionLikeHost = is_some_with is_option_like v.host
+has_danger other misread v danger.OptionLikePath = is_option_path v.path
+has_danger other misread v danger.Password = is_some v.password
+has_danger other misread v danger.Token = has_token_user v.scheme v.user v.password || holds_token v.path
+has_danger other misread v danger.HostCharacter = is_some_with (list_any is_control_or_space) v.host
+has_danger other misread v danger.LineEnd = is_some v.host && has_end v
+has_danger other misread v danger.OtherHost = other
+has_danger other misread v danger.MisreadHost = misread
 
 -- every danger, in the order in which they are returned
 abbrev pub every_danger : List Danger
 every_danger = danger.Command ∷ danger.OptionLikeUser ∷ danger.OptionLikeHost ∷ danger.OptionLikePath
-    ∷ danger.Password ∷ danger.Token ∷ danger.HostCharacter ∷ danger.LineEnd ∷ danger.OtherHost ∷ []
+    ∷ danger.Password ∷ danger.Token ∷ danger.HostCharacter ∷ danger.LineEnd ∷ danger.OtherHost
+    ∷ danger.MisreadHost ∷ []
 
 -- these are the dangers of the text, and of the location that is read in it
 abbrev pub AreDangers : List ℕ → Location → List Danger → Type 0
 AreDangers t v found = (other : Bool) × (IsTrue other ↔ ReadsOtherHost (is_of_http v.scheme) t v)
-    × (found ≡ filter (has_danger other v) every_danger)
+    × (found ≡ filter (has_danger other (is_misread t v) v) every_danger)
 
 -- the name of a danger
 abbrev pub danger_name : Danger → List ℕ
@@ -179,6 +183,7 @@ danger_name danger.Token = codes "token"
 danger_name danger.HostCharacter = codes "host_character"
 danger_name danger.LineEnd = codes "line_end"
 danger_name danger.OtherHost = codes "other_host"
+danger_name danger.MisreadHost = codes "misread_host"
 
 -- a danger in a few words
 abbrev pub danger_words : Danger → List ℕ
@@ -191,3 +196,4 @@ danger_words danger.Token = codes "it may hold a token"
 danger_words danger.HostCharacter = codes "the host holds a control character or a space"
 danger_words danger.LineEnd = codes "a part holds the end of a line"
 danger_words danger.OtherHost = codes "Git takes another host from it"
+danger_words danger.MisreadHost = codes "other programs take another host or port from it"

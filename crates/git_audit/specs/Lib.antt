@@ -1,4 +1,5 @@
 -- What a user reads.
+pub mod Misreadings
 pub mod Dangers
 pub mod Secrets
 pub mod Left

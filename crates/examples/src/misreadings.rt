@@ -1,0 +1,25 @@
+//! Examples of hosts that other programs take from a text.
+
+use git_audit::misreading::{GROUPS, is_misread, other_host};
+use gix_url::UrlRef;
+use std::alloc::{AllocError, Global};
+
+/// The readers that take another host from a text, each group with a line feed after it.
+fn misreaders(alloc: Global, text: &[u8], url: &UrlRef<'_>) -> Result<String, AllocError> {
+    let mut words = String::new(alloc);
+    for group in GROUPS.iter() {
+        if other_host(text, url, *group).is_some() {
+            words.push_str(group.words())?; // of `h:22/a/b` those that take digits for a port
+            words.push('\n')?;
+        }
+    }
+    Ok(words)
+}
+
+/// Whether a forge may pass a text on: it is read, and no known reader takes another host from it.
+fn may_be_passed_on(text: &[u8], buffer: &mut [u8]) -> bool {
+    match UrlRef::parse_in(text, buffer) {
+        Ok(url) => !is_misread(text, &url), // not `ssh://github.com?@evil.com/a/b`
+        Err(_) => false,
+    }
+}

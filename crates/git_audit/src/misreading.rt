@@ -1,0 +1,132 @@
+//! Hosts that other programs take from a text than the location has that is read in it.
+//!
+//! It uses the groups of readers of `git_readers`, and takes no memory. Its contract: the host that a group takes is
+//! returned exactly if it isn't the location's, by one definition (`specs/Misreadings.antt`).
+
+ghost use Rattle.std.specs.Prelude.{◌≡◌, bytes_eq, option_map};
+ghost use Rattle.std.specs.List.{list_any};
+ghost use Rattle.git_rules.specs.SameHost.{host_name};
+ghost use Rattle.git_audit.specs.Misreadings.{has_other_host, is_misread, names_own_host, other_host, unless_own};
+
+use git_location::url_ref::UrlRef;
+pub use git_readers::groups::Group;
+use git_rules::rewrite::host::is_same_host;
+
+/// Every group of readers, in the order of [`Group`]. [`other_host`] has an example.
+pub const GROUPS: [Group; 7] = [
+    Group::Urls,
+    Group::UrlStandard,
+    Group::MadeUrls,
+    Group::FirstColon,
+    Group::FirstAt,
+    Group::DigitsArePort,
+    Group::FourNumbers,
+];
+
+/// The host that the readers of a group take from a text, if it isn't the host of the location that is read in it.
+/// It is a part of the text, as [`Group::host_in`] returns it.
+///
+/// Hosts are compared as `git_rules::rewrite::host::is_same_host` does it: without letter case, and without brackets
+/// around them. Beside a location without a host, as a local path, each host that a group takes is another one. Of
+/// [`Group::DigitsArePort`] the port is in the host. It takes no memory.
+///
+/// ```
+/// /// The readers that take another host from a text, each group with a line feed after it.
+/// fn misreaders(alloc: Global, text: &[u8], url: &UrlRef<'_>) -> Result<String, AllocError> {
+///     let mut words = String::new(alloc);
+///     for group in GROUPS.iter() {
+///         if other_host(text, url, *group).is_some() {
+///             words.push_str(group.words())?; // of `h:22/a/b` those that take digits for a port
+///             words.push('\n')?;
+///         }
+///     }
+///     Ok(words)
+/// }
+/// ```
+pub fn other_host<'a>(text: &'a [u8], url: &UrlRef<'_>, group: Group) -> Option<&'a [u8]>
+    ensures { option_map (λ t. t.now) result ≡ other_host group text.now url.now }
+{
+    unless_own(url, group.host_in(text))
+}
+
+/// Whether the readers of some group take another host from a text than that of the location that is read in it.
+///
+/// That no group does is no promise that all programs find the host: the groups have the cuts that are known.
+/// `gix_url::Url::is_unambiguous` decides the texts that all readers of a family read alike. It takes no memory.
+///
+/// ```
+/// /// Whether a forge may pass a text on: it is read, and no known reader takes another host from it.
+/// fn may_be_passed_on(text: &[u8], buffer: &mut [u8]) -> bool {
+///     match UrlRef::parse_in(text, buffer) {
+///         Ok(url) => !is_misread(text, &url), // not `ssh://github.com?@evil.com/a/b`
+///         Err(_) => false,
+///     }
+/// }
+/// ```
+pub fn is_misread(text: &[u8], url: &UrlRef<'_>) -> bool
+    ensures { result ≡ is_misread text.now url.now }
+{
+    is_misread_by(
+        text,
+        url,
+        &[
+            Group::Urls,
+            Group::UrlStandard,
+            Group::MadeUrls,
+            Group::FirstColon,
+            Group::FirstAt,
+            Group::DigitsArePort,
+            Group::FourNumbers,
+        ],
+    )
+}
+
+/// Whether the readers of one of these groups take another host.
+fn is_misread_by(text: &[u8], url: &UrlRef<'_>, some: &[Group]) -> bool
+    ensures { result ≡ list_any (has_other_host text.now url.now) some.now }
+{
+    some.iter().any(|group| takes_other_host(text, url, *group))
+}
+
+/// Whether the readers of the group take another host.
+fn takes_other_host(text: &[u8], url: &UrlRef<'_>, group: Group) -> bool
+    ensures { result ≡ has_other_host text.now url.now group }
+{
+    match other_host(text, url, group) {
+        None => false,
+        Some(_) => true,
+    }
+}
+
+/// The host, unless it is that of the location.
+fn unless_own<'a>(url: &UrlRef<'_>, found: Option<&'a [u8]>) -> Option<&'a [u8]>
+    ensures { option_map (λ t. t.now) result ≡ unless_own url.now.host (option_map (λ t. t.now) found.entry) }
+{
+    match found {
+        None => None,
+        Some(host) => {
+            if names_own_host(url, host) {
+                None
+            } else {
+                Some(host)
+            }
+        }
+    }
+}
+
+/// Whether the text names the location's host.
+fn names_own_host(url: &UrlRef<'_>, named: &[u8]) -> bool
+    ensures { result ≡ names_own_host url.now.host named.now }
+{
+    match url.host {
+        None => false,
+        Some(own) => is_same(own.as_bytes(), named),
+    }
+}
+
+/// Whether both texts name one host.
+fn is_same(own: &[u8], named: &[u8]) -> bool
+    ensures { result ≡ bytes_eq (host_name own.now) (host_name named.now) }
+{
+    is_same_host(own, named)
+}
