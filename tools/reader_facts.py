@@ -3,16 +3,19 @@
 `conditions.jsonl` has a line for each condition of the class: its name and words, an example, the host that Git connects to in it, and
 which readers take which other host, or read which other part; and which readers read another host, or another part, or refuse, in
 texts that break this condition alone, or differ in those that break it beside others. `confusions.jsonl` has the same of single texts,
-and the conditions that each breaks. `readers.jsonl` has each reader with its version and Debian's packages. A text is spelled as in
-rows (`row_text.py`). A local path has no host.
+and the conditions that each breaks. `readers.jsonl` has each reader with its version and Debian's packages. `groups.jsonl` has the
+programs of each group of readers, with the counts of `reader_groups.py` and the shapes in which a program takes another host than its
+group. A text is spelled as in rows (`row_text.py`). A local path has no host.
 """
 import json
 import re
 
+from reader_groups import PROGRAMS, counts
 from reader_places import REFUSED, SILENT
 from reader_programs import READERS
 from row_text import bytes_of, text_of
 from rt_api import ROOT
+from second_reading.groups import GROUPS as READER_GROUPS
 from second_reading.unambiguous import CONDITIONS, broken
 
 FOLDER, DOCUMENT = f"{ROOT}/vectors/readers", f"{ROOT}/docs/READERS.md"
@@ -111,13 +114,32 @@ def place_of(text, cases, readers):
     return {"git": None if wanted is None else shown(wanted.host) or "a local path", **others(text, readers)}
 
 
+def words_of(function):
+    return " ".join((function.__doc__ or "").split())
+
+
 def condition_line(name, example, cases, readers, found, beside):
     by_kind = {it: [] for it in KINDS}
     for reader in readers:
         if found[name][reader.name]:
             by_kind[strongest(found[name][reader.name])].append(reader.name)
-    words = " ".join((CONDITIONS[name].__doc__ or "").split())
-    return {"name": name, "words": words, "example": text_of(example), **place_of(example, cases, readers), **by_kind, "beside": beside[name]}
+    return {"name": name, "words": words_of(CONDITIONS[name]), "example": text_of(example), **place_of(example, cases, readers), **by_kind, "beside": beside[name]}
+
+
+def group_lines(readers):
+    """A line for each program of a group."""
+    for (group, program), found in counts(readers).items():
+        shapes = [words_of(it) for it in PROGRAMS[group][program]]
+        yield {"group": group, "words": words_of(READER_GROUPS[group]), "program": program, **found, "shapes": shapes}
+
+
+def count_faults(readers):
+    """Where the counts of a program are others by now than the table has."""
+    named = {(it["group"], it["program"]): it for it in lines("groups")}
+    for it in group_lines(readers):
+        listed = named.get((it["group"], it["program"]))
+        if it != listed:
+            yield f"groups.jsonl has {listed}, and not {it}"
 
 
 def group(reader):
@@ -132,6 +154,7 @@ def record(cases, readers, found, beside):
     write("conditions", [condition_line(name, examples[name], cases, readers, found, beside) for name in CONDITIONS])
     singles = [bytes_of(it["text"]) for it in lines("confusions")]
     write("confusions", [{"text": text_of(it), "conditions": broken(it), **place_of(it, cases, readers)} for it in singles])
+    write("groups", group_lines(readers))
     given = read_document()
     for mark, table in tables().items():
         given = re.sub(rf"(<!-- {mark} -->\n).*?(<!-- end -->)", lambda it, table=table: it[1] + table + it[2], given, flags=re.S)
@@ -189,13 +212,34 @@ def confusion_table():
     return "".join(out)
 
 
+def group_table():
+    """Each group with the programs by which it is named."""
+    named = {}
+    for it in lines("groups"):
+        named.setdefault((it["group"], it["words"].rstrip(".")), []).append(it["program"])
+    rows = [f"| `{group}` | {words} | {', '.join(programs)} |\n" for (group, words), programs in named.items()]
+    return "".join(["| Group | The host that it finds | Programs |\n", "|---|---|---|\n", *rows])
+
+
+def count_table():
+    """What each program does in the texts of its groups."""
+    heads = ["Group", "Program", "Of other hosts than Git's", "Of misread texts", "No host", "Git's", "Another", "Where it takes another host than the group"]
+    out = [f"| {' | '.join(heads)} |\n", "|---|---" + "|--:" * 5 + "|---|\n"]
+    for it in lines("groups"):
+        pairs = [f"{it[some]:,} of {it[all]:,}" for some, all in (("takes", "differs"), ("same", "misread"))]
+        cells = [f"`{it['group']}`", it["program"], *pairs, *(f"{it[member]:,}" for member in ("none", "gits", "another")), " ".join(it["shapes"])]
+        out.append(f"| {' | '.join(cells)} |\n")
+    return "".join(out)
+
+
 def reader_table():
     named = [f"{it['reader']} {it['version']}" + (f" ({SHORT[it['reader']]})" if it["reader"] in SHORT else "") for it in lines("readers")]
     return ", ".join(named) + ".\n"
 
 
 def tables():
-    return {"readers": reader_table(), "confusions": confusion_table(), "conditions": condition_table()}
+    return {"readers": reader_table(), "confusions": confusion_table(), "conditions": condition_table(), "groups": group_table(),
+            "counts": count_table()}
 
 
 def read_document():

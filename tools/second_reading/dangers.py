@@ -3,6 +3,7 @@ import re
 
 from git_reads import git_reads
 from second_reading import grammar
+from second_reading.groups import is_own, other_hosts
 from web_defined import credential_readings
 
 FRONTS = rb"ghp_|gho_|ghu_|ghs_|ghr_|github_pat_|glpat-|gldt-|glrt-|glcbt-|glptt-|glft-|glimt-|glagent-|gloas-|glsoat-|ATBB|ATCTT3"
@@ -15,7 +16,7 @@ WORDS = {
     "command": "it runs a command", "option_like_user": "the user begins with -", "option_like_host": "the host begins with -",
     "option_like_path": "the path begins with - or /-", "password": "it holds a password", "token": "it may hold a token",
     "host_character": "the host holds a control character or a space", "line_end": "a part holds the end of a line",
-    "other_host": "Git takes another host from it",
+    "other_host": "Git takes another host from it", "misread_host": "other programs take another host or port from it",
 }
 
 
@@ -26,21 +27,11 @@ def is_token(v):
     return bool(re.match(FRONTS, user)) or is_long or bool(WORD.search(v.path))
 
 
-def host_name(host):
-    """The host in lower case, without brackets around it or a lone colon at its end."""
-    found = re.fullmatch(rb"\[(.*)\]:?|([^\[:][^:]*):", host, re.S)
-    return (host if found is None else found[1] if found[2] is None else found[2]).lower()
-
-
-def is_own(v, named):
-    return v.host is not None and host_name(v.host) == host_name(named)
-
-
 def is_other_host(line, v):
     """Whether Git takes another host from the line than that of the location."""
     if v.scheme not in grammar.HTTP_SCHEMES:
-        return any(it.host is not None and not is_own(v, it.host) for it in git_reads(line))
-    return any(not is_own(v, it.host) and not is_own(v, re.sub(rb":\d*\Z", b"", it.host)) for it in credential_readings(line))
+        return any(it.host is not None and not is_own(v.host, it.host) for it in git_reads(line))
+    return any(not is_own(v.host, it.host) and not is_own(v.host, re.sub(rb":\d*\Z", b"", it.host)) for it in credential_readings(line))
 
 
 def dangers(line, v):
@@ -56,5 +47,6 @@ def dangers(line, v):
         "host_character": any(it <= 32 or it == 127 for it in v.host or b""),
         "line_end": v.host is not None and any(it in b"\n\r\0" for part in parts for it in part),
         "other_host": is_other_host(line, v),
+        "misread_host": bool(other_hosts(line, v.host)),
     }
     return [name for name, is_there in found.items() if is_there]
