@@ -1,5 +1,5 @@
 #!/usr/bin/env python3
-"""Carries out the orders of the standard input, a line each, by the module gix_url, and prints the outcome of each
+"""Carries out the orders of the standard input, a line each, by the package gix_url, and prints the outcome of each
 call, a line of JSON, as the program `answers` does. tools/row_programs.py writes and describes orders."""
 import json
 import os
@@ -7,7 +7,7 @@ import re
 import sys
 
 sys.dont_write_bytecode = True
-sys.path.insert(0, f"{os.path.dirname(os.path.realpath(__file__))}/../python")
+sys.path.append(f"{os.path.dirname(os.path.realpath(__file__))}/../python")
 import gix_url
 
 SCHEMES = {"File": 0, "Git": 1, "Ssh": 2, "Http": 3, "Https": 4, "Ext": 5, "Helper": 6, "HelperUrl": 7}
@@ -31,7 +31,7 @@ def location(order, whole):
     texts = {it: part[it].decode() for it in ("user", "password", "host") if it in part}
     port = int(part["port"]) if "port" in part else None
     more = {"path": part.get("path", b""), "spelling": part.get("spelling"), "alternative": part.get("alternative") == b"true"}
-    return gix_url.Url(gix_url.Scheme(SCHEMES[scheme]), name if space else None, port=port, **texts, **more)
+    return gix_url.Url(gix_url.Scheme(SCHEMES[scheme]), name=name if space else None, port=port, **texts, **more)
 
 
 def told(value):
@@ -75,7 +75,7 @@ def components(url):
 
 def shown(url):
     try:
-        return {"shown": told(str(url))}
+        return {"shown": told(url.redacted)}
     except gix_url.Error:
         return {"shown": "", "failed": True}
 
@@ -85,6 +85,13 @@ def unmet_condition(url):
     unmet = url.unmet_condition()
     assert (unmet is None) == url.is_unambiguous()
     return None if unmet is None else unmet.name.title().replace("_", "")
+
+
+def told_order(one, other):
+    """The order of two locations, as a total and as a partial one, whether they are equal and whether their hashes are."""
+    order = "Less" if one < other else "Greater" if one > other else "Equal"
+    assert (one <= other, one >= other, one != other) == (order != "Greater", order != "Less", order != "Equal")
+    return [[order, order], [one == other, hash(one) == hash(other)]]
 
 
 # What each call over a location returns.
@@ -119,10 +126,16 @@ def refused_parts(parts, error):
         return told_error(error)
 
 
+def of_scheme(call, order):
+    """What a call over a scheme returns, by a location that has nothing else."""
+    url = location({"scheme": order["scheme"]}, "")
+    return told(url.scheme_text()) if call == "Scheme::as_str" else told_order(url, location({"scheme": order["other"]}, ""))
+
+
 def outcome(order):
     call = order["call"].decode()
-    if call == "Scheme::as_str":
-        return told(location({"scheme": order["scheme"]}, "").scheme_text())
+    if call in ("Scheme::as_str", "Scheme:Ord"):
+        return of_scheme(call, order)
     if call == "Url::from_parts":
         parts = location(order, "record.")
         try:
@@ -137,6 +150,8 @@ def outcome(order):
     except gix_url.Error as error:
         return told_error(error, text) if call == "parse::parse" else {"halt": "not prepared"}
     try:
+        if call == "Url:Ord":
+            return told_order(url, gix_url.parse(order["other"]) if "other" in order else location(order, "other."))
         return told_url(url) if call == "parse::parse" else CALLS[call](url)
     except gix_url.Error as error:
         return told_error(error)
@@ -147,7 +162,7 @@ def words(text):
     try:
         gix_url.parse(text)
     except gix_url.Error as error:
-        return {"shown": str(error) + (f", in a text of {error.total} bytes" if error.total else "")}
+        return {"shown": error.args[0] + (f", in a text of {error.total} bytes" if error.total else "")}
     return None
 
 

@@ -1,0 +1,24 @@
+"""Answers each line of the standard input as the program `locations` does: `python3 -m gix_url < remotes.txt`."""
+import sys
+
+import gix_url
+
+
+def _answer(line: bytes) -> bytes:
+    """What `locations` answers to a line."""
+    try:
+        url = gix_url.parse(line)
+    except gix_url.Error as error:
+        return b"refused\t" + (f"{error.name} {error.fault}" if error.fault else error.name).encode()
+    return b"settled\t" + bytes(url) if url.is_settled() else b"unsettled\t" + url.scheme_text().encode()
+
+
+def _main() -> int:
+    """0 if all lines are settled, else 1."""
+    answers = [_answer(it.removesuffix(b"\n")) for it in sys.stdin.buffer]
+    sys.stdout.buffer.write(b"".join(it + b"\n" for it in answers))
+    return 0 if all(it.startswith(b"settled") for it in answers) else 1
+
+
+if __name__ == "__main__":
+    sys.exit(_main())
