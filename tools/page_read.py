@@ -76,12 +76,19 @@ class Article:
         """The object of the line, without the names of its dangers, which a page lacks."""
         location, rules = None if self.verdict == "refused" else self.location(), self.rules()
         return {
-            "line": self.number, "input": self.value("input"), "location": location, "refusal": self.refusal(),
+            "line": self.number, "input": self.value("input"), "location": location, "refusal": self.refusal(), "readers": self.readers(),
             "findings": self.findings(location, rules), "hints": self.names("hints"), "rules": rules}
 
     def refusal(self):
         it, read = self.members("refusal", ERROR), self.members("refusal.git_reads", ("protocol", "user", "host", "port", "path", "why"))
         return it and {**it, "git_reads": read and {**read, "same": False}}
+
+    def readers(self):
+        """Who may read the line otherwise: the condition, and of each other host the groups of readers."""
+        unmet = self.names("readers.condition")
+        others = [{"host": text_of(host), "groups": groups.split()} for _, groups, _, (host,) in self.values.get("readers.others", [])]
+        it = {"condition": unmet[0] if unmet else None, "others": others, "instead": self.value("readers.instead")}
+        return it if unmet or others else None
 
     def findings(self, location, rules):
         """The names of what is found in the line and in the texts that it is rewritten to, for which a run may fail."""

@@ -9,12 +9,13 @@ Its modules, each of which uses only those above it:
   octets, hosts, grammar               bytes and escapes; addresses, hosts and ports; which location a text spells
   writing, settled_class, git_class    the text of a location; whether it comes back; whether Git reads the same
   unambiguous                          the texts that no reader is known to read otherwise
+  groups, dangers                      the hosts that groups of readers find; what is dangerous in a line
   records, fault_places                components and records; where a refused text is wrong, and for which reason
   errors, line_answers                 why a text is refused; the answers of `locations`
   laws, worked_rows, short_inputs      laws that all this has to meet; rows in a file; the stored run of `locations`
   plain_paths                          paths of URLs and of home folders
   row_outcomes                         the outcomes of rows in `vectors/`
-  explain_lines, explain, hints, explain_tables, stored_run    the stored run of `explain`, and the tables of the documents
+  explain_lines, explain, readers, hints, explain_tables, stored_run    the stored run of `explain`, and the tables of the documents
 
 `scripts/grammar` asks it.
 """

@@ -3,6 +3,7 @@ import re
 import unicodedata
 
 from second_reading.explain import components, form
+from second_reading.readers import instead
 
 # Two labels or more, the last one of letters, and not the one that bare repositories end in.
 HOST_NAME = rb"(?:[A-Za-z0-9-]+\.)+(?!git(?:/|\Z))[A-Za-z]{2,}"
@@ -125,6 +126,7 @@ HINTS = {
     "punycode": lambda line, v: v is None and re.match(rb"https?://", line) and not refused_host(line).isascii(),
     "ssh_password": lambda line, v: is_form(v, "url") and is_scheme(v, "Ssh") and v.password is not None,
     "file_host": lambda line, v: is_form(v, "url") and is_scheme(v, "File") and v.host,
+    "write_instead": lambda line, v: v is not None and instead(line, v),
 }
 
 

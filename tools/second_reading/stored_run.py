@@ -7,9 +7,10 @@ from second_reading import grammar
 from second_reading.dangers import dangers
 from second_reading.explain import refusal_of_line, shown_line, told
 from second_reading.explain_lines import (
-    CURL, FILES, GIT, HELPERS, IN_REFUSED, LOCALS, PLACED, READ, REFUSED, SCPS, SLIPS, URLS, WEB)
+    CURL, FILES, GIT, HELPERS, IN_REFUSED, LOCALS, MISREAD, PLACED, READ, REFUSED, REWRITTEN, SCPS, SLIPS, URLS, WEB)
 from second_reading.explain_tables import reason_examples, table
 from second_reading.hints import hints
+from second_reading.readers import readers
 
 
 def found(line, v):
@@ -23,14 +24,14 @@ def found(line, v):
 def answer(number, line):
     v = grammar.spells(line)
     it = {"line": number, "input": shown_line(line), "location": v and told(v), "refusal": refusal_of_line(line) if v is None else None,
-          "dangers": [] if v is None else dangers(line, v), "findings": found(line, v), "hints": hints(line, v), "rules": None}
+          "readers": readers(line, v), "dangers": [] if v is None else dangers(line, v), "findings": found(line, v), "hints": hints(line, v), "rules": None}
     return json.dumps(it, separators=(",", ":"), ensure_ascii=False)
 
 
 def stored_run():
     """The files of the stored run. The texts of the tables are among its lines."""
     texts = [*(row[0].strip("`").encode() for row in table()), *reason_examples(), *PLACED]
-    lines = list(dict.fromkeys([*HELPERS, *URLS, *FILES, *SCPS, *LOCALS, *REFUSED, *GIT, *READ, *WEB, *CURL, *SLIPS, *IN_REFUSED, *texts]))
+    lines = list(dict.fromkeys([*HELPERS, *URLS, *FILES, *SCPS, *LOCALS, *REFUSED, *GIT, *READ, *WEB, *CURL, *SLIPS, *IN_REFUSED, *MISREAD, *REWRITTEN, *texts]))
     lines.append(b"/the/last")
     answers = "".join(answer(number, line) + "\n" for number, line in enumerate(lines, 1))
     return {"stdin": b"\n".join(lines), "stdout": answers.encode(), "args": b"--json\n", "status": b"1\n"}

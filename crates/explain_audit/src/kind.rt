@@ -57,7 +57,7 @@ pub enum Level {
 
 impl Kind {
     /// All kinds, in the order of their rules. Git's reasons for not resolving a URL are one.
-    pub const ALL: [Kind; 30] = [
+    pub const ALL: [Kind; 31] = [
         Kind::Danger(Danger::Command),
         Kind::Danger(Danger::OptionLikeUser),
         Kind::Danger(Danger::OptionLikeHost),
@@ -67,6 +67,7 @@ impl Kind {
         Kind::Danger(Danger::HostCharacter),
         Kind::Danger(Danger::LineEnd),
         Kind::Danger(Danger::OtherHost),
+        Kind::Danger(Danger::MisreadHost),
         Kind::Fsck(Refused::Name),
         Kind::Fsck(Refused::Url),
         Kind::Fsck(Refused::Path),

@@ -13,6 +13,7 @@ use explain_report::finding::Findings;
 use explain_report::form::Form;
 use explain_report::location_report::{Arguments, Report, Safety};
 use explain_report::path::{Components, Field, Home};
+use explain_report::readers::{Readers, instead_of};
 use explain_report::refusal::Refusal;
 use explain_report::rules::Rules;
 use explain_report::text::line::SeenLine;
@@ -27,6 +28,8 @@ pub struct Notes<'b> {
     pub dangers: &'b [Danger],
     /// What was found in the line, and in the texts that it is rewritten to.
     pub found: Findings,
+    /// Who may read the line otherwise.
+    pub readers: Option<&'b Readers>,
     /// What may be wrong with the line.
     pub hints: &'b [Hint],
     /// What Git does with it by the configuration, if one is given.
@@ -34,11 +37,12 @@ pub struct Notes<'b> {
 }
 
 impl<'b> Notes<'b> {
-    /// These notes with hints.
-    pub fn with_hints(self, hints: &'b [Hint]) -> Notes<'b> {
+    /// These notes with readers and hints.
+    pub fn with(self, readers: Option<&'b Readers>, hints: &'b [Hint]) -> Notes<'b> {
         Notes {
             dangers: self.dangers,
             found: self.found,
+            readers,
             hints,
             rules: self.rules,
         }
@@ -68,13 +72,14 @@ pub fn location(
     arguments(out, report.arguments)?;
     text(out, report, seen)?;
     readers::git(out, url, report)?;
+    readers::others(out, notes.readers)?;
     out.push_template("</dl>")?;
     reread(out, report)?;
     cuts::reread(out, report)?;
     readers::table(out, url, report)?;
     cuts::with_git(alloc, out, report)?;
     rules::rows(alloc, out, notes.rules)?;
-    hints(out, notes.hints)?;
+    hints(out, notes.hints, instead_of(notes.readers))?;
     out.push_template("</article>\n")
 }
 
@@ -338,14 +343,21 @@ pub fn refusal(
     if let Some(reads) = &refusal.git_reads {
         readers::of_refused(out, reads)?;
     }
+    readers::others(out, notes.readers)?;
     out.push_template("</dl>")?;
     rules::rows(alloc, out, notes.rules)?;
-    hints(out, notes.hints)?;
+    hints(out, notes.hints, instead_of(notes.readers))?;
     out.push_template("</article>\n")
 }
 
+/// Appends the URL that a hint gives.
+fn url_instead(out: &mut Markup, text: &str) -> Result<(), AllocError> {
+    out.push_row(" <q data-m=readers.instead>", text.as_bytes())?;
+    out.push_template("</q>")
+}
+
 /// Appends the hints.
-fn hints(out: &mut Markup, found: &[Hint]) -> Result<(), AllocError> {
+fn hints(out: &mut Markup, found: &[Hint], instead: Option<&str>) -> Result<(), AllocError> {
     if found.is_empty() {
         return Ok(());
     }
@@ -355,6 +367,10 @@ fn hints(out: &mut Markup, found: &[Hint]) -> Result<(), AllocError> {
         out.push_template(hint.name())?;
         out.push_template(">")?;
         out.push_text(hint.sentence())?;
+        match (hint, instead) {
+            (Hint::WriteInstead, Some(text)) => url_instead(out, text)?,
+            _ => {}
+        }
     }
     out.push_template("</ul>")
 }

@@ -10,10 +10,12 @@ use crate::markup::Markup;
 use crate::rank::Rank;
 use crate::template::{PAGE, Part, Slot};
 use bstr::BStr;
-use explain_report::advice::hint::{self, Reading};
+use explain_report::advice::hint;
+use explain_report::advice::reading::Reading;
 use explain_report::finding::Findings;
 use explain_report::location_report::Report;
 use explain_report::memory::both;
+use explain_report::readers::{Readers, instead_of};
 use explain_report::refusal::Refusal;
 use explain_report::rules::config::Config;
 use explain_report::rules::{Rules, found_by};
@@ -100,6 +102,7 @@ impl Page {
         let notes = Notes {
             dangers: found.as_slice(),
             found: findings,
+            readers: None,
             hints: &[],
             rules: rules.as_ref(),
         };
@@ -110,7 +113,7 @@ impl Page {
         Ok(findings)
     }
 
-    /// Adds a line that is read as a location, without its hints so far.
+    /// Adds a line that is read as a location, without its hints and its readers so far.
     fn add_read(
         &mut self,
         number: u64,
@@ -121,14 +124,19 @@ impl Page {
         let alloc = self.alloc;
         let seen = SeenLine::of(alloc, line)?;
         let (seen, report) = both(seen, Report::of(alloc, url))?;
-        let found = hint::find(alloc, line, Some(Reading::of(url, &report)));
-        let ((seen, report), found) = both((seen, report), found)?;
+        let readers = Readers::of_location(alloc, line, url);
+        let ((seen, report), readers) = both((seen, report), readers)?;
+        let has_instead = instead_of(readers.as_ref()).is_some();
+        let reading = Reading::of(url, &report, has_instead);
+        let found = hint::find(alloc, line, Some(reading));
+        let (((seen, report), readers), found) = both(((seen, report), readers), found)?;
         let out = self.of_rank(Rank::of(notes.dangers, &report, notes.rules));
         let before = out.as_bytes().len();
-        let hinted = notes.with_hints(found.as_slice());
-        let written = article::location(alloc, out, number, url, &report, &seen, hinted);
+        let noted = notes.with(readers.as_ref(), found.as_slice());
+        let written = article::location(alloc, out, number, url, &report, &seen, noted);
         let grouped = group(out, before);
         drop(found);
+        drop(readers);
         drop(seen);
         let counted = self.counts.add(alloc, &report, notes.found.danger);
         drop(report);
@@ -150,6 +158,7 @@ impl Page {
         let notes = Notes {
             dangers: &[],
             found: findings,
+            readers: None,
             hints: &[],
             rules: rules.as_ref(),
         };
@@ -159,7 +168,7 @@ impl Page {
         Ok(findings)
     }
 
-    /// Adds a line that is refused, without its hints so far.
+    /// Adds a line that is refused, without its hints and its readers so far.
     fn add_refused(
         &mut self,
         number: u64,
@@ -170,14 +179,17 @@ impl Page {
         let alloc = self.alloc;
         let seen = SeenLine::of(alloc, line)?;
         let (seen, refusal) = both(seen, Refusal::with_git(alloc, line, error))?;
+        let readers = Readers::of_refused(alloc, line);
+        let ((seen, refusal), readers) = both((seen, refusal), readers)?;
         let found = hint::find(alloc, line, None);
-        let ((seen, refusal), found) = both((seen, refusal), found)?;
+        let (((seen, refusal), readers), found) = both(((seen, refusal), readers), found)?;
         let out = self.of_rank(Rank::of_refused(notes.rules));
         let before = out.as_bytes().len();
-        let hinted = notes.with_hints(found.as_slice());
-        let added = article::refusal(alloc, out, number, &refusal, &seen, hinted);
+        let noted = notes.with(readers.as_ref(), found.as_slice());
+        let added = article::refusal(alloc, out, number, &refusal, &seen, noted);
         let grouped = group(out, before);
         drop(found);
+        drop(readers);
         drop(refusal);
         drop(seen);
         self.counts.add_refused(notes.found.danger);

@@ -13,7 +13,7 @@ pub enum Rank {
     Option,
     /// It runs a command.
     Command,
-    /// Git takes another host from it, or a part holds the end of a line.
+    /// Git or another program takes another host from it, or a part holds the end of a line.
     Misread,
     /// It holds a password, or what may be a token.
     Secret,
@@ -78,7 +78,11 @@ impl Rank {
             Some(Rank::Option)
         } else if has(Danger::Command) {
             Some(Rank::Command)
-        } else if has(Danger::OtherHost) || has(Danger::HostCharacter) || has(Danger::LineEnd) {
+        } else if has(Danger::OtherHost)
+            || has(Danger::MisreadHost)
+            || has(Danger::HostCharacter)
+            || has(Danger::LineEnd)
+        {
             Some(Rank::Misread)
         } else if has(Danger::Password) || has(Danger::Token) {
             Some(Rank::Secret)

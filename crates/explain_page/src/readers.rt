@@ -1,13 +1,15 @@
-//! What other programs read in the text of a location, as the page has it: Git, its credential code and curl.
+//! What other programs read in the text of a location, as the page has it: Git, its credential code and curl, and
+//! groups of readers that take another host from the line.
 //!
-//! Where one of them reads another place, or may, a table has the readings side by side. It uses what
-//! `location_report` found, and has no contract but that it can't abort.
+//! Where one of the three reads another place, or may, a table has the readings side by side. It uses what
+//! `location_report` and `readers` found, and has no contract but that it can't abort.
 
 use crate::markup::Markup;
 use explain_report::credential::Credential;
 use explain_report::curl::Curl;
 use explain_report::git_report::{GitReads, is_of_web};
 use explain_report::location_report::{Report, reading_of_git};
+use explain_report::readers::{OtherHost, Readers};
 use gix_url::Url;
 use std::alloc::AllocError;
 
@@ -99,6 +101,36 @@ fn refused_part(
         None => Ok(()),
         Some(part) => out.push_row(row, part.as_bytes()),
     }
+}
+
+/// Appends the rows of the condition that a location doesn't meet, and of the other hosts that readers take.
+pub fn others(out: &mut Markup, found: Option<&Readers>) -> Result<(), AllocError> {
+    let Some(found) = found else {
+        return Ok(());
+    };
+    if let Some(name) = found.condition {
+        out.push_template("<dt>others<dd data-m=readers.condition data-v=")?;
+        out.push_template(name)?;
+        out.push_template(">may read it otherwise: ")?;
+        out.push_template(found.words)?;
+    }
+    for other in &found.others {
+        other_host(out, other)?;
+    }
+    Ok(())
+}
+
+/// Appends the row of a host that groups of readers take.
+fn other_host(out: &mut Markup, other: &OtherHost) -> Result<(), AllocError> {
+    out.push_template("<dt>readers<dd data-m=readers.others data-v=\"")?;
+    for name in &other.groups {
+        out.push_template(name)?;
+        out.push_template(" ")?;
+    }
+    out.push_template("\">")?;
+    out.push_text(other.words.as_str())?;
+    out.push_row(" <q>", other.bytes.as_bytes())?;
+    out.push_template("</q>")
 }
 
 /// Appends the table of the readings, if one is another than the location or may be.

@@ -1,10 +1,10 @@
 //! What Git does with a line by a configuration: where it fetches from and pushes to, by which transport,
 //! with which settings.
 //!
-//! [`config`] is the configuration, read once for all lines; [`transports`], [`credentials`] and `settings` answer about what a
-//! line is rewritten to, [`setting`] shows an entry without what may be a secret, and [`rows`] has all of it in words. It
-//! uses the public calls of `gix_url` and `git_rules`, and has no contract but that it can't abort: `scripts/hostile
-//! rules` shows its answers.
+//! [`config`] is the configuration, read once for all lines; [`transports`], [`credentials`] and `settings` answer
+//! about what a line is rewritten to, [`setting`] shows an entry without what may be a secret, and [`rows`] has all of
+//! it in words. It uses the public calls of `gix_url` and `git_rules`, and has no contract but that it can't abort:
+//! `scripts/hostile rules` shows its answers.
 
 ghost use Rattle.std.specs.Prelude.{◌≡◌};
 ghost use Rattle.explain_report.specs.Findings.{union};

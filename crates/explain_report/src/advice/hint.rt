@@ -6,13 +6,11 @@
 //! that no plain remote gets one.
 
 use crate::advice::host_name::{is_host_name, is_mixed, is_name_of_service, is_user_and_host};
+use crate::advice::reading::Reading;
 use crate::advice::slip;
 use crate::advice::web_page::is_page;
 use crate::form::Form;
-use crate::location_report::Report;
-use crate::path::Components;
 use bstr::ByteSlice;
-use gix_url::Url;
 use serde::Serialize;
 use std::alloc::{AllocError, Global};
 
@@ -96,35 +94,9 @@ pub enum Hint {
     SshPassword,
     /// A URL of `file` with a host.
     FileHost,
+    /// A URL names the same place, and fewer programs read it otherwise.
+    WriteInstead,
 }
-
-/// What a line is read as, as far as hints ask for it.
-#[derive(Clone, Copy)]
-pub struct Reading<'a> {
-    pub form: Form,
-    /// The text of the scheme: a remote helper's is its name.
-    pub scheme: &'a str,
-    pub user: Option<&'a str>,
-    pub has_password: bool,
-    pub host: Option<&'a str>,
-    /// The path, decoded.
-    pub path: &'a [u8],
-    /// Whether there is a fragment, or a field of the query that names a revision.
-    pub has_revision: bool,
-}
-
-/// The fields of a query that name a revision.
-const REVISIONS: [&str; 6] = ["ref", "rev", "tag", "branch", "commit", "version"];
-
-/// The short names of forges.
-const SHORT_NAMES: [&str; 6] = [
-    "github",
-    "gitlab",
-    "bitbucket",
-    "gist",
-    "codeberg",
-    "sourcehut",
-];
 
 /// The hints that apply to a line, of which there is no reading where it is refused.
 pub fn find(
@@ -141,7 +113,7 @@ pub fn find(
 
 impl Hint {
     /// All hints, in their order.
-    pub const ALL: [Hint; 32] = [
+    pub const ALL: [Hint; 33] = [
         Hint::ColonForSlash,
         Hint::NoScheme,
         Hint::WindowsPath,
@@ -174,6 +146,7 @@ impl Hint {
         Hint::Punycode,
         Hint::SshPassword,
         Hint::FileHost,
+        Hint::WriteInstead,
     ];
 
     /// Its name, as programs are given it.
@@ -211,10 +184,11 @@ impl Hint {
             Hint::Punycode => "punycode",
             Hint::SshPassword => "ssh_password",
             Hint::FileHost => "file_host",
+            Hint::WriteInstead => "write_instead",
         }
     }
 
-    /// The hint in words, which hold no byte of the line.
+    /// The hint in words, which hold no byte of the line. A URL follows those of [`Hint::WriteInstead`].
     pub fn sentence(self) -> &'static str {
         match self {
             Hint::ColonForSlash => {
@@ -307,6 +281,9 @@ impl Hint {
             Hint::FileHost => {
                 "Git ignores the host of a file URL, and opens the path on this machine"
             }
+            Hint::WriteInstead => {
+                "write this URL of the same place, which fewer programs read otherwise:"
+            }
         }
     }
 
@@ -314,8 +291,15 @@ impl Hint {
     fn applies(self, line: &[u8], reading: Option<Reading<'_>>) -> bool {
         match reading {
             None => self.is_in_refused(line) || self.is_in_bytes(line),
-            Some(reading) => self.is_in_read(line, reading) || self.is_in_bytes(line),
+            Some(reading) => {
+                self.is_instead(reading) || self.is_in_read(line, reading) || self.is_in_bytes(line)
+            }
         }
+    }
+
+    /// Whether the hint is the one about another text, and there is one.
+    fn is_instead(self, reading: Reading<'_>) -> bool {
+        matches!(self, Hint::WriteInstead) && reading.has_instead
     }
 
     /// Whether the hint is one about bytes, whatever they are read as, and applies to these.
@@ -409,51 +393,4 @@ impl Hint {
             _ => false,
         }
     }
-}
-
-impl<'b> Reading<'b> {
-    /// What hints are found by, of a location.
-    pub fn of(url: &'b Url, report: &'b Report<'_>) -> Reading<'b> {
-        Reading {
-            form: report.form,
-            scheme: report.scheme,
-            user: report.user,
-            has_password: report.password.is_some(),
-            host: report.host,
-            path: url.path.as_bytes(),
-            has_revision: has_revision(&report.components),
-        }
-    }
-
-    /// Whether the scheme of a URL is one of HTTP's.
-    fn is_of_web(self) -> bool {
-        matches!(self.scheme, "http" | "https")
-    }
-
-    /// Whether the scheme is that of Secure Shell or of `git://`.
-    fn is_of_shell_or_git(self) -> bool {
-        matches!(self.scheme, "ssh" | "git")
-    }
-
-    /// Whether a revision is named in a place of which Git knows nothing.
-    fn names_revision(self) -> bool {
-        if self.is_of_shell_or_git() {
-            return self.path.contains_str(b".git#") || self.path.contains_str(b".git?");
-        }
-        self.is_of_web() && self.has_revision
-    }
-
-    /// Whether the host is the short name of a forge, and the path one of a repository there.
-    fn has_short_name(self) -> bool {
-        let is_short = SHORT_NAMES.iter().any(|name| self.host == Some(name));
-        is_short && self.user.is_none() && !self.path.starts_with(b"/")
-    }
-}
-
-/// Whether there is a fragment, or a field that names a revision.
-fn has_revision(components: &Components<'_>) -> bool {
-    components.fragment.is_some()
-        || components.query.as_ref().is_some_and(|fields| {
-            fields.iter().any(|field| REVISIONS.iter().any(|name| field.name.as_str() == *name))
-        })
 }

@@ -40,6 +40,13 @@ pub struct Cut<'a> {
     pieces: [Piece<'a>; PIECES],
 }
 
+/// What of a line is before a password and behind it; all of a line without one is before it.
+#[derive(Clone, Copy)]
+pub struct Around<'a> {
+    front: &'a [u8],
+    behind: &'a [u8],
+}
+
 /// As many pieces as a URL has at most.
 pub const PIECES: usize = 17;
 
@@ -75,6 +82,11 @@ impl<'a> Piece<'a> {
         self.text.len()
     }
 
+    /// Whether it is a password with a byte.
+    fn is_password(&self) -> bool {
+        matches!(self.part, Part::Password) && !self.text.is_empty()
+    }
+
     /// Whether it is the scheme of HTTP.
     fn is_of_web(&self) -> bool {
         matches!(self.part, Part::Scheme) && matches!(self.text, b"http" | b"https")
@@ -90,6 +102,23 @@ impl<'a> Cut<'a> {
     /// The pieces.
     pub fn pieces(&self) -> &[Piece<'a>] {
         self.pieces.as_slice()
+    }
+
+    /// What of the line, which has these pieces, is around its password. An empty one is none.
+    pub fn around_password(&self, line: &'a [u8]) -> Around<'a> {
+        let mut at = 0usize;
+        for piece in self.pieces() {
+            if piece.is_password() {
+                let (front, rest) = line.split_at(at.min(line.len()));
+                let (_, behind) = rest.split_at(piece.len().min(rest.len()));
+                return Around { front, behind };
+            }
+            at = at.saturating_add(piece.len());
+        }
+        Around {
+            front: line,
+            behind: b"",
+        }
     }
 
     /// A line of which nothing is known.
@@ -159,6 +188,13 @@ impl<'a> Cut<'a> {
                 Piece::new(Part::Fragment, fragment),
             ],
         }
+    }
+}
+
+impl Around<'_> {
+    /// Whether the text is a part of what is before the password, or of what is behind it.
+    pub fn has(&self, text: &[u8]) -> bool {
+        self.front.contains_str(text) || self.behind.contains_str(text)
     }
 }
 

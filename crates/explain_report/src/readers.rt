@@ -1,0 +1,309 @@
+//! Who may read a line otherwise: the first condition under which all read alike that its location doesn't meet, the
+//! other hosts that groups of readers take from the line, and a URL of the same place that fewer programs read
+//! otherwise.
+//!
+//! It uses `unmet_condition` of `gix_url`, `taken` for the hosts, `git_host` for the host that Git connects to, and
+//! `instead` for the URL. Its contract: nothing is reported of a location only if all read its text alike. A host that
+//! isn't in what is shown of a line around a password is reported as `redacted`; the stored run shows which hosts are
+//! found.
+
+ghost use Rattle.std.specs.Prelude.{IfOk, IsNone};
+ghost use Rattle.git_readers.specs.Conditions.{IsUnambiguous};
+
+mod condition;
+mod git_host;
+mod instead;
+mod taken;
+
+use crate::memory::both;
+use crate::readers::git_host::GitHost;
+use crate::readers::instead::url_instead;
+use crate::readers::taken::{Taken, beside_host, beside_location, has, is_none};
+use crate::text::cut::Around;
+use crate::text::line::{Quoted, pieces_of};
+use crate::text::lossy;
+use bstr::BString;
+use gix_url::Url;
+use gix_url::unambiguous::Condition;
+use serde::Serialize;
+use std::alloc::{AllocError, Global};
+use std::fmt::Write;
+
+/// Who may read a line otherwise.
+#[derive(Drop, Serialize)]
+pub struct Readers {
+    /// The name of the first condition that the location doesn't meet. A refused line has none, nor has a location
+    /// whose own text all read alike.
+    pub condition: Option<&'static str>,
+    /// The same in words.
+    #[serde(skip)]
+    pub words: &'static str,
+    /// The other hosts that groups of readers take from the line.
+    pub others: Vec<OtherHost>,
+    /// A URL of the same place that fewer programs read otherwise.
+    pub instead: Option<String>,
+}
+
+/// Another host than that of the location, or of a refused line than the one that Git connects to.
+#[derive(Drop, Serialize)]
+pub struct OtherHost {
+    pub host: String,
+    /// The names of the groups of readers that take it.
+    pub groups: Vec<&'static str>,
+    /// The host byte for byte.
+    #[serde(skip)]
+    pub bytes: BString,
+    /// What precedes the host in words: the location's host, and who takes this one.
+    #[serde(skip)]
+    pub words: String,
+}
+
+impl Readers {
+    /// Who may read the line otherwise in which this location is read.
+    pub fn of_location(alloc: Global, line: &[u8], url: &Url) -> Result<Option<Readers>, AllocError>
+        ensures { IfOk result (λ readers. IsNone readers → IsUnambiguous url.now) }
+    {
+        let others = others_of_location(alloc, line, url)?;
+        match url.unmet_condition() {
+            Some(unmet) => {
+                let (others, instead) = both(others, url_instead(alloc, line, url))?;
+                Ok(Some(Readers::with_condition(unmet, others, instead)))
+            }
+            None => Ok(of_others(others)),
+        }
+    }
+
+    /// Who reads a refused line with another host than the one that Git connects to.
+    pub fn of_refused(alloc: Global, line: &[u8]) -> Result<Option<Readers>, AllocError> {
+        let git = GitHost::in_line(alloc, line)?;
+        let others = others_of_refused(alloc, line, &git);
+        drop(git);
+        Ok(of_others(others?))
+    }
+
+    /// What is reported of a location that doesn't meet the condition.
+    fn with_condition(
+        unmet: Condition,
+        others: Vec<OtherHost>,
+        instead: Option<String>,
+    ) -> Readers {
+        Readers {
+            condition: Some(condition::name(unmet)),
+            words: condition::words(unmet),
+            others,
+            instead,
+        }
+    }
+}
+
+/// The URL of the same place that fewer programs read otherwise, if one is reported.
+pub fn instead_of(readers: Option<&Readers>) -> Option<&str> {
+    match readers {
+        None => None,
+        Some(found) => found.instead.as_deref(),
+    }
+}
+
+/// What is reported where no condition is, if there is another host.
+fn of_others(others: Vec<OtherHost>) -> Option<Readers> {
+    if others.is_empty() {
+        drop(others);
+        return None;
+    }
+    Some(Readers {
+        condition: None,
+        words: "",
+        others,
+        instead: None,
+    })
+}
+
+/// The other hosts that groups take from a line in which this location is read.
+fn others_of_location(alloc: Global, line: &[u8], url: &Url) -> Result<Vec<OtherHost>, AllocError> {
+    let location = url.as_ref();
+    let found = beside_location(line, &location);
+    if is_none(found.as_slice()) {
+        return Ok(Vec::new(alloc));
+    }
+    let own = own_words(alloc, line, url.host())?;
+    let others = listed(
+        alloc,
+        own.as_str(),
+        found.as_slice(),
+        pieces_of(line).around_password(line),
+    );
+    drop(own);
+    others
+}
+
+/// The other hosts that groups take from a refused line for which Git connects to this host.
+fn others_of_refused(
+    alloc: Global,
+    line: &[u8],
+    git: &GitHost,
+) -> Result<Vec<OtherHost>, AllocError> {
+    match git {
+        GitHost::Unknown => Ok(Vec::new(alloc)),
+        GitHost::Local => others_beside(alloc, line, None),
+        GitHost::Named(host) => others_beside(alloc, line, Some(host.as_bytes())),
+    }
+}
+
+/// The other hosts that groups take from a line for which Git connects to this host, or to none.
+fn others_beside(
+    alloc: Global,
+    line: &[u8],
+    host: Option<&[u8]>,
+) -> Result<Vec<OtherHost>, AllocError> {
+    let found = beside_host(line, host);
+    if is_none(found.as_slice()) {
+        return Ok(Vec::new(alloc));
+    }
+    let around = pieces_of(line).around_password(line);
+    let own = git_words(alloc, host, around)?;
+    let others = listed(alloc, own.as_str(), found.as_slice(), around);
+    drop(own);
+    others
+}
+
+/// Each host that a group takes, once and in the order of the groups.
+fn listed(
+    alloc: Global,
+    own: &str,
+    found: &[Taken<'_>],
+    around: Around<'_>,
+) -> Result<Vec<OtherHost>, AllocError> {
+    let mut others: Vec<OtherHost> = Vec::new(alloc);
+    for (at, it) in found.iter().enumerate() {
+        if let Some(host) = it.host {
+            if !has(before(found, at), host) {
+                others.push(OtherHost::of(alloc, own, found, host, around)?)?;
+            }
+        }
+    }
+    Ok(others)
+}
+
+/// The groups before a place.
+fn before<'b, 'a>(found: &'b [Taken<'a>], at: usize) -> &'b [Taken<'a>] {
+    found.split_at(at.min(found.len())).0
+}
+
+impl OtherHost {
+    /// What is reported of a host that some of these groups take, after the words for the location's own.
+    fn of(
+        alloc: Global,
+        own: &str,
+        found: &[Taken<'_>],
+        host: &[u8],
+        around: Around<'_>,
+    ) -> Result<OtherHost, AllocError> {
+        let shown = shown_host(host, around);
+        let words = both(
+            names_of(alloc, found, host)?,
+            words_of(alloc, own, found, host),
+        )?;
+        let texts = both(words, lossy(alloc, shown))?;
+        let (((groups, words), host), bytes) = both(texts, BString::from_slice(alloc, shown))?;
+        Ok(OtherHost {
+            host,
+            groups,
+            bytes,
+            words,
+        })
+    }
+}
+
+/// The names of the groups that take this host.
+fn names_of(
+    alloc: Global,
+    found: &[Taken<'_>],
+    host: &[u8],
+) -> Result<Vec<&'static str>, AllocError> {
+    let mut names = Vec::new(alloc);
+    for it in found {
+        if it.has(host) {
+            names.push(it.group.name())?;
+        }
+    }
+    Ok(names)
+}
+
+// ---- words
+
+/// What precedes the host that these groups take: the words for the location's own, and the readers.
+fn words_of(
+    alloc: Global,
+    own: &str,
+    found: &[Taken<'_>],
+    host: &[u8],
+) -> Result<String, AllocError> {
+    let mut words = String::from_str(alloc, own)?;
+    let written = push_readers(&mut words, found, host);
+    let (words, ()) = both(words, written)?;
+    Ok(words)
+}
+
+/// Appends the readers of the groups that take this host.
+fn push_readers(out: &mut String, found: &[Taken<'_>], host: &[u8]) -> Result<(), AllocError> {
+    let mut is_first = true;
+    for it in found {
+        if it.has(host) {
+            out.push_str(if is_first { "; " } else { ", and " })?;
+            out.push_str(it.group.words())?;
+            is_first = false;
+        }
+    }
+    out.push_str(", take")
+}
+
+/// The host of the location in words: Git connects to it if Git reads that in the line.
+fn own_words(alloc: Global, line: &[u8], host: Option<&str>) -> Result<String, AllocError> {
+    let git = GitHost::in_line(alloc, line)?;
+    let is_of_git = git.is_host(host);
+    drop(git);
+    let mut words = String::new(alloc);
+    let written = push_own(&mut words, host, is_of_git);
+    let (words, ()) = both(words, written)?;
+    Ok(words)
+}
+
+/// Appends the host of a location, to which Git connects or not.
+fn push_own(out: &mut String, host: Option<&str>, is_of_git: bool) -> Result<(), AllocError> {
+    match host {
+        None if is_of_git => push_git(out, None),
+        None => out.push_str("it has no host here"),
+        Some(host) if is_of_git => push_git(out, Some(host.as_bytes())),
+        Some(host) => {
+            let host = Quoted(host.as_bytes());
+            write!(out, "the host here is {host}")
+        }
+    }
+}
+
+/// The host that Git connects to in words, as it may be shown.
+fn git_words(alloc: Global, host: Option<&[u8]>, around: Around<'_>) -> Result<String, AllocError> {
+    let mut words = String::new(alloc);
+    let written = match host {
+        None => push_git(&mut words, None),
+        Some(host) => push_git(&mut words, Some(shown_host(host, around))),
+    };
+    let (words, ()) = both(words, written)?;
+    Ok(words)
+}
+
+/// Appends the host that Git connects to.
+fn push_git(out: &mut String, host: Option<&[u8]>) -> Result<(), AllocError> {
+    match host {
+        None => out.push_str("Git opens a local path"),
+        Some(host) => {
+            let host = Quoted(host);
+            write!(out, "Git connects to {host}")
+        }
+    }
+}
+
+/// The host, or the word in place of one that isn't in what may be shown of the line.
+fn shown_host<'a>(host: &'a [u8], around: Around<'_>) -> &'a [u8] {
+    if around.has(host) { host } else { b"redacted" }
+}

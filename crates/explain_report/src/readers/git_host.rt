@@ -1,0 +1,102 @@
+//! The host that Git connects to for a line.
+//!
+//! It uses what Git's transports read in a text, and `curl`, to which Git hands a text of HTTP. It has no contract but
+//! that it can't abort.
+
+use crate::curl::Curl;
+use bstr::BString;
+use git_rules::rewrite::host::is_same_host;
+use gix_url::transport::{self, Buffers, GitPlace, Protocol, Unread};
+use std::alloc::{AllocError, Global};
+
+/// The host that Git connects to.
+#[derive(Drop)]
+pub(crate) enum GitHost {
+    /// It opens a local path.
+    Local,
+    /// A host with a name.
+    Named(BString),
+    /// It connects to none, or that isn't known.
+    Unknown,
+}
+
+impl GitHost {
+    /// The host that Git connects to for this line.
+    pub(crate) fn in_line(alloc: Global, line: &[u8]) -> Result<GitHost, AllocError> {
+        if line.starts_with(b"http://") || line.starts_with(b"https://") {
+            GitHost::by_curl(alloc, line)
+        } else {
+            GitHost::by_transport(alloc, line)
+        }
+    }
+
+    /// The host that curl connects to, unless it isn't text.
+    fn by_curl(alloc: Global, line: &[u8]) -> Result<GitHost, AllocError> {
+        match Curl::in_text(alloc, line)? {
+            None => Ok(GitHost::Unknown),
+            Some(read) => {
+                let host = GitHost::of_text(alloc, read.host.as_str());
+                drop(read);
+                host
+            }
+        }
+    }
+
+    /// A host with this name, in which U+FFFD stands for bytes that aren't text.
+    fn of_text(alloc: Global, host: &str) -> Result<GitHost, AllocError> {
+        if host.contains('\u{fffd}') {
+            Ok(GitHost::Unknown)
+        } else {
+            GitHost::named(alloc, host.as_bytes())
+        }
+    }
+
+    /// The host that one of Git's transports reads.
+    fn by_transport(alloc: Global, line: &[u8]) -> Result<GitHost, AllocError> {
+        let mut buffers = Buffers::new(alloc);
+        let found = match transport::reading(line, &mut buffers) {
+            Ok(place) => GitHost::of_place(alloc, &place),
+            Err(why) => GitHost::of_unread(why),
+        };
+        drop(buffers);
+        found
+    }
+
+    /// The host of a place that Git reads.
+    fn of_place(alloc: Global, place: &GitPlace<'_>) -> Result<GitHost, AllocError> {
+        match (place.protocol, place.host) {
+            (Protocol::File, _) => Ok(GitHost::Local),
+            (Protocol::Ssh | Protocol::Git, Some(host)) => GitHost::named(alloc, host),
+            (Protocol::Ssh | Protocol::Git, None) => Ok(GitHost::Unknown),
+        }
+    }
+
+    /// No host of a line in which Git reads no place, unless it is memory that was refused.
+    fn of_unread(why: Unread) -> Result<GitHost, AllocError> {
+        match why {
+            Unread::Memory => Err(AllocError),
+            Unread::ByteZero
+            | Unread::Option
+            | Unread::RemoteHelper
+            | Unread::HomeOrHere
+            | Unread::SecureShellUrl
+            | Unread::Refused => Ok(GitHost::Unknown),
+        }
+    }
+
+    /// A host with this name.
+    fn named(alloc: Global, host: &[u8]) -> Result<GitHost, AllocError> {
+        Ok(GitHost::Named(BString::from_slice(alloc, host)?))
+    }
+
+    /// Whether it is this host, or there is none and Git opens a local path.
+    pub(crate) fn is_host(&self, host: Option<&str>) -> bool {
+        match (self, host) {
+            (GitHost::Local, None) => true,
+            (GitHost::Named(found), Some(host)) => {
+                is_same_host(found.as_bytes(), host.as_bytes())
+            }
+            (GitHost::Local, Some(_)) | (GitHost::Named(_), None) | (GitHost::Unknown, _) => false,
+        }
+    }
+}

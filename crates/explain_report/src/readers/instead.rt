@@ -1,0 +1,122 @@
+//! A URL of the place of a line, which fewer programs read otherwise than the line.
+//!
+//! It puts a URL together, reads it, and compares the location with that of the line. It uses the public calls of
+//! `gix_url`, and `misreading` of `git_audit`. It has no contract but that it can't abort: the stored run has the URLs
+//! that the second reading finds.
+
+use crate::advice::slip::has_one_slash;
+use bstr::{BStr, ByteSlice};
+use git_audit::misreading::is_misread;
+use gix_url::parse::parse;
+use gix_url::{Error, Scheme, Url};
+use std::alloc::{AllocError, Global};
+use std::fmt::Write;
+
+/// A URL of the place of this location, which is read in the line and not alike by all: all read it alike, or no group
+/// of readers takes another host from it, though one does from the line.
+pub(crate) fn url_instead(
+    alloc: Global,
+    line: &[u8],
+    url: &Url,
+) -> Result<Option<String>, AllocError> {
+    if !url.agrees_with_git() || url.password().is_some() || has_one_slash(line) {
+        return Ok(None);
+    }
+    match rooted_path(url) {
+        None => Ok(None),
+        Some(path) => better(alloc, line, url, path),
+    }
+}
+
+/// The path of a location of Secure Shell, `git://` or a file, if it is a text that begins with `/`.
+fn rooted_path(url: &Url) -> Option<&str> {
+    match &url.scheme {
+        Scheme::Ssh | Scheme::Git | Scheme::File => {
+            let path = url.path.as_bytes().to_str().ok()?;
+            path.starts_with('/').then_some(path)
+        }
+        Scheme::Http | Scheme::Https | Scheme::Ext | Scheme::Helper(_) | Scheme::HelperUrl(_) => {
+            None
+        }
+    }
+}
+
+/// The URL with this path, if it is read as the same place and better than the line.
+fn better(alloc: Global, line: &[u8], url: &Url, path: &str) -> Result<Option<String>, AllocError> {
+    let text = url_text(alloc, url, path)?;
+    match parse(alloc, BStr::new(text.as_bytes())) {
+        Ok(other) => {
+            let is_better = is_read_better(line, url, text.as_bytes(), &other);
+            drop(other);
+            Ok(if_better(text, is_better))
+        }
+        Err(error) => without(text, error),
+    }
+}
+
+/// The text, if it is better.
+fn if_better(text: String, is_better: bool) -> Option<String> {
+    if is_better {
+        return Some(text);
+    }
+    drop(text);
+    None
+}
+
+/// No URL where the text is refused, unless it is memory that was refused.
+fn without(text: String, error: Error) -> Result<Option<String>, AllocError> {
+    drop(text);
+    let is_memory = matches!(&error, Error::Memory);
+    drop(error);
+    if is_memory {
+        return Err(AllocError);
+    }
+    Ok(None)
+}
+
+/// The URL with this path: without escapes, and with brackets around a host with a colon.
+fn url_text(alloc: Global, url: &Url, path: &str) -> Result<String, AllocError> {
+    let mut text = String::new(alloc);
+    text.push_str(url.scheme.as_str())?;
+    text.push_str("://")?;
+    if let Some(user) = url.user() {
+        text.push_str(user)?;
+        text.push_str("@")?;
+    }
+    push_host(&mut text, url.host())?;
+    if let Some(port) = url.port {
+        write!(text, ":{port}")?;
+    }
+    text.push_str(path)?;
+    Ok(text)
+}
+
+/// Appends a host, in brackets if it has a colon.
+fn push_host(out: &mut String, host: Option<&str>) -> Result<(), AllocError> {
+    match host {
+        None => Ok(()),
+        Some(host) if host.contains(':') => write!(out, "[{host}]"),
+        Some(host) => out.push_str(host),
+    }
+}
+
+/// Whether a text that is read as another location names the same place, and others read it better than the line.
+fn is_read_better(line: &[u8], url: &Url, text: &[u8], other: &Url) -> bool {
+    if !is_same_place(url, other) || !other.agrees_with_git() {
+        return false;
+    }
+    if is_misread(text, &other.as_ref()) {
+        return false;
+    }
+    other.is_unambiguous() || is_misread(line, &url.as_ref())
+}
+
+/// Whether both have the same fields; neither has a password.
+fn is_same_place(url: &Url, other: &Url) -> bool {
+    url.scheme == other.scheme
+        && url.user() == other.user()
+        && other.password().is_none()
+        && url.host() == other.host()
+        && url.port == other.port
+        && url.path.as_bytes() == other.path.as_bytes()
+}
