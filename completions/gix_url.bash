@@ -26,7 +26,7 @@ _gix_url_explain() {
     --fail-on) _gix_url_words "danger unsettled refused git-differs policy any" "$now" ;;
     -f | --file | --config | --gitmodules) mapfile -t COMPREPLY < <(compgen -f -- "$now") ;;
     *) case $now in
-      -*) _gix_url_words "--json --sarif --html --only --quiet --fail-on --color --file --config --remotes --gitmodules --parent --null --help --version --" "$now" ;;
+      -*) _gix_url_words "--json --sarif --html --only --ssh --summary --quiet --fail-on --color --file --config --remotes --gitmodules --parent --null --crlf --help --version --" "$now" ;;
     esac ;;
   esac
 }

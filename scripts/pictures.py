@@ -1,8 +1,9 @@
 #!/usr/bin/env python3
-"""Draws the pictures of the documents: a railroad diagram for each row of the grammar in docs/GRAMMAR.md, and locations cut
-into their fields.
+"""Draws the pictures of the documents: a railroad diagram for each row of the grammar in docs/GRAMMAR.md, locations cut into
+their fields, and `explain` on a terminal.
 
-usage: scripts/pictures.py      writes docs/pictures/*.svg
+usage: scripts/pictures.py                 writes docs/pictures/*.svg and docs/explain.svg
+       scripts/pictures.py --terminal      the same, after it has stored what `explain` prints now (`scripts/built`, or EXPLAIN)
 
 A row is `name = terms`: a quoted text is itself, a word is another row or a set of bytes, `[x]` may be missing, `{x}` occurs
 any number of times, `(x | y)` is one of them. `scripts/documents` asks for `faults()`: pictures that are not current.
@@ -14,9 +15,11 @@ from html import escape
 
 sys.dont_write_bytecode = True
 sys.path.append(f"{sys.path[0]}/../tools")
+import terminal
 from rt_api import ROOT
 
 FOLDER = f"{ROOT}/docs/pictures"
+TERMINAL = "../explain"
 TOKEN = re.compile(r'\s*("[^"]*"|[\w-]+|[\[\](){}|])')
 # Columns of a character, the height of a row, the space around a box, and the radius of a curve.
 COLUMN, HEIGHT, GAP, CURVE = 8, 22, 10, 8
@@ -173,7 +176,7 @@ def locations():
 
 
 def pictures():
-    return {"location": locations(), **{name: diagram(terms) for name, terms in rows().items()}}
+    return {"location": locations(), TERMINAL: terminal.picture(), **{name: diagram(terms) for name, terms in rows().items()}}
 
 
 def faults():
@@ -187,10 +190,16 @@ def faults():
                 with open(path, encoding="utf-8") as it:
                     stored = it.read()
             if stored != wanted.get(name):
-                yield f"docs/pictures/{name} isn't what scripts/pictures.py draws"
+                yield f"{os.path.normpath(f'docs/pictures/{name}')} isn't what scripts/pictures.py draws"
 
 
 def main():
+    if sys.argv[1:] == ["--terminal"]:
+        output = terminal.printed()
+        with open(terminal.STORED, "wb") as stored:
+            stored.write(output)
+    elif sys.argv[1:]:
+        sys.exit(__doc__)
     os.makedirs(FOLDER, exist_ok=True)
     for name, text in pictures().items():
         with open(f"{FOLDER}/{name}.svg", "w", encoding="utf-8") as it:

@@ -1,6 +1,7 @@
 """The command lines of `locations` and `explain`: what each prints, and its status. The expectations are written by hand."""
 import collections
 import itertools
+import json
 import os
 import pty
 import re
@@ -12,6 +13,10 @@ from rt_api import ROOT, program
 Call = collections.namedtuple("Call", "program words input status shown reported", defaults=(b"", 0, b"", b""))
 LINES = b"h:p\n\nhttp://h:0/\n"
 ANSWERS = b"settled\th:p\nrefused\tEmptyLocal\nrefused\tBadUrl BadPort\n"
+FETCHED = b"GIT_PROTOCOL=version=2 ssh -o SendEnv=GIT_PROTOCOL "
+# Lines, URLs, scp forms, local paths, remote helpers; settled, not settled, refused, dangerous.
+SUMMARY = (b"lines: %d\nform\n%8d  URL\n%8d  scp form\n%8d  local path\n%8d  remote helper\n"
+           b"verdict\n%8d  settled\n%8d  not settled\n%8d  refused\n%8d  dangerous\n")
 WRONG = {"status": 2, "reported": b"error: "}
 
 CALLS = [
@@ -34,7 +39,35 @@ CALLS = [
     Call("explain", ["--only=path", "x", "-", "y"], b"a\nb\n", 0, b"x\na\nb\ny\n"),
     Call("explain", ["--only=path", "-0"], b"a\nb\0c\0", 0, b"a\\nb\nc\n"),
     Call("explain", ["--only=path", "-f", "/no/such/file", "x"], status=2, shown=b"x\n", reported=b"explain: cannot read /no/such/file: "),
-    Call("explain", ["--only=path", "-f", "/", "x"], status=2, reported=b"explain: cannot read"),
+    Call("explain", ["--only=path", "-f", "/", "x"], status=2, shown=b"x\n", reported=b"explain: cannot read /: it is a folder\n"),
+    Call("explain", ["--only=path", "--crlf"], b"a\r\nb\n\rc\r\r\nd\r", 0, b"a\nb\n\\rc\\r\nd\\r\n"),
+    Call("explain", ["--only=path"], b"a\r\n", 0, b"a\\r\n"),
+    Call("explain", ["-q", "--crlf"], b"https://h/a\r\n"),
+    Call("explain", ["-q"], b"https://h/a\r\n", 1),
+    Call("explain", ["--ssh", "git@example.com:a/b.git"], shown=FETCHED + b"git@example.com 'git-upload-pack '\\''a/b.git'\\'''\n"),
+    Call("explain", ["--ssh", "ssh://h:22/a,b"], shown=FETCHED + b"-p 22 h 'git-upload-pack '\\''/a,b'\\'''\n"),
+    Call("explain", ["--ssh", "https://h/p"], status=2, shown=b"\n", reported=b"explain: line 1: the location isn't reached by Secure Shell\n"),
+    Call("explain", ["--ssh"], b"http://h:0/\nh:p\n", 2, b"\n" + FETCHED + b"h 'git-upload-pack '\\''p'\\'''\n", b"explain: line 1: it is not a location\n"),
+    Call("explain", ["--ssh", "--", "-oProxyCommand=x:p"], status=1, shown=b"\n", reported=b"explain: line 1: the host looks like an option\n"),
+    Call("explain", ["--ssh", "--fail-on=policy", "--", "-u:p"], status=2, shown=b"\n", reported=b"explain: line 1: the host looks like an option\n"),
+    Call("explain", ["--ssh", "ssh://u:p@h/x"], status=1, shown=b"\n", reported=b"explain: line 1: Secure Shell takes no password\n"),
+    Call("explain", ["--ssh", "ghp_x@h:p"], status=1, shown=FETCHED + b"ghp_x@h 'git-upload-pack '\\''p'\\'''\n"),
+    Call("explain", ["--ssh", "--config=-", "gh:a"], b"url.h:b/.insteadof\ngh:\0core.sshcommand\nssh -v\0protocol.version\n0\0ssh.variant\nplink\0", 0,
+         b"sh -c 'ssh -v \"$@\"' 'ssh -v' h 'git-upload-pack '\\''b/a'\\'''\n"),
+    Call("explain", ["--ssh", "--config=-", "h:p"], b"core.sshcommand\0", 2, reported=b"explain: Git stops at the entry at byte 0 of the configuration, and runs"),
+    Call("explain", ["--ssh", "--config=-", "h:p"], b"protocol.ssh.allow\nnever\0", 1, b"\n", b"explain: line 1: Git doesn't use the transport ssh\n"),
+    Call("explain", ["--ssh", "--config=-", "h:p"], b"core.sshcommand\n/opt/x\0", 2, b"\n", b"explain: line 1: Git runs the program with -G to find out"),
+    Call("explain", ["--summary", "h:p"], shown=SUMMARY % (1, 0, 1, 0, 0, 1, 0, 0, 0) + b'host\n       1  "h"\n'),
+    Call("explain", ["--summary"], b"https://u:p@h/\n/a\na::b\nhttp://h:0/\nh:p\nh:p\n/[a\n\n", 1, SUMMARY % (8, 1, 2, 2, 1, 6, 0, 2, 1)
+         + b'danger\n       1  it holds a password\ngit\n       2  isn\'t known to read the same\nhost\n       3  "h"\n       5  without a host\n'),
+    Call("explain", ["--summary"], b"".join(b"h%02d:p\n" % it for it in (*range(12), 3, 11, 11)), 0, SUMMARY % (15, 0, 15, 0, 0, 15, 0, 0, 0)
+         + b'host\n       3  "h11"\n       2  "h03"\n' + b"".join(b'       1  "h%02d"\n' % it for it in (0, 1, 2, 4, 5, 6, 7, 8)) + b"       2  of 2 other hosts\n"),
+    Call("explain", ["--summary"], b"h\x1b:p\n", 1, SUMMARY % (1, 0, 1, 0, 0, 1, 0, 0, 1) + b"danger\n       1  the host holds a control character or a space\n"
+         b"host\n       1  \"h\\x1b\"\n"),
+    Call("explain", ["--summary", "--config=/dev/null", "ext::x"], status=1, shown=SUMMARY % (1, 0, 0, 0, 1, 1, 0, 0, 1)
+         + b"danger\n       1  it runs a command\ngit\n       1  isn't known to read the same\n       1  doesn't use the transport\nhost\n       1  without a host\n"),
+    Call("explain", ["--summary"], b"", shown=SUMMARY % ((0,) * 9) + b"host\n"),
+    Call("explain", ["--summary", "-f", "/no/such/file"], status=2, reported=b"explain: cannot read /no/such/file: "),
     Call("explain", ["-q"], b"h:p\n/a\n"),
     Call("explain", ["-q"], b"http://h:0/\nh:p\n", 1),
     Call("explain", ["-q", b"\xff"], status=2, reported=b"explain: an argument is not UTF-8"),
@@ -86,8 +119,8 @@ CALLS = [
     Call("explain", ["--gitmodules", "/"], status=2, reported=b"explain: cannot read /: "),
     Call("explain", ["--gitmodules", "-", "--parent", "http://h:0/"], status=2, reported=b"explain: --parent is no location: "),
     *(Call("explain", ["--gitmodules", "-", *words], **WRONG) for words in (
-        ["h:p"], ["-f", "-"], ["-0"], ["--config", "-"], ["--remotes"], ["--html"], ["--only", "host"])),
-    *(Call("explain", ["--sarif", *words], **WRONG) for words in (["--json"], ["--html"], ["-q"], ["-0"], ["--only", "host"])),
+        ["h:p"], ["-f", "-"], ["-0"], ["--crlf"], ["--config", "-"], ["--remotes"], ["--html"], ["--only", "host"], ["--ssh"], ["--summary"])),
+    *(Call("explain", ["--sarif", *words], **WRONG) for words in (["--json"], ["--html"], ["-q"], ["-0"], ["--only", "host"], ["--ssh"], ["--summary"])),
     *(Call("explain", ["--parent", "h:p", *words], **WRONG) for words in (["h:p"], ["-f", "-"], ["--remotes"], ["--json"], ["--config", "-"])),
     Call("explain", ["--html", "-f", "/no/such/file"], status=2, reported=b"explain: cannot read /no/such/file: "),
     Call("explain", ["--only=path"], b""),
@@ -97,9 +130,9 @@ CALLS = [
 ]
 # Each option and TEXT as it is given, so that a run ends at once and is right.
 GIVEN = {
-    "TEXT": "h:p", "--file": "--file=/dev/null", "--null": "--null", "--config": "--config=/dev/null", "--remotes": "--remotes",
+    "TEXT": "h:p", "--file": "--file=/dev/null", "--null": "--null", "--crlf": "--crlf", "--config": "--config=/dev/null", "--remotes": "--remotes",
     "--gitmodules": "--gitmodules=/dev/null", "--parent": "--parent=https://h/p", "--json": "--json", "--sarif": "--sarif",
-    "--html": "--html=x", "--only": "--only=host", "--quiet": "--quiet", "--fail-on": "--fail-on=policy", "--color": "--color=never"}
+    "--html": "--html=x", "--only": "--only=host", "--ssh": "--ssh", "--summary": "--summary", "--quiet": "--quiet", "--fail-on": "--fail-on=policy", "--color": "--color=never"}
 # What an option is given with.
 NEEDED = {"--parent": "--gitmodules"}
 # The options by which `explain` prints what it is, and the files of its crate that hold the same.
@@ -151,6 +184,17 @@ def colour_faults():
             yield f"answers are coloured with {variables}"
 
 
+def version_faults():
+    """The version is that of the last changes, with that of the Rust crate; and a log in SARIF has it too."""
+    with open(f"{ROOT}/CHANGELOG.md", encoding="utf-8") as it:
+        version = re.search(r"(?m)^## ([\d.]+\+\d+), ", it.read())[1]
+    if stored("version").decode() != f"explain {version} (gix-url {version.partition('+')[0]})\n":
+        yield f"the stored version isn't that of {version}"
+    log = subprocess.run([program("explain"), "--sarif", "h:p"], stdout=subprocess.PIPE, timeout=60).stdout
+    if json.loads(log)["runs"][0]["tool"]["driver"]["version"] != version:
+        yield f"a log in SARIF isn't that of {version}"
+
+
 def excluded():
     """The pairs that can't be given together, as the help says."""
     text = stored("help").decode().partition("These can't be given together:\n")[2].partition("\n\n")[0]
@@ -179,4 +223,4 @@ def check(_room):
     faults = [it for it in map(fault_of, calls) if it]
     pairs = len(GIVEN) * (len(GIVEN) - 1) // 2
     told = [f"{len(calls)} command lines, and `explain` that reads a terminal", f"{pairs} pairs of options, as the help says which exclude each other"]
-    return [*faults, *pair_faults(), *colour_faults(), *terminal_faults()], told
+    return [*faults, *version_faults(), *pair_faults(), *colour_faults(), *terminal_faults()], told

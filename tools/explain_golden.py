@@ -7,6 +7,7 @@ import re
 import subprocess
 
 import make_remotes
+import terminal
 from rt_api import ROOT, program
 
 STORED = f"{ROOT}/crates/explain/golden"
@@ -17,7 +18,7 @@ OPTION = re.compile(rb"(^|//|@|/|:)-")
 DOTS = re.compile(rb"https://.*/\.\.?(/|\Z)")
 # In the row of Git all but that the same is read, and that it was not compared; rows of what others read.
 READ_ALIKE = rb"reads the same in its text|and curl read the same in its text|hands its text to a remote helper"
-ALARM = re.compile(rb"; danger: |: refused: |, not settled|^ +git +(?! |" + READ_ALIKE + rb")|^ +(helpers|curl|hint) ", re.M)
+ALARM = re.compile(rb"; danger: |: refused: |, not settled|^ +git +(?! |" + READ_ALIKE + rb")|^ +(helpers|curl|readers|hint) ", re.M)
 
 
 def stored(name):
@@ -54,6 +55,12 @@ def in_colours():
     yield from (f"in colours explain prints {got!r}, and not {want!r}" for got, want in zip(colored, wanted) if got != want)
 
 
+def in_the_picture():
+    """Where what the picture of a terminal shows isn't what is printed now."""
+    if terminal.printed() != terminal.stored():
+        yield "docs/explain.svg is older than what explain prints: scripts/pictures.py --terminal draws it"
+
+
 def false_alarms(lines):
     """The lines that raise an alarm."""
     return [line for line, answer in zip(lines, shown(lines)[1]) if ALARM.search(answer)]
@@ -62,7 +69,7 @@ def false_alarms(lines):
 def check(_room):
     plain = [it for it in make_remotes.remotes() if PLAIN.fullmatch(it) and not OPTION.search(it) and not DOTS.match(it)]
     bad = stored("alarms").splitlines()
-    faults = [*written_by_hand(), *in_colours(), *(f"a false alarm about {it!r}" for it in false_alarms(plain))]
+    faults = [*written_by_hand(), *in_colours(), *in_the_picture(), *(f"a false alarm about {it!r}" for it in false_alarms(plain))]
     faults += [f"no alarm about {it!r}" for it in sorted({*bad} - {*false_alarms(bad)})]
     if len(plain) < 400:
         faults.append(f"only {len(plain)} of the remotes are plain")

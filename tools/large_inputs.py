@@ -1,6 +1,7 @@
 """Size: lines of 100 MB and millions of lines, answered rightly, in linear time, with few reads and with little memory; calls
 over texts of some MB, by the program `answers`, the page of `explain --html` over 100,000 lines, a configuration with
-100,000 rules and entries, and a file of 20,000 submodules, in linear time.
+100,000 rules and entries, and a file of 20,000 submodules, in linear time; and a summary of 200,000 lines, whose memory doesn't
+grow with them.
 
 Time is that of the processor. What looks at each byte again for each byte takes ten times as long for each byte of a
 text that is ten times as long; four times is let pass, for a machine that does other work as well.
@@ -12,6 +13,7 @@ import os
 import re
 import resource
 
+import command_lines
 import make_remotes
 from rt_api import program
 
@@ -59,6 +61,9 @@ MOST_RULES_SECONDS = 10
 # A file with so many submodules, each with a path and a host of its own.
 MODULES = 20_000
 MOST_MODULES_SECONDS = 2
+# Lines with one host, of which a summary is asked for, and the memory for each of their bytes.
+SUMMED = 200_000
+MOST_SUMMARY_BYTES = 1
 CHUNK = 1 << 20
 
 # Calls over texts of some MB: what is repeated in what the call is over, the order by that text, and the outcome by how
@@ -174,6 +179,12 @@ def modules_of(size):
     return [b'[submodule "m%d"]\n\tpath = p/%d\n\turl = https://h%d.example/m.git\n' % (n, n, n) for n in range(size)], None
 
 
+def summed(size):
+    """So many lines with one host, and their summary."""
+    shown = command_lines.SUMMARY % (size, 0, size, 0, 0, size, 0, 0, 0) + b'host\n%8d  "example.com"\n' % size
+    return chunks(b"", b"git@example.com:group/repo.git\n", size, b""), [shown]
+
+
 class Compared:
     """The runs over two sizes of what is made, the smaller one twice; the memory for each byte and the seconds may be limited."""
 
@@ -242,11 +253,17 @@ def compared_modules(folder):
     yield Compared(f"a file of {MODULES} submodules", words, folder, modules_of, MODULES // 10, MODULES, most_seconds=MOST_MODULES_SECONDS)
 
 
+def compared_summary(folder):
+    words = [program("explain"), "--summary"]
+    yield Compared(f"a summary of {SUMMED} lines", words, folder, summed, SUMMED // 10, SUMMED, MOST_SUMMARY_BYTES)
+
+
 def check(folder):
     """The faults, and what was measured."""
     parts = {f"{len(SHAPES)} shapes of a line of {LARGE // 10**6} MB, {LINES // 10**6} million lines": compared_lines,
              f"{len(CALLS)} calls over {LARGE_ORDER // 10**6} MB": compared_calls, f"a page of {REMOTES} remotes": compared_page,
-             f"a configuration with {RULES} rules": compared_rules, f"a file of {MODULES} submodules": compared_modules}
+             f"a configuration with {RULES} rules": compared_rules, f"a file of {MODULES} submodules": compared_modules,
+             f"a summary of {SUMMED} lines": compared_summary}
     faults, said = [], []
     with limited(MOST_SECONDS):
         for name, compare in parts.items():

@@ -113,7 +113,7 @@ def section(text):
 def program_page(name):
     """The page of a program, its lines: its help, with the prose first."""
     summary, usage, *rest = read(PROGRAMS[name]).rstrip("\n").split("\n\n")
-    version = read("crates/explain/version").split()[-1]
+    version = read("crates/explain/version").split()[1]
     yield from [*heading(name, 1, version), f"{name} \\- {plain(summary)}"]
     yield from [".SH SYNOPSIS", f".B {plain(usage.removeprefix('Usage: '))}", ".SH DESCRIPTION"]
     for text in sorted(rest, key=lambda it: it.startswith(("Arguments:", "Options:", "Examples:", "Exit status:"))):

@@ -2,7 +2,7 @@
 import re
 
 from public_items import files_of, public_items
-from rt_api import LAYERS, LIBRARIES, LIBRARY
+from rt_api import LAYERS, LIBRARIES
 
 PROGRAM = "answers"
 # What layers below pass to those above: public by a type or a module that the library passes on, and for no user.
@@ -22,15 +22,18 @@ def calls(found):
     return named
 
 
-def passed_calls():
-    """The contracts of the calls that come with what the library passes on of the layers below it."""
-    passed = {}
-    for path, text in public_items(LIBRARY).items():
+def passed_by(library):
+    """The public items that a library passes on of the layers below it, by the paths that they have in it."""
+    for path, text in public_items(library).items():
         below = re.fullmatch(r"pub use (\w+)::(\S+);\n", text)
         if below and below[1] in LAYERS:
             found = public_items(below[1])
-            passed.update({path + it.removeprefix(below[2]): found[it] for it in found if f"{it}::".startswith(f"{below[2]}::")})
-    return calls(passed)
+            yield from ((path + it.removeprefix(below[2]), found[it]) for it in found if f"{it}::".startswith(f"{below[2]}::"))
+
+
+def passed_calls():
+    """The contracts of the calls that come with what the libraries pass on of the layers below them."""
+    return calls({path: it for library in LIBRARIES for path, it in passed_by(library)})
 
 
 def contracts():

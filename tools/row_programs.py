@@ -152,16 +152,17 @@ class C(Binding):
 
 
 class Python(C):
-    """The module over the shared library of `scripts/bindings`, or the one that the environment names."""
+    """The package of these sources over the shared library of `scripts/bindings`, or the one that the environment names."""
 
-    name = "python"
+    name, calls = "python", ALL | {"Scheme:Ord", "Url:Ord"}
 
     def makes(self, row):
         """What C makes, except an error that no call returned."""
         return super().makes(row) and "error" not in row.members
 
-    def command(self):
-        os.environ.setdefault("GIX_URL_LIBRARY", f"{FOLDER}/lib/libgix_url.so.1")
+    def built(self):
+        os.environ.setdefault("GIX_URL_LIB", FOLDER)
+        os.environ["PYTHONPATH"] = f"{ROOT}/bindings/python"
         return f"{ROOT}/bindings/tests/vectors.py"
 
 

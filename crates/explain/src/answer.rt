@@ -11,10 +11,12 @@ use crate::{line_results, only, shown};
 use bstr::BStr;
 use explain_audit::kind::names_of;
 use explain_report::advice::danger::names;
-use explain_report::advice::hint::{self, Hint, Reading};
+use explain_report::advice::hint::{self, Hint};
+use explain_report::advice::reading::Reading;
 use explain_report::finding::Findings;
 use explain_report::location_report::Report;
 use explain_report::memory::both;
+use explain_report::readers::{Readers, instead_of};
 use explain_report::refusal::Refusal;
 use explain_report::rules::{Rules, found_by};
 use explain_report::text::line::SeenLine;
@@ -47,6 +49,8 @@ struct Answer<'b, 'a: 'b> {
     location: Option<&'b Report<'a>>,
     /// Why it is read as nothing.
     refusal: Option<&'b Refusal>,
+    /// Who may read it otherwise.
+    readers: Option<&'b Readers>,
     /// The names of what is dangerous in it.
     dangers: &'b [&'static str],
     /// The names of what was found in it, for which a run may fail.
@@ -64,6 +68,8 @@ pub struct Notes<'b> {
     pub dangers: &'b [Danger],
     /// What was found in the line, for which a run may fail.
     pub found: Findings,
+    /// Who may read the line otherwise.
+    pub readers: Option<&'b Readers>,
     /// What may be wrong with the line.
     pub hints: &'b [Hint],
     /// What Git does with it by the configuration, if one is given.
@@ -90,6 +96,7 @@ impl Line<'_, '_> {
         let notes = Notes {
             dangers: found.as_slice(),
             found: findings,
+            readers: None,
             hints: &[],
             rules: rules.as_ref(),
         };
@@ -104,20 +111,26 @@ impl Line<'_, '_> {
         Ok((answer?, findings))
     }
 
-    /// What is reported of a location, without its hints so far.
+    /// What is reported of a location, without its hints and its readers so far.
     fn location(self, alloc: Global, url: &Url, notes: Notes<'_>) -> Result<String, AllocError> {
         let seen = SeenLine::of(alloc, self.bytes)?;
         let (seen, report) = both(seen, Report::of(alloc, url))?;
-        let found = hint::find(alloc, self.bytes, Some(Reading::of(url, &report)));
-        let ((seen, report), found) = both((seen, report), found)?;
+        let readers = Readers::of_location(alloc, self.bytes, url);
+        let ((seen, report), readers) = both((seen, report), readers)?;
+        let has_instead = instead_of(readers.as_ref()).is_some();
+        let reading = Reading::of(url, &report, has_instead);
+        let found = hint::find(alloc, self.bytes, Some(reading));
+        let (((seen, report), readers), found) = both(((seen, report), readers), found)?;
         let notes = Notes {
             dangers: notes.dangers,
             found: notes.found,
+            readers: readers.as_ref(),
             hints: found.as_slice(),
             rules: notes.rules,
         };
         let answer = self.laid_out(alloc, url, &report, &seen, notes);
         drop(found);
+        drop(readers);
         drop(report);
         drop(seen);
         answer
@@ -149,6 +162,7 @@ impl Line<'_, '_> {
                 input: seen.input.as_str(),
                 location: Some(report),
                 refusal: None,
+                readers: notes.readers,
                 dangers: names.as_slice(),
                 findings: found.as_slice(),
                 hints: notes.hints,
@@ -188,16 +202,20 @@ impl Line<'_, '_> {
     ) -> Result<String, AllocError> {
         let seen = SeenLine::of(alloc, self.bytes)?;
         let (seen, refusal) = both(seen, Refusal::with_git(alloc, self.bytes, error))?;
+        let readers = Readers::of_refused(alloc, self.bytes);
+        let ((seen, refusal), readers) = both((seen, refusal), readers)?;
         let found = hint::find(alloc, self.bytes, None);
-        let ((seen, refusal), found) = both((seen, refusal), found)?;
+        let (((seen, refusal), readers), found) = both(((seen, refusal), readers), found)?;
         let notes = Notes {
             dangers: &[],
             found: findings,
+            readers: readers.as_ref(),
             hints: found.as_slice(),
             rules,
         };
         let answer = self.laid_out_refusal(alloc, &refusal, &seen, notes);
         drop(found);
+        drop(readers);
         drop(refusal);
         drop(seen);
         answer
@@ -222,6 +240,7 @@ impl Line<'_, '_> {
                 input: seen.input.as_str(),
                 location: None,
                 refusal: Some(refusal),
+                readers: notes.readers,
                 dangers: &[],
                 findings: found.as_slice(),
                 hints: notes.hints,

@@ -2,13 +2,17 @@
 //!
 //! It uses the public calls of `gix_url` and `git_rules` alone, by the crates below: `explain_report` finds
 //! what is reported of a line, and `explain_page` writes the page. `options` reads the command line, `source` a
-//! configuration, `answer` finds the answer to a line and `style` says how it is laid out; here the lines are
-//! read and the answers are written, each as soon as its line is read, except for a page, which is collected.
+//! configuration, `input` the lines; `answer` finds the answer to a line and `style` says how it is laid out. Each
+//! answer is written as soon as its line is read, except for a page or a summary, which is collected.
 //! The status is 0 if nothing is found in a line that the run fails for, 1 if something is, and 2 if the run was cut
 //! short, a file can't be opened or the options are wrong.
 #![tactic(auto)]
 
 mod answer;
+mod client;
+mod commands;
+mod input;
+mod line_end;
 mod line_results;
 mod module_rows;
 mod modules;
@@ -18,28 +22,31 @@ mod paint;
 mod remote_rows;
 mod results;
 mod rule_rows;
+mod shell_line;
 mod shown;
 mod source;
 mod style;
+mod summary;
 
-use answer::Line;
 use clap::ArgMatches;
+use client::Client;
 use explain_audit::module::configured;
 use explain_report::remotes::{RemoteReport, names};
 use explain_report::rules::config::{self, Config, Fault};
 use git_rules::config::{Entry, entries, entries_of};
 use git_rules::protocols::Protocols;
+use git_rules::ssh::program::SshSettings;
 use gix_url::lines::RunError;
+use input::answer_all;
 use paint::Colors;
 use results::Origin;
-use source::Source;
+use source::{Source, SshVariables};
 use std::alloc::{AllocError, Global};
 use std::env;
-use std::fs::{self, File};
-use std::io::{BufRead, BufReader, ErrorKind, IsTerminal, Read, Write};
+use std::io::{ErrorKind, IsTerminal, Write};
 use std::process::ExitCode;
 use std::rt::Env;
-use style::{Layout, Seen, Style};
+use style::{Seen, Style};
 
 /// Answers what the command line names. Returns the status to end with.
 fn explain(rt: &HostRuntime, given: &ArgMatches<'_>) -> u8 {
@@ -132,7 +139,67 @@ fn answer_by_source<W: Write>(
         let modules = configured(rt.alloc(), entries.as_slice(), &config)?;
         return modules::answer_reports(rt.alloc(), modules.as_slice(), output, style, seen);
     }
-    answer_by_config(rt, given, &config, output, style, seen)
+    if options::asks_for_commands(given) {
+        return answer_commands(rt, given, entries.as_slice(), &config, output, style, seen);
+    }
+    answer_by_config(rt, given, &config, style.client, output, style, seen)
+}
+
+/// Answers what the command line names, with the program for Secure Shell by a configuration and the variables of the
+/// environment. If Git stops at an entry that decides on the program it is reported, and nothing is answered.
+fn answer_commands<W: Write>(
+    rt: &HostRuntime,
+    given: &ArgMatches<'_>,
+    entries: &[Entry<'_>],
+    config: &Config<'_>,
+    output: &mut W,
+    style: Style<'_, '_>,
+    seen: &mut Seen,
+) -> Result<(), RunError> {
+    match SshVariables::read(rt) {
+        Ok(variables) => {
+            let outcome = match client_of(entries, config, &variables) {
+                Ok(client) => answer_by_config(rt, given, config, client, output, style, seen),
+                Err(at) => {
+                    report_stop(rt, at);
+                    seen.lacks_file = true;
+                    Ok(())
+                }
+            };
+            drop(variables);
+            outcome
+        }
+        Err(error) => {
+            let _ = eprintln!(rt; "explain: cannot read the environment: {error}");
+            drop(error);
+            seen.lacks_file = true;
+            Ok(())
+        }
+    }
+}
+
+/// Reports on standard error that Git runs no command, since it stops at an entry.
+fn report_stop(rt: &impl Eprint, at: usize) {
+    let _ = eprintln!(rt;
+        "explain: Git stops at the entry at byte {at} of the configuration, and runs no command"
+    );
+}
+
+/// What Git runs by a configuration and these variables; or the place of the entry at which it stops.
+fn client_of<'e>(
+    entries: &'e [Entry<'e>],
+    config: &Config<'_>,
+    variables: &'e SshVariables,
+) -> Result<Client<'e>, usize> {
+    let settings = SshSettings {
+        entries,
+        git_ssh_command: bytes_of(&variables.command),
+        git_ssh: bytes_of(&variables.program),
+        git_ssh_variant: bytes_of(&variables.variant),
+    };
+    let client = Client::of(&settings, &config.protocols);
+    drop(settings);
+    client
 }
 
 /// What these entries and the variables of the environment say. Those of `protocol.*` are given apart too.
@@ -172,11 +239,12 @@ fn answer_remotes<W: Write>(
     Ok(())
 }
 
-/// Answers what the command line names, with what Git does by a configuration.
+/// Answers what the command line names, with what Git does by a configuration and runs for Secure Shell.
 fn answer_by_config<W: Write>(
     rt: &HostRuntime,
     given: &ArgMatches<'_>,
     config: &Config<'_>,
+    client: Client<'_>,
     output: &mut W,
     style: Style<'_, '_>,
     seen: &mut Seen,
@@ -186,6 +254,7 @@ fn answer_by_config<W: Write>(
         colors: style.colors,
         end: style.end,
         config: Some(config),
+        client,
         fail_on: style.fail_on,
     };
     answer_all(rt, given, output, style, seen)
@@ -208,167 +277,6 @@ fn colors_of(rt: &HostRuntime) -> Colors {
 /// The bytes of the value of a variable, if it is set.
 fn bytes_of(value: &Option<String>) -> Option<&[u8]> {
     value.as_ref().map(|it| it.as_str().as_bytes())
-}
-
-/// Answers the lines of each file, then each text; or the lines of standard input where neither is given.
-fn answer_all<W: Write>(
-    rt: &HostRuntime,
-    given: &ArgMatches<'_>,
-    output: &mut W,
-    style: Style<'_, '_>,
-    seen: &mut Seen,
-) -> Result<(), RunError> {
-    let files = given.get_strs("file").unwrap_or(&[]);
-    let texts = given.get_strs("text").unwrap_or(&[]);
-    if let ([], [text]) = (files, texts)
-        && is_file(rt, text)
-    {
-        report_file(rt, text);
-        seen.lacks_file = true;
-        return Ok(());
-    }
-    for file in files {
-        answer_file(rt, file, output, style, seen)?;
-    }
-    for (index, text) in texts.iter().enumerate() {
-        if *text == "-" {
-            answer_file(rt, text, output, style, seen)?;
-        } else {
-            seen.origin = Origin::argument(index);
-            answer_line(rt.alloc(), text.as_bytes(), output, style, seen)?;
-        }
-    }
-    if files.is_empty() && texts.is_empty() {
-        if rt.stdin().is_terminal() {
-            let _ = rt.eprintln(
-                "explain: reads a location a line from the terminal, to Ctrl-D (--help says more)",
-            );
-        }
-        answer_file(rt, "-", output, style, seen)?;
-    }
-    Ok(())
-}
-
-/// Whether the text is the name of a file that is there, and `-` is none.
-fn is_file(rt: &HostRuntime, text: &str) -> bool {
-    match fs::metadata(rt, text) {
-        Ok(found) => found.is_file(),
-        Err(error) => {
-            drop(error);
-            false
-        }
-    }
-}
-
-/// Reports on standard error that a text is the name of a file, whose lines aren't looked at.
-fn report_file(rt: &impl Eprint, text: &str) {
-    let _ = eprintln!(rt;
-        "explain: {text} is a file; to read it: -f {text}; for its name alone give that as a line of standard input"
-    );
-}
-
-/// Answers the lines of a file; `-` is standard input. A file that can't be opened is reported, and the rest
-/// goes on.
-fn answer_file<W: Write>(
-    rt: &HostRuntime,
-    file: &str,
-    output: &mut W,
-    style: Style<'_, '_>,
-    seen: &mut Seen,
-) -> Result<(), RunError> {
-    seen.origin = Origin::file(rt.alloc(), style.layout, file)?;
-    if file == "-" {
-        return answer_reader(rt.alloc(), rt.reader(), output, style, seen);
-    }
-    match File::open(rt, file) {
-        Ok(opened) => answer_reader(rt.alloc(), opened, output, style, seen),
-        Err(error) => {
-            let _ = eprintln!(rt; "explain: cannot read {file}: {error}");
-            seen.lacks_file = true;
-            Ok(())
-        }
-    }
-}
-
-/// Answers the lines of a reader.
-fn answer_reader<R: Read + Drop, W: Write>(
-    alloc: Global,
-    reader: R,
-    output: &mut W,
-    style: Style<'_, '_>,
-    seen: &mut Seen,
-) -> Result<(), RunError> {
-    match BufReader::new(alloc, reader) {
-        Ok(mut input) => answer_lines(alloc, &mut input, output, style, seen),
-        Err(_) => Err(RunError::Memory),
-    }
-}
-
-/// Answers all lines of the input, each as soon as it is read.
-///
-/// Nothing is read after the end of the input, which a terminal would otherwise have to give twice.
-fn answer_lines<B: BufRead, W: Write>(
-    alloc: Global,
-    input: &mut B,
-    output: &mut W,
-    style: Style<'_, '_>,
-    seen: &mut Seen,
-) -> Result<(), RunError> {
-    for _turn in 0..u64::MAX {
-        let line = next_line(alloc, input, style.end)?;
-        let (bytes, is_ended) = without_end(line.as_slice(), style.end);
-        if bytes.is_empty() && !is_ended {
-            break;
-        }
-        answer_line(alloc, bytes, output, style, seen)?;
-        if !is_ended || style.is_over(seen) {
-            break;
-        }
-    }
-    Ok(())
-}
-
-/// The bytes to the end of the line, which is the last of them if the line has one.
-fn next_line<B: BufRead>(alloc: Global, input: &mut B, end: u8) -> Result<Vec<u8>, RunError> {
-    let mut line = Vec::new(alloc);
-    match input.read_until(end, &mut line) {
-        Ok(_) => Ok(line),
-        Err(error) => Err(RunError::Read(error)),
-    }
-}
-
-/// The line without its end, and whether it has one.
-fn without_end(line: &[u8], end: u8) -> (&[u8], bool) {
-    match line.split_last() {
-        Some((last, bytes)) if *last == end => (bytes, true),
-        _ => (line, false),
-    }
-}
-
-/// Writes the answer to a line, and notes what is found in it.
-fn answer_line<W: Write>(
-    alloc: Global,
-    line: &[u8],
-    output: &mut W,
-    style: Style<'_, '_>,
-    seen: &mut Seen,
-) -> Result<(), RunError> {
-    seen.lines = seen.lines.saturating_add(1);
-    seen.origin.count();
-    let line = Line {
-        number: seen.lines,
-        bytes: line,
-        origin: &seen.origin,
-        style,
-    };
-    if let Layout::Page = style.layout {
-        let found = seen.page.add(line.number, line.bytes, style.config)?;
-        seen.found = seen.found.union(found);
-        return Ok(());
-    }
-    let (answer, found) = line.answer(alloc)?;
-    seen.found = seen.found.union(found);
-    seen.write(style, answer.as_str(), output)
 }
 
 fn main(rt: HostRuntime) -> ExitCode {

@@ -1,5 +1,7 @@
 //! The command line of `explain`, read by `clap`. It has no contract but that it can't abort.
 
+use crate::client::Client;
+use crate::line_end::LineEnd;
 use crate::only::Part;
 use crate::paint::Colors;
 use crate::style::{Layout, Style};
@@ -18,22 +20,26 @@ Examples:
   git config --get-all remote.origin.url | explain --only host
 
 These can't be given together:
-  two of --json, --sarif, --html, --only and --quiet
-  --remotes, --gitmodules or --parent with TEXT, --file, --html or --only
-  --gitmodules or --parent with --config, --remotes or --null
-  --sarif with --null
+  two of --json, --sarif, --html, --only, --ssh, --summary and --quiet
+  --remotes, --gitmodules or --parent with TEXT, --file, --html, --only, --ssh or --summary
+  --gitmodules or --parent with --config, --remotes, --null or --crlf
+  --null with --sarif or --crlf
 
-Exit status: 0 if nothing was found, 1 if something was, 2 for wrong arguments or a run that was cut short. What can be found: a danger, a location that is not settled, a refused line, a text that Git is not known to read the same (git-differs), and with --config a transport that Git does not use (policy).";
+Exit status: 0 if nothing was found, 1 if something was, 2 for wrong arguments, a run that was cut short or, with --ssh, a line that is not of Secure Shell. What can be found: a danger, a location that is not settled, a refused line, a text that Git is not known to read the same (git-differs), and with --config a transport that Git does not use (policy).";
 
-/// The version of the program.
-pub const VERSION: &str = "0.40.1";
+/// The version of the library and the program, as the title of the last changes has it.
+pub const VERSION: &str = "0.40.1+9";
+/// What `--version` prints: that, and the version of the Rust crate whose behaviour the library has.
+const VERSIONS: &str = "0.40.1+9 (gix-url 0.40.1)";
 
 /// What excludes each other: answers are laid out in one way.
-const LAYOUTS: [&str; 5] = ["json", "sarif", "html", "only", "quiet"];
+const LAYOUTS: [&str; 7] = ["json", "sarif", "html", "only", "ssh", "summary", "quiet"];
 /// What is excluded by what is answered in place of lines.
-const OF_LINES: [&str; 4] = ["text", "file", "html", "only"];
+const OF_LINES: [&str; 6] = ["text", "file", "html", "only", "ssh", "summary"];
 /// What is excluded by a file of submodules.
-const NOT_OF_MODULES: [&str; 3] = ["config", "remotes", "null"];
+const NOT_OF_MODULES: [&str; 4] = ["config", "remotes", "null", "crlf"];
+/// What excludes that lines end with a NUL byte.
+const NOT_OF_NULL: [&str; 2] = ["sarif", "crlf"];
 
 /// The title of a page that is given none.
 const TITLE: &str = "Git remotes";
@@ -60,9 +66,21 @@ pub fn style<'c, 'e: 'c>(given: &ArgMatches<'_>, auto: Colors) -> Style<'c, 'e> 
             Some("never") => Colors::Off,
             _ => auto,
         },
-        end: if given.get_flag("null") { 0 } else { b'\n' },
+        end: line_end(given),
         config: None,
+        client: Client::usual(),
         fail_on: fail_on(given),
+    }
+}
+
+/// How a line of the input ends.
+fn line_end(given: &ArgMatches<'_>) -> LineEnd {
+    if given.get_flag("null") {
+        LineEnd::Null
+    } else if given.get_flag("crlf") {
+        LineEnd::ReturnAndFeed
+    } else {
+        LineEnd::Feed
     }
 }
 
@@ -76,6 +94,11 @@ fn fail_on(given: &ArgMatches<'_>) -> Findings {
         wanted = wanted.union(Findings::named(name));
     }
     wanted
+}
+
+/// Whether the commands of Secure Shell are asked for.
+pub fn asks_for_commands(given: &ArgMatches<'_>) -> bool {
+    given.get_flag("ssh")
 }
 
 /// The file of the configuration, if there is one: `--remotes` reads it from standard input unless it is named.
@@ -125,6 +148,12 @@ fn layout(given: &ArgMatches<'_>) -> Layout {
     if given.get_flag("quiet") {
         return Layout::Quiet;
     }
+    if given.get_flag("ssh") {
+        return Layout::Ssh;
+    }
+    if given.get_flag("summary") {
+        return Layout::Summary;
+    }
     if given.contains_id("html") {
         return Layout::Page;
     }
@@ -137,26 +166,44 @@ fn layout(given: &ArgMatches<'_>) -> Layout {
 /// What the program is and takes on its command line.
 fn command<'a>(alloc: Global) -> Result<Command<'a>, AllocError> {
     Command::new(alloc, "explain")
-        .version(VERSION)
+        .version(VERSIONS)
         .about(
             "Reports what Git locations mean: arguments, or each line of files or of standard input",
         )
         .after_help(MORE)
         .arg(texts(alloc))?
         .arg(files(alloc))?
-        .arg(null(alloc))?
+        .arg(of_null(null(alloc))?)?
+        .arg(crlf(alloc))?
         .arg(config(alloc))?
-        .arg(remotes(alloc)?)?
+        .arg(of_remotes(remotes(alloc))?)?
         .arg(of_modules(gitmodules(alloc))?)?
         .arg(of_modules(parent_arg(alloc)?)?)?
         .arg(json(alloc))?
-        .arg(sarif(alloc)?)?
+        .arg(sarif(alloc))?
         .arg(html(alloc))?
         .arg(only(alloc))?
+        .arg(ssh(alloc))?
+        .arg(summary(alloc))?
         .arg(quiet(alloc))?
         .arg(fail_on_arg(alloc))?
         .arg(color(alloc))?
-        .group(ArgGroup::new(alloc, "layout").args(LAYOUTS.as_slice())?)
+        .group(of_layouts(ArgGroup::new(alloc, "layout"))?)
+}
+
+/// A group of the options that lay out answers.
+fn of_layouts<'a>(group: ArgGroup<'a>) -> Result<ArgGroup<'a>, AllocError> {
+    group.args(LAYOUTS.as_slice())
+}
+
+/// The option about the remotes of a configuration.
+fn of_remotes<'a>(option: Arg<'a>) -> Result<Arg<'a>, AllocError> {
+    option.conflicts_with_all(OF_LINES.as_slice())
+}
+
+/// The option by which a NUL byte ends a line.
+fn of_null<'a>(option: Arg<'a>) -> Result<Arg<'a>, AllocError> {
+    option.conflicts_with_all(NOT_OF_NULL.as_slice())
 }
 
 /// An option that is about a file of submodules.
@@ -191,6 +238,13 @@ fn null<'a>(alloc: Global) -> Arg<'a> {
         .action(ArgAction::SetTrue)
 }
 
+fn crlf<'a>(alloc: Global) -> Arg<'a> {
+    Arg::new(alloc, "crlf")
+        .long("crlf")
+        .help("A carriage return before the line feed is part of the line's end")
+        .action(ArgAction::SetTrue)
+}
+
 fn config<'a>(alloc: Global) -> Arg<'a> {
     Arg::new(alloc, "config")
         .long("config")
@@ -200,14 +254,13 @@ fn config<'a>(alloc: Global) -> Arg<'a> {
         )
 }
 
-fn remotes<'a>(alloc: Global) -> Result<Arg<'a>, AllocError> {
+fn remotes<'a>(alloc: Global) -> Arg<'a> {
     Arg::new(alloc, "remotes")
         .long("remotes")
         .help(
             "Show what Git fetches from and pushes to for each remote of the configuration, which is that of --config or standard input",
         )
         .action(ArgAction::SetTrue)
-        .conflicts_with_all(OF_LINES.as_slice())
 }
 
 fn gitmodules<'a>(alloc: Global) -> Arg<'a> {
@@ -229,12 +282,11 @@ fn parent_arg<'a>(alloc: Global) -> Result<Arg<'a>, AllocError> {
         .requires_arg("gitmodules")
 }
 
-fn sarif<'a>(alloc: Global) -> Result<Arg<'a>, AllocError> {
+fn sarif<'a>(alloc: Global) -> Arg<'a> {
     Arg::new(alloc, "sarif")
         .long("sarif")
         .help("Print one log in SARIF 2.1.0 with what is found")
         .action(ArgAction::SetTrue)
-        .conflicts_with("null")
 }
 
 fn json<'a>(alloc: Global) -> Arg<'a> {
@@ -261,6 +313,24 @@ fn only<'a>(alloc: Global) -> Arg<'a> {
         .value_name("PART")
         .help("Print this part of each location, or an empty line")
         .value_parser(Part::NAMES.as_slice())
+}
+
+fn ssh<'a>(alloc: Global) -> Arg<'a> {
+    Arg::new(alloc, "ssh")
+        .long("ssh")
+        .help(
+            "Print the command that git fetch runs for each location of Secure Shell, or an empty line, and on standard error why",
+        )
+        .action(ArgAction::SetTrue)
+}
+
+fn summary<'a>(alloc: Global) -> Arg<'a> {
+    Arg::new(alloc, "summary")
+        .long("summary")
+        .help(
+            "Print one summary of all lines: how many of each form, verdict and danger, and of the ten commonest hosts",
+        )
+        .action(ArgAction::SetTrue)
 }
 
 fn quiet<'a>(alloc: Global) -> Arg<'a> {

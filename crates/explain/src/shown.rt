@@ -14,6 +14,7 @@ use explain_report::curl::Curl;
 use explain_report::git_report::is_of_web;
 use explain_report::location_report::{Report, reading_of_git};
 use explain_report::path::{Components, Field, Home};
+use explain_report::readers::{Readers, instead_of};
 use explain_report::refusal::Refusal;
 use explain_report::rules::rows;
 use explain_report::text::cut::Cut;
@@ -36,6 +37,7 @@ pub fn location(
     heading(&mut out, line.number, report, notes.dangers)?;
     paint::named(&mut out, &seen.cut, line.style.colors)?;
     text(&mut out, url, report, seen)?;
+    readers(&mut out, notes.readers)?;
     parts(&mut out, url, report)?;
     components(&mut out, &report.components)?;
     on_files(&mut out, report)?;
@@ -85,7 +87,7 @@ fn is_shown(seen: &SeenLine<'_>, text: &str) -> bool {
     seen.input.as_str() == text && !is_long(&seen.cut)
 }
 
-/// A refusal: its heading, the line with the fault marked, what Git reads in it, and its hints.
+/// A refusal: its heading, the line with the fault marked, what Git and others read in it, and its hints.
 pub fn refusal(
     alloc: Global,
     line: Line<'_, '_>,
@@ -99,6 +101,7 @@ pub fn refusal(
     if let Some(reads) = &refusal.git_reads {
         row(&mut out, "git", reads.words.as_str())?;
     }
+    readers(&mut out, notes.readers)?;
     noted(alloc, &mut out, notes)?;
     Ok(out)
 }
@@ -124,15 +127,24 @@ fn noted(alloc: Global, out: &mut String, notes: Notes<'_>) -> Result<(), AllocE
         drop(rows);
         pushed?;
     }
-    hints(out, notes.hints)
+    hints(out, notes.hints, instead_of(notes.readers))
 }
 
 /// The rows of the hints.
-fn hints(out: &mut String, found: &[Hint]) -> Result<(), AllocError> {
+fn hints(out: &mut String, found: &[Hint], instead: Option<&str>) -> Result<(), AllocError> {
     for hint in found {
-        row(out, "hint", hint.sentence())?;
+        match (hint, instead) {
+            (Hint::WriteInstead, Some(text)) => instead_row(out, text)?,
+            _ => row(out, "hint", hint.sentence())?,
+        }
     }
     Ok(())
+}
+
+/// The row of the hint that gives a URL of the same place.
+fn instead_row(out: &mut String, text: &str) -> Result<(), AllocError> {
+    let (words, text) = (Hint::WriteInstead.sentence(), Quoted(text.as_bytes()));
+    row(out, "hint", format_args!("{words} {text}"))
 }
 
 /// A row: a name, and what it is.
@@ -230,6 +242,18 @@ fn curl(out: &mut String, url: &Url, read: &Option<Curl>) -> Result<(), AllocErr
     }
     let path = Quoted(read.path.as_str().as_bytes());
     row(out, "curl", format_args!("asks for the path {path}"))
+}
+
+/// The rows of readers that take another host from the line.
+fn readers(out: &mut String, found: Option<&Readers>) -> Result<(), AllocError> {
+    let Some(found) = found else {
+        return Ok(());
+    };
+    for other in &found.others {
+        let (words, host) = (other.words.as_str(), Quoted(other.bytes.as_bytes()));
+        row(out, "readers", format_args!("{words} {host}"))?;
+    }
+    Ok(())
 }
 
 /// The rows of a query and a fragment, and of the path before them.

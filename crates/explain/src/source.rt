@@ -1,4 +1,4 @@
-//! Where the configuration comes from: the file that `--config` names, or standard input, and two variables.
+//! Where the configuration comes from: the file that `--config` names, or standard input, and five variables.
 //!
 //! It has no contract but that it can't abort: `scripts/hostile rules` shows what is read, and what isn't.
 
@@ -17,6 +17,17 @@ pub struct Source {
     pub allow_list: Option<String>,
     /// `GIT_PROTOCOL_FROM_USER`, if it is set.
     pub from_user: Option<String>,
+}
+
+/// The variables by which Git decides on the program for Secure Shell, each if it is set.
+#[derive(Drop)]
+pub struct SshVariables {
+    /// `GIT_SSH_COMMAND`.
+    pub command: Option<String>,
+    /// `GIT_SSH`.
+    pub program: Option<String>,
+    /// `GIT_SSH_VARIANT`.
+    pub variant: Option<String>,
 }
 
 /// Why there is no configuration.
@@ -61,6 +72,20 @@ impl Source {
             text,
             allow_list,
             from_user,
+        })
+    }
+}
+
+impl SshVariables {
+    /// The variables of the environment.
+    pub fn read(rt: &HostRuntime) -> Result<SshVariables, SourceError> {
+        let command = variable(rt, "GIT_SSH_COMMAND")?;
+        let program = variable(rt, "GIT_SSH")?;
+        let variant = variable(rt, "GIT_SSH_VARIANT")?;
+        Ok(SshVariables {
+            command,
+            program,
+            variant,
         })
     }
 }

@@ -1,8 +1,11 @@
 //! How answers are laid out, and what was seen while they were given.
 
+use crate::client::Client;
+use crate::line_end::LineEnd;
 use crate::only::Part;
 use crate::paint::Colors;
 use crate::results::{Origin, tail};
+use crate::summary::Summary;
 use explain_page::page::Page;
 use explain_report::finding::Findings;
 use explain_report::rules::config::Config;
@@ -16,10 +19,12 @@ pub struct Style<'c, 'e: 'c> {
     pub layout: Layout,
     /// Whether answers for people are coloured.
     pub colors: Colors,
-    /// The byte that ends a line of the input.
-    pub end: u8,
+    /// How a line of the input ends.
+    pub end: LineEnd,
     /// The configuration by which it is shown what Git does, if one is given.
     pub config: Option<&'c Config<'e>>,
+    /// What Git runs for Secure Shell.
+    pub client: Client<'c>,
     /// What the run fails for.
     pub fail_on: Findings,
 }
@@ -39,6 +44,10 @@ pub enum Layout {
     Page,
     /// The results of a log in SARIF.
     Sarif,
+    /// The command with which Git fetches by Secure Shell.
+    Ssh,
+    /// A summary of all lines together.
+    Summary,
 }
 
 impl Style<'_, '_> {
@@ -57,8 +66,12 @@ pub struct Seen {
     pub found: Findings,
     /// Whether a file could not be opened.
     pub lacks_file: bool,
+    /// Whether a command that is asked for is missing, and no finding says why.
+    pub lacks_command: bool,
     /// The page, where one is asked for.
     pub page: Page,
+    /// The summary, where one is asked for.
+    pub summary: Summary,
     /// Where the line is from.
     pub origin: Origin,
     /// Whether a result was written of a log in SARIF.
@@ -72,7 +85,9 @@ impl Seen {
             lines: 0,
             found: Findings::none(),
             lacks_file: false,
+            lacks_command: false,
             page: Page::new(alloc),
+            summary: Summary::new(alloc),
             origin: Origin::unknown(),
             has_results: false,
         }
@@ -98,8 +113,8 @@ impl Seen {
         .map_err(RunError::Write)
     }
 
-    /// Writes what follows all answers: the page with this title, unless nothing could be read, or the end of a log
-    /// in SARIF.
+    /// Writes what follows all answers: the page with this title or the summary, unless nothing could be read, or the
+    /// end of a log in SARIF.
     pub fn write_end<W: Write>(
         &self,
         style: Style<'_, '_>,
@@ -107,8 +122,9 @@ impl Seen {
         output: &mut W,
     ) -> Result<(), RunError> {
         match style.layout {
-            Layout::Page if self.lacks_file && self.lines == 0 => Ok(()),
+            Layout::Page | Layout::Summary if self.lacks_file && self.lines == 0 => Ok(()),
             Layout::Page => self.page.write(title, output),
+            Layout::Summary => self.summary.write(output),
             Layout::Sarif => output
                 .write_all(tail(!self.lacks_file).as_bytes())
                 .map_err(RunError::Write),
@@ -117,9 +133,9 @@ impl Seen {
     }
 
     /// The status to end with: 0 where nothing was found that the run fails for, 1 where something was, 2 where
-    /// something could not be read or written.
+    /// something could not be read or written, or a command is missing.
     pub fn status(&self, fail_on: Findings, outcome: &Result<(), RunError>) -> u8 {
-        if outcome.is_err() || self.lacks_file {
+        if outcome.is_err() || self.lacks_file || self.lacks_command {
             2
         } else if self.found.meets(fail_on) {
             1

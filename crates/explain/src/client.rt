@@ -1,0 +1,88 @@
+//! What Git runs for Secure Shell: by a configuration and the variables of the environment, or where nothing is set.
+//!
+//! It uses `ssh` of `git_rules`. It has no contract but that it can't abort: `scripts/hostile commands` compares the
+//! commands with those that Git runs.
+
+use git_rules::config::Entry;
+use git_rules::protocols::Protocols;
+use git_rules::ssh::program::{ProgramVariant, SshProgram, SshProgramError, SshSettings};
+use git_rules::ssh::{ProtocolVersion, SshVariant};
+
+/// What Git runs for Secure Shell.
+#[derive(Clone, Copy)]
+pub struct Client<'c> {
+    /// The program, or a command line.
+    pub text: &'c [u8],
+    /// Whether a shell runs the text.
+    pub is_command_line: bool,
+    /// Which variant Git takes it for.
+    pub variant: ProgramVariant,
+    /// The version of Git's protocol that is asked for.
+    pub version: ProtocolVersion,
+    /// Whether Git uses the transport.
+    pub is_allowed: bool,
+}
+
+impl<'c> Client<'c> {
+    /// What Git runs where nothing is set.
+    pub fn usual() -> Client<'c> {
+        Client {
+            text: b"ssh",
+            is_command_line: false,
+            variant: ProgramVariant::Known(SshVariant::Ssh),
+            version: ProtocolVersion::V2,
+            is_allowed: true,
+        }
+    }
+
+    /// What Git runs by these settings and rules for transports; or the place of the entry at which it stops.
+    pub fn of(settings: &SshSettings<'c>, protocols: &Protocols<'_>) -> Result<Client<'c>, usize> {
+        let version = version_of(settings.entries)?;
+        match SshProgram::of(settings) {
+            Err(SshProgramError::NoValue { at }) => Err(at),
+            Ok(program) => Ok(Client {
+                text: program.text,
+                is_command_line: program.is_command_line,
+                variant: program.variant,
+                version,
+                is_allowed: protocols.permission("ssh").is_allowed(),
+            }),
+        }
+    }
+}
+
+/// The version of the protocol that these entries ask for; or the place of the last one of them, if Git knows no
+/// version of its value.
+fn version_of(entries: &[Entry<'_>]) -> Result<ProtocolVersion, usize> {
+    let Some(entry) = last_version(entries) else {
+        return Ok(ProtocolVersion::V2);
+    };
+    match entry.value.and_then(version_named) {
+        Some(version) => Ok(version),
+        None => Err(entry.at),
+    }
+}
+
+/// The last entry of `protocol.version`.
+fn last_version<'b, 'e>(entries: &'b [Entry<'e>]) -> Option<&'b Entry<'e>> {
+    let mut found = None;
+    for entry in entries {
+        if entry.sets("protocol", "version") && entry.subsection.is_none() {
+            found = Some(entry);
+        }
+    }
+    found
+}
+
+/// The version that Git knows by this value.
+fn version_named(value: &[u8]) -> Option<ProtocolVersion> {
+    if value == b"0".as_slice() {
+        Some(ProtocolVersion::V0)
+    } else if value == b"1".as_slice() {
+        Some(ProtocolVersion::V1)
+    } else if value == b"2".as_slice() {
+        Some(ProtocolVersion::V2)
+    } else {
+        None
+    }
+}

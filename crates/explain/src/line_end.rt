@@ -1,0 +1,43 @@
+//! How a line of the input ends, and the line without its end.
+//!
+//! It has no contract but that it can't abort: `scripts/hostile arguments` shows which lines are read.
+
+/// How a line of the input ends.
+#[derive(Clone, Copy)]
+pub enum LineEnd {
+    /// With a line feed.
+    Feed,
+    /// With a line feed; a carriage return before it is a part of the end.
+    ReturnAndFeed,
+    /// With byte 0.
+    Null,
+}
+
+impl LineEnd {
+    /// The last byte of the end.
+    pub fn byte(self) -> u8 {
+        match self {
+            LineEnd::Feed | LineEnd::ReturnAndFeed => b'\n',
+            LineEnd::Null => 0,
+        }
+    }
+
+    /// The line without its end, and whether it has one.
+    pub fn split(self, line: &[u8]) -> (&[u8], bool) {
+        match line.split_last() {
+            Some((last, bytes)) if *last == self.byte() => (self.without_return(bytes), true),
+            _ => (line, false),
+        }
+    }
+
+    /// The line without the carriage return at its end, if that is a part of the end.
+    fn without_return(self, line: &[u8]) -> &[u8] {
+        if !matches!(self, LineEnd::ReturnAndFeed) {
+            return line;
+        }
+        match line.split_last() {
+            Some((last, bytes)) if *last == b'\r' => bytes,
+            _ => line,
+        }
+    }
+}

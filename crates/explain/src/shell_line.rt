@@ -1,0 +1,87 @@
+//! A command as a line for a POSIX shell: a variable, a program and words, each in quotes where a shell needs them.
+//!
+//! It uses `ShellWord` of `explain_report`. It has no contract but that it can't abort: `scripts/hostile commands`
+//! gives the lines to a shell.
+
+use crate::client::Client;
+use bstr::BString;
+use explain_report::text::line::{ShellWord, Shown};
+use std::alloc::{AllocError, Global};
+use std::fmt::{self, Write};
+
+/// The line of a command: the value of `GIT_PROTOCOL`, if it has one, what is run, and the words.
+pub fn line_of(
+    alloc: Global,
+    client: Client<'_>,
+    git_protocol: Option<&str>,
+    words: &[BString],
+) -> Result<String, AllocError> {
+    let mut out = String::new(alloc);
+    push_variable(&mut out, git_protocol)?;
+    push_program(alloc, &mut out, client)?;
+    for word in words {
+        let word = Word(word.as_bytes());
+        write!(out, " {word}")?;
+    }
+    out.push('\n')?;
+    Ok(out)
+}
+
+/// Appends the variable, if it has a value, which is a plain word.
+fn push_variable(out: &mut String, value: Option<&str>) -> Result<(), AllocError> {
+    match value {
+        None => Ok(()),
+        Some(value) => write!(out, "GIT_PROTOCOL={value} "),
+    }
+}
+
+/// Appends what is run: a program, or a command line as Git has a shell run it, with the words behind it.
+fn push_program(alloc: Global, out: &mut String, client: Client<'_>) -> Result<(), AllocError> {
+    if client.text == b"ssh".as_slice() {
+        return out.push_str("ssh");
+    }
+    let program = ShellWord(client.text);
+    if !client.is_command_line || is_plain(client.text) {
+        return write!(out, "{program}");
+    }
+    let line = with_words(alloc, client.text)?;
+    let script = ShellWord(line.as_slice());
+    let written = write!(out, "sh -c {script} {program}");
+    drop(line);
+    written
+}
+
+/// A command line, and behind it the words that a shell gets.
+fn with_words(alloc: Global, line: &[u8]) -> Result<Vec<u8>, AllocError> {
+    let mut script = Vec::new(alloc);
+    script.extend_from_slice(line)?;
+    script.extend_from_slice(b" \"$@\"")?;
+    Ok(script)
+}
+
+/// A word for a shell: as it is where each of its bytes is plain, and else in quotes.
+#[derive(Clone, Copy)]
+struct Word<'a>(&'a [u8]);
+
+impl fmt::Display for Word<'_> {
+    fn fmt<W: fmt::Write>(&self, f: &mut fmt::Formatter<W>) -> fmt::Result {
+        if is_plain(self.0) {
+            return write!(f, "{}", Shown(self.0));
+        }
+        write!(f, "{}", ShellWord(self.0))
+    }
+}
+
+/// Whether a word has a byte, and each of its bytes stands for itself to a shell.
+fn is_plain(word: &[u8]) -> bool {
+    !word.is_empty() && word.iter().all(|byte| is_plain_byte(*byte))
+}
+
+/// Whether a byte stands for itself in each word of a shell but its first.
+fn is_plain_byte(byte: u8) -> bool {
+    matches!(byte, b'0'..=b'9' | b'A'..=b'Z' | b'a'..=b'z')
+        || matches!(
+            byte,
+            b'%' | b'+' | b',' | b'-' | b'.' | b'/' | b':' | b'=' | b'@' | b'_'
+        )
+}

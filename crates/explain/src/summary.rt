@@ -1,0 +1,214 @@
+//! The summary of all lines: how many there are of each form, verdict, danger and host.
+//!
+//! The memory that it takes grows with the hosts that differ, and not with the lines. `danger_counts` counts dangers,
+//! and `table` lays it out. It has no contract but that it can't abort: `scripts/hostile arguments` shows summaries.
+
+mod danger_counts;
+mod table;
+
+use crate::summary::danger_counts::DangerCounts;
+use crate::summary::table::text_of;
+use bstr::BStr;
+use explain_report::finding::Findings;
+use explain_report::form::Form;
+use explain_report::memory::both;
+use explain_report::rules::config::Config;
+use explain_report::rules::{Rules, found_by};
+use git_audit::danger::dangers;
+use gix_url::lines::RunError;
+use gix_url::parse::parse;
+use gix_url::{Error, Url};
+use std::alloc::{AllocError, Global};
+use std::collections::BTreeMap;
+use std::io::Write;
+
+/// What was seen in all lines. Each number is one of lines.
+#[derive(Drop)]
+pub struct Summary {
+    alloc: Global,
+    forms: Forms,
+    verdicts: Verdicts,
+    dangers: DangerCounts,
+    hosts: BTreeMap<String, u64>,
+    without_host: u64,
+}
+
+/// How many lines there are of each form.
+#[derive(Clone, Copy)]
+struct Forms {
+    urls: u64,
+    scp_forms: u64,
+    local_paths: u64,
+    helpers: u64,
+}
+
+/// How many lines there are of which something is found, or nothing.
+#[derive(Clone, Copy)]
+struct Verdicts {
+    settled: u64,
+    unsettled: u64,
+    refused: u64,
+    dangerous: u64,
+    git_differs: u64,
+    policy: u64,
+}
+
+/// One more line.
+fn bump(count: &mut u64) {
+    *count = count.saturating_add(1);
+}
+
+/// Counts a line where it is one of those that are counted.
+fn bump_if(count: &mut u64, is_counted: bool) {
+    if is_counted {
+        bump(count);
+    }
+}
+
+/// Counts a location with this host.
+fn add_host(
+    alloc: Global,
+    hosts: &mut BTreeMap<String, u64>,
+    host: &str,
+) -> Result<(), AllocError> {
+    let lines = hosts.get(host).copied().unwrap_or(0).saturating_add(1);
+    let name = String::from_str(alloc, host)?;
+    hosts.insert(name, lines)?;
+    Ok(())
+}
+
+impl Forms {
+    /// No line.
+    fn none() -> Forms {
+        Forms {
+            urls: 0,
+            scp_forms: 0,
+            local_paths: 0,
+            helpers: 0,
+        }
+    }
+
+    /// Counts a line of this form.
+    fn add(&mut self, form: Form) {
+        match form {
+            Form::Url => bump(&mut self.urls),
+            Form::Scp => bump(&mut self.scp_forms),
+            Form::Local => bump(&mut self.local_paths),
+            Form::RemoteHelper => bump(&mut self.helpers),
+        }
+    }
+}
+
+impl Verdicts {
+    /// No line.
+    fn none() -> Verdicts {
+        Verdicts {
+            settled: 0,
+            unsettled: 0,
+            refused: 0,
+            dangerous: 0,
+            git_differs: 0,
+            policy: 0,
+        }
+    }
+
+    /// Counts a location that is settled or not.
+    fn add_location(&mut self, is_settled: bool) {
+        if is_settled {
+            bump(&mut self.settled);
+        } else {
+            bump(&mut self.unsettled);
+        }
+    }
+
+    /// Counts what else is found in a line.
+    fn add(&mut self, found: Findings) {
+        bump_if(&mut self.dangerous, found.danger);
+        bump_if(&mut self.git_differs, found.git_differs);
+        bump_if(&mut self.policy, found.policy);
+    }
+
+    /// How many lines there are.
+    fn lines(self) -> u64 {
+        self.settled
+            .saturating_add(self.unsettled)
+            .saturating_add(self.refused)
+    }
+}
+
+impl Summary {
+    /// No line yet.
+    pub fn new(alloc: Global) -> Summary {
+        Summary {
+            alloc,
+            forms: Forms::none(),
+            verdicts: Verdicts::none(),
+            dangers: DangerCounts::none(),
+            hosts: BTreeMap::new(alloc),
+            without_host: 0,
+        }
+    }
+
+    /// Counts a line, with what Git does with it by the configuration, if one is given. Returns what is found in it.
+    pub fn add(
+        &mut self,
+        line: &[u8],
+        config: Option<&Config<'_>>,
+    ) -> Result<Findings, AllocError> {
+        let read = parse(self.alloc, BStr::new(line));
+        let added = match &read {
+            Ok(url) => self.add_location(line, url, config),
+            Err(Error::Memory) => Err(AllocError),
+            Err(_) => self.add_refused(line, config),
+        };
+        drop(read);
+        added
+    }
+
+    /// Counts a line that is read as this location.
+    fn add_location(
+        &mut self,
+        line: &[u8],
+        url: &Url,
+        config: Option<&Config<'_>>,
+    ) -> Result<Findings, AllocError> {
+        let found = dangers(self.alloc, line, &url.as_ref())?;
+        let (found, rules) = both(found, Rules::of_given(self.alloc, config, line, Some(url)))?;
+        let own = Findings::of_location(url, found.as_slice());
+        let findings = own.union(found_by(rules.as_ref()));
+        drop(rules);
+        self.dangers.add(found.as_slice());
+        drop(found);
+        self.forms.add(Form::of(url));
+        self.verdicts.add_location(!own.unsettled);
+        self.verdicts.add(findings);
+        match url.host() {
+            None => bump(&mut self.without_host),
+            Some(host) => add_host(self.alloc, &mut self.hosts, host)?,
+        }
+        Ok(findings)
+    }
+
+    /// Counts a line that is refused.
+    fn add_refused(
+        &mut self,
+        line: &[u8],
+        config: Option<&Config<'_>>,
+    ) -> Result<Findings, AllocError> {
+        let rules = Rules::of_given(self.alloc, config, line, None)?;
+        let findings = Findings::of_refused().union(found_by(rules.as_ref()));
+        drop(rules);
+        bump(&mut self.verdicts.refused);
+        self.verdicts.add(findings);
+        bump(&mut self.without_host);
+        Ok(findings)
+    }
+
+    /// Writes the summary.
+    pub fn write<W: Write>(&self, output: &mut W) -> Result<(), RunError> {
+        let text = text_of(self.alloc, self)?;
+        let written = output.write_all(text.as_str().as_bytes());
+        drop(text);
+        written.map_err(RunError::Write)
+    }
+}
