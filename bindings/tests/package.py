@@ -108,8 +108,8 @@ class Workers(unittest.TestCase):
 
 class Locale(unittest.TestCase):
     def test_a_text_is_utf8_in_every_locale(self):
-        program = "import gix_url; url = gix_url.parse('ssh://h/\\u00e9\\udcff'); print(ascii(str(url)), bytes(url))"
-        wanted = "'ssh://h/\\xe9\\udcff' b'ssh://h/\\xc3\\xa9\\xff'"
+        program = "import gix_url; url = gix_url.parse('/\\u00e9\\udcff'); print(ascii(str(url)), bytes(url))"
+        wanted = "'/\\xe9\\udcff' b'/\\xc3\\xa9\\xff'"
         environment = {**os.environ, "LC_ALL": "C", "PYTHONCOERCECLOCALE": "0", "PYTHONPATH": str(FOLDER.parent)}
         self.assertEqual([said(program, **environment, PYTHONUTF8=it) for it in "01"], [wanted, wanted])
 

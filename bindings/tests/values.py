@@ -111,7 +111,7 @@ class Texts(unittest.TestCase):
         self.assertEqual(url.redacted, "https://u:redacted@h:22/a%20b?c#d")
 
     def test_a_text_is_read_again(self):
-        for given in (b"/\xff\xfe", b"h:\xc3\xa9\xff", "ssh://h/é".encode(), b"/\xed\xa0\x80"):
+        for given in (b"/\xff\xfe", b"/\xc3\xa9\xff", "h:é".encode(), "ssh://h/é".encode(), b"/\xed\xa0\x80"):
             url = gix_url.parse(given)
             self.assertEqual((gix_url.parse(str(url)), bytes(url)), (url, given))
         self.assertEqual(str(gix_url.parse(b"/\xff")), "/\udcff")
