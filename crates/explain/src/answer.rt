@@ -76,6 +76,19 @@ pub struct Notes<'b> {
     pub rules: Option<&'b Rules>,
 }
 
+impl<'b> Notes<'b> {
+    /// What is reported beside what a line is read as, without readers and hints.
+    fn of(dangers: &'b [Danger], found: Findings, rules: Option<&'b Rules>) -> Notes<'b> {
+        Notes {
+            dangers,
+            found,
+            readers: None,
+            hints: &[],
+            rules,
+        }
+    }
+}
+
 impl Line<'_, '_> {
     /// The answer, and what is found in the line.
     pub fn answer(self, alloc: Global) -> Result<(String, Findings), AllocError> {
@@ -93,13 +106,7 @@ impl Line<'_, '_> {
         let found = dangers(alloc, self.bytes, &url.as_ref())?;
         let (found, rules) = both(found, self.rules(alloc, Some(url)))?;
         let findings = Findings::of_location(url, found.as_slice()).union(found_by(rules.as_ref()));
-        let notes = Notes {
-            dangers: found.as_slice(),
-            found: findings,
-            readers: None,
-            hints: &[],
-            rules: rules.as_ref(),
-        };
+        let notes = Notes::of(found.as_slice(), findings, rules.as_ref());
         let answer = match self.style.layout {
             Layout::Quiet => Ok(String::new(alloc)),
             Layout::Only(part) => only::line(alloc, url, part),

@@ -37,6 +37,17 @@ pub struct Notes<'b> {
 }
 
 impl<'b> Notes<'b> {
+    /// The notes of a line, without readers and hints.
+    pub fn of(dangers: &'b [Danger], found: Findings, rules: Option<&'b Rules>) -> Notes<'b> {
+        Notes {
+            dangers,
+            found,
+            readers: None,
+            hints: &[],
+            rules,
+        }
+    }
+
     /// These notes with readers and hints.
     pub fn with(self, readers: Option<&'b Readers>, hints: &'b [Hint]) -> Notes<'b> {
         Notes {

@@ -99,13 +99,7 @@ impl Page {
         let found = dangers(self.alloc, line, &url.as_ref())?;
         let (found, rules) = both(found, Rules::of_given(self.alloc, config, line, Some(url)))?;
         let findings = Findings::of_location(url, found.as_slice()).union(found_by(rules.as_ref()));
-        let notes = Notes {
-            dangers: found.as_slice(),
-            found: findings,
-            readers: None,
-            hints: &[],
-            rules: rules.as_ref(),
-        };
+        let notes = Notes::of(found.as_slice(), findings, rules.as_ref());
         let added = self.add_read(number, line, url, notes);
         drop(rules);
         drop(found);
@@ -155,13 +149,7 @@ impl Page {
     ) -> Result<Findings, AllocError> {
         let rules = Rules::of_given(self.alloc, config, line, None)?;
         let findings = Findings::of_refused().union(found_by(rules.as_ref()));
-        let notes = Notes {
-            dangers: &[],
-            found: findings,
-            readers: None,
-            hints: &[],
-            rules: rules.as_ref(),
-        };
+        let notes = Notes::of(&[], findings, rules.as_ref());
         let added = self.add_refused(number, line, error, notes);
         drop(rules);
         added?;
