@@ -1,4 +1,5 @@
-/* Says where each remote of the standard input leads: its host and port, or why it is refused.
+/* Says where each remote of the standard input leads: its host and port, or why it is refused. A host that may be taken for
+ * an option isn't printed, since who reads the answers may pass it to a command.
  *
  *   cc hosts.c $(pkg-config --cflags --libs gix_url) -o hosts && ./hosts <../remotes */
 #include <gix_url.h>
@@ -7,9 +8,11 @@
 
 static void lead(const gix_url *url) {
     gix_url_seen seen;
-    if (!url->host.at)
+    if (gix_url_look(url, &seen) != GIX_URL_OK || seen.host == GIX_URL_DANGEROUS)
+        printf("refused: the host begins with -, and may be taken for an option\n");
+    else if (seen.host == GIX_URL_ABSENT)
         printf("this machine\n");
-    else if (gix_url_look(url, &seen) == GIX_URL_OK && seen.has_port)
+    else if (seen.has_port)
         printf("%.*s %d\n", (int)url->host.len, url->host.at, seen.port);
     else
         printf("%.*s\n", (int)url->host.len, url->host.at);

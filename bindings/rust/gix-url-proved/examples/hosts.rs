@@ -1,15 +1,19 @@
-//! Says where each remote of the standard input leads: its host and port, or why it is refused.
+//! Says where each remote of the standard input leads: its host and port, or why it is refused. A host that may be taken for
+//! an option isn't printed, since who reads the answers may pass it to a command.
 //!
 //! `cargo run --example hosts <../../../examples/remotes`
 
-use gix_url_proved::{parse, Url};
+use gix_url_proved::{parse, ArgumentSafety, Url};
 use std::io::{self, BufRead};
 
 fn lead(url: &Url) -> String {
-    match (url.host(), url.port_or_default()) {
-        (None, _) => "this machine".to_owned(),
-        (Some(host), Some(port)) => format!("{host} {port}"),
-        (Some(host), None) => host.to_owned(),
+    match (url.host_as_argument(), url.port_or_default()) {
+        (ArgumentSafety::Dangerous(_), _) => {
+            "refused: the host begins with -, and may be taken for an option".to_owned()
+        }
+        (ArgumentSafety::Absent, _) => "this machine".to_owned(),
+        (ArgumentSafety::Usable(host), Some(port)) => format!("{host} {port}"),
+        (ArgumentSafety::Usable(host), None) => host.to_owned(),
     }
 }
 
