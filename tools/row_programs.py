@@ -42,6 +42,8 @@ MEMBERS_RUST = {"path", "home"}
 # Errors of calls that C doesn't have, and one that Rust doesn't have either: a path is any bytes there.
 FOREIGN_C = {"NoHome", "PathNotUtf8", "Unresolved"}
 FOREIGN_RUST = {"PathNotUtf8"}
+# Styles with an alignment and a width, to which the crate for Rust pads a location, as `gix-url` does.
+PADDED = {"{:>40}", "{:*^#60.7}"}
 # The bytes past ASCII, by the characters that outcomes have for them, and as Python has them.
 LONE = {0xEF00 + byte: 0xDC00 + byte for byte in range(0x80, 0x100)}
 
@@ -170,11 +172,13 @@ class Rust(Binding):
     name, calls, members = "rust", ALL | ONLY_RUST, MEMBERS | MEMBERS_RUST
 
     def makes(self, row):
-        """All but a location with a spelling, an error that the crate doesn't have, and a path that it takes as it is."""
+        """All but a location with a spelling or in a padded style, an error that the crate doesn't have, and a path that it
+        takes as it is."""
         parts = [it for it in map(row.members.get, ("url", "other", "error")) if isinstance(it, dict)]
         is_foreign = any(it.get("spelling") is not None or it.get("error") in FOREIGN_RUST for it in parts)
         is_refused = row.expected == [{"error": "PathNotUtf8"}, 0]
-        return super().makes(row) and not is_foreign and not is_refused
+        is_padded = row.members.get("call") == "Url:fmt" and row.members.get("style") in PADDED
+        return super().makes(row) and not (is_foreign or is_refused or is_padded)
 
     def build(self):
         folder = f"{FOLDER}/cargo"

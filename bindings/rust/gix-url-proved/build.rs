@@ -23,13 +23,13 @@ fn main() {
     for folder in &folders {
         println!("cargo:rerun-if-changed={}", folder.join("libgix_url.a").display());
     }
-    let Some(folder) = folders.iter().find(|folder| folder.join("libgix_url.a").is_file()) else {
+    let folder = folders.iter().find(|folder| folder.join("libgix_url.a").is_file()).unwrap_or_else(|| {
         eprintln!(
             "libgix_url.a is not in {}: build it with scripts/bindings, or name its folder in GIX_URL_LIB",
             folders[0].display()
         );
-        exit(1);
-    };
+        exit(1)
+    });
     println!("cargo:rustc-link-search=native={}", folder.display());
     println!("cargo:rustc-link-lib=static=gix_url");
 }

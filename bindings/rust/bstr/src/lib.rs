@@ -4,4 +4,7 @@
 #[path = "../../gix-url-proved/src/bytes.rs"]
 mod bytes;
 
+#[path = "../../gix-url-proved/src/chunks.rs"]
+mod chunks;
+
 pub use bytes::*;

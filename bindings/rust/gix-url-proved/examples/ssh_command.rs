@@ -6,8 +6,9 @@ use gix_url_proved::{parse, ArgumentSafety, Scheme, Url};
 use std::io::{self, BufRead};
 
 fn command(url: &Url) -> String {
-    let (Scheme::Ssh, Some(port)) = (&url.scheme, url.port_or_default()) else {
-        return "not by Secure Shell".to_owned();
+    let port = match (&url.scheme, url.port_or_default()) {
+        (Scheme::Ssh, Some(port)) => port,
+        _ => return "not by Secure Shell".to_owned(),
     };
     match (url.user_as_argument(), url.host_argument_safe()) {
         (ArgumentSafety::Dangerous(_), _) | (_, None) => "no host or user that is safe to hand to a command".to_owned(),

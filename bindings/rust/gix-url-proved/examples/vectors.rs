@@ -7,10 +7,12 @@ use gix_url_proved::ipv6::is_ipv6;
 use gix_url_proved::parse::{parse, Error, UrlFault, UrlKind, WriteFault};
 use gix_url_proved::testing::TestUrlExtension;
 use gix_url_proved::{ArgumentSafety, PathComponents, Scheme, Url};
+use std::collections::hash_map::DefaultHasher;
 use std::collections::BTreeMap;
 use std::fmt::{Debug, Display, Write};
-use std::hash::{DefaultHasher, Hash, Hasher};
+use std::hash::{Hash, Hasher};
 use std::io::{self, Read};
+use std::os::unix::ffi::OsStrExt;
 
 /// The members of an order, by their names.
 struct Order(BTreeMap<String, Vec<u8>>);
@@ -76,7 +78,10 @@ impl Order {
 
     /// The error that a text is refused with, or the error of these names, which keeps these bytes.
     fn error(&self) -> Option<Error> {
-        let Some(names) = self.text("error.error") else { return parse(self.bytes("text")).err() };
+        let names = match self.text("error.error") {
+            Some(names) => names,
+            None => return parse(self.bytes("text")).err(),
+        };
         let kept = BString::from(self.bytes("error.kept"));
         Some(match names.split(' ').collect::<Vec<&str>>().as_slice() {
             ["Memory"] => Error::Memory,
@@ -361,7 +366,7 @@ fn over_others(order: &Order, call: &str) -> Option<String> {
     let name = |member| order.text(member).unwrap_or_default();
     Some(match call {
         "parse::parse" => told_answer(parse(text)),
-        "Url::from_bytes" => told_answer(Url::from_bytes(text)),
+        "Url::from_bytes" => told_answer(Url::from_bytes(text.into())),
         "Url::from_text" => told_answer(Url::try_from(utf8(text).as_str())),
         "Scheme::from_text" => told_scheme(&Scheme::from(utf8(text).as_str())),
         "Url::from_parts" => told_answer(from_parts(order.parts("record")?)),
@@ -414,7 +419,7 @@ fn told_with(order: &Order, path: &[u8]) -> String {
         asked += 1;
         order.text("home").map(Into::into)
     });
-    let told = answer.map_or_else(|error| told_error(&error), |path| quoted(path.as_os_str().as_encoded_bytes()));
+    let told = answer.map_or_else(|error| told_error(&error), |path| quoted(path.as_os_str().as_bytes()));
     format!("[{told},{asked}]")
 }
 

@@ -13,6 +13,7 @@
 //! assert_eq!(path.to_str(), Ok("/repo"));
 //! ```
 
+use crate::chunks::chunks;
 use std::borrow::{Borrow, BorrowMut, Cow};
 use std::cmp::Ordering;
 use std::ffi::OsStr;
@@ -148,17 +149,20 @@ impl fmt::Display for BStr {
     /// Shows U+FFFD in place of each piece that is not UTF-8, and pads to a width where an alignment is asked for.
     fn fmt(&self, f: &mut fmt::Formatter<'_>) -> fmt::Result {
         let text = String::from_utf8_lossy(&self.0);
+        let align = match f.align() {
+            Some(align) => align,
+            None => return f.write_str(&text),
+        };
         let missing = f.width().unwrap_or(0).saturating_sub(text.chars().count());
-        let (before, behind) = match f.align() {
-            None => (0, 0),
-            Some(fmt::Alignment::Left) => (0, missing),
-            Some(fmt::Alignment::Right) => (missing, 0),
-            Some(fmt::Alignment::Center) => (missing / 2, missing - missing / 2),
+        let before = match align {
+            fmt::Alignment::Left => 0,
+            fmt::Alignment::Right => missing,
+            fmt::Alignment::Center => missing / 2,
         };
         let fill = f.fill();
         (0..before).try_for_each(|_| f.write_char(fill))?;
         f.write_str(&text)?;
-        (0..behind).try_for_each(|_| f.write_char(fill))
+        (before..missing).try_for_each(|_| f.write_char(fill))
     }
 }
 
@@ -166,8 +170,8 @@ impl fmt::Debug for BStr {
     /// Shows a text in quotes, with an escape for what doesn't print and for each byte that is part of no character.
     fn fmt(&self, f: &mut fmt::Formatter<'_>) -> fmt::Result {
         f.write_char('"')?;
-        for chunk in self.0.utf8_chunks() {
-            for character in chunk.valid().chars() {
+        for (text, invalid) in chunks(&self.0) {
+            for character in text.chars() {
                 match character {
                     '\0' => f.write_str("\\0")?,
                     '\t' | '\n' | '\r' => write!(f, "{}", character.escape_debug())?,
@@ -175,7 +179,7 @@ impl fmt::Debug for BStr {
                     other => write!(f, "{}", other.escape_debug())?,
                 }
             }
-            chunk.invalid().iter().try_for_each(|byte| write!(f, "\\x{byte:02X}"))?;
+            invalid.iter().try_for_each(|byte| write!(f, "\\x{byte:02X}"))?;
         }
         f.write_char('"')
     }

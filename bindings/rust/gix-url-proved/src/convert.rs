@@ -1,4 +1,4 @@
-//! Locations by conversion, from what holds a text or a path: by [`parse()`] of its bytes.
+//! Locations by conversion, from a text, bytes or a file name: by [`parse()`] of its bytes.
 
 use crate::bstr::{BStr, BString};
 use crate::parse::{parse, Error};
@@ -7,6 +7,7 @@ use std::borrow::Cow;
 use std::ffi::OsStr;
 use std::os::unix::ffi::OsStrExt;
 use std::path::{Path, PathBuf};
+use std::str::FromStr;
 
 /// A conversion from a type, by an expression that gives its bytes.
 macro_rules! try_from {
@@ -25,10 +26,36 @@ try_from! {
     &str, text => text;
     String, text => text;
     &[u8], bytes => bytes;
+    Vec<u8>, bytes => bytes;
     &BStr, bytes => bytes;
     BString, bytes => bytes;
     Cow<'_, BStr>, bytes => bytes.as_ref();
     &OsStr, name => name.as_bytes();
     &Path, path => path.as_os_str().as_bytes();
     PathBuf, path => path.as_os_str().as_bytes();
+}
+
+impl<const COUNT: usize> TryFrom<&[u8; COUNT]> for Url {
+    type Error = Error;
+
+    fn try_from(bytes: &[u8; COUNT]) -> Result<Url, Error> {
+        parse(bytes)
+    }
+}
+
+impl FromStr for Url {
+    type Err = Error;
+
+    /// The location that the text spells.
+    ///
+    /// ```
+    /// use gix_url_proved::Url;
+    ///
+    /// let url: Url = "git@host:path".parse()?;
+    /// assert_eq!(url.user(), Some("git"));
+    /// # Ok::<(), gix_url_proved::parse::Error>(())
+    /// ```
+    fn from_str(text: &str) -> Result<Url, Error> {
+        parse(text)
+    }
 }

@@ -4,6 +4,7 @@
 //! bytes. Otherwise the shape is the one that a derive gives, with bytes as a text. Nothing else is hidden: a secret may
 //! also be where the grammar puts no password, as the user of `https://token@h/p`, and a log shows it there.
 
+use crate::chunks::chunks;
 use crate::expand_path::ForUser;
 use crate::parse::Error;
 use crate::Url;
@@ -92,15 +93,15 @@ pub(crate) struct Text<'a>(pub(crate) &'a [u8]);
 impl fmt::Debug for Text<'_> {
     fn fmt(&self, f: &mut fmt::Formatter<'_>) -> fmt::Result {
         f.write_char('"')?;
-        for chunk in self.0.utf8_chunks() {
-            for character in chunk.valid().chars() {
+        for (text, invalid) in chunks(self.0) {
+            for character in text.chars() {
                 match u8::try_from(character) {
                     Ok(b'\0') => f.write_str("\\0")?,
                     Ok(byte) if byte.is_ascii() => write!(f, "{}", byte.escape_ascii())?,
                     _ => write!(f, "{}", character.escape_debug())?,
                 }
             }
-            write!(f, "{}", chunk.invalid().escape_ascii())?;
+            write!(f, "{}", invalid.escape_ascii())?;
         }
         f.write_char('"')
     }

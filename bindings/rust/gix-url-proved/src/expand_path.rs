@@ -50,7 +50,10 @@ impl fmt::Debug for ForUser {
 ///
 /// None: the result is that of `gix-url`.
 pub fn parse(path: &BStr) -> Result<(Option<ForUser>, BString), Error> {
-    let Some(rest) = path.strip_prefix(b"/~") else { return Ok((None, path.to_owned())) };
+    let rest = match path.strip_prefix(b"/~") {
+        Some(rest) => rest,
+        None => return Ok((None, path.to_owned())),
+    };
     let (name, below) = match rest.iter().position(|byte| *byte == b'/') {
         Some(slash) => rest.split_at(slash),
         None => (rest, b"/".as_slice()),
@@ -96,7 +99,10 @@ pub fn with(
     home_for_user: impl FnOnce(&ForUser) -> Option<PathBuf>,
 ) -> Result<PathBuf, Error> {
     let path = Path::new(OsStr::from_bytes(path));
-    let Some(user) = user else { return Ok(path.to_owned()) };
+    let user = match user {
+        Some(user) => user,
+        None => return Ok(path.to_owned()),
+    };
     let home = home_for_user(user).ok_or_else(|| Error::NoHome(user.clone()))?;
     Ok(home.join(path.components().skip(1).collect::<PathBuf>()))
 }

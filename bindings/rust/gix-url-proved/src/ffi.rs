@@ -16,11 +16,14 @@ use std::mem::MaybeUninit;
 
 const OK: u32 = 0;
 const TOO_LONG: u32 = 5;
+const BAD_URL: u32 = 6;
 const NO_ROOM: u32 = 102;
 /// What a buffer holds before a call in a debug build, which checks it after each error: a rarely written byte.
 const BLANK: u8 = 0xA5;
 /// How many bytes a buffer on the stack has.
 const NEAR: usize = 1024;
+/// How many bytes an error shows of a text whose authority is too long: a scheme, `://`, and so many as an authority has.
+const FRONT: usize = 1024 + 3 + 1024;
 /// How many lengths of names and values fit on the stack.
 const NEAR_LENGTHS: usize = 32;
 
@@ -110,7 +113,7 @@ struct Given<'a> {
 }
 
 #[rustfmt::skip]
-unsafe extern "C" {
+extern "C" {
     fn gix_url_c_read_in(input: *const u8, len: usize, room: *mut u8, room_len: usize, lent: &mut Given, told: &mut Problem) -> u32;
     fn gix_url_c_from_parts(given: &Given, made: &mut Made, room: *mut u8, room_len: usize, told: &mut Problem) -> u32;
     fn gix_url_c_is_settled(given: &Given, settled: &mut bool) -> u32;
@@ -363,7 +366,7 @@ fn error(code: u32, told: &Problem, input: impl FnOnce() -> BString, name: &[u8]
             shown.truncate(told.shown);
             Error::TooLong { shown, total: told.total }
         }
-        6 => Error::BadUrl { kind: kind(told.kind), fault: url_fault(told.fault), input: input() },
+        BAD_URL => Error::BadUrl { kind: kind(told.kind), fault: url_fault(told.fault), input: input() },
         7 => Error::HelperName { name: name.into() },
         8 => Error::Unwritable(write_fault(told.fault)),
         _ => unreachable!("every value of this crate is a location"),
@@ -401,7 +404,19 @@ pub(crate) fn refusal(input: &[u8]) -> Option<Refusal> {
     let code = call!(gix_url_c_read_in, input.as_ptr(), input.len(), [].as_mut_ptr(), 0, &mut lent, &mut told);
     // Of a text that is too long no form is reported, since only a URL can be.
     let form = if code == TOO_LONG { UrlKind::Url } else { kind(told.kind) };
-    Some(Refusal { form, reason: Reason::numbered(told.reason)?, at: told.at, len: told.len })
+    let fault = (code == BAD_URL).then(|| url_fault(told.fault));
+    Some(Refusal { form, reason: Reason::numbered(told.reason)?, at: told.at, len: told.len, fault })
+}
+
+/// The refusal of a text that is too long, of which an error shows this front. One byte behind it makes an authority too
+/// long again, since no path begins in the front; a scheme that is too long is in it.
+pub(crate) fn refusal_of_front(shown: &[u8]) -> Option<Refusal> {
+    let mut longer = [b'a'; FRONT + 1];
+    if shown.len() > FRONT {
+        return refusal(shown);
+    }
+    longer[..shown.len()].copy_from_slice(shown);
+    refusal(&longer[..=shown.len()])
 }
 
 /// The name of the reason of this number.
@@ -438,13 +453,13 @@ pub(crate) fn from_parts(parts: &Url) -> Result<Url, Error> {
     }
 }
 
-/// Whether the location is settled.
+/// Whether the location is of the settled class.
 pub(crate) fn is_settled(url: &Url) -> bool {
     let mut settled = false;
     is_answered(call!(gix_url_c_is_settled, &Given::of(url), &mut settled)) && settled
 }
 
-/// Whether Git reads the same place in the text of the location.
+/// Whether the location is of the class in whose texts Git reads the same place.
 pub(crate) fn agrees_with_git(url: &Url) -> bool {
     let mut agrees = false;
     is_answered(call!(gix_url_c_agrees_with_git, &Given::of(url), &mut agrees)) && agrees

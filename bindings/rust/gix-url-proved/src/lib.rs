@@ -19,7 +19,10 @@
 //! - `bstr`, on by default: paths and texts are the `BString` and `BStr` of the crate `bstr`. Without it they are types of
 //!   this crate's own module [`bstr`](mod@bstr), which have the same names and traits.
 //! - `serde`: [`Url`], [`Scheme`] and [`expand_path::ForUser`] are serialized and deserialized, in the format of `gix-url`.
-//! - `compare`: `cargo test` compares with `gix-url` itself, where that is installed.
+//! - `compare` and `measure` are for work on this crate: `cargo test` compares with `gix-url` itself, where that is
+//!   installed, and the examples that count instructions and take times are built.
+
+#![deny(missing_docs, unsafe_op_in_unsafe_fn)]
 
 #[cfg(feature = "bstr")]
 pub use ::bstr;
@@ -27,6 +30,7 @@ pub use ::bstr;
 #[path = "bytes.rs"]
 pub mod bstr;
 
+mod chunks;
 mod convert;
 mod debug;
 mod disk;

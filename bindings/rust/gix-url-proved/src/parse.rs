@@ -131,7 +131,7 @@ impl Error {
             Error::MissingPath { input, .. } | Error::NotUtf8 { input, .. } | Error::BadUrl { input, .. } => {
                 ffi::refusal(input)
             }
-            Error::TooLong { shown, .. } => Refusal::of_front(shown),
+            Error::TooLong { shown, .. } => ffi::refusal_of_front(shown),
             Error::Memory | Error::HelperName { .. } | Error::Unwritable(_) | Error::NoHome(_) | Error::Unresolved => {
                 None
             }

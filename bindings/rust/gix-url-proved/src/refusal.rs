@@ -3,10 +3,7 @@
 use crate::ffi;
 use crate::parse::{UrlFault, UrlKind};
 use std::fmt;
-use std::sync::OnceLock;
-
-/// How many bytes a scheme has at most, and what follows `://` before the path.
-const LIMIT: usize = 1024;
+use std::sync::{Mutex, PoisonError};
 
 /// For which reason a text spells no location. `Display` says it in one sentence, which holds no byte of the text.
 ///
@@ -128,10 +125,10 @@ impl Reason {
 
     /// The name and the words of the library, which is asked once for those of all reasons.
     fn said(self) -> &'static (String, String) {
-        static SAID: OnceLock<Vec<(String, String)>> = OnceLock::new();
-        let said =
-            SAID.get_or_init(|| (1..=28).map(|number| (ffi::reason_name(number), ffi::reason_words(number))).collect());
-        &said[self as usize]
+        static SAID: Mutex<Option<&[(String, String)]>> = Mutex::new(None);
+        let all = || (1..=28).map(|number| (ffi::reason_name(number), ffi::reason_words(number))).collect();
+        let mut said = SAID.lock().unwrap_or_else(PoisonError::into_inner);
+        &said.get_or_insert_with(|| Box::leak(all()))[self as usize]
     }
 }
 
@@ -161,50 +158,13 @@ pub struct Refusal {
     pub at: usize,
     /// The length of what is wrong, in bytes. It is 0 where something is missing.
     pub len: usize,
+    pub(crate) fault: Option<UrlFault>,
 }
 
 impl Refusal {
     /// What is wrong with the URL, or with the host of the scp form: none where the error is another one than `BadUrl`.
     pub fn fault(&self) -> Option<UrlFault> {
-        match self.reason {
-            Reason::Empty
-            | Reason::SchemeTooLong
-            | Reason::AuthorityTooLong
-            | Reason::NotUtf8
-            | Reason::PathMissing
-            | Reason::FilePathMissing
-            | Reason::ScpPathMissing => None,
-            Reason::SchemeMissing | Reason::SchemeStart | Reason::SchemeCharacter => Some(UrlFault::NoScheme),
-            Reason::PortNotANumber | Reason::PortTooLarge | Reason::PortZero => Some(UrlFault::BadPort),
-            Reason::HostMissing => Some(UrlFault::HostRequired),
-            Reason::WhiteSpace
-            | Reason::BrokenEscape
-            | Reason::WhiteSpaceInHost
-            | Reason::Backslash
-            | Reason::BackslashInHost
-            | Reason::EscapesNotUtf8
-            | Reason::UnclosedBracket
-            | Reason::BehindBracket
-            | Reason::NotAnAddress
-            | Reason::AddressWithoutBrackets
-            | Reason::SecondColon
-            | Reason::HostBeforePort
-            | Reason::HostCharacter
-            | Reason::HostBehindUser => Some(UrlFault::BadCharacter),
-        }
-    }
-
-    /// The refusal of a text that is too long, of which an error shows this front: the front itself may be short enough,
-    /// so it can't be read again.
-    pub(crate) fn of_front(shown: &[u8]) -> Option<Refusal> {
-        let scheme = shown.windows(3).position(|mark| mark == b"://")?;
-        let behind = scheme + 3;
-        let (reason, at, len) = if scheme > LIMIT {
-            (Reason::SchemeTooLong, 0, scheme)
-        } else {
-            (Reason::AuthorityTooLong, behind, (shown.len() - behind).min(LIMIT))
-        };
-        Some(Refusal { form: UrlKind::Url, reason, at, len })
+        self.fault
     }
 }
 

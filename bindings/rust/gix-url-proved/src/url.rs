@@ -76,12 +76,17 @@ fn unless_memory<T>(answer: Result<T, Error>) -> T {
 }
 
 impl Url {
-    /// The one location that the bytes spell: [`parse()`].
+    /// The one location that the bytes spell: [`parse()`], which takes each type that has bytes.
+    ///
+    /// ```
+    /// assert_eq!(gix_url_proved::Url::from_bytes("host:repo".into())?.host(), Some("host"));
+    /// # Ok::<(), gix_url_proved::parse::Error>(())
+    /// ```
     ///
     /// # Errors
     ///
     /// Exactly where the bytes spell none.
-    pub fn from_bytes(bytes: impl AsRef<[u8]>) -> Result<Url, Error> {
+    pub fn from_bytes(bytes: &BStr) -> Result<Url, Error> {
         parse(bytes)
     }
 
@@ -242,12 +247,21 @@ impl Url {
         PathComponents { path: path.into(), query: None, fragment: None }
     }
 
-    /// Whether the location's text is read as the same public fields and is written the same again.
+    /// True only if the location's text is read as the same public fields and is written the same again. The answer decides
+    /// the class of settled locations, which `docs/GRAMMAR.md` of the repository defines. False promises nothing: of Secure
+    /// Shell, of Git's own protocol and of other schemes some locations come back that aren't of the class.
+    ///
+    /// ```
+    /// let url = gix_url_proved::parse("git://%5D/p")?;
+    /// assert!(!url.is_settled() && url.reread()? == url);
+    /// # Ok::<(), gix_url_proved::parse::Error>(())
+    /// ```
     pub fn is_settled(&self) -> bool {
         ffi::is_settled(self)
     }
 
-    /// Whether Git reads this very place in the text of the location: the same protocol, user, host, port and path.
+    /// True only if Git reads this very place in the text of the location: the same protocol, user, host, port and path.
+    /// False promises nothing.
     ///
     /// Give Git the text that [`Url::to_bstring`] writes, and not another one that was read as the location: of
     /// `ssh://@h/p`, which is written as `ssh://h/p`, the answer is yes, and Git would give Secure Shell the word `@h`,
@@ -288,7 +302,7 @@ impl Url {
         ffi::agrees_with_git(self)
     }
 
-    /// Whether every reader of a family finds the same parts in the text of the location.
+    /// True only if every reader of a family finds the same parts in the text of the location. False promises nothing.
     ///
     /// Where the answer is yes, Git agrees as well, and every reader of a family, which the library's `law_unambiguous`
     /// defines, finds the location's own scheme, user, password, host, port and path in its text: whichever `@` or `:`
@@ -438,12 +452,14 @@ impl Default for Url {
 
 impl fmt::Display for Url {
     /// Shows the text with `redacted` in place of the field `password`; a secret in another field is shown. It fails where
-    /// there is no text.
+    /// there is no text. As a byte string it is padded to a width where an alignment is asked for, and never cut.
+    ///
+    /// ```
+    /// let url = gix_url_proved::parse("host:repo")?;
+    /// assert_eq!(format!("{url:.>12}|{url:12}|{url:.3}"), "...host:repo|host:repo|host:repo");
+    /// # Ok::<(), gix_url_proved::parse::Error>(())
+    /// ```
     fn fmt(&self, f: &mut fmt::Formatter<'_>) -> fmt::Result {
-        let show = |shown: &[u8]| match std::str::from_utf8(shown) {
-            Ok(text) => f.write_str(text),
-            Err(_) => f.write_str(&String::from_utf8_lossy(shown)),
-        };
-        ffi::display(self, show).map_err(|_| fmt::Error)?
+        ffi::display(self, |shown| fmt::Display::fmt(<&BStr>::from(shown), f)).map_err(|_| fmt::Error)?
     }
 }

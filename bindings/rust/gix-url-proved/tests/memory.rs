@@ -1,10 +1,10 @@
 //! Questions take no memory, and answer for all values of the fields.
+#![deny(unsafe_op_in_unsafe_fn)]
 
 use gix_url_proved::testing::TestUrlExtension;
 use gix_url_proved::{parse, Scheme, Url};
 use std::alloc::{GlobalAlloc, Layout, System};
 use std::cell::Cell;
-use std::hint::black_box;
 
 /// Counts the requests of each thread.
 struct Counts;
@@ -16,7 +16,7 @@ thread_local! {
 // SAFETY: all is passed on to the allocator of the system.
 unsafe impl GlobalAlloc for Counts {
     unsafe fn alloc(&self, layout: Layout) -> *mut u8 {
-        REQUESTS.set(REQUESTS.get() + 1);
+        REQUESTS.with(|count| count.set(count.get() + 1));
         // SAFETY: as the caller says.
         unsafe { System.alloc(layout) }
     }
@@ -30,19 +30,23 @@ unsafe impl GlobalAlloc for Counts {
 #[global_allocator]
 static ALLOCATOR: Counts = Counts;
 
+/// Takes what nothing else is done with, so that it is made.
+#[inline(never)]
+fn used<T>(_: T) {}
+
 /// How often memory is asked for by the call.
 fn requests<T>(call: impl FnOnce() -> T) -> usize {
-    let before = REQUESTS.get();
-    black_box(call());
-    REQUESTS.get() - before
+    let before = REQUESTS.with(Cell::get);
+    used(call());
+    REQUESTS.with(Cell::get) - before
 }
 
 /// Asks each question about a location that takes no memory.
 fn ask(url: &Url) {
-    black_box((url.user(), url.password(), url.host(), url.port_or_default(), url.path_is_root()));
-    black_box((url.user_as_argument(), url.host_as_argument(), url.user_argument_safe(), url.host_argument_safe()));
-    black_box((url.path_argument_safe(), url.original_path(), url.scheme.as_str(), url.scheme.default_port()));
-    black_box((url.is_settled(), url.agrees_with_git(), url.unmet_condition(), url.text_len().is_ok()));
+    used((url.user(), url.password(), url.host(), url.port_or_default(), url.path_is_root()));
+    used((url.user_as_argument(), url.host_as_argument(), url.user_argument_safe(), url.host_argument_safe()));
+    used((url.path_argument_safe(), url.original_path(), url.scheme.as_str(), url.scheme.default_port()));
+    used((url.is_settled(), url.agrees_with_git(), url.unmet_condition(), url.text_len().is_ok()));
 }
 
 #[test]
@@ -66,7 +70,7 @@ fn questions_are_answered_of_all_values() {
                 let url =
                     Url::from_parts_unchecked(scheme.clone(), user, password, host, Some(0), path.into(), text == "-");
                 assert_eq!(requests(|| ask(&url)), 0);
-                black_box((url.path_query_fragment(), url.text().is_ok(), format!("{url:?}")));
+                used((url.path_query_fragment(), url.text().is_ok(), format!("{url:?}")));
             }
         }
     }

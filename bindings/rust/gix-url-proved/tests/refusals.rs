@@ -55,12 +55,15 @@ fn refusal(text: &[u8]) -> Refusal {
     parse(text).unwrap_err().refusal().expect("an error of reading has a refusal")
 }
 
+/// What a refusal says: the form, the reason, the place and the fault.
+fn told(refusal: Refusal) -> (UrlKind, Reason, usize, usize, Option<UrlFault>) {
+    (refusal.form, refusal.reason, refusal.at, refusal.len, refusal.fault())
+}
+
 #[test]
 fn each_reason_has_its_place() {
     for (text, form, reason, at, len, fault) in EXAMPLES.into_iter().chain(SEVERAL) {
-        let refusal = refusal(text);
-        assert_eq!(refusal, Refusal { form, reason, at, len }, "{}", text.escape_ascii());
-        assert_eq!(refusal.fault(), fault, "{}", text.escape_ascii());
+        assert_eq!(told(refusal(text)), (form, reason, at, len, fault), "{}", text.escape_ascii());
     }
 }
 
@@ -68,17 +71,41 @@ fn each_reason_has_its_place() {
 fn a_text_that_is_too_long_has_its_place() {
     let long = |front: &str, count| [front.as_bytes(), &vec![b'a'; count]].concat();
     let scheme = [long("", 1025), b"://h/p".to_vec()].concat();
-    assert_eq!(refusal(&scheme), Refusal { form: Url, reason: Reason::SchemeTooLong, at: 0, len: 1025 });
-    let found = Refusal { form: Url, reason: Reason::AuthorityTooLong, at: 4, len: 1024 };
-    assert_eq!(refusal(&long("x:///", 1024)), found);
+    assert_eq!(told(refusal(&scheme)), (Url, Reason::SchemeTooLong, 0, 1025, None));
+    let found = refusal(&long("x:///", 1024));
+    assert_eq!(told(found), (Url, Reason::AuthorityTooLong, 4, 1024, None));
     assert_eq!(refusal(&[long("x://", 1025), b"://".to_vec(), long("", 3000)].concat()), found);
-    assert_eq!(found.fault(), None);
     // A program may put the error together with another form and the whole text.
     let error = Error::MissingPath { kind: Scp, input: long("x://", 1025).into() };
     assert_eq!(error.refusal(), Some(found));
     let error = Error::TooLong { shown: long("x://", 2000).into(), total: 2004 };
     assert_eq!(error.refusal(), Some(found));
     assert_eq!(Error::TooLong { shown: "x:/".into(), total: 2000 }.refusal(), None);
+}
+
+#[test]
+fn the_front_of_a_long_text_is_refused_as_the_text_is() {
+    let scheme = "s".repeat(1024);
+    for front in ["x", "http", &scheme, &"s".repeat(1025), &"s".repeat(3000)] {
+        for (piece, count) in
+            [("a", 1025), ("/", 1025), ("\\", 1025), (" ", 1025), (" /", 600), ("ö", 600), ("%", 2000)]
+        {
+            for end in ["", "a", "/", "/p"] {
+                let text = format!("{front}://{}{end}", piece.repeat(count)).into_bytes();
+                // The library is asked about all of the text where the error has it.
+                let whole = Error::MissingPath { kind: Url, input: text.as_slice().into() };
+                if let Err(error @ Error::TooLong { .. }) = parse(&text) {
+                    assert_eq!(error.refusal(), whole.refusal(), "{}", text.escape_ascii());
+                }
+            }
+        }
+    }
+}
+
+#[test]
+fn a_front_that_a_program_made_is_read_as_it_is() {
+    let error = Error::TooLong { shown: "http://h:x/".into(), total: 2000 };
+    assert_eq!(error.refusal().map(told), Some((Url, Reason::PortNotANumber, 9, 1, Some(BadPort))));
 }
 
 #[test]
@@ -112,6 +139,6 @@ fn other_errors_have_none() {
 fn parts_are_refused_for_their_text() {
     let (host, path) = (Some("h".to_owned()), "/p".into());
     let error = gix_url_proved::Url::from_parts(gix_url_proved::Scheme::Http, None, None, host, Some(0), path, false);
-    let found = Refusal { form: Url, reason: Reason::PortZero, at: 9, len: 1 };
-    assert_eq!(error.unwrap_err().refusal(), Some(found), "its text is http://h:0/p");
+    let found = (Url, Reason::PortZero, 9, 1, Some(BadPort));
+    assert_eq!(error.unwrap_err().refusal().map(told), Some(found), "its text is http://h:0/p");
 }

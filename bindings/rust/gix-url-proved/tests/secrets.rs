@@ -27,7 +27,7 @@ fn shown(error: &(dyn std::error::Error + 'static)) -> String {
 /// Sees that nothing of a secret is shown, as a text or as numbers.
 fn hides(shown: &str) {
     let numbers = format!("{:?}", b"secret");
-    assert!(!shown.contains("secret") && !shown.contains(numbers.trim_matches(['[', ']'])), "{shown}");
+    assert!(!shown.contains("secret") && !shown.contains(numbers.trim_matches(&['[', ']'][..])), "{shown}");
 }
 
 #[test]
@@ -46,8 +46,10 @@ fn errors_of_reading_hide_the_text() {
 
 #[test]
 fn errors_keep_the_text_in_their_fields() {
-    let Err(Error::BadUrl { input, .. }) = parse(REFUSED[0]) else { panic!("it has no port") };
-    assert_eq!(input, REFUSED[0]);
+    match parse(REFUSED[0]) {
+        Err(Error::BadUrl { input, .. }) => assert_eq!(input, REFUSED[0]),
+        _ => panic!("its port is too large"),
+    }
 }
 
 #[test]

@@ -1,0 +1,21 @@
+//! Bytes as the texts that are in them, and what is between those.
+
+use std::{iter, str};
+
+/// The texts in the bytes, each with the bytes after it that are part of no character.
+pub(crate) fn chunks(mut bytes: &[u8]) -> impl Iterator<Item = (&str, &[u8])> {
+    iter::from_fn(move || {
+        let fault = match str::from_utf8(bytes) {
+            Ok("") => return None,
+            Ok(text) => {
+                bytes = &[];
+                return Some((text, bytes));
+            }
+            Err(fault) => fault,
+        };
+        let (text, behind) = bytes.split_at(fault.valid_up_to());
+        let (invalid, rest) = behind.split_at(fault.error_len().unwrap_or(behind.len()));
+        bytes = rest;
+        Some((str::from_utf8(text).unwrap_or_default(), invalid))
+    })
+}
