@@ -191,13 +191,14 @@ gix_url_error gix_url_parse(const char *input, size_t len, char *room, size_t ro
 gix_url_error gix_url_from_parts(const gix_url *parts, char *room, size_t room_len, gix_url *url, size_t *needed,
                                  gix_url_problem *problem);
 
-/* Whether the location's text is read as the same parts and is written the same again. */
+/* True only if the location's text is read as the same parts and is written the same again. False promises nothing: it is
+ * the answer of git://%5D/p, which comes back. */
 gix_url_error gix_url_is_settled(const gix_url *url, bool *settled);
 
-/* Whether Git reads this very place in the text that gix_url_write puts: the same protocol, user, host, port and path. Of
- * another text that was read as the location it says nothing: of ssh://@h/p, which is written as ssh://h/p, the answer is
- * yes, and Git would give Secure Shell the word @h, which it refuses. What Git reads is a definition. No proof says that
- * Git keeps to it: a second reading of it was compared with git 2.39.5 on Linux.
+/* True only if Git reads this very place in the text that gix_url_write puts: the same protocol, user, host, port and
+ * path. False promises nothing. Of another text that was read as the location the answer says nothing: of ssh://@h/p,
+ * which is written as ssh://h/p, it is yes, and Git would give Secure Shell the word @h, which it refuses. What Git reads
+ * is a definition. No proof says that Git keeps to it: a second reading of it was compared with git 2.39.5 on Linux.
  *
  * Git passes a text of HTTP to curl, and asks its credential code for a password. Of such a location, yes says that in
  * the text this code reads the location's own scheme, user, password, host with port, and path, and that the text is a
@@ -234,7 +235,7 @@ typedef enum gix_url_condition {
     GIX_URL_CONDITION_SCP_PATH = 11    /* a path of the scp form has a slash between two bytes */
 } gix_url_condition;
 
-/* Whether every reader of a family finds the same parts in the text that gix_url_write puts. If so, Git agrees as well,
+/* True only if every reader of a family finds the same parts in the text that gix_url_write puts. Git agrees then as well,
  * and every reader of the family, which the library's law_unambiguous defines, finds the location's own scheme, user,
  * password, host, port and path in the text: whichever @ or colon it cuts at, whether ?, #, ; or a backslash end its
  * authority, and whatever it decodes. It is false for many texts that most readers read alike. */

@@ -153,15 +153,15 @@ class Url:
         return dataclasses.replace(self, **fields)
 
     def is_settled(self) -> bool:
-        """Whether the location's text is read as the same parts and is written the same again."""
+        """True only if the location's text is read as the same parts and is written the same again."""
         return bool(self._asked(lib.gix_url_is_settled, Truth()).value)
 
     def agrees_with_git(self) -> bool:
-        """Whether Git reads this very place in the location's text."""
+        """True only if Git reads this very place in the location's text."""
         return bool(self._asked(lib.gix_url_agrees_with_git, Truth()).value)
 
     def is_unambiguous(self) -> bool:
-        """Whether every reader of a family finds the same parts in the location's text, Git among them."""
+        """True only if every reader of a family finds the same parts in the location's text, Git among them."""
         return bool(self._asked(lib.gix_url_is_unambiguous, Truth()).value)
 
     def unmet_condition(self) -> Condition | None:
