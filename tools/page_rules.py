@@ -31,7 +31,7 @@ CASES = [
         entry(b"http.https://mirror.example.sslverify"), entry(b"http.https://mirror.example.cookiefile", b"</dd></dl></article>" + SCRIPT),
         entry(b"protocol.ssh.allow", b"never"), entry(b"protocol.git.allow", b"ma\"y'<be>\\")], {}, {
             b"gh:a/b": DANGER, b"https://push.example/" + SCRIPT: DANGER, b"bad:x": OTHERWISE, b"https://odd.example/p": OTHERWISE,
-            b"loose:p": POLICY, b"old:\"x'": POLICY, b"same:p": POLICY, b"git://h/p": POLICY, b"ssh://h/" + SCRIPT: POLICY, b"a!b://h/p": POLICY,
+            b"loose:p": DANGER, b"old:\"x'": POLICY, b"same:p": POLICY, b"git://h/p": POLICY, b"ssh://h/" + SCRIPT: POLICY, b"a!b://h/p": POLICY,
             b"https://mirror.example/r": PLAIN, b"https://x/\"&amp;": PLAIN, b"https://127.1/<b>": "Git or curl may read another place",
             b"/srv/r": PLAIN, b"http://h:0/": "Refused", b"://refused": DANGER, b"ext::sh -c " + SCRIPT: "A command",
             b"https://u:secret@h/": "A password, or what may be a token"}),
