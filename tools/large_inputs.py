@@ -1,6 +1,6 @@
 """Size: lines of 100 MB and millions of lines, answered rightly, in linear time, with few reads and with little memory; calls
 over texts of some MB, by the program `answers`, the page of `explain --html` over 100,000 lines, a configuration with
-100,000 rules and entries, and a file of 20,000 submodules, in linear time; and a summary of 200,000 lines, whose memory doesn't
+100,000 rules and entries, and a file of 20,000 submodules, in linear time; and a summary of 2,000,000 lines, whose memory doesn't
 grow with them.
 
 Time is that of the processor. What looks at each byte again for each byte takes ten times as long for each byte of a
@@ -61,9 +61,9 @@ MOST_RULES_SECONDS = 10
 # A file with so many submodules, each with a path and a host of its own.
 MODULES = 20_000
 MOST_MODULES_SECONDS = 2
-# Lines with one host, of which a summary is asked for, and the memory for each of their bytes.
-SUMMED = 200_000
-MOST_SUMMARY_BYTES = 1
+# Lines with one host, of which a summary is asked for, and the memory for each byte that a tenth of them lacks.
+SUMMED = 2_000_000
+MOST_SUMMARY_BYTES = 0.1
 CHUNK = 1 << 20
 
 # Calls over texts of some MB: what is repeated in what the call is over, the order by that text, and the outcome by how
@@ -188,14 +188,16 @@ def summed(size):
 class Compared:
     """The runs over two sizes of what is made, the smaller one twice; the memory for each byte and the seconds may be limited."""
 
-    def __init__(self, name, words, folder, make, small, large, most_bytes=None, most_seconds=MOST_SECONDS):
+    def __init__(self, name, words, folder, make, small, large, most_bytes=None, most_seconds=MOST_SECONDS, most_more=None):
         tenths, whole = [Ran(words, folder, *make(small)) for _ in range(2)], Ran(words, folder, *make(large))
         self.name, self.is_right = name, all(it.is_right for it in (*tenths, whole))
-        self.most_bytes, self.most_seconds = most_bytes, most_seconds
+        self.most_bytes, self.most_seconds, self.most_more = most_bytes, most_seconds, most_more
         self.seconds, self.reads, self.most_reads = whole.seconds, whole.reads, OWN_READS + whole.size // LEAST_READ
         # How much longer a byte takes in the larger size, and how much memory it takes there.
         least = max(0.001, min(it.seconds for it in tenths))
         self.growth, self.bytes = whole.seconds / least / (whole.size / tenths[0].size), (whole.bytes - OWN_BYTES) / whole.size
+        # How much more memory each byte takes that the smaller size lacks.
+        self.more = (whole.bytes - tenths[-1].bytes) / (whole.size - tenths[-1].size)
 
     def faults(self):
         if not self.is_right:
@@ -206,6 +208,8 @@ class Compared:
             yield f"{self.name} takes {self.seconds:.1f} s, and may take {self.most_seconds}"
         if self.most_bytes and self.bytes > self.most_bytes:
             yield f"{self.name} takes {self.bytes:.2f} bytes of memory for each byte"
+        if self.most_more and self.more > self.most_more:
+            yield f"{self.name} takes {self.more:.2f} bytes of memory for each byte more"
         if self.reads > self.most_reads:
             yield f"{self.name} is read by {self.reads} calls of the system, and may be by {self.most_reads}"
 
@@ -255,7 +259,7 @@ def compared_modules(folder):
 
 def compared_summary(folder):
     words = [program("explain"), "--summary"]
-    yield Compared(f"a summary of {SUMMED} lines", words, folder, summed, SUMMED // 10, SUMMED, MOST_SUMMARY_BYTES)
+    yield Compared(f"a summary of {SUMMED} lines", words, folder, summed, SUMMED // 10, SUMMED, most_more=MOST_SUMMARY_BYTES)
 
 
 def check(folder):
