@@ -72,7 +72,12 @@ pub fn location(
 ) -> Result<(), AllocError> {
     let mut words = String::new(alloc);
     let written = push_words(&mut words, notes.dangers);
-    let headed = heading(out, number, report, words.as_str(), notes.found.danger);
+    let verdict = Verdict {
+        form: report.form,
+        is_settled: report.settled,
+        is_dangerous: notes.found.danger,
+    };
+    let headed = heading(out, number, verdict, words.as_str());
     drop(words);
     written?;
     headed?;
@@ -94,30 +99,32 @@ pub fn location(
     out.push_template("</article>\n")
 }
 
-/// Appends the beginning of the article: its number, its form, the verdict and the dangers in words.
-fn heading(
-    out: &mut Markup,
-    number: u64,
-    report: &Report<'_>,
-    dangers: &str,
+/// What the heading of a location says beside its number.
+#[derive(Clone, Copy)]
+struct Verdict {
+    form: Form,
+    is_settled: bool,
     is_dangerous: bool,
-) -> Result<(), AllocError> {
+}
+
+/// Appends the beginning of the article: its number, its form, the verdict and the dangers in words.
+fn heading(out: &mut Markup, number: u64, of: Verdict, dangers: &str) -> Result<(), AllocError> {
     out.push_template("<article aria-labelledby=l")?;
     out.push_value(number)?;
-    out.push_template(match report.form {
+    out.push_template(match of.form {
         Form::RemoteHelper => " data-f=remote_helper",
         Form::Url => " data-f=url",
         Form::Scp => " data-f=scp",
         Form::Local => " data-f=local",
     })?;
-    let (verdict, words) = if report.settled {
+    let (verdict, words) = if of.is_settled {
         (" data-v=settled", ", settled")
     } else {
         (" data-v=unsettled", ", not settled")
     };
     out.push_template(verdict)?;
-    title(out, number, is_dangerous)?;
-    out.push_value(report.form)?;
+    title(out, number, of.is_dangerous)?;
+    out.push_value(of.form)?;
     out.push_template(words)?;
     if !dangers.is_empty() {
         out.push_template("<strong>")?;
@@ -358,6 +365,41 @@ pub fn refusal(
     out.push_template("</dl>")?;
     rules::rows(alloc, out, notes.rules)?;
     hints(out, notes.hints, instead_of(notes.readers))?;
+    out.push_template("</article>\n")
+}
+
+/// Appends the article of a location of which nothing is shown, as its parts may be secrets.
+pub fn withheld(
+    alloc: Global,
+    out: &mut Markup,
+    number: u64,
+    url: &Url,
+    refusal: &Refusal,
+    seen: &SeenLine<'_>,
+    notes: Notes<'_>,
+) -> Result<(), AllocError> {
+    let verdict = Verdict {
+        form: Form::of(url),
+        is_settled: url.is_settled(),
+        is_dangerous: notes.found.danger,
+    };
+    let mut words = String::new(alloc);
+    let written = push_words(&mut words, notes.dangers);
+    let headed = heading(out, number, verdict, words.as_str());
+    drop(words);
+    written?;
+    headed?;
+    pieces::line(out, seen)?;
+    out.push_template("<p class=r data-m=refusal.words>")?;
+    out.push_text(refusal.words.as_str())?;
+    out.push_template("</p><dl><dt>error<dd data-m=refusal.error>")?;
+    out.push_template(refusal.error)?;
+    out.push_template(if url.agrees_with_git() {
+        "<dt>Git<dd class=y data-m=git>reads the same in its text</dl>"
+    } else {
+        "<dt>Git<dd class=n data-m=git>isn't known to read the same in its text</dl>"
+    })?;
+    rules::rows(alloc, out, notes.rules)?;
     out.push_template("</article>\n")
 }
 

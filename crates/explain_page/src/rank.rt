@@ -15,7 +15,7 @@ pub enum Rank {
     Command,
     /// Git or another program takes another host from it, or a part holds the end of a line.
     Misread,
-    /// It holds a password, or what may be a token.
+    /// It holds a password, what may be a token, or another secret for which nothing is shown that it is read as.
     Secret,
     /// A text that it is rewritten to has a danger.
     Rewritten,
@@ -102,6 +102,11 @@ impl Rank {
         } else {
             None
         }
+    }
+
+    /// The rank of a location of which nothing is shown, as its parts may be secrets.
+    pub fn of_withheld(dangers: &[Danger]) -> Rank {
+        Rank::by_dangers(dangers).unwrap_or(Rank::Secret)
     }
 
     /// The rank of a line that is refused.
