@@ -101,14 +101,19 @@ pub fn location(
 
 /// What the heading of a location says beside its number.
 #[derive(Clone, Copy)]
-struct Verdict {
-    form: Form,
-    is_settled: bool,
-    is_dangerous: bool,
+pub(crate) struct Verdict {
+    pub(crate) form: Form,
+    pub(crate) is_settled: bool,
+    pub(crate) is_dangerous: bool,
 }
 
 /// Appends the beginning of the article: its number, its form, the verdict and the dangers in words.
-fn heading(out: &mut Markup, number: u64, of: Verdict, dangers: &str) -> Result<(), AllocError> {
+pub(crate) fn heading(
+    out: &mut Markup,
+    number: u64,
+    of: Verdict,
+    dangers: &str,
+) -> Result<(), AllocError> {
     out.push_template("<article aria-labelledby=l")?;
     out.push_value(number)?;
     out.push_template(match of.form {
@@ -365,41 +370,6 @@ pub fn refusal(
     out.push_template("</dl>")?;
     rules::rows(alloc, out, notes.rules)?;
     hints(out, notes.hints, instead_of(notes.readers))?;
-    out.push_template("</article>\n")
-}
-
-/// Appends the article of a location of which nothing is shown, as its parts may be secrets.
-pub fn withheld(
-    alloc: Global,
-    out: &mut Markup,
-    number: u64,
-    url: &Url,
-    refusal: &Refusal,
-    seen: &SeenLine<'_>,
-    notes: Notes<'_>,
-) -> Result<(), AllocError> {
-    let verdict = Verdict {
-        form: Form::of(url),
-        is_settled: url.is_settled(),
-        is_dangerous: notes.found.danger,
-    };
-    let mut words = String::new(alloc);
-    let written = push_words(&mut words, notes.dangers);
-    let headed = heading(out, number, verdict, words.as_str());
-    drop(words);
-    written?;
-    headed?;
-    pieces::line(out, seen)?;
-    out.push_template("<p class=r data-m=refusal.words>")?;
-    out.push_text(refusal.words.as_str())?;
-    out.push_template("</p><dl><dt>error<dd data-m=refusal.error>")?;
-    out.push_template(refusal.error)?;
-    out.push_template(if url.agrees_with_git() {
-        "<dt>Git<dd class=y data-m=git>reads the same in its text</dl>"
-    } else {
-        "<dt>Git<dd class=n data-m=git>isn't known to read the same in its text</dl>"
-    })?;
-    rules::rows(alloc, out, notes.rules)?;
     out.push_template("</article>\n")
 }
 

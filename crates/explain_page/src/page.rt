@@ -9,6 +9,7 @@ use crate::counts::Counts;
 use crate::markup::Markup;
 use crate::rank::Rank;
 use crate::template::{PAGE, Part, Slot};
+use crate::withheld;
 use bstr::BStr;
 use explain_report::advice::hint;
 use explain_report::advice::reading::Reading;
@@ -173,7 +174,7 @@ impl Page {
         let (seen, refusal) = both(seen, Refusal::withheld(alloc))?;
         let out = self.of_rank(Rank::of_withheld(notes.dangers));
         let before = out.as_bytes().len();
-        let added = article::withheld(alloc, out, number, url, &refusal, &seen, notes);
+        let added = withheld::article(alloc, out, number, url, &refusal, &seen, notes);
         let grouped = group(out, before);
         drop(refusal);
         drop(seen);
