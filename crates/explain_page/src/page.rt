@@ -172,7 +172,7 @@ impl Page {
         let alloc = self.alloc;
         let seen = SeenLine::without_parts(alloc, line)?;
         let (seen, refusal) = both(seen, Refusal::withheld(alloc))?;
-        let out = self.of_rank(Rank::of_withheld(notes.dangers));
+        let out = self.of_rank(Rank::of_withheld(notes.dangers, url, notes.rules));
         let before = out.as_bytes().len();
         let added = withheld::article(alloc, out, number, url, &refusal, &seen, notes);
         let grouped = group(out, before);

@@ -5,6 +5,7 @@
 use explain_report::location_report::Report;
 use explain_report::rules::{Route, Rules, found_by};
 use git_audit::danger::Danger;
+use gix_url::Url;
 
 /// A rank, the most urgent first.
 #[derive(Clone, Copy)]
@@ -15,7 +16,7 @@ pub enum Rank {
     Command,
     /// Git or another program takes another host from it, or a part holds the end of a line.
     Misread,
-    /// It holds a password, what may be a token, or another secret for which nothing is shown that it is read as.
+    /// It holds a password, or what may be a token.
     Secret,
     /// A text that it is rewritten to has a danger.
     Rewritten,
@@ -105,8 +106,20 @@ impl Rank {
     }
 
     /// The rank of a location of which nothing is shown, as its parts may be secrets.
-    pub fn of_withheld(dangers: &[Danger]) -> Rank {
-        Rank::by_dangers(dangers).unwrap_or(Rank::Secret)
+    pub fn of_withheld(dangers: &[Danger], url: &Url, rules: Option<&Rules>) -> Rank {
+        if let Some(rank) = Rank::by_dangers(dangers) {
+            return rank;
+        }
+        if let Some(rank) = Rank::by_rules(rules) {
+            return rank;
+        }
+        if !url.is_settled() {
+            Rank::Unsettled
+        } else if !url.agrees_with_git() {
+            Rank::Readers
+        } else {
+            Rank::Plain
+        }
     }
 
     /// The rank of a line that is refused.
