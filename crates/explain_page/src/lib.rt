@@ -16,4 +16,3 @@ mod rank;
 mod readers;
 mod rules;
 mod template;
-mod withheld;

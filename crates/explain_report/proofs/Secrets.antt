@@ -1,2 +1,0 @@
--- What is shown of a text.
-pub mod PieceLemmas
