@@ -57,6 +57,9 @@ CALLS = [
     Call("explain", ["--ssh", "--config=-", "h:p"], b"core.sshcommand\0", 2, reported=b"explain: Git stops at the entry at byte 0 of the configuration, and runs"),
     Call("explain", ["--ssh", "--config=-", "h:p"], b"protocol.ssh.allow\nnever\0", 1, b"\n", b"explain: line 1: Git doesn't use the transport ssh\n"),
     Call("explain", ["--ssh", "--config=-", "h:p"], b"core.sshcommand\n/opt/x\0", 2, b"\n", b"explain: line 1: Git runs the program with -G to find out"),
+    Call("explain", ["--ssh", "u:p@h:x"], status=1, shown=b"\n", reported=b"explain: line 1: the command may show a secret\n"),
+    Call("explain", ["--only=user"], b"https://u%3Ap@h/x\nhttps://u%3Ax:p@h/\n", 1, b"u:redacted\n\n"),
+    Call("explain", ["--only=path"], b"u:p@h:x\nhg::https://u:p@h/x\n", 1, b"redacted@h:x\nhttps://u:redacted@h/x\n"),
     Call("explain", ["--summary", "h:p"], shown=SUMMARY % (1, 0, 1, 0, 0, 1, 0, 0, 0) + b'host\n       1  "h"\n'),
     Call("explain", ["--summary"], b"https://u:p@h/\n/a\na::b\nhttp://h:0/\nh:p\nh:p\n/[a\n\n", 1, SUMMARY % (8, 1, 2, 2, 1, 6, 0, 2, 1)
          + b'danger\n       1  it holds a password\ngit\n       2  isn\'t known to read the same\nhost\n       3  "h"\n       5  without a host\n'),

@@ -1,9 +1,9 @@
-"""What of a line is shown: the program `explain` over lines with a marked secret, in both layouts.
+"""What of a line is shown: the program `explain` over lines with a marked secret, in each layout.
 
-The lines are short inputs, realistic remotes, and changes by chance of lines with a password. The secret is never shown
-where it is read as a password, nor of a refused line where it may be one; the member `input` is what the second reading
-says; and in the text layout each piece stands for the field that the second reading has. No answer holds a control
-character.
+The lines are short inputs, realistic remotes, and changes by chance of lines with a secret. The secret is never shown where
+the second reading hides it; the member `input` is what the second reading says; and in the text layout each piece stands
+for the field that the second reading has of the line as it is shown. No answer holds a control character. Of lines with the
+secret in thirty shapes no layout shows it, nor does a configuration with it.
 """
 import collections
 import json
@@ -14,16 +14,36 @@ import unicodedata
 
 import make_remotes
 from rt_api import program
-from second_reading import explain, grammar, octets, records, short_inputs
+from second_reading import explain, grammar, hidden, octets, records, short_inputs
+from second_reading.seen import seen
 
 SECRET = b"S3cr3tZ"
 SEEDS = [
     b"http://u:%s@h/p", b"https://us%%40er:%s@Example.com:8443/my%%20repo?a=b#c", b"ssh://u:%s@h:22/~x", b"git://u:%s@[::1]:9418/r", b"x://:%s@h",
     b"ssh+git://a@b:%s@[FE80::1]/p", b"http://u:%s@h:x/", b"http://u:p%s@ss@h/", b"file://u:%s@h/p", b"ext://u:%s@h/p", b"ftp://u:%s@a:b:c/p",
     b"http://u:%s@[FE80::1%%25Eth0]:/p", b"ssh://u:%s@h%%3A/p", b"git://u:%s@FE80::1/p", b"x://u:%s@h%%41B/p", b"http://u:%s@h", b"http://u:%s/x@h/",
-    b"1x://u:%s@h/", b"ssh://u:%s@", b"http://a:b:%s@h/p"]
+    b"1x://u:%s@h/", b"ssh://u:%s@", b"http://a:b:%s@h/p", b"hg::https://u:%s@h/x", b"u:%s@h:x", b"https://u%%3A%s@h/x", b"file://h/u:%s@x"]
 PUT = [b":", b"/", b"@", b"[", b"]", b"%", b"%40", b"%3A", b"%2F", b".", b"a", b"?", b"#", b"\\", b"1", b" ", b"\x1b", b"\xff", b"\xc3\xa9", b"\xe6\xbc\xa2",
        b"\xe2\x80\x8f", b"-", b"~", b"::", b"://", b"\t", b"\x00", b"\x7f"]
+TOKEN = b"ghp_0123456789%b0123456789" % SECRET
+SHAPES = [
+    *(it.replace(b"%s", SECRET).replace(b"%%", b"%") for it in (
+        b"https://u:%s@h/x", b"https://:%s@h/x", b"ssh://u:%s@h/x", b"git://u:%s@h/x", b"ftp://u:%s@h/x", b"x://u:%s@h/x", b"hg::https://u:%s@h/x", b"ext::sh u:%s@h",
+        b"u:%s@h:x", b"https:/u:%s@h/x", b"https://u%%3A%s@h/x",
+        b"https://u%%3a%s@h/x", b"https://u:%s%%40h/x", b"https://u:%s@h:x/", b"https://u:%s/x@h/y",
+        b"https://u:x/%s@h/y", b"https://u:x?%s@h/y", b"https://u:x#%s@h/y", b"file://u:%s@h/x", b"/srv/u:%s@h/x", b"http://h/?q=u:%s@x", b"ssh://h/u:%s@x",
+        b"https://u%%3Ax:%s@h/", b"https://u:%s@h%%40x/", b"https://a:b@u:%s@h/", b"h:u:%s@x", b"git clone https://u:%s@h/x", b"ssh://[u:%s@h]/x", b"u:%s@[h:22]:p",
+        b"https://u:p\xff%s@h/x")),
+    *(it.replace(b"%t", TOKEN) for it in (
+        b"https://%t@h/x", b"https://%t:x-oauth-basic@h/x", b"https://h/%t/x", b"https://h/x?t=%t", b"https://h/x#%t", b"%t@h:x", b"h:%t/x", b"/srv/%t", b"hg::%t", b"file://%t/x",
+        b"https://h:x/%t"))]
+ENTRIES = [
+    (b"url.https://u:%b@h/.insteadof" % SECRET, b"gh:"), (b"http.extraheader", b"Authorization: " + SECRET), (b"http.https://h/.extraheader", b"X: " + SECRET),
+    (b"http.proxy", b"socks5://u:%b@p" % SECRET), (b"http.https://u:%b@h/.sslverify" % SECRET, b"1"), (b"http.cookiefile", b"/c/" + TOKEN),
+    (b"credential.helper", b"!echo password=" + SECRET), (b"credential.https://h.helper", b"!echo " + SECRET), (b"credential.https://h.username", TOKEN),
+    (b"remote.%b.url" % TOKEN, b"https://u:%b@h/x" % SECRET), (b"remote.o.url", b"u:%b@h:x" % SECRET), (b"remote.o.proxy", b"u:%b@p:1" % SECRET),
+    (b"submodule.%b.url" % TOKEN, b"https://u%%3A%b@h/x" % SECRET), (b"core.sshcommand", b"ssh -o X=u:%b@h" % SECRET)]
+LAYOUTS: tuple[list[str], ...] = ([], ["--json"], ["--html=t", "--"], ["--sarif"], ["--summary"], ["--ssh"], ["--color=always"])
 NAMES = ("scheme", "user", "password", "host", "port", "path", "query", "fragment", "helper", "address")
 ROW = re.compile(r"    (text|git) {8,9}\S")
 ESCAPE = re.compile(r"\\(\\|0|t|n|r|x[0-9a-f]{2}|u\{[0-9a-f]+\})")
@@ -52,12 +72,9 @@ def answers(given, *words):
     return re.split(r"(?m)^(?=line \d+: )", ran.stdout.decode())[1:] if not words else ran.stdout.decode().split("\n")[:-1]
 
 
-def is_secret(v, line):
-    """Whether the secret is read as a password, or may be one."""
-    if v is not None:
-        return v.password is not None and SECRET in v.password
-    place = explain.secret_of_refused(line)
-    return place is not None and SECRET in line[place[0]:place[1]]
+def is_secret(line):
+    """Whether the secret is hidden wherever it is."""
+    return not any(SECRET in it for it in hidden.shown_parts(line))
 
 
 def unescaped(text):
@@ -124,27 +141,46 @@ def is_of_fields(v, found, line):
             and decoded(found.get("fragment", b"")) == (fragment or b""))
 
 
-def kind_of(v, line, found):
+def kind_of(v, line, other, found):
     """How the line was shown."""
     if v is None:
-        return "refused, with a word" if explain.secret_of_refused(line) else "refused"
-    return "cut" if found else "long"
+        return "refused, with a word" if hidden.places(line) else "refused"
+    if other is None:
+        return "withheld"
+    return ("cut" if found else "long") + (", as another line" if other != line else "")
 
 
 def faults_of(line, told, answer):
     """What is wrong with the answers to a line, and how it was shown."""
-    v, found = grammar.spells(line), {}
+    v, other, found = grammar.spells(line), seen(line), {}
     faults = ["a control character is shown"] if CONTROL.search(answer) else []
-    if is_secret(v, line) and SECRET.decode() in told + answer:
+    if is_secret(line) and SECRET.decode() in told + answer:
         faults.append("the secret is shown")
     wanted = explain.shown_line(line)
     if json.loads(told)["input"] != wanted:
         faults.append(f"`input` isn't {wanted!r}")
-    if v is not None and len(answer.split("\n")[1]) <= 204:
-        found = named(answer)
-        if not is_of_fields(v, found, line):
+    if (json.loads(told)["location"] is None) != (v is None or other is None):
+        faults.append("what it is read as is withheld, or isn't")
+    if v is not None and other is not None and len(answer.split("\n")[1]) <= 204:
+        v, found = grammar.spells(other), named(answer)
+        if not is_of_fields(v, found, other):
             faults.append(f"the pieces {found} don't stand for {v}")
-    return faults, kind_of(v, line, found)
+    return faults, kind_of(v, line, other, found)
+
+
+def faults_of_shapes():
+    """The layouts that show the secret of a line in one of its shapes, or of a configuration with it."""
+    given = b"".join(it + b"\n" for it in SHAPES)
+    entries = b"".join(b"%b\n%b\0" % it for it in ENTRIES)
+    lines = [it.decode() for it in (*SHAPES, b"https://h/x", b"gh:x") if it.isascii()]
+    for words in (*LAYOUTS, *([f"--only={it}"] for it in NAMES if it not in ("password", "helper", "address"))):
+        for given_words, text in ((words, given), ([*words, "--config=-", *lines], entries)):
+            ran = subprocess.run([program("explain"), *given_words], input=text, stdout=subprocess.PIPE, stderr=subprocess.PIPE, timeout=300)
+            if SECRET in ran.stdout + ran.stderr:
+                yield f"{words} shows the secret: {[it for it in (ran.stdout + ran.stderr).splitlines() if SECRET in it][:2]}"
+    ran = subprocess.run([program("explain"), "--remotes"], input=entries, stdout=subprocess.PIPE, stderr=subprocess.PIPE, timeout=300)
+    if SECRET in ran.stdout + ran.stderr:
+        yield "--remotes shows the secret"
 
 
 def check(_room, count=3_000):
@@ -155,4 +191,5 @@ def check(_room, count=3_000):
         wrong, kind = faults_of(line, one, other)
         kinds[kind] += 1
         faults += [f"{it}: {line!r}" for it in wrong]
+    faults += faults_of_shapes()
     return faults[:50], [f"{len(given)} lines: " + ", ".join(f"{kinds[it]} {it}" for it in sorted(kinds))]

@@ -6,7 +6,8 @@ import subprocess
 from explain_secrets import is_of_fields, unescaped
 from page_read import ARTICLES, Article, text_of
 from rt_api import program
-from second_reading import explain, grammar
+from second_reading import explain, grammar, hidden, settled_class
+from second_reading.seen import seen
 
 FORMS = {"url": "URL", "scp": "scp form", "local": "local path", "remote_helper": "remote helper", None: "none (refused)"}
 VERDICTS = {"settled": "settled", "unsettled": "not settled", "refused": "refused"}
@@ -28,16 +29,25 @@ def run(words, lines, end=b"\n"):
 
 
 def answers(lines, words=()):
-    """What `explain --json` answers with these words, an object for each line."""
-    return [json.loads(it) for it in run(["--json", *words], lines).split(b"\n")[:-1]]
+    """What `explain --json` answers with these words, an object for each line; with what of a location the page shows beside the
+    object where that withholds what the line is read as."""
+    found = [json.loads(it) for it in run(["--json", *words], lines).split(b"\n")[:-1]]
+    for line, answer in zip(lines, found):
+        v = grammar.spells(line) if (answer["refusal"] or {"error": None})["error"] == "Withheld" else None
+        answer["withheld"] = v and {"form": explain.form(v), "settled": settled_class.settled(v), "host": v.host and "redacted"}
+    return found
+
+
+def shown_location(answer):
+    return answer["location"] or answer["withheld"]
 
 
 def form(answer):
-    return (answer["location"] or {"form": None})["form"]
+    return (shown_location(answer) or {"form": None})["form"]
 
 
 def verdict(answer):
-    return "refused" if answer["location"] is None else "settled" if answer["location"]["settled"] else "unsettled"
+    return "refused" if shown_location(answer) is None else "settled" if shown_location(answer)["settled"] else "unsettled"
 
 
 def is_dangerous(answer):
@@ -52,10 +62,13 @@ def piece_faults(article, answer, line):
     if v is None:
         at, size = answer["refusal"]["at"], answer["refusal"]["len"]
         marked = [len(unescaped(it)) for it in article.marked.split("\0")[:-1]]
-        if explain.secret_of_refused(line) is None and marked != [at, size]:
+        if not hidden.places(line) and marked != [at, size]:
             yield f"{marked} is marked, and not {at, size}"
         return
-    names = {name: unescaped(shown) for classes, shown, name in article.pieces if classes}
+    line = seen(line)
+    if line is None:
+        return
+    v, names = grammar.spells(line), {name: unescaped(shown) for classes, shown, name in article.pieces if classes}
     if not is_of_fields(v, names, line):
         yield f"the pieces {names} are not those of {v}"
 
@@ -79,7 +92,7 @@ def shown_rules(rules):
 
 def flat(answer):
     """The members of an object that a page shows, with those of its location and of its rules among them."""
-    shown = {name: it for name, it in answer.items() if name not in ("dangers", "rules")}
+    shown = {name: it for name, it in answer.items() if name not in ("dangers", "rules", "withheld")}
     location = {"location": answer["location"] is not None, **(answer["location"] or {})}
     return {**shown, **location, **below("rules", shown_rules(answer["rules"]))}
 
@@ -109,7 +122,8 @@ def faults_of_articles(articles, lines, wanted):
 
 def host_rows(wanted):
     """The rows of the hosts: the most frequent ones, the others together, and the lines without one. Each is UTF-8."""
-    counts = collections.Counter(it["location"]["host"] for it in wanted if it["location"] and it["location"]["host"] is not None)
+    places = [it for it in map(shown_location, wanted) if it is not None]
+    counts = collections.Counter(it["host"] for it in places if it["host"] is not None)
     ordered = sorted(counts.items(), key=lambda it: (-it[1], it[0].encode()))
     others, none = ordered[MOST_HOSTS:], len(wanted) - sum(counts.values())
     yield from ([*it, ""] for it in ordered[:MOST_HOSTS])

@@ -74,7 +74,8 @@ class Article:
 
     def whole(self):
         """The object of the line, without the names of its dangers, which a page lacks."""
-        location, rules = None if self.verdict == "refused" else self.location(), self.rules()
+        is_shown = self.verdict != "refused" and "refusal.error" not in self.values
+        location, rules = self.location() if is_shown else None, self.rules()
         return {
             "line": self.number, "input": self.value("input"), "location": location, "refusal": self.refusal(), "readers": self.readers(),
             "findings": self.findings(location, rules), "hints": self.names("hints"), "rules": rules}
@@ -92,7 +93,7 @@ class Article:
 
     def findings(self, location, rules):
         """The names of what is found in the line and in the texts that it is rewritten to, for which a run may fail."""
-        differs = location is not None and not location["agrees_with_git"]
+        differs = self.verdict != "refused" and "y" not in self.classes("git")
         routes = [] if rules is None else [rules["fetch"], rules["push"]]
         is_used = all(it["transport"] is not None and it["transport"]["permission"] == "allowed" for it in routes)
         found = {"danger": self.danger is not None, self.verdict: True, "git-differs": differs, "policy": not is_used}

@@ -19,9 +19,10 @@ from row_text import bytes_of, text_of
 from rt_api import ROOT, program
 from rules_asked import entry_of as entry, is_named, listed
 from rules_library import together
-from second_reading import grammar
+from second_reading import grammar, hidden
 from second_reading.dangers import dangers
 from second_reading.explain import lossy, shown_line, told
+from second_reading.hidden import redacted
 
 STORED = f"{ROOT}/crates/explain/golden/by_config"
 # How many of the configurations that Git is asked about are taken of each kind.
@@ -43,20 +44,12 @@ Case = namedtuple("Case", "entries lines allow_list from_user", defaults=(None, 
 
 # ---- what is expected; a generator yields orders, and is sent what the library answers
 
-def hidden(text):
-    """A text without what may be a secret: behind `://`, where that is, from the first `:` to the last `@`."""
-    begin = text.find(b"://") + 3 if b"://" in text else 0
-    at = text.rfind(b"@", begin)
-    colon = text.find(b":", begin, max(at, begin))
-    return text if at < 0 or colon < 0 else text[: colon + 1] + b"redacted" + text[at:]
-
-
 def shown_value(entry):
     if entry.value and is_named(entry, b"http", b"extraheader"):
         return "redacted"
     if is_named(entry, b"credential", b"helper") and (entry.value or b"").startswith(b"!"):
         return "!redacted"
-    return None if entry.value is None else lossy(hidden(entry.value))
+    return None if entry.value is None else lossy(redacted(entry.value))
 
 
 def placed(entries):
@@ -66,7 +59,7 @@ def placed(entries):
 
 def setting(at, it):
     """An entry as it is shown."""
-    place = b"" if it.place is None else hidden(it.place) + b"."
+    place = b"" if it.place is None else redacted(it.place) + b"."
     return {"at": at, "key": lossy(it.section.lower() + b"." + place + it.name.lower()), "value": shown_value(it)}
 
 
@@ -105,8 +98,14 @@ def credentials(case, text):
     if not used or "error" in used:
         return None
     entries, user = [*placed(case.entries)], used.get("user")
-    return {"helpers": [setting(*entries[at]) for at in used["helpers"]], "user": user if user is None else lossy(hidden(bytes_of(user))),
+    return {"helpers": [setting(*entries[at]) for at in used["helpers"]], "user": user and shown_user(text, request, bytes_of(user)),
             "use_http_path": used["use_http_path"]}
+
+
+def shown_user(text, request, user):
+    """The user: one that is read in a text that may have a secret only if the text shows it."""
+    is_shown = request.get("user") is None or not hidden.places(text) or any(user in it for it in hidden.shown_parts(text))
+    return lossy(redacted(user)) if is_shown else "redacted"
 
 
 def of_http(case, text):
@@ -137,14 +136,14 @@ def rules(case, line):
 def remote(case, name):
     """What is reported of a remote. Whether a text is rewritten is left out."""
     said = (yield [{"call": "Remote::of", "config": text_of(listed(case.entries)), "name": text_of(name)}])[0]
-    report = {"remote": lossy(name), "fetch": [], "push": [], **dict.fromkeys(VALUES), "stops_at": said.get("at")}
+    report = {"remote": lossy(redacted(name)), "fetch": [], "push": [], **dict.fromkeys(VALUES), "stops_at": said.get("at")}
     found = {"refused"} if "at" in said else set()
     for member, key in (("fetch", "urls"), ("push", "push_urls")):
         for text in said.get(key, []):
             way = yield from route(case, bytes_of(text), bytes_of(text))
             report[member].append({**way, "rewritten": None, "same_host": None})
             found |= {*found_in(bytes_of(text), way)}
-    return {**report, **{it: lossy(hidden(bytes_of(said[it]))) for it in VALUES if it in said}, "findings": [it for it in FOUND if it in found]}
+    return {**report, **{it: lossy(redacted(bytes_of(said[it]))) for it in VALUES if it in said}, "findings": [it for it in FOUND if it in found]}
 
 
 def found_in(text, way):

@@ -6,7 +6,7 @@ What Git reads is asked of `git_reads.py`, of Git's credential code of `web_defi
 from git_classes import Case, Reading, is_careful
 from git_reads import git_reads, unread
 from second_reading import (
-    errors, fault_places, git_class, grammar, laws, octets, plain_paths, records, settled_class, writing)
+    errors, fault_places, git_class, grammar, hidden, laws, octets, plain_paths, records, settled_class, writing)
 from web_defined import credential_readings
 from web_plain import broken
 from web_reads import curl_reads
@@ -106,21 +106,20 @@ def refusal_of_line(t):
     return {**refusal(t), **place._asdict(), "words": fault_places.SENTENCES[place.reason], "git_reads": read_in_refused(t)}
 
 
-def may_hold_password(t, user, host):
-    """Whether a refused line may hold a password: a `:` before an `@` behind its scheme, also one of both as an escape."""
-    front, mark, _ = t.partition(b"://")[2 if b"://" in t else 0].rpartition(b"@")
-    return bool(mark) and b":" in front or b":" in (user or b"") or b"@" in (host or b"")
+def may_hold_secret(t, user, host, path):
+    """Whether a part of a refused line may be a secret, or of what Git reads in it once that is decoded."""
+    return bool(b":" in (user or b"") or b"@" in (host or b"") or any(hidden.places(it or b"") for it in (t, user, host, path)))
 
 
 def read_in_refused(t):
-    """What Git reads in a refused line, unless it hands it to a remote helper: nothing of it where it may hold a password."""
+    """What Git reads in a refused line, unless it hands it to a remote helper: nothing of it where a part may be a secret."""
     found = [*git_reads(t)]
     nothing: tuple = (None,) * 6
     protocol, user, _, host, port, path = found[0] if found else nothing
     why = None if found else unread(t)
     if why == "RemoteHelper":
         return None
-    if found and may_hold_password(t, user, host):
+    if found and may_hold_secret(t, user, host, path):
         protocol = user = host = port = path = None
         why = "Password"
     return {"protocol": protocol, "user": lossy(user), "host": lossy(host), "port": port, "path": lossy(path), "same": False, "why": why}
@@ -212,28 +211,14 @@ def curl(v):
     return found and {"host": lossy(found.host), "port": found.port and int(found.port), "path": lossy(found.path)}
 
 
-def secret_of_refused(line):
-    """What may be a password in a refused line: from the first `:` behind `://` to the last `@`; its place, or None."""
-    begin = line.find(b"://") + 3
-    colon, at = line.find(b":", begin), line.rfind(b"@")
-    return (colon + 1, at) if 3 <= begin <= colon < at else None
-
-
-def secret_of_url(line):
-    """The place of the password that is read: from the first `:` behind `://` to the last `@` before the path."""
-    begin = line.find(b"://") + 3
-    ends = [it for it in (line.find(bytes([mark]), begin) for mark in grammar.path_starts(line[:begin - 3])) if it >= 0]
-    return line.find(b":", begin) + 1, line.rfind(b"@", begin, min(ends, default=len(line)))
+# Why nothing is reported of a line that is read, but whose parts may be secrets.
+WITHHELD = {"error": "Withheld", "kind": None, "fault": None, "at": None, "len": None, "reason": None,
+            "words": "what it is read as may show a secret", "git_reads": None}
 
 
 def shown_line(line):
-    """The line with the word in place of its password, or of what may be one in a refused line."""
-    v = grammar.spells(line)
-    place = secret_of_refused(line) if v is None else None if v.password is None else secret_of_url(line)
-    if place is None:
-        return lossy(line)
-    hidden = b"redacted" if place[0] < place[1] else b""
-    return lossy(line[:place[0]] + hidden + line[place[1]:])
+    """The line with the word in place of what may be a secret."""
+    return lossy(hidden.redacted(line))
 
 
 def told(v):

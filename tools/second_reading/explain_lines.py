@@ -98,3 +98,10 @@ MISREAD = [
 REWRITTEN = [
     b"h:/a/b", b"u@h:/a", b"h.com:/a", b"h:/a%41", b"h:/a/../b", b"/srv/a//b", b"/srv/a:b%20", b"/srv/a\\b", b"/x:/a", b"//h/a", b"ssh://::1/p", b"ssh://u@::1:22/p",
     b"git://::1/p", b"git:/h/a", b"c:/a", b"svn:/a/b", b"u:p@h:/a", b"/srv/\xff:b"]
+# What may be a secret outside of a password, and a line of which nothing is shown that it is read as.
+TOKEN = b"ghp_%b" % (b"0123456789" * 3)
+SECRETS = [
+    b"hg::https://u:p@h/x", b"https:/u:p@h/x", b"https://u%3Ap@h/x", b"https://u:p%40h/x", b"https://%b@github.com/a/b" % TOKEN, b"https://h/%b/b" % TOKEN,
+    b"%b:a/b" % TOKEN, b"git@h:%b/x" % TOKEN, b"hg::%b" % TOKEN, b"glpat-%b://h/x" % TOKEN, b"https://u:p@h/%b" % TOKEN, b"https://u:p?%b@h/x" % TOKEN,
+    b"file://u:p@h/x", b"http://h/?q=u:p@x", b"ext::sh -c u:p@h", b"/srv/u:p@h/x", b"u:p@h:x y:p@z:q", b"https://u%3Ax:p@h/", b"https://u:p@h%40x/",
+    b"git://FE80::1/p@x", b"ssh://u%3Ap@h/~/x", b"ssh://h/%b" % TOKEN, b"h:/%b" % TOKEN, b" ".join([b"a:b@c"] * 3), b"x y" + b" /a:b@c" * 9]

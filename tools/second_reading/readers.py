@@ -5,8 +5,8 @@ import re
 from collections import namedtuple
 
 from git_reads import git_reads
-from second_reading import grammar, octets, unambiguous, writing
-from second_reading.explain import agrees_with_git, lossy, secret_of_refused, secret_of_url
+from second_reading import grammar, hidden, octets, unambiguous, writing
+from second_reading.explain import agrees_with_git, lossy
 from second_reading.groups import host_name, other_hosts
 from web_reads import curl_reads
 
@@ -45,18 +45,17 @@ def git_host(line):
     return None
 
 
-def shown(host, line, place):
-    """The host, or a word where it isn't a part of what is shown of the line around a password at this place."""
-    is_shown = place is None or place[0] == place[1] or host in line[:place[0]] or host in line[place[1]:]
-    return lossy(host) if is_shown else "redacted"
+def shown(host, line):
+    """The host, or a word where it isn't in a part of the line that is shown."""
+    return lossy(host) if any(host in it for it in hidden.shown_parts(line)) else "redacted"
 
 
-def others(line, own, place):
+def others(line, own):
     """Each other host that groups take, with their names, in the order of the groups."""
     found = {}
     for group, host in other_hosts(line, own).items():
         found.setdefault(host_name(host), (host, []))[1].append(group)
-    return [{"host": shown(host, line, place), "groups": groups} for host, groups in found.values()]
+    return [{"host": shown(host, line), "groups": groups} for host, groups in found.values()]
 
 
 def as_url(v):
@@ -67,12 +66,12 @@ def as_url(v):
 
 def instead(line, v):
     """A URL of the same place that all read alike, or from which no group takes another host, though one does from the line; None
-    where there is none, or the line begins as a URL that lacks a slash."""
+    where there is none, a part of one may be a secret, or the line begins as a URL that lacks a slash."""
     is_slip = re.match(rb"(?:ssh|https?|file|ftps?|git\+ssh|ssh\+git):/(?!/)", line)
     if is_slip or v.scheme[0] not in ("Ssh", "Git", "File") or v.password is not None or not v.path.startswith(b"/") or not octets.is_utf8(v.path):
         return None
     text = as_url(v)
-    w = grammar.spells(text)
+    w = None if hidden.places(line) or hidden.places(text) else grammar.spells(text)
     if not agrees_with_git(v) or condition(v) is None or w is None or w._replace(flag=v.flag, spelling=v.spelling) != v or not agrees_with_git(w):
         return None
     is_better = condition(w) is None or other_hosts(line, v.host)
@@ -83,7 +82,7 @@ def readers(line, v):
     """Who may read a line otherwise; None where all read it alike, as far as is known."""
     if v is None:
         git = git_host(line)
-        found = git and others(line, git.host, secret_of_refused(line))
+        found = git and others(line, git.host)
         return {"condition": None, "others": found, "instead": None} if found else None
-    unmet, found = condition(v), others(line, v.host, None if v.password is None else secret_of_url(line))
+    unmet, found = condition(v), others(line, v.host)
     return {"condition": unmet, "others": found, "instead": lossy(instead(line, v))} if unmet or found else None

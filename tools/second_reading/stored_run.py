@@ -5,12 +5,13 @@ import json
 
 from second_reading import grammar
 from second_reading.dangers import dangers
-from second_reading.explain import refusal_of_line, shown_line, told
+from second_reading.explain import WITHHELD, refusal_of_line, shown_line, told
 from second_reading.explain_lines import (
-    CURL, FILES, GIT, HELPERS, IN_REFUSED, LOCALS, MISREAD, PLACED, READ, REFUSED, REWRITTEN, SCPS, SLIPS, URLS, WEB)
+    CURL, FILES, GIT, HELPERS, IN_REFUSED, LOCALS, MISREAD, PLACED, READ, REFUSED, REWRITTEN, SCPS, SECRETS, SLIPS, URLS, WEB)
 from second_reading.explain_tables import reason_examples, table
 from second_reading.hints import hints
 from second_reading.readers import readers
+from second_reading.seen import seen
 
 
 def found(line, v):
@@ -22,16 +23,25 @@ def found(line, v):
 
 
 def answer(number, line):
-    v = grammar.spells(line)
-    it = {"line": number, "input": shown_line(line), "location": v and told(v), "refusal": refusal_of_line(line) if v is None else None,
-          "readers": readers(line, v), "dangers": [] if v is None else dangers(line, v), "findings": found(line, v), "hints": hints(line, v), "rules": None}
+    """The object of a line. Of a location it is reported what is read in the line as it is shown."""
+    v, other = grammar.spells(line), seen(line)
+    location = None if v is None or other is None else told(grammar.spells(other))
+    refusal = refusal_of_line(line) if v is None else WITHHELD if other is None else None
+    it = {"line": number, "input": shown_line(line), "location": location, "refusal": refusal,
+          "readers": None if other is None else readers(line, v), "dangers": [] if v is None else dangers(line, v), "findings": found(line, v),
+          "hints": [] if other is None else hints_of(line, other), "rules": None}
     return json.dumps(it, separators=(",", ":"), ensure_ascii=False)
+
+
+def hints_of(line, other):
+    """The hints about the line as it is shown; another line has no URL of the same place."""
+    return [it for it in hints(other, grammar.spells(other)) if it != "write_instead" or other == line]
 
 
 def stored_run():
     """The files of the stored run. The texts of the tables are among its lines."""
     texts = [*(row[0].strip("`").encode() for row in table()), *reason_examples(), *PLACED]
-    lines = list(dict.fromkeys([*HELPERS, *URLS, *FILES, *SCPS, *LOCALS, *REFUSED, *GIT, *READ, *WEB, *CURL, *SLIPS, *IN_REFUSED, *MISREAD, *REWRITTEN, *texts]))
+    lines = list(dict.fromkeys([*HELPERS, *URLS, *FILES, *SCPS, *LOCALS, *REFUSED, *GIT, *READ, *WEB, *CURL, *SLIPS, *IN_REFUSED, *MISREAD, *REWRITTEN, *SECRETS, *texts]))
     lines.append(b"/the/last")
     answers = "".join(answer(number, line) + "\n" for number, line in enumerate(lines, 1))
     return {"stdin": b"\n".join(lines), "stdout": answers.encode(), "args": b"--json\n", "status": b"1\n"}

@@ -20,6 +20,7 @@ use explain_report::readers::{Readers, instead_of};
 use explain_report::refusal::Refusal;
 use explain_report::rules::{Rules, found_by};
 use explain_report::text::line::SeenLine;
+use explain_report::text::seen::Seen;
 use git_audit::danger::{Danger, dangers};
 use gix_url::parse::parse;
 use gix_url::{Error, Url};
@@ -109,7 +110,7 @@ impl Line<'_, '_> {
         let notes = Notes::of(found.as_slice(), findings, rules.as_ref());
         let answer = match self.style.layout {
             Layout::Quiet => Ok(String::new(alloc)),
-            Layout::Only(part) => only::line(alloc, url, part),
+            Layout::Only(part) => only::line(alloc, self.bytes, url, part),
             Layout::Sarif => line_results::location(alloc, self, url, notes),
             _ => self.location(alloc, url, notes),
         };
@@ -120,13 +121,33 @@ impl Line<'_, '_> {
 
     /// What is reported of a location, without its hints and its readers so far.
     fn location(self, alloc: Global, url: &Url, notes: Notes<'_>) -> Result<String, AllocError> {
-        let seen = SeenLine::of(alloc, self.bytes)?;
-        let (seen, report) = both(seen, Report::of(alloc, url))?;
-        let readers = Readers::of_location(alloc, self.bytes, url);
-        let ((seen, report), readers) = both((seen, report), readers)?;
+        let seen = Seen::of(alloc, self.bytes, url)?;
+        let answer = match seen.shown(self.bytes, url) {
+            Some((bytes, shown)) => {
+                let readers = Readers::of_location(alloc, self.bytes, url, shown.host());
+                self.shown_so(alloc, bytes, shown, readers, notes)
+            }
+            None => self.withheld(alloc, url, notes),
+        };
+        drop(seen);
+        answer
+    }
+
+    /// What is reported of a location whose line is shown so, with who may read it otherwise.
+    fn shown_so(
+        self,
+        alloc: Global,
+        bytes: &[u8],
+        url: &Url,
+        readers: Result<Option<Readers>, AllocError>,
+        notes: Notes<'_>,
+    ) -> Result<String, AllocError> {
+        let readers = readers?;
+        let (readers, seen) = both(readers, SeenLine::of(alloc, bytes))?;
+        let ((readers, seen), report) = both((readers, seen), Report::of(alloc, url))?;
         let has_instead = instead_of(readers.as_ref()).is_some();
         let reading = Reading::of(url, &report, has_instead);
-        let found = hint::find(alloc, self.bytes, Some(reading));
+        let found = hint::find(alloc, bytes, Some(reading));
         let (((seen, report), readers), found) = both(((seen, report), readers), found)?;
         let notes = Notes {
             dangers: notes.dangers,
@@ -141,6 +162,31 @@ impl Line<'_, '_> {
         drop(report);
         drop(seen);
         answer
+    }
+
+    /// What is reported of a location of which nothing is shown, as its parts may be secrets.
+    fn withheld(self, alloc: Global, url: &Url, notes: Notes<'_>) -> Result<String, AllocError> {
+        let seen = SeenLine::without_parts(alloc, self.bytes)?;
+        let (seen, refusal) = both(seen, Refusal::withheld(alloc))?;
+        let answer = self.laid_out_withheld(alloc, url, &refusal, &seen, notes);
+        drop(refusal);
+        drop(seen);
+        answer
+    }
+
+    /// The answer to a line that is read as a location of which nothing is shown.
+    fn laid_out_withheld<'x>(
+        self,
+        alloc: Global,
+        url: &Url,
+        refusal: &'x Refusal,
+        seen: &'x SeenLine<'_>,
+        notes: Notes<'x>,
+    ) -> Result<String, AllocError> {
+        if matches!(self.style.layout, Layout::Json) {
+            return self.refusal_object(alloc, refusal, seen, notes);
+        }
+        shown::withheld(alloc, self, url, refusal, seen, notes)
     }
 
     /// What Git does with the line, which is read as this location unless it is refused, by the configuration
@@ -236,10 +282,21 @@ impl Line<'_, '_> {
         seen: &'x SeenLine<'_>,
         notes: Notes<'x>,
     ) -> Result<String, AllocError> {
-        if !matches!(self.style.layout, Layout::Json) {
-            return shown::refusal(alloc, self, refusal, seen, notes);
+        if matches!(self.style.layout, Layout::Json) {
+            return self.refusal_object(alloc, refusal, seen, notes);
         }
-        let found = names_of(alloc, notes.found)?;
+        shown::refusal(alloc, self, refusal, seen, notes)
+    }
+
+    /// The object of a line without a location, or with one of which nothing is shown.
+    fn refusal_object<'x>(
+        self,
+        alloc: Global,
+        refusal: &'x Refusal,
+        seen: &'x SeenLine<'_>,
+        notes: Notes<'x>,
+    ) -> Result<String, AllocError> {
+        let (names, found) = both(names(alloc, notes.dangers)?, names_of(alloc, notes.found))?;
         let answer = json(
             alloc,
             &Answer {
@@ -248,13 +305,14 @@ impl Line<'_, '_> {
                 location: None,
                 refusal: Some(refusal),
                 readers: notes.readers,
-                dangers: &[],
+                dangers: names.as_slice(),
                 findings: found.as_slice(),
                 hints: notes.hints,
                 rules: notes.rules,
             },
         );
         drop(found);
+        drop(names);
         answer
     }
 }

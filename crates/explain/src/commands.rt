@@ -10,6 +10,7 @@ use crate::shell_line::line_of;
 use crate::style::{Layout, Style};
 use bstr::BStr;
 use explain_report::finding::Findings;
+use explain_report::text::secret::has_secret;
 use git_rules::ssh::program::ProgramVariant;
 use git_rules::ssh::{Service, SshCommand, SshRefusal, SshVariant, ssh_command};
 use gix_url::lines::RunError;
@@ -30,6 +31,8 @@ enum Lack {
     NotAllowed,
     /// Git runs the program to find out which variant it is.
     Asked,
+    /// A part of the text or of what Git runs may be a secret.
+    Secret,
 }
 
 /// Why no command is returned.
@@ -54,6 +57,7 @@ impl fmt::Display for Lack {
             Lack::Asked => f.write_str(
                 "Git runs the program with -G to find out which options it has, unless ssh.variant says it",
             ),
+            Lack::Secret => f.write_str("the command may show a secret"),
         }
     }
 }
@@ -136,7 +140,7 @@ fn command_for(alloc: Global, line: Line<'_, '_>) -> Result<String, NoCommand> {
 fn command_of(alloc: Global, text: &[u8], client: Client<'_>) -> Result<String, NoCommand> {
     match parse(alloc, BStr::new(text)) {
         Ok(url) => {
-            let command = of_location(alloc, &url.as_ref(), client);
+            let command = of_location(alloc, text, &url.as_ref(), client);
             drop(url);
             command
         }
@@ -148,12 +152,17 @@ fn command_of(alloc: Global, text: &[u8], client: Client<'_>) -> Result<String, 
     }
 }
 
-/// The command for a location.
-fn of_location(alloc: Global, url: &UrlRef<'_>, client: Client<'_>) -> Result<String, NoCommand> {
+/// The command for a location, which is read in this text.
+fn of_location(
+    alloc: Global,
+    text: &[u8],
+    url: &UrlRef<'_>,
+    client: Client<'_>,
+) -> Result<String, NoCommand> {
     let variant = variant_of(client);
     match ssh_command(url, Service::UploadPack, variant, client.version) {
         Err(refusal) => Err(NoCommand::Lack(Lack::Refused(refusal))),
-        Ok(command) => of_command(alloc, command, client),
+        Ok(command) => of_command(alloc, text, command, client),
     }
 }
 
@@ -165,9 +174,10 @@ fn variant_of(client: Client<'_>) -> SshVariant {
     }
 }
 
-/// The line of a command, unless Git runs none, or another program first.
+/// The line of a command for a text, unless Git runs none, or another program first, or a part of it may be a secret.
 fn of_command(
     alloc: Global,
+    text: &[u8],
     command: SshCommand<'_>,
     client: Client<'_>,
 ) -> Result<String, NoCommand> {
@@ -176,6 +186,10 @@ fn of_command(
     }
     if let ProgramVariant::Asked = client.variant {
         return Err(NoCommand::Lack(Lack::Asked));
+    }
+    if has_secret(text) || has_secret(client.text) {
+        drop(command);
+        return Err(NoCommand::Lack(Lack::Secret));
     }
     let line = line_with_words(alloc, &command, client);
     drop(command);

@@ -28,7 +28,7 @@ pub fn location(
 ) -> Result<String, AllocError> {
     let mut items = Vec::new(alloc);
     add_dangers(alloc, &mut items, notes.dangers)?;
-    add_reading(alloc, &mut items, url)?;
+    add_reading(alloc, &mut items, line.bytes, url)?;
     add_rules(alloc, &mut items, notes.rules)?;
     at_line(alloc, line, whole(line), items.as_slice())
 }

@@ -1,11 +1,12 @@
 //! One part of each location on a line of its own, for scripts.
 //!
 //! It uses the public calls of `gix_url`, and has no contract but that it can't abort: `scripts/hostile
-//! golden` shows its answers. A password is no part that can be asked for.
+//! golden` shows its answers. A password is no part that can be asked for, and a part is that of the line as it is shown.
 
 use bstr::ByteSlice;
 use explain_report::memory::no_memory;
 use explain_report::text::line::write_shown;
+use explain_report::text::seen::Seen;
 use gix_url::{PathComponents, Scheme, Url};
 use std::alloc::{AllocError, Global};
 use std::fmt::Write;
@@ -45,9 +46,20 @@ impl Part {
     }
 }
 
-/// The line with a part of the location, empty where it has none. Control characters, backslashes and bytes
-/// that are not UTF-8 are escaped, so it is one line.
-pub fn line(alloc: Global, url: &Url, part: Part) -> Result<String, AllocError> {
+/// The line with a part of the location that is read in a text, as it is shown; empty where it has none, or nothing is
+/// shown of it. Control characters, backslashes and bytes that are not UTF-8 are escaped, so it is one line.
+pub fn line(alloc: Global, text: &[u8], url: &Url, part: Part) -> Result<String, AllocError> {
+    let seen = Seen::of(alloc, text, url)?;
+    let line = match seen.shown(text, url) {
+        Some((_, shown)) => line_of(alloc, shown, part),
+        None => String::from_str(alloc, "\n"),
+    };
+    drop(seen);
+    line
+}
+
+/// The line with a part of a location.
+fn line_of(alloc: Global, url: &Url, part: Part) -> Result<String, AllocError> {
     let mut out = String::new(alloc);
     match part {
         Part::Scheme => write_shown(&mut out, url.scheme.as_str().as_bytes())?,

@@ -11,6 +11,7 @@ use crate::rule_rows;
 use explain_report::advice::danger::push_words;
 use explain_report::advice::hint::Hint;
 use explain_report::curl::Curl;
+use explain_report::form::Form;
 use explain_report::git_report::is_of_web;
 use explain_report::location_report::{Report, reading_of_git};
 use explain_report::path::{Components, Field, Home};
@@ -102,6 +103,25 @@ pub fn refusal(
         row(&mut out, "git", reads.words.as_str())?;
     }
     readers(&mut out, notes.readers)?;
+    noted(alloc, &mut out, notes)?;
+    Ok(out)
+}
+
+/// A location of which nothing is shown: its heading, the line, and what Git does by the configuration.
+pub fn withheld(
+    alloc: Global,
+    line: Line<'_, '_>,
+    url: &Url,
+    refusal: &Refusal,
+    seen: &SeenLine<'_>,
+    notes: Notes<'_>,
+) -> Result<String, AllocError> {
+    let mut out = String::new(alloc);
+    let (form, words) = (Form::of(url), refusal.words.as_str());
+    write!(out, "line {}: {form}, withheld: {words}", line.number)?;
+    push_words(&mut out, notes.dangers)?;
+    out.push('\n')?;
+    paint::line(&mut out, &seen.cut, line.style.colors)?;
     noted(alloc, &mut out, notes)?;
     Ok(out)
 }

@@ -14,6 +14,7 @@ use explain_report::form::Form;
 use explain_report::memory::both;
 use explain_report::rules::config::Config;
 use explain_report::rules::{Rules, found_by};
+use explain_report::text::seen::Seen;
 use git_audit::danger::dangers;
 use gix_url::lines::RunError;
 use gix_url::parse::parse;
@@ -182,11 +183,24 @@ impl Summary {
         self.forms.add(Form::of(url));
         self.verdicts.add_location(!own.unsettled);
         self.verdicts.add(findings);
-        match url.host() {
-            None => bump(&mut self.without_host),
-            Some(host) => add_host(self.alloc, &mut self.hosts, host)?,
-        }
+        self.add_host(line, url)?;
         Ok(findings)
+    }
+
+    /// Counts the host of a line that is read as this location, as it is shown.
+    fn add_host(&mut self, line: &[u8], url: &Url) -> Result<(), AllocError> {
+        let Some(_) = url.host() else {
+            bump(&mut self.without_host);
+            return Ok(());
+        };
+        let seen = Seen::of(self.alloc, line, url)?;
+        let host = match seen.shown(line, url) {
+            Some((_, shown)) => shown.host().unwrap_or(""),
+            None => "redacted",
+        };
+        let added = add_host(self.alloc, &mut self.hosts, host);
+        drop(seen);
+        added
     }
 
     /// Counts a line that is refused.

@@ -10,6 +10,7 @@ use crate::kind::Kind;
 use bstr::BStr;
 use explain_report::location_report::{Report, reading_of_git};
 use explain_report::refusal::Refusal;
+use explain_report::text::seen::Seen;
 use git_audit::danger::{Danger, dangers};
 use git_rules::rewrite::host::names_same_host;
 use gix_url::parse::parse;
@@ -67,7 +68,7 @@ fn add_location(
     let added = add_dangers(alloc, found, of_text.as_slice());
     drop(of_text);
     added?;
-    add_reading(alloc, found, url)
+    add_reading(alloc, found, text, url)
 }
 
 /// Whether the location names another host than the parent, if there is one.
@@ -92,15 +93,43 @@ pub fn add_dangers(
     Ok(())
 }
 
-/// Adds that a location isn't settled, and that Git isn't known to read the same in its text, as far as that holds.
-pub fn add_reading(alloc: Global, found: &mut Vec<Item>, url: &Url) -> Result<(), AllocError> {
+/// Adds that a location isn't settled, and that Git isn't known to read the same in its text, as far as that holds. The
+/// words are about the text as it is shown.
+pub fn add_reading(
+    alloc: Global,
+    found: &mut Vec<Item>,
+    text: &[u8],
+    url: &Url,
+) -> Result<(), AllocError> {
     if url.is_settled() && url.agrees_with_git() {
         return Ok(());
     }
+    let seen = Seen::of(alloc, text, url)?;
+    let added = match seen.shown(text, url) {
+        Some((_, shown)) => add_report_of(alloc, found, shown),
+        None => add_withheld(alloc, found, url),
+    };
+    drop(seen);
+    added
+}
+
+/// Adds what is reported of how the text of a location is read.
+fn add_report_of(alloc: Global, found: &mut Vec<Item>, url: &Url) -> Result<(), AllocError> {
     let report = Report::of(alloc, url)?;
     let added = add_report(alloc, found, url, &report);
     drop(report);
     added
+}
+
+/// Adds how the text of a location is read of which nothing is shown.
+fn add_withheld(alloc: Global, found: &mut Vec<Item>, url: &Url) -> Result<(), AllocError> {
+    if !url.is_settled() {
+        add(alloc, found, Kind::Unsettled)?;
+    }
+    if !url.agrees_with_git() {
+        add(alloc, found, Kind::GitDiffers)?;
+    }
+    Ok(())
 }
 
 /// Adds what a report says of how the text of a location is read.

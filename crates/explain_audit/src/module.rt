@@ -17,8 +17,8 @@ use bstr::BString;
 use explain_report::finding::Findings;
 use explain_report::rules::Route;
 use explain_report::rules::config::Config;
-use explain_report::rules::setting::{Setting, shown_part};
-use explain_report::text::line::{input, pieces_of};
+use explain_report::rules::setting::Setting;
+use explain_report::text::secret::{shown_part, shown_text};
 use git_modules::config_file::flaw::FileError;
 use git_modules::config_file::{FileEntry, entries};
 use git_modules::submodules::defect::{Defects, defects_of};
@@ -31,13 +31,13 @@ use std::collections::BTreeMap;
 /// A submodule of a file, and what was found in it.
 #[derive(Drop, Serialize)]
 pub struct ModuleReport {
-    /// Its name; none for all entries whose name Git refuses.
+    /// Its name; none for all entries whose name Git refuses. In each text of it `redacted` is for what may be a secret.
     pub submodule: Option<String>,
     /// The folder that Git uses, if it uses one.
     pub path: Option<String>,
-    /// The URL that Git uses, with `redacted` for its password.
+    /// The URL that Git uses.
     pub url: Option<String>,
-    /// What a relative URL is resolved to, with `redacted` for its password.
+    /// What a relative URL is resolved to.
     pub resolved: Option<String>,
     /// Where Git fetches it from by a configuration.
     pub fetch: Vec<Route>,
@@ -256,7 +256,7 @@ impl ModuleReport {
         report.update = shown_part(alloc, value_of(submodule.update))?;
         report.branch = shown_part(alloc, value_of(submodule.branch))?;
         if let Some(url) = value_of(submodule.url) {
-            report.url = Some(shown_url(alloc, url)?);
+            report.url = Some(shown_text(alloc, url)?);
             report.resolved = shown_resolved(alloc, resolved(alloc, url, parent)?)?;
         }
         Ok(report)
@@ -355,17 +355,12 @@ fn value_of<'a>(used: Option<Used<'a>>) -> Option<&'a [u8]> {
     }
 }
 
-/// A URL as it is shown, without its password.
-fn shown_url(alloc: Global, url: &[u8]) -> Result<String, AllocError> {
-    input(alloc, &pieces_of(url))
-}
-
 /// What a URL is resolved to, as it is shown.
 fn shown_resolved(alloc: Global, text: Option<BString>) -> Result<Option<String>, AllocError> {
     let Some(text) = text else {
         return Ok(None);
     };
-    let shown = shown_url(alloc, text.as_bytes());
+    let shown = shown_text(alloc, text.as_bytes());
     drop(text);
     Ok(Some(shown?))
 }

@@ -72,7 +72,12 @@ pub fn location(
 ) -> Result<(), AllocError> {
     let mut words = String::new(alloc);
     let written = push_words(&mut words, notes.dangers);
-    let headed = heading(out, number, report, words.as_str(), notes.found.danger);
+    let verdict = Verdict {
+        form: report.form,
+        is_settled: report.settled,
+        is_dangerous: notes.found.danger,
+    };
+    let headed = heading(out, number, verdict, words.as_str());
     drop(words);
     written?;
     headed?;
@@ -94,30 +99,37 @@ pub fn location(
     out.push_template("</article>\n")
 }
 
+/// What the heading of a location says beside its number.
+#[derive(Clone, Copy)]
+pub(crate) struct Verdict {
+    pub(crate) form: Form,
+    pub(crate) is_settled: bool,
+    pub(crate) is_dangerous: bool,
+}
+
 /// Appends the beginning of the article: its number, its form, the verdict and the dangers in words.
-fn heading(
+pub(crate) fn heading(
     out: &mut Markup,
     number: u64,
-    report: &Report<'_>,
+    of: Verdict,
     dangers: &str,
-    is_dangerous: bool,
 ) -> Result<(), AllocError> {
     out.push_template("<article aria-labelledby=l")?;
     out.push_value(number)?;
-    out.push_template(match report.form {
+    out.push_template(match of.form {
         Form::RemoteHelper => " data-f=remote_helper",
         Form::Url => " data-f=url",
         Form::Scp => " data-f=scp",
         Form::Local => " data-f=local",
     })?;
-    let (verdict, words) = if report.settled {
+    let (verdict, words) = if of.is_settled {
         (" data-v=settled", ", settled")
     } else {
         (" data-v=unsettled", ", not settled")
     };
     out.push_template(verdict)?;
-    title(out, number, is_dangerous)?;
-    out.push_value(report.form)?;
+    title(out, number, of.is_dangerous)?;
+    out.push_value(of.form)?;
     out.push_template(words)?;
     if !dangers.is_empty() {
         out.push_template("<strong>")?;

@@ -6,6 +6,7 @@
 use crate::markup::Markup;
 use explain_report::form::Form;
 use explain_report::location_report::Report;
+use gix_url::Url;
 use std::alloc::{AllocError, Global};
 use std::cmp::Reverse;
 use std::collections::BTreeMap;
@@ -61,13 +62,30 @@ impl Counts {
         report: &Report<'_>,
         is_dangerous: bool,
     ) -> Result<(), AllocError> {
-        bump(match report.form {
+        self.add_location(report.form, report.settled, is_dangerous);
+        self.add_host(alloc, report.host)
+    }
+
+    /// Counts a location of which nothing is shown, as its parts may be secrets.
+    pub fn add_withheld(
+        &mut self,
+        alloc: Global,
+        url: &Url,
+        is_dangerous: bool,
+    ) -> Result<(), AllocError> {
+        self.add_location(Form::of(url), url.is_settled(), is_dangerous);
+        self.add_host(alloc, url.host().map(|_| "redacted"))
+    }
+
+    /// Counts a location of this form, which is settled or not.
+    fn add_location(&mut self, form: Form, is_settled: bool, is_dangerous: bool) {
+        bump(match form {
             Form::Url => &mut self.urls,
             Form::Scp => &mut self.scp_forms,
             Form::Local => &mut self.local_paths,
             Form::RemoteHelper => &mut self.helpers,
         });
-        if report.settled {
+        if is_settled {
             bump(&mut self.settled);
         } else {
             bump(&mut self.unsettled);
@@ -75,7 +93,11 @@ impl Counts {
         if is_dangerous {
             bump(&mut self.dangerous);
         }
-        match report.host {
+    }
+
+    /// Counts the host of a location, if it has one.
+    fn add_host(&mut self, alloc: Global, host: Option<&str>) -> Result<(), AllocError> {
+        match host {
             Some(host) => add_host(alloc, &mut self.hosts, host),
             None => {
                 bump(&mut self.without_host);

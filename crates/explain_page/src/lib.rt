@@ -16,3 +16,4 @@ mod rank;
 mod readers;
 mod rules;
 mod template;
+mod withheld;

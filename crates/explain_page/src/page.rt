@@ -9,6 +9,7 @@ use crate::counts::Counts;
 use crate::markup::Markup;
 use crate::rank::Rank;
 use crate::template::{PAGE, Part, Slot};
+use crate::withheld;
 use bstr::BStr;
 use explain_report::advice::hint;
 use explain_report::advice::reading::Reading;
@@ -20,6 +21,7 @@ use explain_report::refusal::Refusal;
 use explain_report::rules::config::Config;
 use explain_report::rules::{Rules, found_by};
 use explain_report::text::line::SeenLine;
+use explain_report::text::seen::Seen;
 use git_audit::danger::dangers;
 use gix_url::lines::RunError;
 use gix_url::parse::parse;
@@ -115,11 +117,31 @@ impl Page {
         url: &Url,
         notes: Notes<'_>,
     ) -> Result<(), AllocError> {
+        let seen = Seen::of(self.alloc, line, url)?;
+        let added = match seen.shown(line, url) {
+            Some((text, shown)) => {
+                let readers = Readers::of_location(self.alloc, line, url, shown.host());
+                self.add_shown(number, text, shown, readers, notes)
+            }
+            None => self.add_withheld(number, line, url, notes),
+        };
+        drop(seen);
+        added
+    }
+
+    /// Adds a line that is shown so, with who may read it otherwise.
+    fn add_shown(
+        &mut self,
+        number: u64,
+        line: &[u8],
+        url: &Url,
+        readers: Result<Option<Readers>, AllocError>,
+        notes: Notes<'_>,
+    ) -> Result<(), AllocError> {
         let alloc = self.alloc;
-        let seen = SeenLine::of(alloc, line)?;
-        let (seen, report) = both(seen, Report::of(alloc, url))?;
-        let readers = Readers::of_location(alloc, line, url);
-        let ((seen, report), readers) = both((seen, report), readers)?;
+        let readers = readers?;
+        let (readers, seen) = both(readers, SeenLine::of(alloc, line))?;
+        let ((readers, seen), report) = both((readers, seen), Report::of(alloc, url))?;
         let has_instead = instead_of(readers.as_ref()).is_some();
         let reading = Reading::of(url, &report, has_instead);
         let found = hint::find(alloc, line, Some(reading));
@@ -136,6 +158,28 @@ impl Page {
         drop(report);
         written?;
         counted?;
+        grouped
+    }
+
+    /// Adds a line of which nothing is shown that it is read as.
+    fn add_withheld(
+        &mut self,
+        number: u64,
+        line: &[u8],
+        url: &Url,
+        notes: Notes<'_>,
+    ) -> Result<(), AllocError> {
+        let alloc = self.alloc;
+        let seen = SeenLine::without_parts(alloc, line)?;
+        let (seen, refusal) = both(seen, Refusal::withheld(alloc))?;
+        let out = self.of_rank(Rank::of_withheld(notes.dangers, url, notes.rules));
+        let before = out.as_bytes().len();
+        let added = withheld::article(alloc, out, number, url, &refusal, &seen, notes);
+        let grouped = group(out, before);
+        drop(refusal);
+        drop(seen);
+        added?;
+        self.counts.add_withheld(alloc, url, notes.found.danger)?;
         grouped
     }
 

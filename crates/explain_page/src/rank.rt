@@ -5,6 +5,7 @@
 use explain_report::location_report::Report;
 use explain_report::rules::{Route, Rules, found_by};
 use git_audit::danger::Danger;
+use gix_url::Url;
 
 /// A rank, the most urgent first.
 #[derive(Clone, Copy)]
@@ -101,6 +102,23 @@ impl Rank {
             Some(Rank::Readers)
         } else {
             None
+        }
+    }
+
+    /// The rank of a location of which nothing is shown, as its parts may be secrets.
+    pub fn of_withheld(dangers: &[Danger], url: &Url, rules: Option<&Rules>) -> Rank {
+        if let Some(rank) = Rank::by_dangers(dangers) {
+            return rank;
+        }
+        if let Some(rank) = Rank::by_rules(rules) {
+            return rank;
+        }
+        if !url.is_settled() {
+            Rank::Unsettled
+        } else if !url.agrees_with_git() {
+            Rank::Readers
+        } else {
+            Rank::Plain
         }
     }
 

@@ -1,22 +1,21 @@
 -- What a report says of a location beside its fields.
-use Rattle.std.specs.Prelude.{◌≡◌, ◌↔◌, ◌⊎◌, ℕ, List, Option, None, IfSome, IsNone, IsSome}
+use Rattle.std.specs.Prelude.{◌≡◌, ◌↔◌, ℕ, IsTrue, List, Option, None, IfSome, IsNone, IsSome}
 use Rattle.gix_url.specs.Location.{Location}
 use Rattle.gix_url.specs.Settled.{IsSettled}
 use Rattle.explain_report.specs.declared.difference.Reread.{Reread}
 use Rattle.explain_report.specs.declared.git_report.GitReads.{GitReads}
 use Rattle.explain_report.specs.Differences.{ReportsReread}
-use Rattle.explain_report.specs.Secrets.{IsWithoutSecret}
+use Rattle.explain_report.specs.Secrets.{has_secret}
 
 -- no user, host and path that Git reads are reported of a location that has a password
 abbrev pub WithholdsPlace : Location → Option GitReads → Type 0
 WithholdsPlace v reads = IfSome reads (λ it.
     IsSome v.password → (it.user ≡ None) × (it.host ≡ None) × (it.path ≡ None))
 
--- no user, host and path that Git reads are reported of a refused text, unless it has no secret behind its
--- scheme
+-- no user, host and path that Git reads are reported of a refused text of which a part may be a secret
 abbrev pub WithholdsSecret : List ℕ → Option GitReads → Type 0
 WithholdsSecret text reads = IfSome reads (λ it.
-    IsWithoutSecret text ⊎ ((it.user ≡ None) × (it.host ≡ None) × (it.path ≡ None)))
+    IsTrue (has_secret text) → (it.user ≡ None) × (it.host ≡ None) × (it.path ≡ None))
 
 -- it is reported what the own text is read as exactly where the location isn't settled, and a difference is one
 -- of the location and of what that text spells

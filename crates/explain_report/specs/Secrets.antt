@@ -1,28 +1,55 @@
--- What is shown of a text that may hold a secret: all but what is between the first `:` and the last `@`.
-use Rattle.std.specs.Prelude.{◌≡◌, ℕ, List, ◌∷◌, ◌++◌, Option, MatchOption, ◌⊎◌}
-use Rattle.std.specs.Borrow.{Bor}
-use Rattle.git_syntax.specs.Bytes.{FreeOf, Holds}
-use Rattle.git_syntax.specs.Internal.Cuts.{url_mark}
+-- What is shown of a text: its pieces, with a word in place of each that may be a secret.
+use Rattle.std.specs.Prelude.{◌≡◌, ◌↔◌, ⊤, ℕ, Bool, true, false, List, [], ◌∷◌, ◌++◌, codes}
+use Rattle.std.specs.List.{list_any}
+use Rattle.git_syntax.specs.Grammar.{Spells}
+use Rattle.gix_url.specs.GitClass.{AgreesWithGit}
+use Rattle.gix_url.specs.Location.{Location}
+use Rattle.gix_url.specs.Settled.{IsSettled}
+use Rattle.git_audit.specs.Secrets.{Part, hidden, parts_of, shown}
+use Rattle.explain_report.specs.declared.text.seen.Seen.{Seen}
+use Rattle.explain_report.specs.declared.text.seen.Seen.TheVariants as seen
 
--- the text is what is before its first `:`, what may be a secret, and what is behind its last `@`
-abbrev pub IsAroundSecret : List ℕ → List ℕ → List ℕ → List ℕ → Type 0
-IsAroundSecret text user secret rest = (text ≡ (user ++ 58 ∷ secret) ++ 64 ∷ rest) × FreeOf 58 user × FreeOf 64 rest
+-- a piece as it is shown
+abbrev pub part_shown : Part → List ℕ
+part_shown (shown bytes) = bytes
+part_shown (hidden bytes) = codes "redacted"
 
--- the text has no `@`, or no `:` before its last one
-abbrev pub HasNoSecret : List ℕ → Type 0
-HasNoSecret text = FreeOf 64 text ⊎ ((front : List ℕ) × (rest : List ℕ) × (text ≡ front ++ 64 ∷ rest)
-    × FreeOf 58 front × FreeOf 64 rest)
+-- pieces as they are shown
+abbrev pub parts_shown : List Part → List ℕ
+parts_shown [] = []
+parts_shown (part ∷ parts) = part_shown part ++ parts_shown parts
 
--- the secret and what is around it, or none where there is none
-abbrev pub SurroundsSecret : List ℕ → Option (Bor (List ℕ) × Bor (List ℕ) × Bor (List ℕ)) → Type 0
-SurroundsSecret text found = MatchOption found (HasNoSecret text)
-    (λ p. IsAroundSecret text p.0.now p.1.now p.2.now)
+-- a text as it is shown
+abbrev pub shown_of : List ℕ → List ℕ
+shown_of text = parts_shown (parts_of text)
 
--- what is behind the first `://` of the text, or all of a text without one
-abbrev pub IsBehindScheme : List ℕ → List ℕ → Type 0
-IsBehindScheme text rest = ((scheme : List ℕ) × (¬ Holds url_mark scheme) × (text ≡ scheme ++ (url_mark ++ rest)))
-    ⊎ ((¬ Holds url_mark text) × (rest ≡ text))
+-- a piece may be a secret
+abbrev pub is_hidden : Part → Bool
+is_hidden (shown bytes) = false
+is_hidden (hidden bytes) = true
 
--- the text has no secret behind its scheme
-abbrev pub IsWithoutSecret : List ℕ → Type 0
-IsWithoutSecret text = (rest : List ℕ) × IsBehindScheme text rest × HasNoSecret rest
+-- a part of the text may be a secret
+abbrev pub has_secret : List ℕ → Bool
+has_secret text = list_any is_hidden (parts_of text)
+
+-- a password as it is shown
+abbrev pub password_shown : List ℕ → List ℕ
+password_shown [] = []
+password_shown (b ∷ bytes) = codes "redacted"
+
+-- the text is shown as itself, but for one part of it at most
+abbrev pub IsShownAround : List ℕ → Type 0
+IsShownAround text = (front : List ℕ) × (password : List ℕ) × (rest : List ℕ)
+    × (text ≡ front ++ (password ++ rest)) × (shown_of text ≡ front ++ (password_shown password ++ rest))
+
+-- both locations are settled or not, and Git reads the same in both or isn't known to
+abbrev pub HaveSameVerdicts : Location → Location → Type 0
+HaveSameVerdicts v w = (IsSettled v ↔ IsSettled w) × (AgreesWithGit v ↔ AgreesWithGit w)
+
+-- how a line is shown that is read as this location: as itself but for a password, or as the text that is shown of it,
+-- which spells a location with the same verdicts
+abbrev pub IsSeen : List ℕ → Location → Seen → Type 0
+IsSeen line v seen.Line = IsShownAround line
+IsSeen line v (seen.Other it) = (it.line.items ≡ shown_of line) × Spells (shown_of line) it.url
+    × HaveSameVerdicts v it.url
+IsSeen line v seen.Withheld = ⊤

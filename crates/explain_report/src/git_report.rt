@@ -3,22 +3,20 @@
 //!
 //! It uses the public calls of `gix_url`, `web` for words on HTTP, and `secret`. Its contract: no field is
 //! reported of a location that has a password, which Git reads as a part of another one, and none of a line
-//! that is refused and may hold one. The stored run shows what it reports, and `scripts/hostile golden` its
+//! that is refused and of which a part may be a secret. The stored run shows what it reports, and `scripts/hostile golden` its
 //! words.
 
 ghost use Rattle.std.specs.Prelude.{◌≡◌, IfOk, IfSome, IsSome, None, Some};
 ghost use Rattle.explain_report.specs.Reports.{WithholdsSecret};
-ghost use Rattle.explain_report.specs.Secrets.{IsBehindScheme};
 
 use crate::change::push_change;
 use crate::facts::Facts;
 use crate::memory::both;
 use crate::text::line::Quoted;
-use crate::text::secret::around_secret;
+use crate::text::secret::has_secret;
 use crate::text::{lossy, lossy_part};
 use crate::web;
 use bstr::ByteSlice;
-use git_syntax::bytes::cut_at_mark;
 use gix_url::transport::{self, Buffers, GitPlace, Protocol, Unread};
 use gix_url::{Scheme, Url, WebCondition};
 use serde::Serialize;
@@ -149,25 +147,26 @@ impl GitReads {
     fn of_refused(alloc: Global, line: &[u8], found: &GitPlace<'_>) -> Result<GitReads, AllocError>
         ensures { IfOk result (λ it. WithholdsSecret line.now (Some it)) }
     {
-        match around_secret(behind_scheme(line)) {
-            Some(_) => withheld_all_the_same(alloc),
-            None => report_all_the_same(alloc, found),
+        if has_secret(line) {
+            withheld_all_the_same(alloc)
+        } else {
+            report_all_the_same(alloc, found)
         }
     }
 }
 
-/// What is reported of a place that Git reads in a line that is refused and may hold a password.
+/// What is reported of a place that Git reads in a line that is refused and of which a part may be a secret.
 fn withheld_all_the_same(alloc: Global) -> Result<GitReads, AllocError>
     ensures { IfOk result (λ it. (it.user ≡ None) × (it.host ≡ None) × (it.path ≡ None)) }
 {
-    let words = "reads a place in it all the same, with what may be a password";
+    let words = "reads a place in it all the same, with what may be a secret";
     in_words(alloc, words, "Password")
 }
 
-/// What is reported of a place that Git reads in a line that is refused, unless escapes in the line hold a
-/// password.
+/// What is reported of a place that Git reads in a line that is refused, unless a part of it may be a secret once it
+/// is decoded.
 fn report_all_the_same(alloc: Global, found: &GitPlace<'_>) -> Result<GitReads, AllocError> {
-    if holds_password(found) {
+    if holds_secret(found) {
         return withheld_all_the_same(alloc);
     }
     let mut words = String::new(alloc);
@@ -176,20 +175,16 @@ fn report_all_the_same(alloc: Global, found: &GitPlace<'_>) -> Result<GitReads, 
     with_fields(alloc, found, false, words)
 }
 
-/// What is behind the first `://` of a text, or all of it.
-fn behind_scheme(text: &[u8]) -> &[u8]
-    ensures { IsBehindScheme text.now result.now }
-{
-    match cut_at_mark(text) {
-        Some((_, rest)) => rest,
-        None => text,
-    }
-}
-
-/// Whether the user or the host that Git reads has a mark that is behind a user or a password: it was an escape.
-fn holds_password(found: &GitPlace<'_>) -> bool {
-    found.user.is_some_and(|user| user.contains(&b':'))
-        || found.host.is_some_and(|host| host.contains(&b'@'))
+/// Whether the user or the host that Git reads has a mark that is behind a user or a password, or a part may be a
+/// secret.
+fn holds_secret(found: &GitPlace<'_>) -> bool {
+    found
+        .user
+        .is_some_and(|user| user.contains(&b':') || has_secret(user))
+        || found
+            .host
+            .is_some_and(|host| host.contains(&b'@') || has_secret(host))
+        || has_secret(found.path)
 }
 
 /// Appends what Git does with the place that it reads in a line that is refused.

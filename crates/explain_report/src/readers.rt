@@ -4,8 +4,7 @@
 //!
 //! It uses `unmet_condition` of `gix_url`, `taken` for the hosts, `git_host` for the host that Git connects to, and
 //! `instead` for the URL. Its contract: nothing is reported of a location only if all read its text alike. A host that
-//! isn't in what is shown of a line around a password is reported as `redacted`; the stored run shows which hosts are
-//! found.
+//! isn't in a part of the line that is shown is reported as `redacted`; the stored run shows which hosts are found.
 
 ghost use Rattle.std.specs.Prelude.{IfOk, IsNone};
 ghost use Rattle.git_readers.specs.Conditions.{IsUnambiguous};
@@ -19,9 +18,9 @@ use crate::memory::both;
 use crate::readers::git_host::GitHost;
 use crate::readers::instead::url_instead;
 use crate::readers::taken::{Taken, beside_host, beside_location, has, is_none};
-use crate::text::cut::Around;
-use crate::text::line::{Quoted, pieces_of};
+use crate::text::line::Quoted;
 use crate::text::lossy;
+use crate::text::secret::part_of_shown;
 use bstr::BString;
 use gix_url::Url;
 use gix_url::unambiguous::Condition;
@@ -59,11 +58,16 @@ pub struct OtherHost {
 }
 
 impl Readers {
-    /// Who may read the line otherwise in which this location is read.
-    pub fn of_location(alloc: Global, line: &[u8], url: &Url) -> Result<Option<Readers>, AllocError>
+    /// Who may read the line otherwise in which this location is read; its host is shown as this one.
+    pub fn of_location(
+        alloc: Global,
+        line: &[u8],
+        url: &Url,
+        host: Option<&str>,
+    ) -> Result<Option<Readers>, AllocError>
         ensures { IfOk result (λ readers. IsNone readers → IsUnambiguous url.now) }
     {
-        let others = others_of_location(alloc, line, url)?;
+        let others = others_of_location(alloc, line, url, host)?;
         match url.unmet_condition() {
             Some(unmet) => {
                 let (others, instead) = both(others, url_instead(alloc, line, url))?;
@@ -119,19 +123,19 @@ fn of_others(others: Vec<OtherHost>) -> Option<Readers> {
 }
 
 /// The other hosts that groups take from a line in which this location is read.
-fn others_of_location(alloc: Global, line: &[u8], url: &Url) -> Result<Vec<OtherHost>, AllocError> {
+fn others_of_location(
+    alloc: Global,
+    line: &[u8],
+    url: &Url,
+    host: Option<&str>,
+) -> Result<Vec<OtherHost>, AllocError> {
     let location = url.as_ref();
     let found = beside_location(line, &location);
     if is_none(found.as_slice()) {
         return Ok(Vec::new(alloc));
     }
-    let own = own_words(alloc, line, url.host())?;
-    let others = listed(
-        alloc,
-        own.as_str(),
-        found.as_slice(),
-        pieces_of(line).around_password(line),
-    );
+    let own = own_words(alloc, line, url.host(), host)?;
+    let others = listed(alloc, own.as_str(), found.as_slice(), line);
     drop(own);
     others
 }
@@ -159,25 +163,24 @@ fn others_beside(
     if is_none(found.as_slice()) {
         return Ok(Vec::new(alloc));
     }
-    let around = pieces_of(line).around_password(line);
-    let own = git_words(alloc, host, around)?;
-    let others = listed(alloc, own.as_str(), found.as_slice(), around);
+    let own = git_words(alloc, host, line)?;
+    let others = listed(alloc, own.as_str(), found.as_slice(), line);
     drop(own);
     others
 }
 
-/// Each host that a group takes, once and in the order of the groups.
+/// Each host that a group takes from a line, once and in the order of the groups.
 fn listed(
     alloc: Global,
     own: &str,
     found: &[Taken<'_>],
-    around: Around<'_>,
+    line: &[u8],
 ) -> Result<Vec<OtherHost>, AllocError> {
     let mut others: Vec<OtherHost> = Vec::new(alloc);
     for (at, it) in found.iter().enumerate() {
         if let Some(host) = it.host {
             if !has(before(found, at), host) {
-                others.push(OtherHost::of(alloc, own, found, host, around)?)?;
+                others.push(OtherHost::of(alloc, own, found, host, line)?)?;
             }
         }
     }
@@ -190,15 +193,15 @@ fn before<'b, 'a>(found: &'b [Taken<'a>], at: usize) -> &'b [Taken<'a>] {
 }
 
 impl OtherHost {
-    /// What is reported of a host that some of these groups take, after the words for the location's own.
+    /// What is reported of a host that some of these groups take from a line, after the words for the location's own.
     fn of(
         alloc: Global,
         own: &str,
         found: &[Taken<'_>],
         host: &[u8],
-        around: Around<'_>,
+        line: &[u8],
     ) -> Result<OtherHost, AllocError> {
-        let shown = shown_host(host, around);
+        let shown = part_of_shown(line, host);
         let words = both(
             names_of(alloc, found, host)?,
             words_of(alloc, own, found, host),
@@ -257,13 +260,18 @@ fn push_readers(out: &mut String, found: &[Taken<'_>], host: &[u8]) -> Result<()
     out.push_str(", take")
 }
 
-/// The host of the location in words: Git connects to it if Git reads that in the line.
-fn own_words(alloc: Global, line: &[u8], host: Option<&str>) -> Result<String, AllocError> {
+/// The host of the location in words, as it is shown: Git connects to it if Git reads that in the line.
+fn own_words(
+    alloc: Global,
+    line: &[u8],
+    host: Option<&str>,
+    shown: Option<&str>,
+) -> Result<String, AllocError> {
     let git = GitHost::in_line(alloc, line)?;
     let is_of_git = git.is_host(host);
     drop(git);
     let mut words = String::new(alloc);
-    let written = push_own(&mut words, host, is_of_git);
+    let written = push_own(&mut words, shown, is_of_git);
     let (words, ()) = both(words, written)?;
     Ok(words)
 }
@@ -281,12 +289,12 @@ fn push_own(out: &mut String, host: Option<&str>, is_of_git: bool) -> Result<(),
     }
 }
 
-/// The host that Git connects to in words, as it may be shown.
-fn git_words(alloc: Global, host: Option<&[u8]>, around: Around<'_>) -> Result<String, AllocError> {
+/// The host that Git connects to for a line in words, as it may be shown.
+fn git_words(alloc: Global, host: Option<&[u8]>, line: &[u8]) -> Result<String, AllocError> {
     let mut words = String::new(alloc);
     let written = match host {
         None => push_git(&mut words, None),
-        Some(host) => push_git(&mut words, Some(shown_host(host, around))),
+        Some(host) => push_git(&mut words, Some(part_of_shown(line, host))),
     };
     let (words, ()) = both(words, written)?;
     Ok(words)
@@ -301,9 +309,4 @@ fn push_git(out: &mut String, host: Option<&[u8]>) -> Result<(), AllocError> {
             write!(out, "Git connects to {host}")
         }
     }
-}
-
-/// The host, or the word in place of one that isn't in what may be shown of the line.
-fn shown_host<'a>(host: &'a [u8], around: Around<'_>) -> &'a [u8] {
-    if around.has(host) { host } else { b"redacted" }
 }

@@ -3,7 +3,7 @@
 //!
 //! It uses the errors of `gix_url`, and their refusals. Its contract, memory permitting: of a line that is
 //! refused the place, the reason and the words are those of its one refusal, and what Git reads in it is
-//! reported without a user, a host and a path where it may hold a password. The names of the error, of the
+//! reported without a user, a host and a path where a part of it may be a secret. The names of the error, of the
 //! form and of the fault are no part of it: the stored run shows them.
 
 ghost use Rattle.std.specs.Prelude.{◌≡◌, ◌≢◌, ℕ, IfOk, List};
@@ -76,6 +76,20 @@ impl Refusal {
         Ok(Refusal {
             git_reads,
             ..refusal
+        })
+    }
+
+    /// Why nothing is reported of what a line is read as: it isn't refused, but its parts may be secrets.
+    pub fn withheld(alloc: Global) -> Result<Refusal, AllocError> {
+        Ok(Refusal {
+            error: "Withheld",
+            kind: None,
+            fault: None,
+            at: None,
+            len: None,
+            reason: None,
+            words: String::from_str(alloc, "what it is read as may show a secret")?,
+            git_reads: None,
         })
     }
 

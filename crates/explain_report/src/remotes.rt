@@ -7,8 +7,7 @@ use crate::finding::Findings;
 use crate::memory::both;
 use crate::rules::Route;
 use crate::rules::config::Config;
-use crate::rules::setting::shown_part;
-use crate::text::lossy;
+use crate::text::secret::{shown_part, shown_text};
 use git_rules::config::Entry;
 use git_rules::remote::{Remote, RemoteError};
 use git_rules::rewrite::outcome::Rewritten;
@@ -19,7 +18,7 @@ use std::collections::BTreeMap;
 /// A remote, as Git has it of a configuration.
 #[derive(Drop, Serialize)]
 pub struct RemoteReport {
-    /// Its name.
+    /// Its name, with `redacted` for what may be a secret, as in each text of it.
     pub remote: String,
     /// What it is fetched from: Git takes the first.
     pub fetch: Vec<Route>,
@@ -27,7 +26,7 @@ pub struct RemoteReport {
     pub push: Vec<Route>,
     /// The helper that Git runs for it.
     pub vcs: Option<String>,
-    /// Its proxy, with `redacted` for what may be a secret.
+    /// Its proxy.
     pub proxy: Option<String>,
     /// The program that Git runs at the other end of a fetch.
     pub uploadpack: Option<String>,
@@ -70,7 +69,7 @@ impl RemoteReport {
         config: &Config<'a>,
         name: &'a [u8],
     ) -> Result<RemoteReport, AllocError> {
-        let shown = lossy(alloc, name)?;
+        let shown = shown_text(alloc, name)?;
         match Remote::of(alloc, config.remotes.as_slice(), &config.rewrites, name) {
             Ok(remote) => RemoteReport::shown(alloc, config, shown, &remote),
             Err(RemoteError::NoValue { at }) => Ok(RemoteReport::stopped(alloc, shown, at)),

@@ -25,7 +25,7 @@ use crate::rules::credentials::Credentials;
 use crate::rules::setting::Setting;
 use crate::rules::settings::settings_for;
 use crate::rules::transports::{Lack, Transport, transport_for};
-use crate::text::line::{input, pieces_of};
+use crate::text::secret::shown_text;
 use bstr::BString;
 use git_audit::danger::{Danger, dangers};
 use git_rules::rewrite::host::names_same_host;
@@ -51,7 +51,7 @@ pub struct Rules {
 /// Where Git goes.
 #[derive(Drop, Serialize)]
 pub struct Route {
-    /// The text, with `redacted` for its password.
+    /// The text, with `redacted` for what may be a secret.
     pub text: String,
     /// Whether a rule has rewritten it.
     pub rewritten: bool,
@@ -216,7 +216,7 @@ impl Route {
         goal: &Goal,
     ) -> Result<Route, AllocError> {
         let bytes = goal.text.as_bytes();
-        let text = input(alloc, &pieces_of(bytes))?;
+        let text = shown_text(alloc, bytes)?;
         let (text, (transport, no_transport)) = both(
             text,
             transport_for(alloc, &config.protocols, bytes),

@@ -1,10 +1,12 @@
-//! Texts as `explain` shows them: [`cut`] names the pieces of a line by the parts that the library finds in it,
-//! [`line`] says what may be shown of it and how that is spelled for a terminal, and `secret` what is hidden of
-//! a text without parts.
+//! Texts as `explain` shows them: [`secret`] has what is shown of a text, [`seen`] how a line is shown that is read as a
+//! location, by the places of `place`; [`cut`] names the pieces of a line by the parts that the library finds in it,
+//! and [`line`] says how they are spelled for a terminal.
 
 pub mod cut;
 pub mod line;
-pub(crate) mod secret;
+mod place;
+pub mod secret;
+pub mod seen;
 
 use bstr::ByteSlice;
 use std::alloc::{AllocError, Global};

@@ -5,6 +5,7 @@
 //! that the second reading finds.
 
 use crate::advice::slip::has_one_slash;
+use crate::text::secret::has_secret;
 use bstr::{BStr, ByteSlice};
 use git_audit::misreading::is_misread;
 use gix_url::parse::parse;
@@ -13,13 +14,16 @@ use std::alloc::{AllocError, Global};
 use std::fmt::Write;
 
 /// A URL of the place of this location, which is read in the line and not alike by all: all read it alike, or no group
-/// of readers takes another host from it, though one does from the line.
+/// of readers takes another host from it, though one does from the line. No part of either may be a secret.
 pub(crate) fn url_instead(
     alloc: Global,
     line: &[u8],
     url: &Url,
 ) -> Result<Option<String>, AllocError> {
-    if !url.agrees_with_git() || url.password().is_some() || has_one_slash(line) {
+    if !url.agrees_with_git() || url.password().is_some() {
+        return Ok(None);
+    }
+    if has_secret(line) || has_one_slash(line) {
         return Ok(None);
     }
     match rooted_path(url) {
@@ -102,7 +106,7 @@ fn push_host(out: &mut String, host: Option<&str>) -> Result<(), AllocError> {
 
 /// Whether a text that is read as another location names the same place, and others read it better than the line.
 fn is_read_better(line: &[u8], url: &Url, text: &[u8], other: &Url) -> bool {
-    if !is_same_place(url, other) || !other.agrees_with_git() {
+    if !is_same_place(url, other) || !other.agrees_with_git() || has_secret(text) {
         return false;
     }
     if is_misread(text, &other.as_ref()) {

@@ -1,10 +1,11 @@
 //! What Git's credential code uses of a configuration for a text of HTTP.
 //!
-//! It uses `credential` of `git_reads` and `credentials` of `git_rules`, and `setting` for what is shown. It has no
-//! contract but that it can't abort: `scripts/hostile rules` shows its answers.
+//! It uses `credential` of `git_reads` and `credentials` of `git_rules`, and `setting` and `secret` for what is shown.
+//! It has no contract but that it can't abort: `scripts/hostile rules` shows its answers.
 
 use crate::memory::both;
-use crate::rules::setting::{Setting, shown_part};
+use crate::rules::setting::Setting;
+use crate::text::secret::{has_secret, part_of_shown, shown_part};
 use git_rules::config::Entry;
 use git_rules::credentials::{self, CredentialsError, credentials_for};
 use gix_url::credential::{Buffers, reading};
@@ -34,7 +35,10 @@ impl Credentials {
             return Ok(None);
         };
         match credentials_for(alloc, entries, &request) {
-            Ok(used) => Ok(Some(Credentials::shown(alloc, entries, &used)?)),
+            Ok(used) => {
+                let user = user_of(text, request.user, used.user);
+                Ok(Some(Credentials::shown(alloc, entries, &used, user)?))
+            }
             Err(CredentialsError::Memory) => Err(AllocError),
             Err(CredentialsError::NoValue { at: _ } | CredentialsError::NoBoolean { at: _ }) => {
                 Ok(None)
@@ -42,21 +46,30 @@ impl Credentials {
         }
     }
 
-    /// What is used of these entries, as it is shown.
+    /// What is used of these entries and for this user, as it is shown.
     fn shown(
         alloc: Global,
         entries: &[Entry<'_>],
         used: &credentials::Credentials<'_>,
+        user: Option<&[u8]>,
     ) -> Result<Credentials, AllocError> {
         let mut helpers = Vec::new(alloc);
         for entry in used.helpers.iter().filter_map(|i| entries.get(*i)) {
             helpers.push(Setting::of(alloc, entry)?)?;
         }
-        let (helpers, user) = both(helpers, shown_part(alloc, used.user))?;
+        let (helpers, user) = both(helpers, shown_part(alloc, user))?;
         Ok(Credentials {
             helpers,
             user,
             use_http_path: used.use_http_path,
         })
+    }
+}
+
+/// The user that is used: one that is asked for in a text that may have a secret only if the text shows it.
+fn user_of<'a>(text: &[u8], asked: Option<&[u8]>, used: Option<&'a [u8]>) -> Option<&'a [u8]> {
+    match used {
+        Some(user) if asked.is_some() && has_secret(text) => Some(part_of_shown(text, user)),
+        _ => used,
     }
 }

@@ -1,16 +1,13 @@
-//! Entries of a configuration as they are shown: with their place, and without what may be a password or a
-//! token.
+//! Entries of a configuration as they are shown: with their place, and without what may be a secret.
 //!
-//! It uses `config` of `git_rules`, and `secret` for what may be one. Its contract: the place of an entry is the
-//! entry's own.
+//! It uses `config` of `git_rules`, and `secret` for what is shown of a text. Its contract: the place of an entry is the
+//! entry's own; and of a value that is a header, or a helper that is a command, a word alone is shown.
 
 ghost use Rattle.std.specs.Prelude.{◌≡◌, IfOk};
 
 use crate::memory::both;
-use crate::text::line::push_lossy;
-use crate::text::secret::around_secret;
+use crate::text::secret::shown_text;
 use git_rules::config::Entry;
-use git_syntax::bytes::cut_at_mark;
 use serde::Serialize;
 use std::alloc::{AllocError, Global};
 
@@ -49,15 +46,20 @@ impl Setting {
 
 /// The key of an entry.
 fn key_of(alloc: Global, entry: &Entry<'_>) -> Result<String, AllocError> {
-    let mut key = String::new(alloc);
-    push_lossy(&mut key, entry.section)?;
+    let mut key = shown_text(alloc, entry.section)?;
     if let Some(subsection) = entry.subsection {
-        key.push('.')?;
-        push_shown(&mut key, subsection)?;
+        push_behind_dot(&mut key, shown_text(alloc, subsection)?)?;
     }
-    key.push('.')?;
-    push_lossy(&mut key, entry.name)?;
+    push_behind_dot(&mut key, shown_text(alloc, entry.name)?)?;
     Ok(key)
+}
+
+/// Appends a dot, and a text.
+fn push_behind_dot(out: &mut String, text: String) -> Result<(), AllocError> {
+    out.push('.')?;
+    let pushed = out.push_str(text.as_str());
+    drop(text);
+    pushed
 }
 
 /// The value of an entry, if it has one.
@@ -65,22 +67,10 @@ fn value_of(alloc: Global, entry: &Entry<'_>) -> Result<Option<String>, AllocErr
     let Some(value) = entry.value else {
         return Ok(None);
     };
-    let mut text = String::new(alloc);
     match hidden_value(entry, value) {
-        Some(word) => text.push_str(word)?,
-        None => push_shown(&mut text, value)?,
+        Some(word) => Ok(Some(String::from_str(alloc, word)?)),
+        None => Ok(Some(shown_text(alloc, value)?)),
     }
-    Ok(Some(text))
-}
-
-/// A part as it is shown, if it is there.
-pub fn shown_part(alloc: Global, part: Option<&[u8]>) -> Result<Option<String>, AllocError> {
-    let Some(part) = part else {
-        return Ok(None);
-    };
-    let mut text = String::new(alloc);
-    push_shown(&mut text, part)?;
-    Ok(Some(text))
 }
 
 /// What is shown in place of a value that may be a secret as a whole: a header, or a helper that is a command
@@ -94,30 +84,5 @@ fn hidden_value(entry: &Entry<'_>, value: &[u8]) -> Option<&'static str> {
         Some("!redacted")
     } else {
         None
-    }
-}
-
-/// Appends a text, with `redacted` for what may be a secret: behind `://`, where that is, all between the
-/// first `:` and the last `@`.
-fn push_shown(out: &mut String, text: &[u8]) -> Result<(), AllocError> {
-    match cut_at_mark(text) {
-        Some((scheme, behind)) => {
-            push_lossy(out, scheme)?;
-            out.push_str("://")?;
-            push_around_secret(out, behind)
-        }
-        None => push_around_secret(out, text),
-    }
-}
-
-/// Appends a text, with `redacted` for what is between the first `:` and the last `@`.
-fn push_around_secret(out: &mut String, text: &[u8]) -> Result<(), AllocError> {
-    match around_secret(text) {
-        Some((user, _, rest)) => {
-            push_lossy(out, user)?;
-            out.push_str(":redacted@")?;
-            push_lossy(out, rest)
-        }
-        None => push_lossy(out, text),
     }
 }

@@ -1,10 +1,12 @@
 //! A line cut into pieces, each of which has a name: what people are shown of how a line is read.
 //!
-//! Where the parts of a location are is said by `git_refusals`; what is between two of them is a mark. It
-//! uses `bstr`, asks for no memory, and has no contract but that it can't abort. What a password is can't be
-//! had of a piece: outside of this module the word stands for it.
+//! Where the parts of a location are is said by `git_refusals`, and what is between two of them is a mark; what may be
+//! a secret in another line is said by `git_audit`. It uses `bstr`, asks for no memory, and has no contract but that it
+//! can't abort. What a secret is can't be had of a piece: outside of this module the word stands for it.
 
+use crate::text::secret::{REDACTED, between, size_of};
 use bstr::ByteSlice;
+use git_audit::secret::secrets;
 use git_refusals::parts::{PartForm, Parts, Span};
 
 /// What a piece of a line is.
@@ -12,6 +14,7 @@ use git_refusals::parts::{PartForm, Parts, Span};
 pub enum Part {
     Scheme,
     User,
+    /// A password, or what may be another secret.
     Password,
     Host,
     Port,
@@ -27,7 +30,7 @@ pub enum Part {
     Unknown,
 }
 
-/// A piece of a line. What a password is can't be had of it.
+/// A piece of a line. What a secret is can't be had of it.
 #[derive(Clone, Copy)]
 pub struct Piece<'a> {
     part: Part,
@@ -40,18 +43,11 @@ pub struct Cut<'a> {
     pieces: [Piece<'a>; PIECES],
 }
 
-/// What of a line is before a password and behind it; all of a line without one is before it.
-#[derive(Clone, Copy)]
-pub struct Around<'a> {
-    front: &'a [u8],
-    behind: &'a [u8],
-}
-
 /// As many pieces as a URL has at most.
 pub const PIECES: usize = 17;
 
-/// The word that is shown in place of a password.
-const REDACTED: &[u8] = b"redacted";
+/// As many pieces as there may be before the last one: what is shown and a secret behind it, eight times.
+const FILLED: usize = 16;
 
 impl<'a> Piece<'a> {
     /// A piece of a line.
@@ -69,7 +65,7 @@ impl<'a> Piece<'a> {
         self.part
     }
 
-    /// What may be shown of it: its text, or the word in place of a password.
+    /// What may be shown of it: its text, or the word in place of a secret.
     pub fn shown(&self) -> &'a [u8] {
         match self.part {
             Part::Password if !self.text.is_empty() => REDACTED,
@@ -80,11 +76,6 @@ impl<'a> Piece<'a> {
     /// How many bytes of the line it takes.
     pub fn len(&self) -> usize {
         self.text.len()
-    }
-
-    /// Whether it is a password with a byte.
-    fn is_password(&self) -> bool {
-        matches!(self.part, Part::Password) && !self.text.is_empty()
     }
 
     /// Whether it is the scheme of HTTP.
@@ -104,46 +95,20 @@ impl<'a> Cut<'a> {
         self.pieces.as_slice()
     }
 
-    /// What of the line, which has these pieces, is around its password. An empty one is none.
-    pub fn around_password(&self, line: &'a [u8]) -> Around<'a> {
+    /// A line without parts: what may be secrets, and what is between them. Behind the eighth secret all is one piece,
+    /// which is hidden if a secret is in it.
+    pub(crate) fn of_secrets(line: &'a [u8]) -> Cut<'a> {
+        let mut filling = Filling::of(line);
         let mut at = 0usize;
-        for piece in self.pieces() {
-            if piece.is_password() {
-                let (front, rest) = line.split_at(at.min(line.len()));
-                let (_, behind) = rest.split_at(piece.len().min(rest.len()));
-                return Around { front, behind };
+        for piece in secrets(line) {
+            let (len, is_hidden) = size_of(piece);
+            let end = at.saturating_add(len);
+            if is_hidden {
+                filling.hide(at, end);
             }
-            at = at.saturating_add(piece.len());
+            at = end;
         }
-        Around {
-            front: line,
-            behind: b"",
-        }
-    }
-
-    /// A line of which nothing is known.
-    pub(crate) fn unknown(line: &'a [u8]) -> Cut<'a> {
-        let mut pieces = [Piece::mark(b""); PIECES];
-        pieces[0] = Piece::new(Part::Unknown, line);
-        Cut { pieces }
-    }
-
-    /// A refused line around what may be a password: what is before `://`, from there to the `:` before it,
-    /// the secret, and what follows the `@` behind it.
-    pub(crate) fn around_secret(
-        front: &'a [u8],
-        user: &'a [u8],
-        secret: &'a [u8],
-        rest: &'a [u8],
-    ) -> Cut<'a> {
-        let mut cut = Cut::unknown(front);
-        cut.pieces[1] = Piece::mark(b"://");
-        cut.pieces[2] = Piece::new(Part::Unknown, user);
-        cut.pieces[3] = Piece::mark(b":");
-        cut.pieces[4] = Piece::new(Part::Password, secret);
-        cut.pieces[5] = Piece::mark(b"@");
-        cut.pieces[6] = Piece::new(Part::Unknown, rest);
-        cut
+        filling.ended()
     }
 
     /// A text with these parts.
@@ -191,10 +156,60 @@ impl<'a> Cut<'a> {
     }
 }
 
-impl Around<'_> {
-    /// Whether the text is a part of what is before the password, or of what is behind it.
-    pub fn has(&self, text: &[u8]) -> bool {
-        self.front.contains_str(text) || self.behind.contains_str(text)
+/// The pieces of a line so far, how many there are, and the place behind them.
+#[derive(Drop)]
+struct Filling<'a> {
+    line: &'a [u8],
+    pieces: [Piece<'a>; PIECES],
+    filled: usize,
+    at: usize,
+    /// Whether a secret is behind them.
+    hides_more: bool,
+}
+
+impl<'a> Filling<'a> {
+    /// No piece of this line.
+    fn of(line: &'a [u8]) -> Filling<'a> {
+        Filling {
+            line,
+            pieces: [Piece::mark(b""); PIECES],
+            filled: 0,
+            at: 0,
+            hides_more: false,
+        }
+    }
+
+    /// Adds what is shown before a secret, and the secret, as long as there is a place for it.
+    fn hide(&mut self, begin: usize, end: usize) {
+        if FILLED <= self.filled {
+            self.hides_more = true;
+            return;
+        }
+        self.push(Part::Unknown, begin);
+        self.push(Part::Password, end);
+    }
+
+    /// Adds what goes to this place as a piece.
+    fn push(&mut self, part: Part, end: usize) {
+        let (text, filled) = (between(self.line, self.at, end), self.filled);
+        if let Some(piece) = self.pieces.get_mut(filled) {
+            *piece = Piece::new(part, text);
+        }
+        self.filled = filled.saturating_add(1);
+        self.at = end;
+    }
+
+    /// All pieces, the last one with what is left.
+    fn ended(self) -> Cut<'a> {
+        let mut all = self;
+        let part = if all.hides_more {
+            Part::Password
+        } else {
+            Part::Unknown
+        };
+        let len = all.line.len();
+        all.push(part, len);
+        Cut { pieces: all.pieces }
     }
 }
 

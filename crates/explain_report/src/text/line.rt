@@ -1,16 +1,14 @@
-//! What may be shown of a line, and how its text is spelled for a terminal.
+//! A line in its pieces, and how a text is spelled for a terminal.
 //!
-//! A line with a password is shown with the word `redacted` in its place. Of a refused line all that may be a
-//! password is hidden. Text goes out with `\` doubled and each control character, each byte that is no UTF-8
-//! and each character that isn't seen or takes no column escaped as `Debug` of a byte string spells them;
-//! quotes are as they are. So what is shown is one text's alone, and speaks to no terminal. It uses `cut`,
-//! `secret`, the library's `parts_of`, and the crates `bstr` and `unicode_width`.
+//! Text goes out with `\` doubled and each control character, each byte that is no UTF-8 and each character that isn't
+//! seen or takes no column escaped as `Debug` of a byte string spells them; quotes are as they are. So what is shown
+//! is one text's alone, and speaks to no terminal. It uses `cut`, `secret`, the library's `parts_of`, and the crates
+//! `bstr` and `unicode_width`.
 
 use crate::text::cut::{Cut, Part, Piece};
-use crate::text::secret::around_secret;
-use bstr::{BStr, ByteSlice};
+use crate::text::secret::{between, shown_text};
+use bstr::ByteSlice;
 use git_refusals::parts::parts_of;
-use git_syntax::bytes::cut_at_mark;
 use std::alloc::{AllocError, Global};
 use std::fmt::{self, Write};
 use unicode_width::UnicodeWidthChar;
@@ -20,48 +18,34 @@ use unicode_width::UnicodeWidthChar;
 pub struct SeenLine<'a> {
     /// Its pieces.
     pub cut: Cut<'a>,
-    /// The line as one text, with the word for a password and U+FFFD for bytes that are no UTF-8.
+    /// The line as one text, with the word for what may be a secret and U+FFFD for bytes that are no UTF-8.
     pub input: String,
 }
 
 impl<'a> SeenLine<'a> {
-    /// The line as it may be shown.
+    /// A line as it may be shown, which is refused or has a secret in its password alone.
     pub fn of(alloc: Global, line: &'a [u8]) -> Result<SeenLine<'a>, AllocError> {
-        let cut = pieces_of(line);
-        let input = input(alloc, &cut)?;
+        SeenLine::in_pieces(alloc, line, pieces_of(line))
+    }
+
+    /// A line as it may be shown, without the parts of its location.
+    pub fn without_parts(alloc: Global, line: &'a [u8]) -> Result<SeenLine<'a>, AllocError> {
+        SeenLine::in_pieces(alloc, line, Cut::of_secrets(line))
+    }
+
+    /// A line as it may be shown, in these pieces.
+    fn in_pieces(alloc: Global, line: &[u8], cut: Cut<'a>) -> Result<SeenLine<'a>, AllocError> {
+        let input = shown_text(alloc, line)?;
         Ok(SeenLine { cut, input })
     }
 }
 
-/// The pieces of a line: the parts of its location, or of a refused line what is around a secret.
+/// The pieces of a line: the parts of its location, or of a refused line what may be secrets and what is between them.
 pub fn pieces_of(line: &[u8]) -> Cut<'_> {
     match parts_of(line) {
         Ok(parts) => Cut::of_parts(line, &parts),
-        Err(_) => refused(line).unwrap_or(Cut::unknown(line)),
+        Err(_) => Cut::of_secrets(line),
     }
-}
-
-/// The pieces of a refused line around what may be a password, if there may be one: what is between the first
-/// `:` behind its first `://` and its last `@`.
-fn refused(line: &[u8]) -> Option<Cut<'_>> {
-    let (front, behind) = cut_at_mark(line)?;
-    let (user, secret, rest) = around_secret(behind)?;
-    Some(Cut::around_secret(front, user, secret, rest))
-}
-
-/// The line as one text, with U+FFFD for bytes that are no UTF-8.
-pub fn input(alloc: Global, cut: &Cut<'_>) -> Result<String, AllocError> {
-    let mut text = String::new(alloc);
-    for piece in cut.pieces() {
-        push_lossy(&mut text, piece.shown())?;
-    }
-    Ok(text)
-}
-
-/// Appends a text, with U+FFFD for bytes that are no UTF-8.
-pub(crate) fn push_lossy(out: &mut String, text: &[u8]) -> Result<(), AllocError> {
-    let text = BStr::new(text);
-    write!(out, "{text}")
 }
 
 /// How a character is spelled.
@@ -256,14 +240,6 @@ pub fn end(text: &[u8], limit: usize) -> &[u8] {
         }
     }
     text
-}
-
-/// The bytes from one place to another.
-fn between(text: &[u8], from: usize, to: usize) -> &[u8] {
-    match text.get(from..to) {
-        Some(bytes) => bytes,
-        None => b"",
-    }
 }
 
 /// The text before a place and from there on. A place inside a character means its beginning, one past the

@@ -1,17 +1,116 @@
-//! What may be a secret in a text that has no parts, as a refused line or a value of a configuration.
+//! Texts as they are shown: with the word `redacted` in place of what may be a secret.
 //!
-//! It uses the cuts of `git_syntax`. Its contract: a text is cut at its first `:` and at its last `@`, where such
-//! a `:` is before such an `@`.
+//! It uses `secret` of `git_audit`, whose definition decides what may be one. Its contract: what is shown of a text is
+//! its pieces by that definition, with the word for each that may be a secret.
 
-ghost use Rattle.explain_report.specs.Secrets.{SurroundsSecret};
+ghost use Rattle.std.specs.Prelude.{◌≡◌, ◌++◌, IfOk, OnOk};
+ghost use Rattle.explain_report.specs.Secrets.{has_secret, is_hidden, part_shown, shown_of};
+ghost use Rattle.git_audit.specs.Secrets.{piece_part};
 
-use git_syntax::bytes::{cut, last_cut};
+use crate::text::lossy;
+use bstr::ByteSlice;
+use git_audit::secret::{Piece, secrets};
+use std::alloc::{AllocError, Global};
 
-/// What is before the first `:`, what may be a secret, and what is behind the last `@`.
-pub(crate) fn around_secret(text: &[u8]) -> Option<(&[u8], &[u8], &[u8])>
-    ensures { SurroundsSecret text.now result }
+/// The word in place of what may be a secret.
+pub const REDACTED: &[u8] = b"redacted";
+
+/// Whether a part of the text may be a secret.
+pub fn has_secret(text: &[u8]) -> bool
+    ensures { result ≡ has_secret text.now }
 {
-    let (information, rest) = last_cut(text, b'@')?;
-    let (user, secret) = cut(information, b':')?;
-    Some((user, secret, rest))
+    for piece in secrets(text) {
+        if is_hidden(piece) {
+            return true;
+        }
+    }
+    false
+}
+
+/// Whether a piece may be a secret.
+fn is_hidden(piece: Piece<'_>) -> bool
+    ensures { result ≡ is_hidden (piece_part piece.entry) }
+{
+    match piece {
+        Piece::Shown(_) => false,
+        Piece::Hidden(_) => true,
+    }
+}
+
+/// The text as it is shown, byte for byte.
+pub fn shown_bytes(alloc: Global, text: &[u8]) -> Result<Vec<u8>, AllocError>
+    ensures { IfOk result (λ shown. shown.items ≡ shown_of text.now) }
+{
+    let mut out = Vec::new(alloc);
+    for piece in secrets(text) {
+        push_piece(&mut out, piece)?;
+    }
+    Ok(out)
+}
+
+/// Appends a piece as it is shown.
+fn push_piece(out: &mut Vec<u8>, piece: Piece<'_>) -> Result<(), AllocError>
+    ensures { OnOk result (out.new.items ≡ out.old.items ++ part_shown (piece_part piece.entry)) }
+{
+    match piece {
+        Piece::Shown(bytes) => out.extend_from_slice(bytes),
+        Piece::Hidden(_) => out.extend_from_slice(b"redacted"),
+    }
+}
+
+/// The text as it is shown. Bytes that are no UTF-8 are U+FFFD.
+pub fn shown_text(alloc: Global, text: &[u8]) -> Result<String, AllocError> {
+    let bytes = shown_bytes(alloc, text)?;
+    let shown = lossy(alloc, bytes.as_slice());
+    drop(bytes);
+    shown
+}
+
+/// A part as it is shown, if it is there.
+pub fn shown_part(alloc: Global, part: Option<&[u8]>) -> Result<Option<String>, AllocError> {
+    match part {
+        None => Ok(None),
+        Some(part) => Ok(Some(shown_text(alloc, part)?)),
+    }
+}
+
+/// A part of a text, or the word in place of one that isn't in a piece of the text that is shown.
+pub fn part_of_shown<'a>(text: &[u8], part: &'a [u8]) -> &'a [u8] {
+    if is_in_shown(text, part) {
+        part
+    } else {
+        REDACTED
+    }
+}
+
+/// Whether some bytes are in a part of the text that may be shown.
+fn is_in_shown(text: &[u8], bytes: &[u8]) -> bool {
+    let (mut begin, mut at) = (0usize, 0usize);
+    for piece in secrets(text) {
+        let (len, is_hidden) = size_of(piece);
+        if is_hidden {
+            if between(text, begin, at).contains_str(bytes) {
+                return true;
+            }
+            begin = at.saturating_add(len);
+        }
+        at = at.saturating_add(len);
+    }
+    between(text, begin, text.len()).contains_str(bytes)
+}
+
+/// How many bytes a piece has, and whether it is hidden.
+pub(crate) fn size_of(piece: Piece<'_>) -> (usize, bool) {
+    match piece {
+        Piece::Shown(bytes) => (bytes.len(), false),
+        Piece::Hidden(bytes) => (bytes.len(), true),
+    }
+}
+
+/// The bytes from one place of a text to another.
+pub(crate) fn between(text: &[u8], from: usize, to: usize) -> &[u8] {
+    match text.get(from..to) {
+        Some(bytes) => bytes,
+        None => b"",
+    }
 }

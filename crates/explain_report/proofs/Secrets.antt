@@ -1,0 +1,2 @@
+-- What is shown of a text.
+pub mod PieceLemmas

@@ -1,0 +1,198 @@
+//! How a line is shown that is read as a location: as itself, with the word for its password; or, where something else
+//! in it may be a secret, as the text that is shown of it, and what is reported is read in that.
+//!
+//! It uses `secret` for what is shown of the line, the library's `parts_of`, and `parse` of `gix_url`. Its contract,
+//! memory permitting: a line that is shown as itself is what is shown of it but for one part; another line is what is
+//! shown of it, and is read as a location with the same verdicts.
+
+ghost use Rattle.std.specs.Prelude.{◌≡◌, ◌++◌, ℕ, IfOk, IsTrue, List};
+ghost use Rattle.git_syntax.specs.Grammar.{Spells};
+ghost use Rattle.gix_url.specs.Location.{Location};
+ghost use Rattle.explain_report.specs.Secrets.{HaveSameVerdicts, IsSeen, IsShownAround, password_shown, shown_of};
+
+use crate::text::place::is_moved;
+use crate::text::secret::{REDACTED, has_secret, shown_bytes};
+use bstr::BStr;
+use git_audit::secret::law::law_secrets;
+use git_refusals::parts::{Parts, Span, parts_of};
+use gix_url::parse::parse;
+use gix_url::{Error, Url};
+use std::alloc::{AllocError, Global};
+
+/// How a line is shown that is read as a location.
+#[derive(Drop)]
+pub enum Seen {
+    /// As itself, with the word for its password if it has one.
+    Line,
+    /// As another line, which is read as another location.
+    Other(OtherLine),
+    /// Nothing is shown of what it is read as.
+    Withheld,
+}
+
+/// A line that is shown in place of one that may have secrets.
+#[derive(Drop)]
+pub struct OtherLine {
+    pub line: Vec<u8>,
+    /// The location that is read in it.
+    pub url: Url,
+}
+
+impl Seen {
+    /// How a line is shown in which this location is read.
+    pub fn of(alloc: Global, line: &[u8], url: &Url) -> Result<Seen, AllocError>
+        ensures { IfOk result (IsSeen line.now url.now) }
+    {
+        law_secrets();
+        if !has_secret(line) {
+            return Ok(Seen::Line);
+        }
+        let shown = shown_bytes(alloc, line)?;
+        if is_around_password(line, shown.as_slice()) {
+            drop(shown);
+            return Ok(Seen::Line);
+        }
+        Seen::of_other(alloc, line, url, shown)
+    }
+
+    /// How a line is shown in place of which this one may be.
+    fn of_other(alloc: Global, line: &[u8], url: &Url, shown: Vec<u8>) -> Result<Seen, AllocError>
+        requires { shown.items ≡ shown_of line.now }
+        ensures { IfOk result (IsSeen line.now url.now) }
+    {
+        match parse(alloc, BStr::new(shown.as_slice())) {
+            Ok(other) => Ok(Seen::of_location(
+                line,
+                url,
+                OtherLine {
+                    line: shown,
+                    url: other,
+                },
+            )),
+            Err(error) => Seen::of_error(shown, error),
+        }
+    }
+
+    /// How a line is shown in place of which this one is read as a location.
+    fn of_location(line: &[u8], url: &Url, other: OtherLine) -> Seen
+        requires shown { other.line.items ≡ shown_of line.now }
+        requires spelled { Spells (shown_of line.now) other.url }
+        ensures { IsSeen line.now url.now result }
+    {
+        if has_same_verdicts(url, &other.url) && has_same_parts(line, other.line.as_slice()) {
+            return Seen::Other(other);
+        }
+        drop(other);
+        Seen::Withheld
+    }
+
+    /// How a line is shown in place of which this one is refused, unless it is memory that was refused.
+    fn of_error(shown: Vec<u8>, error: Error) -> Result<Seen, AllocError>
+        ensures { (line : List ℕ) (v : Location) → IfOk result (IsSeen line v) }
+    {
+        drop(shown);
+        let is_memory = matches!(&error, Error::Memory);
+        drop(error);
+        if is_memory {
+            return Err(AllocError);
+        }
+        Ok(Seen::Withheld)
+    }
+
+    /// The line and the location of which may be shown what is read in this line, if there are such.
+    pub fn shown<'b>(&'b self, line: &'b [u8], url: &'b Url) -> Option<(&'b [u8], &'b Url)> {
+        match self {
+            Seen::Line => Some((line, url)),
+            Seen::Other(other) => Some((other.line.as_slice(), &other.url)),
+            Seen::Withheld => None,
+        }
+    }
+}
+
+/// Whether both are settled or not, and Git reads the same in both or isn't known to.
+fn has_same_verdicts(url: &Url, other: &Url) -> bool
+    ensures { IsTrue result → HaveSameVerdicts url.now other.now }
+{
+    url.is_settled() == other.is_settled() && url.agrees_with_git() == other.agrees_with_git()
+}
+
+/// Whether what is shown of a line is the line, with the word for its password if it has one.
+fn is_around_password(line: &[u8], shown: &[u8]) -> bool
+    requires { shown.now ≡ shown_of line.now }
+    ensures { IsTrue result → IsShownAround line.now }
+{
+    match password_of(line) {
+        None => is_same(line, shown),
+        Some(span) => is_around(line, span, shown),
+    }
+}
+
+/// The place of the password of a line, if it has one.
+fn password_of(line: &[u8]) -> Option<Span> {
+    match parts_of(line) {
+        Ok(parts) => parts.password,
+        Err(_) => None,
+    }
+}
+
+/// Whether what is shown of a line is the line, with the word for the password at this place.
+fn is_around(line: &[u8], span: Span, shown: &[u8]) -> bool
+    requires { shown.now ≡ shown_of line.now }
+    ensures { IsTrue result → IsShownAround line.now }
+{
+    let (front, behind) = line.split_at(span.at.min(line.len()));
+    let (password, rest) = behind.split_at(span.len.min(behind.len()));
+    is_joined(shown, front, word_for(password), rest)
+}
+
+/// The word for a password, or nothing for an empty one.
+fn word_for(password: &[u8]) -> &'static [u8]
+    ensures { result.now ≡ password_shown password.now }
+{
+    match password {
+        [] => b"",
+        _ => REDACTED,
+    }
+}
+
+/// Whether a text is these three, one after the other.
+fn is_joined(text: &[u8], front: &[u8], word: &[u8], rest: &[u8]) -> bool
+    ensures { IsTrue result → text.now ≡ front.now ++ (word.now ++ rest.now) }
+{
+    let (head, behind) = text.split_at(front.len().min(text.len()));
+    is_same(head, front) && is_both(behind, word, rest)
+}
+
+/// Whether a text is these two, one after the other.
+fn is_both(text: &[u8], word: &[u8], rest: &[u8]) -> bool
+    ensures { IsTrue result → text.now ≡ word.now ++ rest.now }
+{
+    let (head, behind) = text.split_at(word.len().min(text.len()));
+    is_same(head, word) && is_same(behind, rest)
+}
+
+/// Whether both texts are the same.
+fn is_same(text: &[u8], other: &[u8]) -> bool
+    ensures { IsTrue result → text.now ≡ other.now }
+{
+    text == other
+}
+
+/// Whether the other line, which is what is shown of this one, has the same parts.
+fn has_same_parts(line: &[u8], other: &[u8]) -> bool {
+    match (parts_of(line), parts_of(other)) {
+        (Ok(parts), Ok(others)) => are_moved(line, &parts, &others),
+        _ => false,
+    }
+}
+
+/// Whether each part is where the line shows it.
+fn are_moved(line: &[u8], parts: &Parts, others: &Parts) -> bool {
+    parts.form == others.form
+        && is_moved(line, parts.scheme, others.scheme)
+        && is_moved(line, parts.user, others.user)
+        && is_moved(line, parts.password, others.password)
+        && is_moved(line, parts.host, others.host)
+        && is_moved(line, parts.port, others.port)
+        && is_moved(line, Some(parts.path), Some(others.path))
+}
