@@ -1,15 +1,18 @@
-"""What of a line is shown: the program `explain` over lines with a marked secret, in each layout.
+"""The program `explain` over lines with a marked secret, in each layout: what is shown of them.
 
-The lines are short inputs, realistic remotes, and changes by chance of lines with a secret. The secret is never shown where
-the second reading hides it; the member `input` is what the second reading says; and in the text layout each piece stands
-for the field that the second reading has of the line as it is shown. No answer holds a control character. Of lines with the
-secret in thirty shapes no layout shows it, nor does a configuration with it.
+The lines are short inputs, realistic remotes, and changes by chance of lines with a secret. No layout shows the secret of a
+line that hides it by the second reading. The member `input` is that of the second reading; in the text layout each piece is
+the field that the second reading has of the line as it is shown. No answer holds a control character. No layout shows the
+secret of lines in forty shapes, or that of a configuration.
+
+usage: tools/explain_secrets.py COUNT      that many changed lines in place of those of the gate, in each layout
 """
 import collections
 import json
 import random
 import re
 import subprocess
+import sys
 import unicodedata
 
 import make_remotes
@@ -60,11 +63,17 @@ def changed(line, chance):
     return line
 
 
-def lines(count, seed=1):
+def changes(count, seed=1):
+    """So many changes of lines with the secret."""
     chance = random.Random(seed)
     secrets = (SECRET, SECRET, SECRET + b"%40x", b"%41" + SECRET, b"\xc3\xbc" + SECRET)
-    changes = [changed(chance.choice(SEEDS) % chance.choice(secrets), chance) for _ in range(count)]
-    return list(dict.fromkeys([*short_inputs.short_inputs(), *make_remotes.remotes(), *changes]))
+    for _ in range(count):
+        line = chance.choice(SHAPES) if chance.random() < 0.5 else chance.choice(SEEDS) % chance.choice(secrets)
+        yield changed(line, chance)
+
+
+def lines(changed_lines):
+    return list(dict.fromkeys([*short_inputs.short_inputs(), *make_remotes.remotes(), *changed_lines]))
 
 
 def answers(given, *words):
@@ -168,14 +177,14 @@ def faults_of(line, told, answer):
     return faults, kind_of(v, line, other, found)
 
 
-def faults_of_shapes():
-    """The layouts that show the secret of a line in one of its shapes, or of a configuration with it."""
-    given = b"".join(it + b"\n" for it in SHAPES)
+def faults_of_layouts(hiding):
+    """The layouts that show the secret of a line that hides it, or that of a configuration."""
+    given = b"".join(it + b"\n" for it in hiding)
     entries = b"".join(b"%b\n%b\0" % it for it in ENTRIES)
-    lines = [it.decode() for it in (*SHAPES, b"https://h/x", b"gh:x") if it.isascii()]
+    texts = [it.decode() for it in (*SHAPES, b"https://h/x", b"gh:x") if it.isascii()]
     for words in (*LAYOUTS, *([f"--only={it}"] for it in NAMES if it not in ("password", "helper", "address"))):
-        for given_words, text in ((words, given), ([*words, "--config=-", *lines], entries)):
-            ran = subprocess.run([program("explain"), *given_words], input=text, stdout=subprocess.PIPE, stderr=subprocess.PIPE, timeout=300)
+        for given_words, text in ((words, given), ([*words, "--config=-", *texts], entries)):
+            ran = subprocess.run([program("explain"), *given_words], input=text, stdout=subprocess.PIPE, stderr=subprocess.PIPE, timeout=900)
             if SECRET in ran.stdout + ran.stderr:
                 yield f"{words} shows the secret: {[it for it in (ran.stdout + ran.stderr).splitlines() if SECRET in it][:2]}"
     ran = subprocess.run([program("explain"), "--remotes"], input=entries, stdout=subprocess.PIPE, stderr=subprocess.PIPE, timeout=300)
@@ -184,12 +193,21 @@ def faults_of_shapes():
 
 
 def check(_room, count=3_000):
-    given = lines(count)
+    """The faults, and counts of how lines were shown."""
+    changed_lines = list(dict.fromkeys(changes(count)))
+    given = lines(changed_lines)
     told, shown = answers(given, "--json"), answers(given)
     faults, kinds = [], collections.Counter()
     for line, one, other in zip(given, told, shown, strict=True):
         wrong, kind = faults_of(line, one, other)
         kinds[kind] += 1
         faults += [f"{it}: {line!r}" for it in wrong]
-    faults += faults_of_shapes()
-    return faults[:50], [f"{len(given)} lines: " + ", ".join(f"{kinds[it]} {it}" for it in sorted(kinds))]
+    hiding = [*SHAPES, *filter(is_secret, changed_lines)]
+    faults += faults_of_layouts(hiding)
+    return faults[:50], [f"{len(given)} lines: " + ", ".join(f"{kinds[it]} {it}" for it in sorted(kinds)), f"{len(hiding)} with a secret in each layout"]
+
+
+if __name__ == "__main__":
+    found, counts = check(None, int(sys.argv[1]))
+    print(*found, *counts, sep="\n")
+    sys.exit(1 if found else 0)

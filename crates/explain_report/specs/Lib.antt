@@ -3,6 +3,7 @@ pub mod Differences
 pub mod Reports
 pub mod Refusals
 pub mod Secrets
+pub mod Entries
 pub mod Rules
 pub mod Findings
 pub mod Hints

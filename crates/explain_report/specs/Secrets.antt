@@ -1,6 +1,7 @@
 -- What is shown of a text: its pieces, with a word in place of each that may be a secret.
 use Rattle.std.specs.Prelude.{◌≡◌, ◌↔◌, ⊤, ℕ, Bool, true, false, List, [], ◌∷◌, ◌++◌, codes}
 use Rattle.std.specs.List.{list_any}
+use Rattle.git_syntax.specs.Bytes.{lossy_text}
 use Rattle.git_syntax.specs.Grammar.{Spells}
 use Rattle.gix_url.specs.GitClass.{AgreesWithGit}
 use Rattle.gix_url.specs.Location.{Location}
@@ -22,6 +23,20 @@ parts_shown (part ∷ parts) = part_shown part ++ parts_shown parts
 -- a text as it is shown
 abbrev pub shown_of : List ℕ → List ℕ
 shown_of text = parts_shown (parts_of text)
+
+-- a text as it is shown in a string
+abbrev pub text_shown : List ℕ → List ℕ
+text_shown text = lossy_text (shown_of text)
+
+-- pieces without the bytes of those that may be secrets
+abbrev pub outlined : List Part → List Part
+outlined [] = []
+outlined (shown bytes ∷ parts) = shown bytes ∷ outlined parts
+outlined (hidden bytes ∷ parts) = hidden [] ∷ outlined parts
+
+-- texts that differ in what may be secrets alone are shown as the same text
+abbrev pub LeavesSecretsOut : Type 0
+LeavesSecretsOut = (a b : List ℕ) → outlined (parts_of a) ≡ outlined (parts_of b) → shown_of a ≡ shown_of b
 
 -- a piece may be a secret
 abbrev pub is_hidden : Part → Bool

@@ -8,11 +8,16 @@ mod place;
 pub mod secret;
 pub mod seen;
 
+ghost use Rattle.std.specs.Prelude.{◌≡◌, IfOk, string_bytes};
+ghost use Rattle.git_syntax.specs.Bytes.{lossy_text};
+
 use bstr::ByteSlice;
 use std::alloc::{AllocError, Global};
 
-/// Bytes as a text. Those that are no UTF-8 are U+FFFD.
-pub(crate) fn lossy(alloc: Global, bytes: &[u8]) -> Result<String, AllocError> {
+/// Bytes as a text. Those that are not UTF-8 are U+FFFD.
+pub(crate) fn lossy(alloc: Global, bytes: &[u8]) -> Result<String, AllocError>
+    ensures { IfOk result (λ text. string_bytes text ≡ lossy_text bytes.now) }
+{
     bytes.as_bstr().to_string(alloc)
 }
 

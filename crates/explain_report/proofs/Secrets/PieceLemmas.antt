@@ -3,7 +3,7 @@ use Rattle.std.proofs.Common.{◌≡◌, ◌∙◌, ◌||◌, ℕ, true, false, 
 use Rattle.std.proofs.lemmas.Bool.{false≢true}
 use Rattle.std.specs.List.{list_any}
 use Rattle.git_audit.specs.Secrets.{Part, hidden, joined, parts_of, shown}
-use Rattle.explain_report.specs.Secrets.{IsShownAround, has_secret, is_hidden, part_shown, parts_shown, shown_of}
+use Rattle.explain_report.specs.Secrets.{IsShownAround, LeavesSecretsOut, has_secret, is_hidden, outlined, part_shown, parts_shown, shown_of}
 
 -- a piece that is hidden is one of those that are left
 pub hidden_now : (part : Part) (from next : List Part) → from ≡ part ∷ next → is_hidden part ≡ true → true ≡ list_any is_hidden from
@@ -39,3 +39,14 @@ shown_alone text same = (text, [], [], sym (append-nil text), same ∙ sym (appe
 -- a text in which nothing is hidden is shown as itself
 pub shown_whole : (text : List ℕ) → joined (parts_of text) ≡ text → has_secret text ≡ false → IsShownAround text
 shown_whole text whole none = shown_alone text (shown_same (parts_of text) none ∙ whole)
+
+-- pieces are shown as those without the bytes that may be secrets
+shown_outlined : (parts : List Part) → parts_shown parts ≡ parts_shown (outlined parts)
+shown_outlined [] = refl
+shown_outlined (shown bytes ∷ parts) = ap (λ t. bytes ++ t) (shown_outlined parts)
+shown_outlined (hidden bytes ∷ parts) = ap (λ t. part_shown (hidden bytes) ++ t) (shown_outlined parts)
+
+-- what may be a secret leaves no trace in what is shown
+pub leaves_secrets_out : LeavesSecretsOut
+leaves_secrets_out a b same =
+    shown_outlined (parts_of a) ∙ ap parts_shown same ∙ sym (shown_outlined (parts_of b))

@@ -1,9 +1,11 @@
 //! Entries of a configuration as they are shown: with their place, and without what may be a secret.
 //!
-//! It uses `config` of `git_rules`, and `secret` for what is shown of a text. Its contract: the place of an entry is the
-//! entry's own; and of a value that is a header, or a helper that is a command, a word alone is shown.
+//! It uses `config` of `git_rules`, and `secret` for what is shown of a text. Its contract: place, key and value are the
+//! entry's own as they are shown; a header, or a credential helper that a shell runs, is shown as a word alone.
 
-ghost use Rattle.std.specs.Prelude.{◌≡◌, IfOk};
+ghost use Rattle.std.specs.Prelude.{◌≡◌, ◌++◌, ◌∷◌, IfOk, OnOk, option_map, string_bytes};
+ghost use Rattle.git_syntax.specs.Bytes.{dot};
+ghost use Rattle.explain_report.specs.Entries.{key_shown, value_shown};
 
 use crate::memory::both;
 use crate::text::secret::shown_text;
@@ -25,7 +27,9 @@ pub struct Setting {
 impl Setting {
     /// The entry as it is shown.
     pub fn of(alloc: Global, entry: &Entry<'_>) -> Result<Setting, AllocError>
-        ensures { IfOk result (λ s. s.at ≡ entry.now.at) }
+        ensures at { IfOk result (λ s. s.at ≡ entry.now.at) }
+        ensures key { IfOk result (λ s. string_bytes s.key ≡ key_shown entry.now) }
+        ensures value { IfOk result (λ s. option_map string_bytes s.value ≡ option_map (value_shown entry.now) entry.now.value) }
     {
         let (key, value) = both(key_of(alloc, entry)?, value_of(alloc, entry))?;
         Ok(Setting {
@@ -45,17 +49,21 @@ impl Setting {
 }
 
 /// The key of an entry.
-fn key_of(alloc: Global, entry: &Entry<'_>) -> Result<String, AllocError> {
+fn key_of(alloc: Global, entry: &Entry<'_>) -> Result<String, AllocError>
+    ensures { IfOk result (λ key. string_bytes key ≡ key_shown entry.now) }
+{
     let mut key = shown_text(alloc, entry.section)?;
     if let Some(subsection) = entry.subsection {
-        push_behind_dot(&mut key, shown_text(alloc, subsection)?)?;
+        push_after_dot(&mut key, shown_text(alloc, subsection)?)?;
     }
-    push_behind_dot(&mut key, shown_text(alloc, entry.name)?)?;
+    push_after_dot(&mut key, shown_text(alloc, entry.name)?)?;
     Ok(key)
 }
 
 /// Appends a dot, and a text.
-fn push_behind_dot(out: &mut String, text: String) -> Result<(), AllocError> {
+fn push_after_dot(out: &mut String, text: String) -> Result<(), AllocError>
+    ensures { OnOk result (string_bytes out.new ≡ string_bytes out.old ++ dot ∷ string_bytes text) }
+{
     out.push('.')?;
     let pushed = out.push_str(text.as_str());
     drop(text);
@@ -63,26 +71,26 @@ fn push_behind_dot(out: &mut String, text: String) -> Result<(), AllocError> {
 }
 
 /// The value of an entry, if it has one.
-fn value_of(alloc: Global, entry: &Entry<'_>) -> Result<Option<String>, AllocError> {
-    let Some(value) = entry.value else {
-        return Ok(None);
-    };
-    match hidden_value(entry, value) {
-        Some(word) => Ok(Some(String::from_str(alloc, word)?)),
-        None => Ok(Some(shown_text(alloc, value)?)),
+fn value_of(alloc: Global, entry: &Entry<'_>) -> Result<Option<String>, AllocError>
+    ensures { IfOk result (λ value. option_map string_bytes value ≡ option_map (value_shown entry.now) entry.now.value) }
+{
+    match entry.value {
+        None => Ok(None),
+        Some(value) => Ok(Some(value_text(alloc, entry, value)?)),
     }
 }
 
-/// What is shown in place of a value that may be a secret as a whole: a header, or a helper that is a command
-/// of a shell.
-fn hidden_value(entry: &Entry<'_>, value: &[u8]) -> Option<&'static str> {
+/// A value of this entry: a word in place of one that may be a secret as a whole.
+fn value_text(alloc: Global, entry: &Entry<'_>, value: &[u8]) -> Result<String, AllocError>
+    ensures { IfOk result (λ text. string_bytes text ≡ value_shown entry.now value.now) }
+{
     if value.is_empty() {
-        None
+        Ok(String::new(alloc))
     } else if entry.sets("http", "extraheader") {
-        Some("redacted")
+        String::from_str(alloc, "redacted")
     } else if entry.sets("credential", "helper") && value.starts_with(b"!") {
-        Some("!redacted")
+        String::from_str(alloc, "!redacted")
     } else {
-        None
+        shown_text(alloc, value)
     }
 }

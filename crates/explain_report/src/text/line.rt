@@ -5,6 +5,9 @@
 //! is one text's alone, and speaks to no terminal. It uses `cut`, `secret`, the library's `parts_of`, and the crates
 //! `bstr` and `unicode_width`.
 
+ghost use Rattle.std.specs.Prelude.{◌≡◌, IfOk, string_bytes};
+ghost use Rattle.explain_report.specs.Secrets.{text_shown};
+
 use crate::text::cut::{Cut, Part, Piece};
 use crate::text::secret::{between, shown_text};
 use bstr::ByteSlice;
@@ -24,17 +27,23 @@ pub struct SeenLine<'a> {
 
 impl<'a> SeenLine<'a> {
     /// A line as it may be shown, which is refused or has a secret in its password alone.
-    pub fn of(alloc: Global, line: &'a [u8]) -> Result<SeenLine<'a>, AllocError> {
+    pub fn of(alloc: Global, line: &'a [u8]) -> Result<SeenLine<'a>, AllocError>
+        ensures { IfOk result (λ seen. string_bytes seen.input ≡ text_shown line.now) }
+    {
         SeenLine::in_pieces(alloc, line, pieces_of(line))
     }
 
     /// A line as it may be shown, without the parts of its location.
-    pub fn without_parts(alloc: Global, line: &'a [u8]) -> Result<SeenLine<'a>, AllocError> {
+    pub fn without_parts(alloc: Global, line: &'a [u8]) -> Result<SeenLine<'a>, AllocError>
+        ensures { IfOk result (λ seen. string_bytes seen.input ≡ text_shown line.now) }
+    {
         SeenLine::in_pieces(alloc, line, Cut::of_secrets(line))
     }
 
     /// A line as it may be shown, in these pieces.
-    fn in_pieces(alloc: Global, line: &[u8], cut: Cut<'a>) -> Result<SeenLine<'a>, AllocError> {
+    fn in_pieces(alloc: Global, line: &[u8], cut: Cut<'a>) -> Result<SeenLine<'a>, AllocError>
+        ensures { IfOk result (λ seen. string_bytes seen.input ≡ text_shown line.now) }
+    {
         let input = shown_text(alloc, line)?;
         Ok(SeenLine { cut, input })
     }

@@ -1,10 +1,11 @@
 //! Texts as they are shown: with the word `redacted` in place of what may be a secret.
 //!
 //! It uses `secret` of `git_audit`, whose definition decides what may be one. Its contract: what is shown of a text is
-//! its pieces by that definition, with the word for each that may be a secret.
+//! its pieces by that definition, with the word for each that may be a secret. By [`law_shown`] it doesn't depend on the
+//! bytes that the word replaces.
 
-ghost use Rattle.std.specs.Prelude.{◌≡◌, ◌++◌, IfOk, OnOk};
-ghost use Rattle.explain_report.specs.Secrets.{has_secret, is_hidden, part_shown, shown_of};
+ghost use Rattle.std.specs.Prelude.{◌≡◌, ◌++◌, IfOk, OnOk, option_map, string_bytes};
+ghost use Rattle.explain_report.specs.Secrets.{LeavesSecretsOut, has_secret, is_hidden, part_shown, shown_of, text_shown};
 ghost use Rattle.git_audit.specs.Secrets.{piece_part};
 
 use crate::text::lossy;
@@ -14,6 +15,11 @@ use std::alloc::{AllocError, Global};
 
 /// The word in place of what may be a secret.
 pub const REDACTED: &[u8] = b"redacted";
+
+/// A law: texts that differ only in bytes that may be secrets are shown as the same text.
+pub fn law_shown()
+    ensures { LeavesSecretsOut }
+{}
 
 /// Whether a part of the text may be a secret.
 pub fn has_secret(text: &[u8]) -> bool
@@ -58,16 +64,20 @@ fn push_piece(out: &mut Vec<u8>, piece: Piece<'_>) -> Result<(), AllocError>
     }
 }
 
-/// The text as it is shown. Bytes that are no UTF-8 are U+FFFD.
-pub fn shown_text(alloc: Global, text: &[u8]) -> Result<String, AllocError> {
+/// The text as it is shown. Bytes that are not UTF-8 are U+FFFD.
+pub fn shown_text(alloc: Global, text: &[u8]) -> Result<String, AllocError>
+    ensures { IfOk result (λ shown. string_bytes shown ≡ text_shown text.now) }
+{
     let bytes = shown_bytes(alloc, text)?;
     let shown = lossy(alloc, bytes.as_slice());
     drop(bytes);
     shown
 }
 
-/// A part as it is shown, if it is there.
-pub fn shown_part(alloc: Global, part: Option<&[u8]>) -> Result<Option<String>, AllocError> {
+/// A part as it is shown, if there is one.
+pub fn shown_part(alloc: Global, part: Option<&[u8]>) -> Result<Option<String>, AllocError>
+    ensures { IfOk result (λ shown. option_map string_bytes shown ≡ option_map (λ it. text_shown it.now) part.entry) }
+{
     match part {
         None => Ok(None),
         Some(part) => Ok(Some(shown_text(alloc, part)?)),
