@@ -17,7 +17,7 @@ OPTION = re.compile(rb"(^|//|@|/|:)-")
 # Segments that curl takes out.
 DOTS = re.compile(rb"https://.*/\.\.?(/|\Z)")
 # In the row of Git all but that the same is read, and that it was not compared; rows of what others read.
-READ_ALIKE = rb"reads the same in its text|and curl read the same in its text|hands its text to a remote helper"
+READ_ALIKE = rb"reads the same in its text|passes its text to a remote helper"
 ALARM = re.compile(rb"; danger: |: refused: |, not settled|^ +git +(?! |" + READ_ALIKE + rb")|^ +(helpers|curl|readers|hint) ", re.M)
 
 

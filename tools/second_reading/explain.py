@@ -148,7 +148,7 @@ def reread(v):
     if not pairs:
         assert laws.same_fields(v, w)
         marked = [f": the {name} has a colon or a bracket" for name in ("host", "user") if {*b":[]"} & {*(getattr(v, name) or b"")}]
-        words = "its own text is read as the same fields, which no promise covers" + "".join(marked[:1])
+        words = "its own text is read with the same fields, which isn't promised" + "".join(marked[:1])
         return {"difference": None, "refusal": None, "words": words}
     field, here, instead = pairs[0]
     read = f"no {field}" if instead is None else f"the {field} {quoted(instead)}"

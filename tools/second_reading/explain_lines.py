@@ -75,7 +75,12 @@ SLIPS = [b"ssh://git@github.com:a/b.git", b"ssh://git@github.com:22/b.git", b"gi
          b"https://gitlab.com/a/b/-/x", b"https://git.sr.ht/~a/b/tree", b"https://github.com/a/b/wikis",
          b"../a", b"..", b"..a", b"./../a", b"origin", b"my-fork_2", b"-a", b"a.b", b"\xc3\xa4", b"$ git clone git@h:a", b"> git pull x", b"$  git pull x",
          b"git remote set-url origin git@h:a", b"https://user:p/ss@h/a", b"https://u:p/s@h", b"https://u:p/s@/a", b"https://u@h:x/a@h/b",
-         "https://\u4f8b\u3048.jp/a".encode(), "https://h:x/\u4f8b".encode(), "ssh://\u4f8b:x/a".encode(), b"ssh://u:p@h/a", b"git://u:p@h/a", b"file://server/x"]
+         "https://\u4f8b\u3048.jp/a".encode(), "https://h:x/\u4f8b".encode(), "ssh://\u4f8b:x/a".encode(), b"ssh://u:p@h/a", b"git://u:p@h/a", b"file://server/x",
+         b"https//h/a", b"h//a", b"file//a", b"https:://h/a", b"git:://h/a", b"a:://h/a", b"https://https://h/a", b"ssh://https://h/a", b"https://x://h/a",
+         b"https://h/a.git,", b"git@h:a/b.git).", b"https://h/a.git,b", b"/srv/a.git.", b"[a](https://h/a)", b"[a](git@h:a)", b"[a] (b)",
+         b"url = https://h/a", b"\tpushUrl=git@h:a", b"remote.origin.url=https://h/a", b"submodule.a.url=../b", b"remote.url=a", b"ur=a", b"https://h/a?url=b",
+         b"origin\thttps://h/a (fetch)", b"origin\tgit@h:a (push)", b"origin\tgit@h:a (pull)", b"\\\\server\\share", b"\\server",
+         b"file://C:/x", b"file://CD:/x", b"ssh://git%40h/a", b"https://u%40h.com/a", b"https://h%40/a", b"https://h?a%40b", b"ssh://u@h%40x/a"]
 
 # Refused lines in which Git reads a place all the same, with a password or without, or another reason to read none.
 IN_REFUSED = [

@@ -1,13 +1,20 @@
-"""The tables of texts that surprise, in docs/GRAMMAR.md, and of reasons, in docs/EXPLAIN.md, compared with the second reading."""
+"""The tables of texts that surprise, in docs/GRAMMAR.md, and of reasons and hints, in docs/EXPLAIN.md, compared with the second reading.
+
+The sentences of the hints are compared with the code.
+"""
 import itertools
 import os
+import re
 
 from rt_api import ROOT
-from second_reading import errors, fault_places, grammar
+from second_reading import errors, fault_places, grammar, hidden
 from second_reading.explain import told
+from second_reading.hints import HINTS, hints
 
 HEAD = "| Text | Read as | Written | Settled | Why |"
 REASONS_HEAD = "| Reason | Words | Example | `at` | `len` |"
+HINTS_HEAD = "| Hint | Sentence | Example |"
+SENTENCES = f"{ROOT}/crates/explain_report/src/advice/hint/words.rt"
 NAMES = {"remote_helper": "remote helper", "url": "URL", "scp": "scp form", "local": "local path"}
 DOCS = f"{ROOT}/docs"
 
@@ -44,6 +51,32 @@ def reason_faults():
         found = fault_places.place(text)
         if [f"`{found.reason}`", str(found.at), str(found.len)] != [name, at, size]:
             yield f"{text}: the table has {name}, {at} and {size}, and not {found}"
+
+
+def hint_rows():
+    """The rows of the hints: name, sentence, and an example in backquotes or in words."""
+    return [[row[0].strip("`"), *row[1:]] for row in rows_below("EXPLAIN.md", HINTS_HEAD)]
+
+
+def sentences():
+    """The sentences of the hints by their names, as the code has them."""
+    with open(SENTENCES, encoding="utf-8") as file:
+        of_names, of_sentences = file.read().split("fn sentence")
+    names = dict(re.findall(r'Hint::(\w+) => "(\w+)"', of_names))
+    return {names[it]: text for it, text in re.findall(r'Hint::(\w+) => (?:\{\s*)?"(.*?)"', of_sentences)}
+
+
+def hint_faults():
+    """Which rows of the hints say otherwise than the code, or have an example to which the second reading applies no such hint."""
+    found = hint_rows()
+    if [name for name, _, _ in found] != [*HINTS]:
+        yield "the hints of docs/EXPLAIN.md are others than those of the second reading, or in another order"
+    if {name: sentence for name, sentence, _ in found} != sentences():
+        yield f"the sentences of docs/EXPLAIN.md and of {os.path.relpath(SENTENCES, ROOT)} differ"
+    for name, _, example in found:
+        line = example.strip("`").encode()
+        if example.startswith("`") and name not in hints(line, grammar.spells(line), bool(hidden.places(line))):
+            yield f"{example} has not the hint {name}"
 
 
 def cells(line):

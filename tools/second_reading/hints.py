@@ -16,6 +16,7 @@ COLON_FOR_SLASH = re.compile(rb"(?:ssh|git|https?)://(?:[^/]*@)?[^/@:\[\]]+:[A-Z
 SLASH_IN_PASSWORD = re.compile(rb"(?:ssh|git|https?)://[^/@:]*:[^/@]*/.*@[^@/][^@]*/[^@]*\Z", re.S)
 CAPITALS = re.compile(rb"(?!(?-i:[a-z+]*:))(?:https?|ssh|git|file|ftps?|git\+ssh|ssh\+git)://", re.I)
 COMMANDS = re.compile(rb"(?:[$%#>] )?git (?:clone|fetch|pull|push|ls-remote|remote add|remote set-url|submodule add) ")
+DRIVE = rb"[A-Za-z]:"
 QUOTES = ((b'"', b'"'), (b"'", b"'"), (b"`", b"`"), (b"<", b">"))
 PORT_IN_BRACKETS = re.compile(rb"(?:(?:(?!\]:|://)[^\[])*@)?\[[^:]+:[0-9]+\]:")
 SCHEME_AFTER_USER = re.compile(USER + rb"@(?:" + b"|".join(map(re.escape, TRANSPORTS)) + rb")://")
@@ -25,6 +26,9 @@ FORGES = (b"github.com", b"codeberg.org", b"gitea.com", b"bitbucket.org", b"git.
 DETAILS = b"tree|blob|raw|blame|edit|pull|commit|compare|src|branch|log|item"
 LISTS = b"pulls|pull-requests|issues|releases|tags|branches|commits|actions|wiki|refs"
 OF_GITLAB = b"tree|blob|raw|blame|commit|commits|compare|merge_requests|issues|tags|branches|releases|pipelines|wikis"
+# No `@` is before the path, and the last `%40` there has something behind it.
+ESCAPED_AT = re.compile(rb"(?:ssh|git|https?)://(?=[^/?#@]*(?:[/?#]|\Z))[^/?#]*%40(?=[^/?#])(?![^/?#]*%40)")
+SETTING = re.compile(rb"[ \t\n\r\f]*(?:(?:remote|submodule)\.[^=]*\.)?(?i:(?:push)?url)[ \t\n\r\f]*=")
 DRAWN_ALIKE = ("GREEK ", "CYRILLIC ", "ARMENIAN ", "CHEROKEE ")
 
 
@@ -94,7 +98,7 @@ def has_mixed_host(line, v):
 
 
 HINTS = {
-    "colon_for_slash": lambda line, v: v is None and COLON_FOR_SLASH.match(line) and not SLASH_IN_PASSWORD.match(line),
+    "colon_for_slash": lambda line, v: v is None and COLON_FOR_SLASH.match(line) and not (SLASH_IN_PASSWORD.match(line) or ESCAPED_AT.match(line)),
     "no_scheme": lambda line, v: is_form(v, "local") and re.match(HOST_NAME + rb"/.", line, re.S),
     "windows_path": lambda line, v: is_form(v, "scp") and re.match(rb"[A-Za-z]:(?:\\|/(?!~))", line),
     "capital_scheme": lambda line, v: CAPITALS.match(line),
@@ -114,7 +118,7 @@ HINTS = {
     "port_in_brackets": lambda line, v: PORT_IN_BRACKETS.match(line),
     "one_slash": lambda line, v: has_one_slash(line),
     "near_scheme": lambda line, v: has_near_scheme(line),
-    "package_scheme": lambda line, v: re.match(rb"git(?:\+(?:https?|file|git)://|::)", line),
+    "package_scheme": lambda line, v: re.match(rb"git(?:\+(?:https?|file|git)://|::(?!//))", line),
     "short_name": lambda line, v: is_form(v, "scp") and v.user is None and v.host in SHORT_NAMES and not v.path.startswith(b"/"),
     "scheme_after_user": lambda line, v: SCHEME_AFTER_USER.match(line),
     "revision": lambda line, v: v is not None and names_revision(v),
@@ -125,11 +129,27 @@ HINTS = {
     "slash_in_password": lambda line, v: v is None and SLASH_IN_PASSWORD.match(line),
     "punycode": lambda line, v: v is None and re.match(rb"https?://", line) and not refused_host(line).isascii(),
     "ssh_password": lambda line, v: is_form(v, "url") and is_scheme(v, "Ssh") and v.password is not None,
-    "file_host": lambda line, v: is_form(v, "url") and is_scheme(v, "File") and v.host,
+    "file_host": lambda line, v: is_form(v, "url") and is_scheme(v, "File") and v.host and not re.fullmatch(DRIVE, v.host),
+    "escaped_at": lambda line, v: ESCAPED_AT.match(line),
+    "missing_colon": lambda line, v: is_form(v, "local") and line.partition(b"//")[0] in TRANSPORTS and b"//" in line,
+    "two_colons": lambda line, v: line.partition(b":://")[0] in TRANSPORTS and b":://" in line,
+    "scheme_twice": lambda line, v: line.count(b"://") > 1 and {*line.split(b"://", 2)[:2]} <= {*TRANSPORTS},
+    "end_of_sentence": lambda line, v: is_form(v, "url", "scp") and re.search(rb"\.git[,;).]+\Z", line),
+    "markdown_link": lambda line, v: re.match(rb"(?s)\[.*\]\(.*\)\Z", line),
+    "pasted_setting": lambda line, v: SETTING.match(line),
+    "pasted_remote": lambda line, v: re.search(rb" \((?:fetch|push)\)\Z", line),
+    "windows_share": lambda line, v: is_form(v, "local") and line[:2] == b"\\\\",
+    "file_drive": lambda line, v: is_form(v, "url") and is_scheme(v, "File") and re.fullmatch(DRIVE, v.host or b""),
+    # Of the line that is explained, which may be another one than what is shown.
+    "hidden_secret": lambda line, v: False,
     "write_instead": lambda line, v: v is not None and instead(line, v),
 }
+OF_PASSWORDS = {"stored_password", "ssh_password"}
 
 
-def hints(line, v):
-    """The names of the hints that apply to a line, in the order of the list."""
-    return [name for name, applies in HINTS.items() if applies(line, v)]
+def hints(line, v, hides=False):
+    """The names of the hints that apply to a line, in the order of the list, and that a part of it is hidden, if one is."""
+    found = {name for name, applies in HINTS.items() if applies(line, v)}
+    if hides and not found & OF_PASSWORDS:
+        found.add("hidden_secret")
+    return [name for name in HINTS if name in found]

@@ -3,7 +3,7 @@ docs/EXPLAIN.md are among the lines, and the last line lacks its end.
 """
 import json
 
-from second_reading import grammar
+from second_reading import grammar, hidden
 from second_reading.dangers import dangers
 from second_reading.explain import WITHHELD, refusal_of_line, shown_line, told
 from second_reading.explain_lines import (
@@ -35,7 +35,7 @@ def answer(number, line):
 
 def hints_of(line, other):
     """The hints about the line as it is shown; another line has no URL of the same place."""
-    return [it for it in hints(other, grammar.spells(other)) if it != "write_instead" or other == line]
+    return [it for it in hints(other, grammar.spells(other), bool(hidden.places(line))) if it != "write_instead" or other == line]
 
 
 def stored_run():

@@ -20,6 +20,7 @@ use explain_report::readers::{Readers, instead_of};
 use explain_report::refusal::Refusal;
 use explain_report::rules::{Rules, found_by};
 use explain_report::text::line::SeenLine;
+use explain_report::text::secret::has_secret;
 use explain_report::text::seen::Seen;
 use git_audit::danger::{Danger, dangers};
 use gix_url::parse::parse;
@@ -146,7 +147,7 @@ impl Line<'_, '_> {
         let (readers, seen) = both(readers, SeenLine::of(alloc, bytes))?;
         let ((readers, seen), report) = both((readers, seen), Report::of(alloc, url))?;
         let has_instead = instead_of(readers.as_ref()).is_some();
-        let reading = Reading::of(url, &report, has_instead);
+        let reading = Reading::of(url, &report, has_instead, has_secret(self.bytes));
         let found = hint::find(alloc, bytes, Some(reading));
         let (((seen, report), readers), found) = both(((seen, report), readers), found)?;
         let notes = Notes {

@@ -17,6 +17,7 @@ use explain_report::readers::{Readers, instead_of};
 use explain_report::refusal::Refusal;
 use explain_report::rules::Rules;
 use explain_report::text::line::SeenLine;
+use explain_report::text::secret::has_secret;
 use git_audit::danger::Danger;
 use gix_url::Url;
 use std::alloc::{AllocError, Global};
@@ -34,6 +35,8 @@ pub struct Notes<'b> {
     pub hints: &'b [Hint],
     /// What Git does with it by the configuration, if one is given.
     pub rules: Option<&'b Rules>,
+    /// Whether a part of the line is hidden.
+    pub has_hidden: bool,
 }
 
 impl<'b> Notes<'b> {
@@ -45,6 +48,15 @@ impl<'b> Notes<'b> {
             readers: None,
             hints: &[],
             rules,
+            has_hidden: false,
+        }
+    }
+
+    /// These notes of a line of which a part is hidden if it may be a secret.
+    pub fn hiding(self, line: &[u8]) -> Notes<'b> {
+        Notes {
+            has_hidden: has_secret(line),
+            ..self
         }
     }
 
@@ -56,6 +68,7 @@ impl<'b> Notes<'b> {
             readers,
             hints,
             rules: self.rules,
+            has_hidden: self.has_hidden,
         }
     }
 }

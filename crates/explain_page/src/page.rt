@@ -121,7 +121,7 @@ impl Page {
         let added = match seen.shown(line, url) {
             Some((text, shown)) => {
                 let readers = Readers::of_location(self.alloc, line, url, shown.host());
-                self.add_shown(number, text, shown, readers, notes)
+                self.add_shown(number, text, shown, readers, notes.hiding(line))
             }
             None => self.add_withheld(number, line, url, notes),
         };
@@ -143,7 +143,7 @@ impl Page {
         let (readers, seen) = both(readers, SeenLine::of(alloc, line))?;
         let ((readers, seen), report) = both((readers, seen), Report::of(alloc, url))?;
         let has_instead = instead_of(readers.as_ref()).is_some();
-        let reading = Reading::of(url, &report, has_instead);
+        let reading = Reading::of(url, &report, has_instead, notes.has_hidden);
         let found = hint::find(alloc, line, Some(reading));
         let (((seen, report), readers), found) = both(((seen, report), readers), found)?;
         let out = self.of_rank(Rank::of(notes.dangers, &report, notes.rules));

@@ -25,7 +25,7 @@ pub enum Rank {
     /// Its own text is read with another host.
     OtherHost,
     Refused,
-    /// Its own text is read as another location, of the same host.
+    /// It isn't settled, and its own text isn't read with another host.
     Unsettled,
     /// It isn't known that Git and curl read the same.
     Readers,
@@ -148,9 +148,10 @@ impl Rank {
             Rank::Secret => "A password, or what may be a token",
             Rank::Rewritten => "A danger, once the configuration has rewritten it",
             Rank::Policy => "No transport that Git uses by the configuration",
-            Rank::OtherHost => "Another host, once it is written and read again",
+            Rank::OtherHost => "Not settled: its own text is read with another host",
             Rank::Refused => "Refused",
-            Rank::Unsettled => "Another location, once it is written and read again",
+            Rank::Unsettled =>
+                "Not settled: its own text may be read as another location, or as none",
             Rank::Readers => "Git or curl may read another place",
             Rank::Otherwise => "Refused, or another place, once the configuration has rewritten it",
             Rank::Plain => "Nothing unusual",

@@ -244,11 +244,11 @@ fn words(alloc: Global, url: &Url, difference: &Option<Difference>) -> Result<St
 /// Why the location isn't settled, though its own text is read as the same fields.
 fn same_fields(url: &Url) -> &'static str {
     if has_mark(url.host()) {
-        "its own text is read as the same fields, which no promise covers: the host has a colon or a bracket"
+        "its own text is read with the same fields, which isn't promised: the host has a colon or a bracket"
     } else if has_mark(url.user()) {
-        "its own text is read as the same fields, which no promise covers: the user has a colon or a bracket"
+        "its own text is read with the same fields, which isn't promised: the user has a colon or a bracket"
     } else {
-        "its own text is read as the same fields, which no promise covers"
+        "its own text is read with the same fields, which isn't promised"
     }
 }
 

@@ -23,8 +23,8 @@ use serde::Serialize;
 use std::alloc::{AllocError, Global};
 use std::fmt::{Display, Write};
 
-/// What Git does with a text that it hands to a remote helper.
-pub const HANDED: &str = "hands its text to a remote helper, whose reading was not compared";
+/// What Git does with a text that it passes to a remote helper.
+pub const PASSED_ON: &str = "passes its text to a remote helper, whose reading was not compared";
 
 /// What Git reads in the text of a location.
 #[derive(Drop, Serialize)]
@@ -35,7 +35,7 @@ pub struct GitReads {
     pub host: Option<String>,
     pub port: Option<u16>,
     pub path: Option<String>,
-    /// Whether all of these are the location's own, which no promise covers.
+    /// Whether all of these are the location's own, which isn't promised.
     pub same: bool,
     /// Why none of these is reported.
     pub why: Option<&'static str>,
@@ -159,7 +159,7 @@ impl GitReads {
 fn withheld_all_the_same(alloc: Global) -> Result<GitReads, AllocError>
     ensures { IfOk result (λ it. (it.user ≡ None) × (it.host ≡ None) × (it.path ≡ None)) }
 {
-    let words = "reads a place in it all the same, with what may be a secret";
+    let words = "reads a place in it all the same, and a part of it may be a secret";
     in_words(alloc, words, "Password")
 }
 
@@ -214,12 +214,12 @@ fn unread_refused(alloc: Global, why: Unread) -> Result<GitReads, AllocError>
     let (name, words) = match why {
         Unread::Memory => return Err(AllocError),
         Unread::HomeOrHere => ("HomeOrHere", "takes it for a path that begins with ~"),
-        Unread::ByteZero => ("ByteZero", "gets it up to byte 0 alone"),
+        Unread::ByteZero => ("ByteZero", "gets only the bytes before its byte 0"),
         Unread::Option => ("Option", "takes it for an option"),
-        Unread::RemoteHelper => ("RemoteHelper", HANDED),
+        Unread::RemoteHelper => ("RemoteHelper", PASSED_ON),
         Unread::SecureShellUrl => (
             "SecureShellUrl",
-            "gives Secure Shell a part of it that is read as a URL",
+            "passes a part of it to Secure Shell, which reads it as a URL",
         ),
         Unread::Refused => ("Refused", "refuses it too"),
     };
@@ -288,11 +288,11 @@ fn in_words(alloc: Global, words: &str, why: &'static str) -> Result<GitReads, A
     Ok(without_fields(String::from_str(alloc, words)?, why))
 }
 
-/// What is reported of a text that holds a password.
+/// What is reported of a text that has a password.
 fn withheld(alloc: Global) -> Result<GitReads, AllocError>
     ensures { IfOk result (λ it. (it.user ≡ None) × (it.host ≡ None) × (it.path ≡ None)) }
 {
-    let words = "reads something else in its text, which holds a password";
+    let words = "reads other parts in its text, which has a password";
     in_words(alloc, words, "Password")
 }
 
@@ -303,12 +303,12 @@ fn unread(alloc: Global, text: &[u8], why: Unread) -> Result<GitReads, AllocErro
     let (name, words) = match why {
         Unread::Memory => return Err(AllocError),
         Unread::HomeOrHere => return in_two_places(alloc, text),
-        Unread::ByteZero => ("ByteZero", "gets its text up to byte 0 alone"),
+        Unread::ByteZero => ("ByteZero", "gets only the bytes of its text before byte 0"),
         Unread::Option => ("Option", "takes its text for an option"),
-        Unread::RemoteHelper => ("RemoteHelper", HANDED),
+        Unread::RemoteHelper => ("RemoteHelper", PASSED_ON),
         Unread::SecureShellUrl => (
             "SecureShellUrl",
-            "gives Secure Shell a part of its text that is read as a URL",
+            "passes a part of its text to Secure Shell, which reads it as a URL",
         ),
         Unread::Refused => ("Refused", "refuses its text"),
     };
@@ -406,7 +406,7 @@ fn is_same(url: &Url, found: &GitPlace<'_>) -> bool {
 /// What is read in words.
 fn words_of(alloc: Global, url: &Url, found: &GitPlace<'_>) -> Result<String, AllocError> {
     if is_same(url, found) {
-        return String::from_str(alloc, "reads the same in its text, which no promise covers");
+        return String::from_str(alloc, "reads the same in its text, which isn't promised");
     }
     let mut words = String::new(alloc);
     let written = differences(&mut words, url, found);

@@ -18,7 +18,7 @@ use crate::curl::Curl;
 use crate::difference::Reread;
 use crate::facts::Facts;
 use crate::form::Form;
-use crate::git_report::{GitReads, HANDED, is_of_web};
+use crate::git_report::{GitReads, PASSED_ON, is_of_web};
 use crate::memory::both;
 use crate::path::{Components, Home, Meaning};
 use bstr::{BString, ByteSlice};
@@ -261,10 +261,10 @@ fn shown_text(alloc: Global, url: &Url, facts: &Facts) -> Result<Option<String>,
 /// What Git reads in the text of the location, in words.
 pub fn reading_of_git<'b>(url: &Url, report: &'b Report<'_>) -> &'b str {
     match &report.git_reads {
-        _ if report.agrees_with_git && is_of_web(url) => "and curl read the same in its text",
+        _ if report.agrees_with_git && is_of_web(url) => "reads the same in its text, as curl does",
         _ if report.agrees_with_git => "reads the same in its text",
         Some(reads) => reads.words.as_str(),
-        None => HANDED,
+        None => PASSED_ON,
     }
 }
 

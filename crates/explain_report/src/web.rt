@@ -35,41 +35,49 @@ pub(crate) fn name(unmet: Option<WebCondition>) -> &'static str {
 pub(crate) fn words(unmet: Option<WebCondition>, host: &str) -> &'static str {
     match unmet {
         Some(WebCondition::Settled) => {
-            "and curl may read another place in its text, which is not settled"
+            "may read another place in its text, which is not settled, and so may curl"
         }
-        Some(WebCondition::NoZone) => "and curl read different hosts: the address has a zone",
-        Some(WebCondition::NoHostColon) => "and curl read different hosts: a colon ends it",
+        Some(WebCondition::NoZone) => "reads another host than curl: the address has a zone",
+        Some(WebCondition::NoHostColon) => "reads another host than curl: the host ends in a colon",
         Some(WebCondition::HostBytes) => {
-            "and curl may read different hosts: it has an escape or a mark"
+            "may read another host than curl: the host has an escape or an unusual character"
         }
         Some(WebCondition::LastLabel) => last_label_words(host.as_bytes()),
         Some(WebCondition::UserControl) => {
-            "or curl may refuse it: the user has a control character"
+            "may refuse its text, or curl may: the user has a control character"
         }
-        Some(WebCondition::UserColon) => "sends a user that the server ends at its colon",
+        Some(WebCondition::UserColon) => {
+            "sends a user that has a colon, and the server takes the rest of it for the password"
+        }
         Some(WebCondition::PasswordControl) => {
-            "or curl may refuse it: the password has a control character"
+            "may refuse its text, or curl may: the password has a control character"
         }
         Some(WebCondition::PasswordColon) => {
-            "may send another password: it has a colon and an escape"
+            "may send another password: the password has a colon and an escape"
         }
-        Some(WebCondition::PathStart) => "and curl read different paths: it has no / at its front",
+        Some(WebCondition::PathStart) => {
+            "reads another path than curl: the path does not begin with /"
+        }
         Some(WebCondition::PathSlashes) => {
-            "and curl read different paths: it begins with two slashes"
+            "reads another path than curl: the path begins with two slashes"
         }
         Some(WebCondition::PathControl) => {
-            "or curl may refuse it: the path has a control character"
+            "may refuse its text, or curl may: the path has a control character"
         }
-        Some(WebCondition::NoFragment) => "and curl may read different paths: it has a #",
+        Some(WebCondition::NoFragment) => "may read another path than curl: the path has a #",
         Some(WebCondition::NoDotSegment) => {
-            "and curl may read different paths: it has a segment of dots"
+            "may read another path than curl: the path has a segment . or .."
         }
-        Some(WebCondition::NoEmptyQuery) => "and curl may read different paths: it ends with ?",
+        Some(WebCondition::NoEmptyQuery) => {
+            "may read another path than curl: the path ends in ?"
+        }
         Some(WebCondition::PathBytes) => {
-            "and curl may read different paths: it has a byte no URI has"
+            "may read another path than curl: the path has a byte that no URI has"
         }
-        Some(WebCondition::PathColon) => "may ask for another path: it has a colon and an escape",
-        None => "and curl may read another place in its text",
+        Some(WebCondition::PathColon) => {
+            "may ask for another path: the path has a colon and an escape"
+        }
+        None => "may read another place in its text, and so may curl",
     }
 }
 
@@ -80,8 +88,10 @@ fn last_label_words(host: &[u8]) -> &'static str {
         None => host,
     };
     match last {
-        [] => "and curl may read different hosts: a dot ends it",
-        [b'-' | b'_', ..] => "and curl may read different hosts: its last label begins with - or _",
-        _ => "and curl may read different hosts: it may be a number",
+        [] => "may read another host than curl: the host ends in a dot",
+        [b'-' | b'_', ..] => {
+            "may read another host than curl: the last label of the host begins with - or _"
+        }
+        _ => "may read another host than curl: the host may be a number",
     }
 }

@@ -23,6 +23,8 @@ pub struct Reading<'a> {
     pub has_revision: bool,
     /// Whether there is a URL of the same place that fewer programs read otherwise.
     pub has_instead: bool,
+    /// Whether a part of the line may be a secret, and is hidden.
+    pub has_hidden: bool,
 }
 
 /// The fields of a query that name a revision.
@@ -40,7 +42,12 @@ const SHORT_NAMES: [&str; 6] = [
 
 impl<'b> Reading<'b> {
     /// What hints are found by, of a location.
-    pub fn of(url: &'b Url, report: &'b Report<'_>, has_instead: bool) -> Reading<'b> {
+    pub fn of(
+        url: &'b Url,
+        report: &'b Report<'_>,
+        has_instead: bool,
+        has_hidden: bool,
+    ) -> Reading<'b> {
         Reading {
             form: report.form,
             scheme: report.scheme,
@@ -50,6 +57,7 @@ impl<'b> Reading<'b> {
             path: url.path.as_bytes(),
             has_revision: has_revision(&report.components),
             has_instead,
+            has_hidden,
         }
     }
 
@@ -61,6 +69,16 @@ impl<'b> Reading<'b> {
     /// Whether the scheme is that of Secure Shell or of `git://`.
     pub(crate) fn is_of_shell_or_git(self) -> bool {
         matches!(self.scheme, "ssh" | "git")
+    }
+
+    /// Whether there is a password, about which there is a hint of its own.
+    pub(crate) fn has_password_with_hint(self) -> bool {
+        self.has_password && (self.is_of_web() || self.scheme == "ssh")
+    }
+
+    /// Whether it is of files and has a host.
+    pub(crate) fn is_of_file_with_host(self) -> bool {
+        self.scheme == "file" && self.host.is_some_and(|host| !host.is_empty())
     }
 
     /// Whether a revision is named in a place of which Git knows nothing.

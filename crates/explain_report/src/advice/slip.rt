@@ -31,35 +31,6 @@ const PACKAGES: [&[u8]; 5] = [
     b"git::",
 ];
 
-/// The commands that a location is pasted with.
-const COMMANDS: [&[u8]; 8] = [
-    b"git clone ",
-    b"git fetch ",
-    b"git pull ",
-    b"git push ",
-    b"git ls-remote ",
-    b"git remote add ",
-    b"git remote set-url ",
-    b"git submodule add ",
-];
-
-/// Whether the line begins with a command of Git, behind a prompt or without one.
-pub(crate) fn begins_with_command(line: &[u8]) -> bool {
-    let typed = match line {
-        [b'$' | b'%' | b'#' | b'>', b' ', typed @ ..] => typed,
-        _ => line,
-    };
-    COMMANDS.iter().any(|command| typed.starts_with(command))
-}
-
-/// Whether the same quotes are at both ends, or angle brackets.
-pub(crate) fn is_quoted(line: &[u8]) -> bool {
-    matches!(
-        line,
-        [b'"', .., b'"'] | [b'\'', .., b'\''] | [b'`', .., b'`'] | [b'<', .., b'>']
-    )
-}
-
 /// Whether the line is a word that may be the name of a remote.
 pub(crate) fn is_remote_name(line: &[u8]) -> bool
     ensures { result ≡ is_remote_name line.now }
@@ -131,6 +102,33 @@ pub(crate) fn has_scheme_after_user(line: &[u8]) -> bool {
     };
     match front.split_once_str(b"@") {
         Some((user, scheme)) => is_user(user) && is_transport(scheme),
+        None => false,
+    }
+}
+
+/// Whether a local path begins with the name of a transport and two slashes, without a colon.
+pub(crate) fn lacks_colon(path: &[u8]) -> bool {
+    match path.split_once_str(b"//") {
+        Some((scheme, _)) => is_transport(scheme),
+        None => false,
+    }
+}
+
+/// Whether two colons and two slashes are behind the name of a transport.
+pub(crate) fn has_two_colons(line: &[u8]) -> bool {
+    match line.split_once_str(b":://") {
+        Some((scheme, _)) => is_transport(scheme),
+        None => false,
+    }
+}
+
+/// Whether the scheme of a transport is directly before that of another URL.
+pub(crate) fn has_scheme_twice(line: &[u8]) -> bool {
+    let Some((first, rest)) = line.split_once_str(b"://") else {
+        return false;
+    };
+    match rest.split_once_str(b"://") {
+        Some((second, _)) => is_transport(first) && is_transport(second),
         None => false,
     }
 }
@@ -226,6 +224,18 @@ fn is_host_and_word(bytes: &[u8]) -> bool {
     begins && is_free && !host.is_empty() && !word.contains_str(b":")
 }
 
+/// Whether a URL has an escaped `@` before what may be a host, and no other one.
+pub(crate) fn has_escaped_at(line: &[u8]) -> bool {
+    let Some((_, rest)) = url_with_host(line) else {
+        return false;
+    };
+    let front = before(before(before(rest, b"/"), b"?"), b"#");
+    match front.rsplit_once_str(b"%40") {
+        Some((_, host)) => !host.is_empty() && !front.contains_str(b"@"),
+        None => false,
+    }
+}
+
 /// Whether a URL has a colon before its first `/`, and an `@` and the front of a place behind it alone.
 pub(crate) fn has_slash_in_password(line: &[u8]) -> bool {
     let Some((_, rest)) = url_with_host(line) else {
@@ -309,6 +319,14 @@ pub(crate) fn begins_with_drive(line: &[u8]) -> bool {
     match line {
         [_, b':', b'/', b'~', ..] => false,
         [letter, b':', b'\\' | b'/', ..] => letter.is_ascii_alphabetic(),
+        _ => false,
+    }
+}
+
+/// Whether the host of a file URL is the letter of a drive and a colon.
+pub(crate) fn is_drive(host: &str) -> bool {
+    match host.as_bytes() {
+        [letter, b':'] => letter.is_ascii_alphabetic(),
         _ => false,
     }
 }
