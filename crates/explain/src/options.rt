@@ -29,8 +29,9 @@ Exit status: 0 if nothing was found, 1 if something was, 2 for wrong arguments, 
 
 /// The version of the library and the program, as the title of the last changes has it.
 pub const VERSION: &str = "0.40.1+9";
-/// What `--version` prints: that, and the version of the Rust crate whose behaviour the library has.
-const VERSIONS: &str = "0.40.1+9 (gix-url 0.40.1)";
+/// What `--version` prints: that, the version of the Rust crate whose behaviour the library has, and where the commit is.
+const VERSIONS: &str = "0.40.1+9 (gix-url 0.40.1)
+The file receipt of a bundle (share/gix_url/receipt) or of a Debian package has the commit and the toolchain.";
 
 /// What excludes each other: answers are laid out in one way.
 const LAYOUTS: [&str; 7] = ["json", "sarif", "html", "only", "ssh", "summary", "quiet"];
