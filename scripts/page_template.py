@@ -19,7 +19,7 @@ sys.path.append(f"{sys.path[0]}/../tools")
 from rt_api import ROOT
 
 SOURCE, CODE = (f"{ROOT}/crates/explain_page/{it}" for it in ("page/page.html", "src/template.rt"))
-SLOTS = ("title", "lines", "verdicts", "forms", "hosts", "remotes")
+SLOTS = ("title", "lines", "verdicts", "forms", "remotes", "hosts")
 SLOT = re.compile(r"<!-- (\w+) -->")
 INLINE = re.compile(r"<(style|script)>(.*?)</\1>", re.S)
 HEAD = """\

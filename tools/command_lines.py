@@ -191,7 +191,7 @@ def version_faults():
     """The version is that of the last changes, with that of the Rust crate; and a log in SARIF has it too."""
     with open(f"{ROOT}/CHANGELOG.md", encoding="utf-8") as it:
         version = re.search(r"(?m)^## ([\d.]+\+\d+), ", it.read())[1]
-    if stored("version").decode() != f"explain {version} (gix-url {version.partition('+')[0]})\n":
+    if stored("version").decode().splitlines()[0] != f"explain {version} (gix-url {version.partition('+')[0]})":
         yield f"the stored version isn't that of {version}"
     log = subprocess.run([program("explain"), "--sarif", "h:p"], stdout=subprocess.PIPE, timeout=60).stdout
     if json.loads(log)["runs"][0]["tool"]["driver"]["version"] != version:

@@ -1,4 +1,4 @@
-"""Whether a page shows what `explain --json` answers: each line once, each object whole, its pieces, and the counts at the top."""
+"""Whether a page shows what `explain --json` answers: each line once, each object whole, its pieces, and the counts."""
 import collections
 import json
 import subprocess
@@ -29,9 +29,12 @@ def run(words, lines, end=b"\n"):
 
 
 def answers(lines, words=()):
-    """What `explain --json` answers with these words, an object for each line; with what of a location the page shows beside the
-    object where that withholds what the line is read as."""
-    found = [json.loads(it) for it in run(["--json", *words], lines).split(b"\n")[:-1]]
+    """What `explain --json` answers with these words, an object for each line, and beside it what the page shows."""
+    return with_withheld(lines, [json.loads(it) for it in run(["--json", *words], lines).split(b"\n")[:-1]])
+
+
+def with_withheld(lines, found):
+    """The answers to lines, with what of a location the page shows beside the object where that withholds what the line is read as."""
     for line, answer in zip(lines, found):
         v = grammar.spells(line) if (answer["refusal"] or {"error": None})["error"] == "Withheld" else None
         answer["withheld"] = v and {"form": explain.form(v), "settled": settled_class.settled(v), "host": v.host and "redacted"}
@@ -134,13 +137,13 @@ def host_rows(wanted):
 
 
 def faults_of_counts(page, wanted):
-    """What the counts at the top say otherwise."""
+    """What the counts say otherwise."""
     verdicts, forms = collections.Counter(map(verdict, wanted)), collections.Counter(map(form, wanted))
     size, *found = page.ask(COUNTS)
     found[2] = [[name if classes == "n" else text_of(name), count, classes] for name, count, classes in found[2]]
-    rows = [[*([name, verdicts[it], ""] for it, name in VERDICTS.items()), ["dangerous", sum(map(is_dangerous, wanted)), ""]],
+    rows = [[["dangerous", sum(map(is_dangerous, wanted)), ""], *([name, verdicts[it], ""] for it, name in VERDICTS.items())],
             [[name, forms[it], ""] for it, name in FORMS.items()], [*host_rows(wanted)]]
-    yield from (f"at the top is {it}, and not {other}" for it, other in zip([size, *found], [len(wanted), *rows]) if it != other)
+    yield from (f"counted are {it}, and not {other}" for it, other in zip([size, *found], [len(wanted), *rows]) if it != other)
 
 
 def faults_of_order(articles, ranks):

@@ -48,7 +48,7 @@ def faults_of(page, title=None):
     if re.search(rb"[^\n\x20-\x7e\x80-\xff]", markup) or markup.decode("utf-8", "replace").encode() != markup:
         yield "the page has a control character, or is not UTF-8"
     found = page.ask(FOUND)
-    others = [*{*found["tags"]} - TAGS, *{*found["attributes"]} - ATTRIBUTES, *{*found["links"]} - {"#remotes", "#l"}, *found["strays"]]
+    others = [*{*found["tags"]} - TAGS, *{*found["attributes"]} - ATTRIBUTES, *{*found["links"]} - {"#remotes", "#hosts", "#l"}, *found["strays"]]
     yield from (f"there is {it!r}" for it in sorted(others))
     if found["whole"] != WHOLE:
         yield f"the page has {found['whole']}"

@@ -18,7 +18,7 @@ sys.path.append(f"{os.path.dirname(os.path.realpath(__file__))}/../python")
 import gix_url
 
 FOLDER = pathlib.Path(gix_url.__file__).parent
-NAME = "libgix_url.so.1"
+NAME = "libgix_url.so.2"
 REMOTES = [f"https://u{it}:p@h{it}.example/{'a%20b/' * (it % 9)}{it}" for it in range(500)]
 BAD = "http://h:0x/p"
 

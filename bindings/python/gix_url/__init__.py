@@ -21,7 +21,7 @@ gix_url.Error: the URL has an invalid port, at byte 9
 The text of a location has its password: print and log `redacted` or the representation (`%r`). All values can be
 hashed, pickled and used in several threads.
 
-The library is what the environment variable GIX_URL_LIB names, a file or a folder; else libgix_url.so.1 in the folder
+The library is what the environment variable GIX_URL_LIB names, a file or a folder; else libgix_url.so.2 in the folder
 of the package, as in a wheel; else the one in PREFIX/lib, for a package in PREFIX/share/gix_url/python; else the one that
 the system finds. man 3 gix_url says more of each call. As a program, `python3 -m gix_url < remotes.txt`, the package
 answers each line as the program `locations` does.

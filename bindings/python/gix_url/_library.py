@@ -4,7 +4,7 @@ import os
 import pathlib
 from typing import Any
 
-_NAME = "libgix_url.so.1"
+_NAME = "libgix_url.so.2"
 
 
 def _candidates(named: str | None) -> list[pathlib.Path]:

@@ -125,10 +125,10 @@ impl Counts {
     /// Appends the rows of the verdicts.
     pub fn verdicts(&self, out: &mut Markup) -> Result<(), AllocError> {
         let rows = [
+            named("dangerous", self.dangerous),
             named("settled", self.settled),
             named("not settled", self.unsettled),
             named("refused", self.refused),
-            named("dangerous", self.dangerous),
         ];
         table(out, rows.as_slice())
     }

@@ -16,8 +16,8 @@ pub enum Slot {
     Lines,
     Verdicts,
     Forms,
-    Hosts,
     Remotes,
+    Hosts,
 }
 
 /// The parts of the page, in order.
@@ -26,7 +26,7 @@ pub const PAGE: [Part; 19] = [
         r##"<!DOCTYPE html>
 <html lang="en">
 <meta charset="utf-8">
-<meta http-equiv="Content-Security-Policy" content="default-src 'none'; style-src 'sha256-PTv1+t400FBQzofRwQnmFdhLfFrodJUYQzyTEi1ppd8='; script-src 'sha256-s0ztrpq2N07TFiro+TitHrvs1jjYqCo6sFnd+OioHY8='; base-uri 'none'; form-action 'none'">
+<meta http-equiv="Content-Security-Policy" content="default-src 'none'; style-src 'sha256-lUx4dFiuTbWxwmVCw2m19G/E5AQ7g3ESOA5zbPm36h4='; script-src 'sha256-s0ztrpq2N07TFiro+TitHrvs1jjYqCo6sFnd+OioHY8='; base-uri 'none'; form-action 'none'">
 <meta name="viewport" content="width=device-width, initial-scale=1">
 <meta name="color-scheme" content="light dark">
 <meta name="generator" content="explain --html">
@@ -102,11 +102,18 @@ strong, .r { color: var(--alarm); font-weight: 600; }
 [data-m$=dangers], [data-m$=no_transport], [data-m$=permission]:not([data-v=allowed]) { color: var(--alarm); }
 .t {
   font: 1rem/1.4 ui-monospace, monospace; white-space: break-spaces; unicode-bidi: isolate; direction: ltr;
-  max-height: 24rem; overflow-y: auto; margin: .5rem 0; background: var(--paper); border-radius: .25rem; padding: .35rem .5rem;
+  max-height: 24rem; overflow-y: auto; margin: .5rem 0; background: var(--paper); border-radius: .25rem; padding: .35rem 3rem .35rem .5rem;
 }
-.t span[class] { display: inline-flex; flex-direction: column; max-width: 100%; min-width: 0; unicode-bidi: isolate; border-bottom: .2rem solid var(--c, transparent); margin-bottom: .25rem; color: var(--c, inherit); }
+.t span[class] { display: inline-flex; flex-direction: column; max-width: 100%; min-width: 0; unicode-bidi: isolate; color: var(--c, inherit); }
 .t span.l, .t .l > i { display: block; }
-i { font: .7rem/1.2 system-ui, sans-serif; padding-right: .3rem; user-select: none; -webkit-user-select: none; }
+/* A label takes no width from the text. It has the first, the second or the third row below it, so that it is free of those beside it. */
+i {
+  font: .7rem/1.2 system-ui, sans-serif; width: 0; min-width: 100%; white-space: nowrap; overflow-wrap: normal;
+  border-top: .2rem solid var(--c, transparent); user-select: none; -webkit-user-select: none;
+}
+.u > i, .p > i, .a > i, .h + .f > i { padding-top: .85rem; }
+.w > i, .o > i, .q > i { padding-top: 1.7rem; }
+.t > span:only-child > i { padding-top: 0; }
 .s, .e { --c: var(--scheme); } .u { --c: var(--user); } .w { --c: var(--password); } .h { --c: var(--host); } .o { --c: var(--port); }
 .p { --c: var(--path); } .q { --c: var(--query); } .f { --c: var(--fragment); } .a { --c: var(--host); }
 .w { font-weight: 700; }
@@ -181,7 +188,7 @@ td > div, th > div { max-height: 12rem; overflow-y: auto; }
     ),
     Part::Slot(Slot::Lines),
     Part::Text(
-        r##"</b>, the dangerous ones first.</p>
+        r##"</b>, the dangerous ones first. <a href="#hosts">Hosts</a> are counted at the end.</p>
 </header>
 <script>
 "use strict";
@@ -305,11 +312,6 @@ td > div, th > div { max-height: 12rem; overflow-y: auto; }
     Part::Slot(Slot::Forms),
     Part::Text(
         r##"</table>
-<table id="hosts"><caption>By host</caption>"##,
-    ),
-    Part::Slot(Slot::Hosts),
-    Part::Text(
-        r##"</table>
 </div>
 </section>
 <form id="filter" aria-labelledby="filter-name" hidden>
@@ -350,6 +352,16 @@ td > div, th > div { max-height: 12rem; overflow-y: auto; }
     Part::Slot(Slot::Remotes),
     Part::Text(
         r##"
+</section>
+<section aria-labelledby="hosts-name">
+<h2 id="hosts-name">Hosts</h2>
+<div class="counts">
+<table id="hosts"><caption>By host</caption>"##,
+    ),
+    Part::Slot(Slot::Hosts),
+    Part::Text(
+        r##"</table>
+</div>
 </section>
 </main>
 <footer>
