@@ -20,7 +20,7 @@ ENDS = [
     ("locations", '"$0" </', 2, b"", CANNOT_READ),
     ("locations", '"$0" 0>/dev/null', 2, b"", CANNOT_READ),
     ("locations", 'dd bs=1 status=none | "$0" | dd bs=1 status=none', 1, ANSWER, b""),
-    ("locations", 'head -c 1M /dev/zero | tr "\\0" / | "$0" | head -c 1000', 2, b"settled\t" + b"/" * 992, CANNOT_WRITE),
+    ("locations", 'head -c 3M /dev/zero | tr "\\0" / | "$0" | head -c 1000', 2, b"settled\t" + b"/" * 992, CANNOT_WRITE),
     ("explain", 'yes h:p | head -n 100000 | "$0" | head -c 10', 2, b"line 1: sc", b""),
 ]
 

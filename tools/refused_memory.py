@@ -1,4 +1,5 @@
-"""Refused memory: counts the requests of each call and the bytes that they ask for, and refuses each of them in turn.
+"""Refused memory: counts the requests of each call and the bytes that they ask for, and refuses each of them in turn. After each
+run, with or without a refused request, as many bytes are held as after one without the call: all that it asked for is given back.
 
 The rows are those of all tables in `vectors/`, and the program `answers` makes the calls, an order a run: one run ends
 before the call and one makes it, so what the call asks for is the difference. Each request goes through
@@ -40,8 +41,9 @@ class Ran:
             told.seek(0)
             self.told = told.read()
         self.status, self.out, self.err = ran.returncode, ran.stdout, ran.stderr
-        # How many bytes each request asks for.
-        self.requests = [*map(int, re.findall(rb"\d+", self.told))]
+        # How many bytes each request asks for, and how many are held in the end.
+        self.requests = [*map(int, re.findall(rb"(\d+)[+-]", self.told))]
+        self.held = int((re.findall(rb"(\d+)=", self.told) or [0])[-1])
 
     def is_refused(self):
         return b"-" in self.told
@@ -98,7 +100,14 @@ def ample_fault(row, prepared, ample):
         return f"{row.place}: what the call is over is not prepared: {prepared.out!r}: {row.order()}"
     if ample.status:
         return f"{row.place}: the program ended with status {ample.status}: {row.order()}"
-    return row.fault(ample.out.decode(errors="replace"))
+    return kept_fault(row, prepared, ample) or row.fault(ample.out.decode(errors="replace"))
+
+
+def kept_fault(row, prepared, ran):
+    """What is wrong with the memory that a run holds in the end, beside a run without the call."""
+    if ran.held != prepared.held:
+        return f"{row.place}: {ran.held} bytes are held in the end, and {prepared.held} without the call: {row.order()}"
+    return None
 
 
 class Calls:
@@ -118,16 +127,17 @@ class Calls:
         fault = ample_fault(row, prepared, ample)
         if fault:
             return [fault], 0
-        before = len(prepared.requests)
-        asked = ample.requests[before:]
+        asked = ample.requests[len(prepared.requests):]
         found = [*asked_faults(row, asked)]
         for number in range(1, len(asked) + 1):
-            found += self.refuse(row, before, number)
+            found += self.refuse(row, prepared, number)
         return found, len(asked)
 
-    def refuse(self, row, before, number):
+    def refuse(self, row, prepared, number):
         """What is wrong where a request of the call is refused, which comes behind those that were made before it."""
-        ran = self.run(row, True, before + number)
+        ran = self.run(row, True, len(prepared.requests) + number)
+        if kept_fault(row, prepared, ran):
+            yield f"with request {number} refused: {kept_fault(row, prepared, ran)}"
         if not ran.is_refused():
             yield f"{row.place}: request {number} is not made again: {row.order()}"
         elif not tells_memory(row, ran) and not (row.members["call"] in COLLECTING and row.fault(ran.out.decode()) is None):
@@ -139,9 +149,9 @@ def starved_program(shim):
     path, faults = program("locations"), []
     for number in itertools.count(1):
         ran = Ran([path], shim, LINES, number)
-        want = (2, b"", b"locations: out of memory\n") if ran.is_refused() else (1, ANSWER, b"")
-        if (ran.status, ran.out, ran.err) != want:
-            faults.append(f"locations, with request {number} refused: status {ran.status}, {ran.out!r}, {ran.err!r}")
+        want = (2, b"", b"locations: out of memory\n", 0) if ran.is_refused() else (1, ANSWER, b"", 0)
+        if (ran.status, ran.out, ran.err, ran.held) != want:
+            faults.append(f"locations, with request {number} refused: status {ran.status}, {ran.out!r}, {ran.err!r}, {ran.held} bytes held")
         if not ran.is_refused():
             return faults, number - 1
 

@@ -15,20 +15,37 @@ def bytes_of(text):
     return text.translate(ESCAPED).encode("utf-8", "surrogateescape")
 
 
+def placed(value, place):
+    """A value with its place among many: as five digits for each `#` of its texts, and times the step for `{"step": step}`."""
+    if isinstance(value, dict) and set(value) == {"step"}:
+        return value["step"] * place
+    if isinstance(value, dict):
+        return {name: placed(it, place) for name, it in value.items()}
+    return value.replace("#", f"{place:05}") if isinstance(value, str) else value
+
+
+def piece(it):
+    """A piece of a text: a text, a text and how often it occurs, or texts that are numbered."""
+    return "".join(joined(it)) if isinstance(it, dict) else it if isinstance(it, str) else it[0] * it[1]
+
+
 def joined(value):
     """A value with its texts and its lists put together.
 
-    `{"joined": [..]}` is the text of these pieces, each a text, or a text and how often it occurs;
-    `{"repeated": [value, count]}` is the list that has the value so often; and `{"entries": [[key, value], [key]]}` is the
-    text that `git config --list -z` writes for the entries.
+    `{"joined": [..]}` is the text of these pieces (`piece`); `{"repeated": [value, count]}` is the list that has the value so
+    often; `{"numbered": [value, count]}` is the same with its place put into each (`placed`); and `{"entries": [[key, value],
+    [key]]}` is the text that `git config --list -z` writes for the entries.
     """
     if isinstance(value, dict) and set(value) == {"entries"}:
         return "".join("\n".join(it) + "\0" for it in value["entries"])
     if isinstance(value, dict) and set(value) == {"joined"}:
-        return "".join(it if isinstance(it, str) else it[0] * it[1] for it in value["joined"])
+        return "".join(map(piece, value["joined"]))
     if isinstance(value, dict) and set(value) == {"repeated"}:
         repeated, count = value["repeated"]
         return [joined(repeated)] * count
+    if isinstance(value, dict) and set(value) == {"numbered"}:
+        numbered, count = value["numbered"]
+        return [placed(numbered, place) for place in range(count)]
     if isinstance(value, dict):
         return {name: joined(it) for name, it in value.items()}
     return [joined(it) for it in value] if isinstance(value, list) else value

@@ -26,6 +26,8 @@ SOURCES = {"crate", "oracle", "reading", "git", "hand", "rfc"}
 OWN = {"is", "from", "requests", "bytes", "note", "class", "git", "credential", "curl"}
 # Errors that keep the text that they are about.
 KEEPING = ("MissingPath", "NotUtf8", "BadUrl")
+# Calls that read into a buffer, whose errors keep nothing.
+INTO_BUFFERS = ("UrlRef::parse_in", "host::texts_name_same_host")
 MEMORY = {"error": "Memory"}
 
 
@@ -66,8 +68,7 @@ class Row:
         self.credential, self.curl = members.get("credential"), members.get("curl")
         self.members = {name: joined(it) for name, it in members.items() if name not in OWN}
         expected = joined(members.get("is"))
-        # What is read into a buffer keeps nothing.
-        self.expected = expected if members.get("call") == "UrlRef::parse_in" else keeps(expected, self.members.get("text"))
+        self.expected = expected if members.get("call") in INTO_BUFFERS else keeps(expected, self.members.get("text"))
 
     def order(self, **more):
         return json.dumps({**self.members, **more})

@@ -210,6 +210,9 @@ BY_HAND = [
     # Headers are added up, and an empty one takes those before it back.
     Case([entry(b"http.extraheader", b"X-A: 1"), entry(b"http.https://h.extraheader", b"X-B: 2"), entry(b"http.https://h.extraheader", b"X-C: 3"),
           entry(b"http.https://none.curloptresolve", b"h:1:::1"), entry(b"http.https://none.curloptresolve", b"")], [b"https://h/p", b"https://none/", b"https://x/"]),
+    # White space is a part of a value, and a long value is shown whole.
+    Case([entry(b"protocol.ssh.allow", b"always "), entry(b"credential.helper", b"one"), entry(b"credential.helper", b" "), entry(b"http.proxy", b"p" * 300)],
+         [b"h:p", b"https://h/p"]),
     # What isn't understood.
     Case([entry(b"url.https://h/.insteadof"), entry(b"protocol.ssh.allow", b"maybe"), entry(b"protocol.file.allow"), entry(b"credential.h.helper", b"store"),
           entry(b"http.h.proxy", b"x"), entry(b"http.https://h/%zz.proxy", b"x"), entry(b"credential.usehttppath", b"maybe"), entry(b"http.sslverify", b"2g"),

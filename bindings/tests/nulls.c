@@ -165,6 +165,7 @@ static const struct {
     {TEXT("a\0b"), {.len = 3}},
     {TEXT("http://u:secret@h/a?b=c#d"), {.len = 16}},
     {TEXT(""), {GIX_URL_EMPTY_LOCAL, {.reason = GIX_URL_REASON_EMPTY}, 0, 0}},
+    {TEXT("http://u:p@h:0/"), REFUSED(GIX_URL_BAD_URL, GIX_URL_BAD_PORT, GIX_URL_REASON_PORT_ZERO, 13, 1)},
     {TEXT("http://h:x/"), REFUSED(GIX_URL_BAD_URL, GIX_URL_BAD_PORT, GIX_URL_REASON_PORT_NOT_A_NUMBER, 9, 1)},
     {TEXT("ssh://h"), REFUSED(GIX_URL_MISSING_PATH, GIX_URL_FAULT_NONE, GIX_URL_REASON_PATH_MISSING, 7, 0)},
     {TEXT("http://h/\xff"), REFUSED(GIX_URL_NOT_UTF8, GIX_URL_FAULT_NONE, GIX_URL_REASON_NOT_UTF8, 9, 1)},
@@ -252,23 +253,35 @@ static void of_long_parts(void) {
         }
 }
 
+/* A text is refused with this error, and the room is left as it was. */
+static gix_url_problem refused(const char *input, size_t len, gix_url_error error) {
+    static char room[8192], kept[sizeof room];
+    gix_url url;
+    gix_url_problem problem;
+    memset(room, 0xA5, sizeof room);
+    memcpy(kept, room, sizeof room);
+    HOLDS(gix_url_parse(input, len, room, sizeof room, &url, NULL, &problem) == error);
+    HOLDS(memcmp(room, kept, sizeof room) == 0);
+    return problem;
+}
+
 /* The error of a text that is too long has how much of it is shown, its length, and what of it is too long. Past 256 bytes a
  * text is read into memory. */
 static void of_length(void) {
     static char input[2000], room[8192];
     gix_url url;
-    gix_url_problem problem;
     memset(input, 'a', sizeof input);
     memcpy(input, "http://", 7);
-    HOLDS(gix_url_parse(input, sizeof input, room, sizeof room, &url, NULL, &problem) == GIX_URL_TOO_LONG);
+    gix_url_problem problem = refused(input, sizeof input, GIX_URL_TOO_LONG);
     HOLDS(problem.shown == 1031 && problem.total == 2000 && problem.kind == GIX_URL_KIND_NONE);
     HOLDS(problem.reason == GIX_URL_REASON_AUTHORITY_TOO_LONG && problem.at == 7 && problem.len == 1024);
+    memcpy(input + 7, "u%41:p%41@", 10);
     for (size_t len = 255; len <= 257; len++) {
         input[len - 1] = ' ';
-        HOLDS(gix_url_parse(input, len, room, sizeof room, &url, NULL, &problem) == GIX_URL_BAD_URL);
+        problem = refused(input, len, GIX_URL_BAD_URL);
         HOLDS(problem.reason == GIX_URL_REASON_WHITE_SPACE && problem.at == len - 1 && problem.len == 1 && problem.total == 0);
         input[len - 1] = 'a';
-        HOLDS(gix_url_parse(input, len, room, sizeof room, &url, NULL, &problem) == GIX_URL_OK && url.host.len == len - 7);
+        HOLDS(gix_url_parse(input, len, room, sizeof room, &url, NULL, &problem) == GIX_URL_OK && url.host.len == len - 17);
     }
 }
 

@@ -1,6 +1,7 @@
 #!/usr/bin/env python3
 """What the values of the package gix_url are to Python: types, order, texts, names, copies and errors."""
 import copy
+import ctypes
 import dataclasses
 import doctest
 import logging
@@ -9,6 +10,7 @@ import pathlib
 import pickle
 import sys
 import unittest
+import unittest.mock
 
 sys.dont_write_bytecode = True
 sys.path.append(f"{os.path.dirname(os.path.realpath(__file__))}/../python")
@@ -155,6 +157,13 @@ class Errors(unittest.TestCase):
         self.assertEqual((error.kind, error.reason, error.at, error.len), ("Url", "PortNotANumber", 9, 2))
         self.assertEqual((str(error), error.args), ("the URL has an invalid port, at byte 9", ("the URL has an invalid port",)))
         self.assertEqual(str(refusal("")), "the location is empty, at byte 0")
+
+    def test_what_is_refused_leaves_no_password(self):
+        made = []
+        with unittest.mock.patch.object(gix_url, "buffer", lambda size: made.append((ctypes.c_char * size)()) or made[-1]):
+            self.assertEqual(refusal("http://u:s3cret@h:0/").reason, "PortZero")
+        self.assertTrue(made)
+        self.assertNotIn(b"s3cret", b"".join(map(bytes, made)))
 
     def test_what_is_no_text_has_no_place(self):
         error = refusal(REFUSED[-1])

@@ -121,14 +121,18 @@ static void put_member(line *out, const char *name, gix_url_text text) {
 
 static void put_truth(line *out, bool is) { put_word(out, is ? "true" : "false"); }
 
+/* What is seen of a location: a port that isn't there is 0, and the original path is a part of the location itself. */
 static gix_url_seen seen_of(const gix_url *url) {
     gix_url_seen seen;
     HOLDS(gix_url_look(url, &seen) == GIX_URL_OK);
+    HOLDS(seen.has_port || seen.port == 0);
+    HOLDS(seen.original_path.at == url->path.at || (url->spelling.at && seen.original_path.at == url->spelling.at));
     return seen;
 }
 
 static void tell_url(line *out, const gix_url *url) {
     gix_url_text spelling = seen_of(url).original_path;
+    HOLDS(url->has_port || url->port == 0);
     put_word(out, "{\"scheme\":\""), put_word(out, schemes[url->scheme]);
     if (url->name.at) put_word(out, " "), put_inside(out, url->name);
     put_word(out, "\"");

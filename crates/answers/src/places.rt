@@ -5,7 +5,7 @@
 use crate::halt::Halt;
 use crate::order::{Order, unknown};
 use crate::report::{Out, report_lent, report_owned};
-use bstr::BStr;
+use bstr::{BStr, ByteSlice};
 use git_rules::config::Entry;
 use git_rules::normal::{NormalError, NormalUrl, room_for};
 use git_rules::pattern::entries::{best_entry, entry_rank};
@@ -38,11 +38,25 @@ pub fn over_len(order: Order<'_>, len: u64, out: &mut Out) -> Result<(), Halt> {
 pub fn over_text(alloc: Global, order: Order<'_>, text: &[u8], out: &mut Out) -> Result<(), Halt> {
     let mut room = room_of(alloc, order, text.len())?;
     let outcome = match order.name() {
-        "NormalUrl::parse_in" | "UrlPattern::parse_in" => read(order, text, &mut room, out),
+        "NormalUrl::parse_in" | "UrlPattern::parse_in" => read_apart(order, text, &mut room, out),
         _ => over_place(alloc, order, NormalUrl::parse_in(text, &mut room), out),
     };
     drop(room);
     outcome
+}
+
+/// The same, of which the buffer has no password, whatever the outcome: it is in no normal form.
+fn read_apart(order: Order<'_>, text: &[u8], buffer: &mut [u8], out: &mut Out) -> Result<(), Halt> {
+    read(order, text, buffer, out)?;
+    match order.text("password") {
+        Some(password) if holds(&*buffer, password) => Err(Halt::Changed),
+        _ => Ok(()),
+    }
+}
+
+/// Whether bytes hold a text.
+fn holds(bytes: &[u8], text: &str) -> bool {
+    bytes.contains_str(text.as_bytes())
 }
 
 /// Reports the normal form of a text, or that it is a pattern.

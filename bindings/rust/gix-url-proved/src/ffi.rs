@@ -383,15 +383,10 @@ pub(crate) fn read(input: &[u8]) -> Result<Url, Error> {
         far.reserve_exact(input.len());
         &mut far.spare_capacity_mut()[..input.len()]
     };
-    match call!(
-        gix_url_c_read_in,
-        input.as_ptr(),
-        input.len(),
-        room.as_mut_ptr().cast(),
-        room.len(),
-        &mut lent,
-        &mut told
-    ) {
+    let (code, _) = fill(room, &mut |room, len| {
+        (call!(gix_url_c_read_in, input.as_ptr(), input.len(), room, len, &mut lent, &mut told), 0)
+    });
+    match code {
         OK => Ok(located(&lent)),
         code => Err(error(code, &told, || input.into(), &[])),
     }
@@ -553,7 +548,9 @@ pub(crate) fn is_root(path: &[u8]) -> bool {
 
 /// Whether a path was spelled so: the spelling stands for it.
 pub(crate) fn is_spelled(path: &[u8], spelling: &[u8]) -> bool {
-    call!(gix_url_c_is_spelled, path.as_ptr(), path.len(), spelling.as_ptr(), spelling.len()) == 1
+    let answer = call!(gix_url_c_is_spelled, path.as_ptr(), path.len(), spelling.as_ptr(), spelling.len());
+    debug_assert!(answer <= 1, "{answer} is neither yes nor no");
+    answer == 1
 }
 
 /// The port, or else the one that the scheme stands for.

@@ -130,7 +130,7 @@ fn over_room(alloc: Global, order: Order<'_>, text: &[u8], out: &mut Out) -> Res
 fn read_in(order: Order<'_>, text: &[u8], room: &mut [u8], out: &mut Out) -> Result<(), Halt> {
     match order.call() {
         "" => Ok(()),
-        "UrlRef::parse_in" => report_owned(out, UrlRef::parse_in(text, room)),
+        "UrlRef::parse_in" => read_url_in(text, room, out),
         "crate::parts_of" => match parts_of(text) {
             Ok(parts) => report_lent(out, &parts),
             Err(refusal) => report_lent(out, &ParseError::Refused(refusal)),
@@ -140,6 +140,18 @@ fn read_in(order: Order<'_>, text: &[u8], room: &mut [u8], out: &mut Out) -> Res
             Err(ParseError::Refused(refusal)) => look_at_refusal(order, refusal, out),
             _ => Err(Halt::Unprepared),
         },
+    }
+}
+
+/// Reads a text into a buffer, and reports the location, or the error, with which the buffer has to be as it was.
+fn read_url_in(text: &[u8], buffer: &mut [u8], out: &mut Out) -> Result<(), Halt> {
+    let read = UrlRef::parse_in(text, buffer);
+    let is_read = read.is_ok();
+    report_owned(out, read)?;
+    if is_read || buffer.iter().all(|&byte| byte == b'#') {
+        Ok(())
+    } else {
+        Err(Halt::Changed)
     }
 }
 

@@ -1,8 +1,8 @@
 //! Locations that are shown by a formatter that fails at each of its calls: it never gets the field `password`.
 
-use super::is_whole;
 use super::streams::FailingFormatter;
-use crate::boxes::boxed;
+use super::{is_whole, long};
+use crate::boxes::{boxed, read};
 use bstr::BStr;
 use gix_url::Url;
 use std::fmt::{self, Write};
@@ -56,6 +56,27 @@ fn a_formatter_fails_at_each_call(rt: HostRuntime) -> Result<(), Fail> {
         let url = boxed(rt.alloc(), Url::from_bytes(rt.alloc(), BStr::new(given))?)?;
         is_shown(&rt, &url, text, false)?;
         is_shown(&rt, &url, text, true)?;
+    }
+    Ok(())
+}
+
+/// Shows a location to a formatter that fails behind so many calls: it gets a front of the text, or the whole.
+fn is_front_shown(rt: &impl Abort, url: &Url, text: &str, calls: usize) {
+    let left = Some(text.as_bytes());
+    let mut out = FailingFormatter { left, calls };
+    let is_all = show(&mut out, url, false).is_ok();
+    let is_right = !is_all || is_whole(out.left);
+    assert!(rt; out.left.is_some() && is_right, "{calls} calls");
+    assert!(rt; is_all || calls < usize::MAX, "it is never shown");
+}
+
+#[test]
+fn a_formatter_of_a_long_text_fails(rt: HostRuntime) -> Result<(), Fail> {
+    let given = boxed(rt.alloc(), long(rt.alloc(), "ssh://u:secret@h")?)?;
+    let text = boxed(rt.alloc(), long(rt.alloc(), "ssh://u:redacted@h")?)?;
+    let url = read(rt.alloc(), given.as_str())?;
+    for calls in [0, 1, 2, 3, 4, 5, 6, 7, 100, 10_000, usize::MAX] {
+        is_front_shown(&rt, &url, text.as_str(), calls);
     }
     Ok(())
 }

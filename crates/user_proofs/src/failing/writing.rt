@@ -1,9 +1,10 @@
 //! Locations that are written to a writer that fails at each of its calls.
 
-use super::is_whole;
 use super::streams::{FailingWriter, Fault, WAYS, is_own};
-use crate::boxes::read;
+use super::{is_whole, long};
+use crate::boxes::{boxed, read};
 use gix_url::{Url, WriteError};
+use std::io::ErrorKind;
 use std::process::Abort;
 use std::test::Fail;
 
@@ -62,4 +63,18 @@ fn a_writer_fails_at_each_call(rt: HostRuntime) -> Result<(), Fail> {
         }
     }
     Ok(())
+}
+
+#[test]
+fn a_writer_of_a_long_text_fails_at_each_call(rt: HostRuntime) -> Result<(), Fail> {
+    let text = boxed(rt.alloc(), long(rt.alloc(), "ssh://u:p@h")?)?;
+    let url = read(rt.alloc(), text.as_str())?;
+    is_written(
+        &rt,
+        &url,
+        text.as_str(),
+        1 << 21,
+        Some((ErrorKind::Other, "the disk is gone")),
+    )?;
+    is_written(&rt, &url, text.as_str(), 1 << 21, None)
 }
