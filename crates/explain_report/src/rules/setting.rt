@@ -5,11 +5,12 @@
 
 ghost use Rattle.std.specs.Prelude.{◌≡◌, ◌++◌, ◌∷◌, IfOk, OnOk, option_map, string_bytes};
 ghost use Rattle.git_syntax.specs.Bytes.{dot};
-ghost use Rattle.explain_report.specs.Entries.{key_shown, value_shown};
+ghost use Rattle.explain_report.specs.Entries.{is_header, is_shell_helper, key_shown, section_shown, subsection_shown, value_shown};
 
 use crate::memory::both;
 use crate::text::secret::shown_text;
 use git_rules::config::Entry;
+use git_syntax::bytes::starts_with_byte;
 use serde::Serialize;
 use std::alloc::{AllocError, Global};
 
@@ -52,12 +53,33 @@ impl Setting {
 fn key_of(alloc: Global, entry: &Entry<'_>) -> Result<String, AllocError>
     ensures { IfOk result (λ key. string_bytes key ≡ key_shown entry.now) }
 {
-    let mut key = shown_text(alloc, entry.section)?;
-    if let Some(subsection) = entry.subsection {
-        push_after_dot(&mut key, shown_text(alloc, subsection)?)?;
-    }
+    let mut key = section_of(alloc, entry)?;
     push_after_dot(&mut key, shown_text(alloc, entry.name)?)?;
     Ok(key)
+}
+
+/// The key of an entry without its name.
+fn section_of(alloc: Global, entry: &Entry<'_>) -> Result<String, AllocError>
+    ensures { IfOk result (λ text. string_bytes text ≡ section_shown entry.now) }
+{
+    let mut text = shown_text(alloc, entry.section)?;
+    push_subsection(alloc, &mut text, entry.subsection)?;
+    Ok(text)
+}
+
+/// Appends a dot and the subsection, if there is one.
+fn push_subsection(
+    alloc: Global,
+    out: &mut String,
+    subsection: Option<&[u8]>,
+) -> Result<(), AllocError>
+    ensures { OnOk result
+        (string_bytes out.new ≡ string_bytes out.old ++ subsection_shown (option_map (λ it. it.now) subsection.entry)) }
+{
+    match subsection {
+        None => Ok(()),
+        Some(subsection) => push_after_dot(out, shown_text(alloc, subsection)?),
+    }
 }
 
 /// Appends a dot, and a text.
@@ -84,13 +106,28 @@ fn value_of(alloc: Global, entry: &Entry<'_>) -> Result<Option<String>, AllocErr
 fn value_text(alloc: Global, entry: &Entry<'_>, value: &[u8]) -> Result<String, AllocError>
     ensures { IfOk result (λ text. string_bytes text ≡ value_shown entry.now value.now) }
 {
-    if value.is_empty() {
-        Ok(String::new(alloc))
-    } else if entry.sets("http", "extraheader") {
+    if is_header(entry, value) {
         String::from_str(alloc, "redacted")
-    } else if entry.sets("credential", "helper") && value.starts_with(b"!") {
+    } else if is_shell_helper(entry, value) {
         String::from_str(alloc, "!redacted")
     } else {
         shown_text(alloc, value)
     }
+}
+
+/// Whether the value is a header of HTTP, and not empty.
+fn is_header(entry: &Entry<'_>, value: &[u8]) -> bool
+    ensures { result ≡ is_header entry.now value.now }
+{
+    match value {
+        [] => false,
+        [_, ..] => entry.sets("http", "extraheader"),
+    }
+}
+
+/// Whether the value is a credential helper that a shell runs.
+fn is_shell_helper(entry: &Entry<'_>, value: &[u8]) -> bool
+    ensures { result ≡ is_shell_helper entry.now value.now }
+{
+    starts_with_byte(value, b'!') && entry.sets("credential", "helper")
 }
