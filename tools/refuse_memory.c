@@ -1,7 +1,7 @@
 // Wraps the allocator of the C library, under LD_PRELOAD: each request for memory writes a word to the file
 // descriptor that REQUESTS_TO names, and the request whose number REFUSED names is refused. A word is how many bytes are
-// asked for, and a `+`, or a `-` for the request that was refused: the Nth word is the Nth request. Behind each request and
-// each call that gives memory back a word with `=` says how many bytes are held then, as the C library counts them.
+// asked for, and a `+`, or a `-` for the request that was refused: the Nth word is the Nth request. After each request and
+// each call that gives memory back a word with `=` has how many bytes are held, as the C library counts them.
 
 extern void *__libc_malloc(unsigned long size);
 extern void *__libc_realloc(void *old, unsigned long size);

@@ -52,8 +52,12 @@ def program_calls():
 
 
 def missing_calls(table):
-    """The calls of both libraries that have no row, and the calls that rows name and the program doesn't make."""
+    """The calls of both libraries that have no row, or ask for memory and have none with a large text; and the calls that rows
+    name and the program doesn't make."""
     named, made = {it.members.get("call") for it in table}, program_calls()
+    allocating = {it.members.get("call") for it in table if it.requests}
+    large = {it.members.get("call") for it in table if it.place.partition(".")[0].endswith("large")}
     faults = [f"{it} has no row" for it in sorted((contracts().keys() | made) - named)]
     faults += [f"{it} isn't a call that the library passes on" for it in sorted(OF_LAYERS - passed_calls().keys())]
+    faults += [f"{it} asks for memory and has no row with a large text" for it in sorted(allocating - large)]
     return faults + [f"{it} isn't a call of the program" for it in sorted(map(str, named - made))]

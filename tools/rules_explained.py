@@ -222,6 +222,13 @@ BY_HAND = [
 ]
 
 
+# What decides on a transport in words: a variable, and an entry that has a part in it.
+USER = [entry(b"protocol.ssh.allow", b"user")]
+BY_VARIABLE = [
+    (Case(USER, [b"h:p"], from_user=b"maybe"), b"ssh is not used, as Git stops by GIT_PROTOCOL_FROM_USER"),
+    (Case(USER, [b"h:p"], from_user=b"0"), b'ssh is refused by GIT_PROTOCOL_FROM_USER: "protocol.ssh.allow" is "user"'),
+    (Case(USER, [b"h:p"], allow_list=b"https"), b"ssh is refused by GIT_ALLOW_PROTOCOL"),
+]
 # Remotes with several URLs, a helper, programs and a proxy, and one at which Git stops.
 REMOTES = [
     Case([entry(b"remote.o.url", b"gh:a"), entry(b"remote.o.url", b"https://u:secret@h/x"), entry(b"remote.o.pushurl", b"ext::sh"), entry(b"remote.p.url", b"-x"),
@@ -334,8 +341,14 @@ def stored(name):
         return it.read()
 
 
-def people_faults():
+def people_faults(folder):
     """Where the text output differs from the one written by hand."""
+    for case, wanted in BY_VARIABLE:
+        with open(f"{folder}/config", "wb") as it:
+            it.write(listed(case.entries))
+        shown = run(case, "--config", f"{folder}/config")[1]
+        if b"\n    transport   %b\n" % wanted not in shown:
+            yield f"explain prints {shown!r}, and not {wanted!r}"
     shown = run(Case([], stored("stdin").splitlines()), "--config", f"{STORED}/config")[1]
     rows = [it for it in shown.splitlines() if re.match(rb"line |    (fetches|pushes|danger|credential|http|transport) ", it)]
     pairs = zip_longest(rows, stored("stdout").splitlines())
@@ -348,7 +361,7 @@ def check(folder):
     wanted = iter(together([rules(case, line) for case in cases for line in case.lines]))
     remotes = made_remotes()
     reports = iter(together([remote(case, name) for case in remotes for name in names_of_remotes(case.entries)]))
-    faults = [*command_faults(folder), *people_faults()]
+    faults = [*command_faults(folder), *people_faults(folder)]
     for case in remotes:
         faults += remote_faults(case, [next(reports) for _ in names_of_remotes(case.entries)], f"{folder}/config")
     for case in cases:
