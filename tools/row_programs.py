@@ -106,7 +106,8 @@ class Binding(Answers):
     members = MEMBERS
 
     def makes(self, row):
-        return self.members.issuperset(row.members)
+        """Only C is asked for large texts: the others call its library, by programs that take long for them."""
+        return self.members.issuperset(row.members) and (self.name == "c" or not row.place.startswith("large."))
 
     def order(self, row):
         return "\t".join(flat(row.members))

@@ -16,7 +16,7 @@ void fails(const char *file, int number, const char *what) {
 
 char *at_wall(int number, const char *bytes, size_t len) {
     static char *walls[2];
-    static const size_t size = (size_t)1 << 22;
+    static const size_t size = (size_t)1 << 25;
     if (!walls[number]) {
         size_t page = (size_t)sysconf(_SC_PAGESIZE);
         char *at = mmap(NULL, size + page, PROT_READ | PROT_WRITE, MAP_PRIVATE | MAP_ANONYMOUS, -1, 0);
