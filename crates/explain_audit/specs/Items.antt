@@ -1,5 +1,5 @@
 -- What was found in a text, and where it leads.
-use Rattle.std.specs.Prelude.{◌≡◌, List, Option, Some, None, map}
+use Rattle.std.specs.Prelude.{List, Option, Some, None, map}
 use Rattle.git_rules.specs.SameHost.{HaveSameHost}
 use Rattle.gix_url.specs.Location.{Location}
 use Rattle.explain_audit.specs.declared.item.Item.{Item}

@@ -1,5 +1,5 @@
 -- What a line or a run was found to have, for which a run may fail.
-use Rattle.std.specs.Prelude.{Bool, true, false, not, ◌||◌, ◌&&◌, Option, Some, None}
+use Rattle.std.specs.Prelude.{Bool, true, false, ◌||◌, ◌&&◌, Option, Some, None}
 use Rattle.explain_report.specs.declared.finding.Findings.{Findings}
 use Rattle.std.specs.Borrow.{Bor}
 use Rattle.explain_report.specs.declared.rules.transports.Transport.{Transport}

@@ -241,8 +241,8 @@ impl<'a> Walk<'a> {
     }
 }
 
-/// A host with the marks before and behind it, which only Secure Shell has: its brackets, and a colon that is
-/// its only one and ends it.
+/// A host with the marks before and after it, which only Secure Shell has: its brackets, and a colon that ends it, if
+/// it has no other one, also as an escape.
 fn host_alone(text: &[u8], is_of_ssh: bool) -> (&[u8], &[u8], &[u8]) {
     if !is_of_ssh {
         return (b"", text, b"");
@@ -255,9 +255,14 @@ fn host_alone(text: &[u8], is_of_ssh: bool) -> (&[u8], &[u8], &[u8]) {
         return (b"[", host, close);
     }
     match text.split_once_str(b":") {
-        Some((host, [])) => (b"", host, b":"),
+        Some((host, [])) if !has_escaped_colon(host) => (b"", host, b":"),
         _ => (b"", text, b""),
     }
+}
+
+/// Whether a text has an escaped colon.
+fn has_escaped_colon(text: &[u8]) -> bool {
+    text.contains_str(b"%3A") || text.contains_str(b"%3a")
 }
 
 /// What is in the brackets around a text.
