@@ -306,6 +306,9 @@ const char *gix_url_error_words(gix_url_error error, const gix_url_problem *prob
     case GIX_URL_NO_LOCATION: return "the struct holds no location";
     case GIX_URL_NO_ROOM: return "the room is too small for the answer";
     case GIX_URL_NULL: return "a pointer is null that may not be";
+    case GIX_URL_NO_VALUE: return "Git stops at an entry without a value";
+    case GIX_URL_NO_BOOLEAN: return "Git stops at an entry whose value is no boolean value";
+    case GIX_URL_NO_CONFIGURATION: return "the text is no configuration";
     }
     return "an unknown error";
 }
@@ -324,6 +327,9 @@ const char *gix_url_error_name(gix_url_error error) {
     case GIX_URL_NO_LOCATION: return "NoLocation";
     case GIX_URL_NO_ROOM: return "NoRoom";
     case GIX_URL_NULL: return "Null";
+    case GIX_URL_NO_VALUE: return "NoValue";
+    case GIX_URL_NO_BOOLEAN: return "NoBoolean";
+    case GIX_URL_NO_CONFIGURATION: return "NoConfiguration";
     }
     return "?";
 }
