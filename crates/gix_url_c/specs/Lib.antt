@@ -15,3 +15,4 @@ pub mod DangerNumbers
 pub mod EntryNumbers
 pub mod PieceNumbers
 pub mod ReadingNumbers
+pub mod WordNumbers

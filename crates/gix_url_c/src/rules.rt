@@ -5,6 +5,7 @@
 //! into the library's own form, makes one call of the library, and reports its result by numbers and bytes. What
 //! Git stops at is reported by its place ([`stops::Stop`]).
 
+pub mod commands;
 pub mod config;
 pub mod dangers;
 pub mod entries;
