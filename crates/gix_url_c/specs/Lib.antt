@@ -16,3 +16,5 @@ pub mod EntryNumbers
 pub mod PieceNumbers
 pub mod ReadingNumbers
 pub mod WordNumbers
+pub mod ProgramNumbers
+pub mod RemoteNumbers
