@@ -18,3 +18,6 @@ pub mod ReadingNumbers
 pub mod WordNumbers
 pub mod ProgramNumbers
 pub mod RemoteNumbers
+pub mod SettingNumbers
+pub mod CredentialNumbers
+pub mod SubmoduleNumbers

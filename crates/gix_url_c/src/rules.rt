@@ -7,6 +7,7 @@
 
 pub mod commands;
 pub mod config;
+pub mod credentials;
 pub mod dangers;
 pub mod entries;
 mod pieces;
@@ -16,7 +17,9 @@ pub mod readings;
 pub mod remotes;
 pub mod rewriting;
 pub mod secrets;
+pub mod settings;
 pub mod stops;
+pub mod submodules;
 mod written;
 
 #[test]
