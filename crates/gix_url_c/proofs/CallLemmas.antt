@@ -10,5 +10,5 @@ unless_memory code f (inr holds) = inr (f holds)
 
 -- what is neither the one nor the other is none of both
 pub neither : {A B : Type 0} → ¬ A → ¬ B → ¬ (A ⊎ B)
-neither no nor (inl a) = no a
-neither no nor (inr b) = nor b
+neither first second (inl a) = first a
+neither first second (inr b) = second b

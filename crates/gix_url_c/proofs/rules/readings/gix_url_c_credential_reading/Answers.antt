@@ -7,4 +7,4 @@ use Rattle.gix_url_c.proofs.rules.readings.gix_url_c_credential_reading.Goals as
 pub returns-in-Ok-Some-clause-reported : goal.returns-in-Ok-Some-clause-reported
 returns-in-Ok-Some-clause-reported c =
     let found = c.in-Ok-Some in
-    unless_memory c.put_request.result (λ put. inr (credential_reading found.request, (found.ensures, put))) c.put_request.ensures.reported
+    unless_memory c.put_request.result (λ put. inr (credential_reading found.request, found.ensures, put)) c.put_request.ensures.reported

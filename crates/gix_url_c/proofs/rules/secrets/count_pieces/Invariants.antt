@@ -6,6 +6,6 @@ use Rattle.gix_url_c.proofs.rules.secrets.count_pieces.Given as goal
 
 abbrev pub invariant-loop-piece : goal.invariant-loop-piece
 invariant-loop-piece l = record {
-  cut : parts_of l.fn.text ≡ map piece_part l.yielded ++ l.piece-iterator;
+  cut : parts_of l.fn.text ≡ map piece_part l.yielded ++ l._piece-iterator;
   counted : l.count ≡ reported_length (length l.yielded);
 }
