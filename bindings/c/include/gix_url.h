@@ -61,7 +61,11 @@ typedef enum gix_url_error {
                                   its host or the name that its scheme takes is there and is not UTF-8. Each call that
                                   is given such a struct returns this, and with another struct none does */
     GIX_URL_NO_ROOM = 102,     /* the answer doesn't fit into the room; the call stores how much is needed */
-    GIX_URL_NULL = 103         /* a pointer that may not be null is */
+    GIX_URL_NULL = 103,        /* a pointer that may not be null is */
+    /* of gix_url_rules.h alone */
+    GIX_URL_NO_VALUE = 104,        /* Git stops at an entry without a value */
+    GIX_URL_NO_BOOLEAN = 105,      /* Git stops at an entry whose value is no boolean value */
+    GIX_URL_NO_CONFIGURATION = 106 /* the text is no configuration */
 } gix_url_error;
 
 /* The form that a refused text was taken for. */

@@ -1,10 +1,9 @@
 -- Components as C gets them: numbers, and the bytes of all of them one behind the other.
-use Rattle.std.specs.Prelude.{◌≡◌, ℕ, MatchBool, nat_lt, ◌||◌, List, [], ◌∷◌, ◌++◌, length, drop, Option, Some, None}
+use Rattle.std.specs.Prelude.{◌≡◌, ℕ, List, [], ◌∷◌, ◌++◌, length, Option, Some, None}
 use Rattle.gix_url.specs.Location.{Location}
 use Rattle.gix_url.specs.Components.{Components, ComponentsOf}
 use Rattle.gix_url_c.specs.declared.components.ComponentNumbers.{ComponentNumbers}
-use Rattle.gix_url_c.specs.Codes.{ok, no_room}
-use Rattle.gix_url_c.specs.Handed.{is_there, or_nothing}
+use Rattle.gix_url_c.specs.Handed.{PutsBoth, is_there, or_nothing}
 
 -- the names and values, or none
 abbrev pub pairs_of : Option (List (List ℕ × List ℕ)) → List (List ℕ × List ℕ)
@@ -43,13 +42,6 @@ component_numbers c = record {
   pairs = length (pairs_of c.query);
   bytes = length (component_bytes c);
 }
-
--- both lists are at the fronts of their rooms, or one of them doesn't fit and both rooms are as they were
-abbrev pub PutsBoth : List ℕ → List ℕ → List ℕ → List ℕ → List ℕ → List ℕ → ℕ → Type 0
-PutsBoth bytes lengths old_room new_room old_lengths new_lengths code =
-    MatchBool (nat_lt (length old_room) (length bytes) || nat_lt (length old_lengths) (length lengths))
-    ((code ≡ no_room) × (new_room ≡ old_room) × (new_lengths ≡ old_lengths))
-    ((code ≡ ok) × (new_room ≡ bytes ++ drop (length bytes) old_room) × (new_lengths ≡ lengths ++ drop (length lengths) old_lengths))
 
 -- the components of the location are reported
 abbrev pub ReportsComponents : Location → ComponentNumbers → List ℕ → List ℕ → List ℕ → List ℕ → ℕ → Type 0

@@ -1,5 +1,5 @@
 -- A location as C gets it: numbers, and the bytes of all parts one behind the other.
-use Rattle.std.specs.Prelude.{◌≡◌, ℕ, Bool, true, false, MatchBool, nat_lt, List, [], ◌++◌, length, drop, Option, Some, None}
+use Rattle.std.specs.Prelude.{◌≡◌, ℕ, Bool, true, false, MatchBool, nat_lt, ◌||◌, List, [], ◌++◌, length, drop, Option, Some, None}
 use Rattle.gix_url.specs.Location.{Scheme, Location}
 use Rattle.gix_url.specs.Location.Scheme.{file, git, ssh, http, https, ext, helper, helper_url}
 use Rattle.gix_url_c.specs.declared.given.Front.{Front}
@@ -73,11 +73,18 @@ abbrev pub bytes_of : Location → List ℕ
 bytes_of v = ((((scheme_name v.scheme ++ or_nothing v.user) ++ or_nothing v.password) ++ or_nothing v.host) ++ v.path) ++ or_nothing v.spelling
 
 -- the bytes are at the front of the room and the rest of it is as it was; or they don't fit, and all of it is
-abbrev pub Puts : List ℕ → List ℕ → List ℕ → ℕ → Type 0
+abbrev pub Puts : {A : Type 0} → List A → List A → List A → ℕ → Type 0
 Puts bytes old new code =
     MatchBool (nat_lt (length old) (length bytes))
     ((code ≡ no_room) × (new ≡ old))
     ((code ≡ ok) × (new ≡ bytes ++ drop (length bytes) old))
+
+-- both lists are at the fronts of their rooms, or one of them doesn't fit and both rooms are as they were
+abbrev pub PutsBoth : List ℕ → List ℕ → List ℕ → List ℕ → List ℕ → List ℕ → ℕ → Type 0
+PutsBoth bytes lengths old_room new_room old_lengths new_lengths code =
+    MatchBool (nat_lt (length old_room) (length bytes) || nat_lt (length old_lengths) (length lengths))
+    ((code ≡ no_room) × (new_room ≡ old_room) × (new_lengths ≡ old_lengths))
+    ((code ≡ ok) × (new_room ≡ bytes ++ drop (length bytes) old_room) × (new_lengths ≡ lengths ++ drop (length lengths) old_lengths))
 
 -- the location is returned
 abbrev pub Returns : Location → Made → List ℕ → List ℕ → ℕ → Type 0

@@ -7,3 +7,17 @@ pub mod Lent
 pub mod Looks
 pub mod ReasonTexts
 pub mod ComponentNumbers
+pub mod Stops
+pub mod Entries
+pub mod Rewriting
+pub mod PolicyNumbers
+pub mod DangerNumbers
+pub mod EntryNumbers
+pub mod PieceNumbers
+pub mod ReadingNumbers
+pub mod WordNumbers
+pub mod ProgramNumbers
+pub mod RemoteNumbers
+pub mod SettingNumbers
+pub mod CredentialNumbers
+pub mod SubmoduleNumbers

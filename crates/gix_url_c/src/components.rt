@@ -3,17 +3,18 @@
 //! It uses `given`. Its contract: what is reported are the components of the location. With an error the room
 //! and the lengths are as they were, and the numbers are, except with 102.
 
-ghost use Rattle.std.specs.Prelude.{◌≡◌, ◌++◌, ◌⊎◌, IfOk, OnOk, length, map, option_map};
+ghost use Rattle.std.specs.Prelude.{◌≡◌, ◌++◌, IfOk, OnOk, length, map, option_map};
 ghost use Rattle.bstr.specs.BStr.{bstr_bytes};
 ghost use Rattle.gix_url.specs.ComponentViews.{components, pair_bytes};
-ghost use Rattle.gix_url_c.specs.Codes.{UnlessMemory, UnlessNone, no_room, ok};
+ghost use Rattle.gix_url_c.specs.Codes.{UnlessMemory, UnlessNone};
 ghost use Rattle.gix_url_c.specs.Given.{IsNone, location_of};
 ghost use Rattle.gix_url_c.specs.Handed.{is_there, or_nothing};
 ghost use Rattle.gix_url_c.specs.Left.{LeavesLengths, LeavesRoom};
-ghost use Rattle.gix_url_c.specs.ComponentNumbers.{PutsBoth, ReportsComponents, component_bytes, joined_pair, joined_pairs, lengths_of_pair, pair_lengths, pairs_of, component_numbers};
+ghost use Rattle.gix_url_c.specs.ComponentNumbers.{ReportsComponents, component_bytes, joined_pair, joined_pairs, lengths_of_pair, pair_lengths, pairs_of, component_numbers};
 
-use crate::codes::{MEMORY, NO_LOCATION, NO_ROOM, OK};
+use crate::codes::{MEMORY, NO_LOCATION};
 use crate::given::{Given, location_of};
+use crate::room::put_both;
 use gix_url::{PathComponents, QueryText, UrlRef};
 use std::alloc::{AllocError, Global};
 
@@ -181,21 +182,4 @@ fn sizes_of(parts: &PathComponents<'_>, bytes: usize) -> ComponentNumbers
         pairs: pairs(parts).len(),
         bytes,
     }
-}
-
-/// Copies both to the fronts of their rooms, if both fit.
-fn put_both(bytes: &[u8], measured: &[usize], room: &mut [u8], lengths: &mut [usize]) -> u32
-    ensures put { PutsBoth bytes.now measured.now room.old room.new lengths.old lengths.new result }
-    ensures room { LeavesRoom result room.old room.new }
-    ensures lengths { LeavesRoom result lengths.old lengths.new }
-    ensures code { (result ≡ ok) ⊎ (result ≡ no_room) }
-{
-    if room.len() < bytes.len() || lengths.len() < measured.len() {
-        return NO_ROOM;
-    }
-    let (front, _) = room.split_at_mut(bytes.len());
-    front.copy_from_slice(bytes);
-    let (front, _) = lengths.split_at_mut(measured.len());
-    front.copy_from_slice(measured);
-    OK
 }

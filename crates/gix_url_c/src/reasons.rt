@@ -24,7 +24,7 @@ pub extern "C" fn gix_url_c_reason_name(reason: u8, room: &mut [u8], len: &mut u
 {
     match reason_numbered(reason) {
         Some(reason) => put_text(reason.name().as_bytes(), room, len),
-        None => no_reason(len),
+        None => put_nothing(len),
     }
 }
 
@@ -36,12 +36,12 @@ pub extern "C" fn gix_url_c_reason_words(reason: u8, room: &mut [u8], len: &mut 
 {
     match reason_numbered(reason) {
         Some(reason) => put_text(reason.words().as_bytes(), room, len),
-        None => no_reason(len),
+        None => put_nothing(len),
     }
 }
 
-/// Answers that no reason has the number.
-fn no_reason(len: &mut usize) -> u32
+/// Answers that nothing has the number.
+pub(crate) fn put_nothing(len: &mut usize) -> u32
     ensures code { result ≡ no_location }
     ensures length { len.new ≡ 0 }
 {

@@ -1,0 +1,35 @@
+-- The places at which Git stops, as C gets them.
+use Rattle.std.specs.Prelude.{◌≡◌, ℕ, Bool, not, nat_lt, false}
+use Rattle.gix_url_c.specs.declared.rules.stops.Stop.{Stop}
+
+-- Git stops at an entry without a value
+abbrev pub no_value : ℕ
+no_value = 104
+
+-- Git stops at an entry whose value is no boolean value
+abbrev pub no_boolean : ℕ
+no_boolean = 105
+
+-- the text is no configuration
+abbrev pub no_configuration : ℕ
+no_configuration = 106
+
+-- what is reported where Git stops nowhere
+abbrev pub no_stop : Stop
+no_stop = record { at = 0; line = 0; flaw = 0 }
+
+-- what is reported of an entry
+abbrev pub entry_stop : ℕ → Stop
+entry_stop place = record { at = place; line = 0; flaw = 0 }
+
+-- it is reported by this number that Git stops at the entry of a place
+abbrev pub StopsAt : ℕ → ℕ → Stop → ℕ → Type 0
+StopsAt number place stop code = (code ≡ number) × (stop ≡ entry_stop place)
+
+-- the number is that of a stop
+abbrev pub has_stop : ℕ → Bool
+has_stop code = not (nat_lt code no_value)
+
+-- unless the call returns the number of a stop, none is reported
+abbrev pub LeavesStop : ℕ → Stop → Type 0
+LeavesStop code stop = has_stop code ≡ false → stop ≡ no_stop

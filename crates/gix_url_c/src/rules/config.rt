@@ -1,0 +1,252 @@
+//! The exports that read a configuration: the output of `git config --list -z`, and the text of a file.
+//!
+//! They use `written`, `stops` and `room`. Their contracts: what is reported are the entries of the text, each once and
+//! in its order, or the first place at which it is no configuration. With an error the room and the numbers are as they
+//! were, except the sizes with 102.
+
+ghost use Rattle.std.specs.Prelude.{◌≡◌, ◌++◌, ◌∷◌, [], ◌⊎◌, IfErr, IfOk, OnOk, map};
+ghost use Rattle.gix_url_c.specs.Codes.{UnlessMemory, memory, no_room, ok};
+ghost use Rattle.gix_url_c.specs.EntryNumbers.{IsListingOf, PutsFile, PutsListing, PutsParts, ReportsFile, ReportsListing, Unlists, file_flaw_number, flaw_stop};
+ghost use Rattle.gix_url_c.specs.Left.{LeavesLengths, LeavesRoom};
+ghost use Rattle.gix_url_c.specs.Stops.{LeavesStop, no_configuration, no_stop};
+
+use crate::codes::MEMORY;
+use crate::room::put_both;
+use crate::rules::pieces::joined;
+use crate::rules::stops::{NO_CONFIGURATION, Stop, no_stop};
+use crate::rules::written::{Written, written_file, written_listing};
+use git_modules::config_file::flaw::{FileError, Flaw};
+use git_modules::config_file::{self, FileEntry};
+use git_rules::config::{Entry, EntryError, Reader};
+use std::alloc::{AllocError, Global};
+
+/// How many entries there are, and how many bytes their parts have.
+#[repr(C)]
+#[derive(Clone, Copy)]
+pub struct EntrySizes {
+    /// The number of entries.
+    pub entries: usize,
+    /// The length of all parts.
+    pub bytes: usize,
+}
+
+/// Why a text isn't read.
+enum Unlisted {
+    /// Memory was refused.
+    Memory,
+    /// The text is no listing.
+    Flawed(EntryError),
+}
+
+impl From<AllocError> for Unlisted {
+    ghost use Rattle.gix_url_c.specs.declared.rules.config.Unlisted.TheVariants.{Memory};
+
+    ghost from_gives = { λ _ e. e ≡ Memory };
+
+    fn from(_: AllocError) -> Unlisted {
+        Unlisted::Memory
+    }
+}
+
+/// Puts the parts of the entries of a listing into the room, and eight numbers for each into `numbers`: the lengths of
+/// section, subsection, name and value, the place, the line, and whether there is a subsection and a value:
+/// [`git_rules::config::Reader`].
+///
+/// It answers 0; 1 where memory is refused; 102 where parts or numbers don't fit; 106 where a line of the text is no
+/// entry or the text is cut off, with the first such place.
+#[unsafe(no_mangle)]
+pub extern "C" fn gix_url_c_read_listing(
+    alloc: Global,
+    text: &[u8],
+    made: &mut EntrySizes,
+    room: &mut [u8],
+    numbers: &mut [usize],
+    stop: &mut Stop,
+) -> u32
+    ensures reported { UnlessMemory result
+        (ReportsListing text.now made.new room.old room.new numbers.old numbers.new stop.new result) }
+    ensures room { LeavesRoom result room.old room.new }
+    ensures numbers { LeavesRoom result numbers.old numbers.new }
+    ensures sizes { LeavesLengths result made.old made.new }
+    ensures stop { LeavesStop result stop.new }
+{
+    *stop = no_stop();
+    match listed(alloc, text) {
+        Ok(entries) => put_listing(alloc, &entries, made, room, numbers),
+        Err(Unlisted::Memory) => MEMORY,
+        Err(Unlisted::Flawed(flaw)) => {
+            *stop = flaw_stop(flaw);
+            NO_CONFIGURATION
+        }
+    }
+}
+
+/// The same with the text of a configuration file: [`git_modules::config_file::entries`].
+///
+/// It answers 0; 1 where memory is refused; 102 where parts or numbers don't fit; 106 where the text is none of a
+/// configuration file, with the first place at which it is none.
+#[unsafe(no_mangle)]
+pub extern "C" fn gix_url_c_read_file(
+    alloc: Global,
+    text: &[u8],
+    made: &mut EntrySizes,
+    room: &mut [u8],
+    numbers: &mut [usize],
+    stop: &mut Stop,
+) -> u32
+    ensures reported { UnlessMemory result
+        (ReportsFile text.now made.new room.old room.new numbers.old numbers.new stop.new result) }
+    ensures room { LeavesRoom result room.old room.new }
+    ensures numbers { LeavesRoom result numbers.old numbers.new }
+    ensures sizes { LeavesLengths result made.old made.new }
+    ensures stop { LeavesStop result stop.new }
+{
+    *stop = no_stop();
+    let Ok(mut buffer) = vec![in alloc; 0u8; text.len()] else {
+        return MEMORY;
+    };
+    match config_file::entries(alloc, text, buffer.as_mut_slice()) {
+        Ok(entries) => put_file(alloc, &entries, made, room, numbers),
+        // The buffer is as long as the text.
+        Err(FileError::Memory | FileError::ShortBuffer) => MEMORY,
+        Err(FileError::Refused { flaw, at, line }) => {
+            *stop = Stop {
+                at,
+                line,
+                flaw: file_flaw_number(flaw),
+            };
+            NO_CONFIGURATION
+        }
+    }
+}
+
+/// The entries of a listing, or why it is none.
+fn listed(alloc: Global, text: &[u8]) -> Result<Vec<Entry<'_>>, Unlisted>
+    ensures found { IfOk result (λ found. IsListingOf text.now found.items) }
+    ensures refused { IfErr result (Unlists text.now) }
+{
+    let mut found = Vec::new(alloc);
+    for item in Reader::new(text) {
+        match item {
+            Ok(entry) => keep(&mut found, entry)?,
+            Err(flaw) => return Err(Unlisted::Flawed(flaw)),
+        }
+    }
+    Ok(found)
+}
+
+/// Appends an entry.
+fn keep<'a>(found: &mut Vec<Entry<'a>>, entry: Entry<'a>) -> Result<(), AllocError>
+    ensures { OnOk result (found.new.items ≡ found.old.items ++ entry.entry ∷ []) }
+{
+    found.push(entry)?;
+    Ok(())
+}
+
+/// Puts the parts of the entries and their numbers.
+fn put_listing(
+    alloc: Global,
+    entries: &[Entry<'_>],
+    made: &mut EntrySizes,
+    room: &mut [u8],
+    numbers: &mut [usize],
+) -> u32
+    ensures reported { UnlessMemory result
+        (PutsListing entries.now made.new room.old room.new numbers.old numbers.new result) }
+    ensures room { LeavesRoom result room.old room.new }
+    ensures numbers { LeavesRoom result numbers.old numbers.new }
+    ensures sizes { LeavesLengths result made.old made.new }
+    ensures code { (result ≡ memory) ⊎ ((result ≡ ok) ⊎ (result ≡ no_room)) }
+{
+    match written_listing(alloc, entries) {
+        Ok(written) => put_written(alloc, &written, entries.len(), made, room, numbers),
+        Err(_) => MEMORY,
+    }
+}
+
+/// Puts the parts of the entries of a file and their numbers.
+fn put_file(
+    alloc: Global,
+    entries: &[FileEntry<'_>],
+    made: &mut EntrySizes,
+    room: &mut [u8],
+    numbers: &mut [usize],
+) -> u32
+    ensures reported { UnlessMemory result
+        (PutsFile entries.now made.new room.old room.new numbers.old numbers.new result) }
+    ensures room { LeavesRoom result room.old room.new }
+    ensures numbers { LeavesRoom result numbers.old numbers.new }
+    ensures sizes { LeavesLengths result made.old made.new }
+    ensures code { (result ≡ memory) ⊎ ((result ≡ ok) ⊎ (result ≡ no_room)) }
+{
+    match written_file(alloc, entries) {
+        Ok(written) => put_written(alloc, &written, entries.len(), made, room, numbers),
+        Err(_) => MEMORY,
+    }
+}
+
+/// Puts parts and numbers of so many entries, if both fit.
+fn put_written(
+    alloc: Global,
+    written: &Written<'_>,
+    entries: usize,
+    made: &mut EntrySizes,
+    room: &mut [u8],
+    numbers: &mut [usize],
+) -> u32
+    ensures reported { UnlessMemory result
+        (PutsParts entries (map (λ t. t.now) written.now.texts.items) written.now.numbers.items
+        made.new room.old room.new numbers.old numbers.new result) }
+    ensures room { LeavesRoom result room.old room.new }
+    ensures numbers { LeavesRoom result numbers.old numbers.new }
+    ensures sizes { LeavesLengths result made.old made.new }
+    ensures code { (result ≡ memory) ⊎ ((result ≡ ok) ⊎ (result ≡ no_room)) }
+{
+    match joined(alloc, &written.texts) {
+        Ok(bytes) => {
+            *made = EntrySizes {
+                entries,
+                bytes: bytes.len(),
+            };
+            put_both(&bytes, &written.numbers, room, numbers)
+        }
+        Err(_) => MEMORY,
+    }
+}
+
+/// What is reported of what is no entry.
+fn flaw_stop(flaw: EntryError) -> Stop
+    ensures { result ≡ flaw_stop flaw }
+{
+    match flaw {
+        EntryError::NoKey { at } => Stop {
+            at,
+            line: 0,
+            flaw: 12,
+        },
+        EntryError::NoEnd { at } => Stop {
+            at,
+            line: 0,
+            flaw: 13,
+        },
+    }
+}
+
+/// The number of a flaw of a file.
+fn file_flaw_number(flaw: Flaw) -> u8
+    ensures { result ≡ file_flaw_number flaw }
+{
+    match flaw {
+        Flaw::PartialMark => 1,
+        Flaw::NoStart => 2,
+        Flaw::NoSection => 3,
+        Flaw::BadSection => 4,
+        Flaw::NoQuote => 5,
+        Flaw::OpenSubsection => 6,
+        Flaw::OpenHeader => 7,
+        Flaw::NoEquals => 8,
+        Flaw::BadEscape => 9,
+        Flaw::OpenQuote => 10,
+        Flaw::ZeroByte => 11,
+    }
+}

@@ -1,0 +1,272 @@
+//! The exports that report what Git reads in a text: one of its transports, and its credential code.
+//!
+//! They use `pieces` and `room`. Their contracts: what is reported is what the library's calls return. With an error
+//! the room is as it was, and the numbers are, except with 102.
+
+ghost use Rattle.std.specs.Prelude.{◌≡◌, ◌⊎◌};
+ghost use Rattle.git_reads.specs.Views.{credential_reading, git_reading, scheme_of_protocol};
+ghost use Rattle.gix_url_c.specs.Codes.{UnlessMemory, memory, no_room, ok};
+ghost use Rattle.gix_url_c.specs.Left.{LeavesLengths, LeavesRoom};
+ghost use Rattle.gix_url_c.specs.ReadingNumbers.{PutsPlace, PutsRequest, ReportsPlace, ReportsRequest, TellsUnread, no_request, place_numbers, protocol_number, request_numbers, unread_number, unread_numbers};
+
+use crate::codes::{MEMORY, OK};
+use crate::handed::part;
+use crate::room::put;
+use crate::rules::pieces::joined;
+use gix_url::credential::{self, Request};
+use gix_url::transport::{self, GitPlace, Protocol, Unread};
+use std::alloc::Global;
+
+/// The place that Git reads: numbers, and the lengths of its parts, whose bytes are in this order in the caller's room.
+#[repr(C)]
+#[derive(Clone, Copy)]
+pub struct PlaceNumbers {
+    /// Why Git reads no place: 1 to 6; 0 where it reads one. All else is 0 then.
+    pub why: u8,
+    /// The transport: 1 Secure Shell, 2 that of `git://`, 3 a path of this machine.
+    pub protocol: u8,
+    /// Whether there is a user.
+    pub has_user: bool,
+    /// Whether there is a host.
+    pub has_host: bool,
+    /// Whether there is a port.
+    pub has_port: bool,
+    /// The port, or 0.
+    pub port: u16,
+    /// The length of the user.
+    pub user: usize,
+    /// The length of the host.
+    pub host: usize,
+    /// The length of the path.
+    pub path: usize,
+}
+
+/// What Git's credential code asks helpers for: numbers, and the lengths of its parts, whose bytes are in this order in
+/// the caller's room.
+#[repr(C)]
+#[derive(Clone, Copy)]
+pub struct RequestNumbers {
+    /// Whether it reads anything. Where it doesn't all else is 0.
+    pub is_read: bool,
+    /// Whether there is a user.
+    pub has_user: bool,
+    /// Whether there is a password.
+    pub has_password: bool,
+    /// Whether there is a path.
+    pub has_path: bool,
+    /// The length of the protocol.
+    pub protocol: usize,
+    /// The length of the user.
+    pub user: usize,
+    /// The length of the password.
+    pub password: usize,
+    /// The length of the host.
+    pub host: usize,
+    /// The length of the path.
+    pub path: usize,
+}
+
+/// Puts the parts of the place that one of Git's transports reads in a text into the room:
+/// [`gix_url::transport::reading`].
+///
+/// It answers 0; 1 where memory is refused; 102 where the parts don't fit.
+#[unsafe(no_mangle)]
+pub extern "C" fn gix_url_c_git_reading(
+    alloc: Global,
+    text: &[u8],
+    made: &mut PlaceNumbers,
+    room: &mut [u8],
+) -> u32
+    ensures reported { UnlessMemory result (ReportsPlace text.now made.new room.old room.new result) }
+    ensures room { LeavesRoom result room.old room.new }
+    ensures numbers { LeavesLengths result made.old made.new }
+{
+    let mut buffers = transport::Buffers::new(alloc);
+    match transport::reading(text, &mut buffers) {
+        Ok(place) => put_place(alloc, &place, made, room),
+        Err(why) => tell_unread(why, made),
+    }
+}
+
+/// Reports why Git reads no place, unless it is memory.
+fn tell_unread(why: Unread, made: &mut PlaceNumbers) -> u32
+    ensures reported { UnlessMemory result (TellsUnread why made.new result) }
+    ensures numbers { LeavesLengths result made.old made.new }
+{
+    match why {
+        Unread::Memory => MEMORY,
+        Unread::ByteZero | Unread::Option | Unread::RemoteHelper => {
+            *made = unread_numbers(unread_number(why));
+            OK
+        }
+        Unread::HomeOrHere | Unread::SecureShellUrl | Unread::Refused => {
+            *made = unread_numbers(unread_number(why));
+            OK
+        }
+    }
+}
+
+/// Puts the parts of what Git's credential code reads in a text into the room: [`gix_url::credential::reading`].
+///
+/// It answers 0; 1 where memory is refused; 102 where the parts don't fit.
+#[unsafe(no_mangle)]
+pub extern "C" fn gix_url_c_credential_reading(
+    alloc: Global,
+    text: &[u8],
+    made: &mut RequestNumbers,
+    room: &mut [u8],
+) -> u32
+    ensures reported { UnlessMemory result (ReportsRequest text.now made.new room.old room.new result) }
+    ensures room { LeavesRoom result room.old room.new }
+    ensures numbers { LeavesLengths result made.old made.new }
+{
+    let mut buffers = credential::Buffers::new(alloc);
+    match credential::reading(text, &mut buffers) {
+        Ok(Some(request)) => put_request(alloc, &request, made, room),
+        Ok(None) => {
+            *made = no_request();
+            OK
+        }
+        Err(_) => MEMORY,
+    }
+}
+
+/// Puts the parts of a place into the room.
+fn put_place(alloc: Global, place: &GitPlace<'_>, made: &mut PlaceNumbers, room: &mut [u8]) -> u32
+    ensures reported { UnlessMemory result (PutsPlace (git_reading place.now) made.new room.old room.new result) }
+    ensures room { LeavesRoom result room.old room.new }
+    ensures numbers { LeavesLengths result made.old made.new }
+    ensures code { (result ≡ memory) ⊎ ((result ≡ ok) ⊎ (result ≡ no_room)) }
+{
+    match joined(alloc, &[part(place.user), part(place.host), place.path]) {
+        Ok(bytes) => {
+            *made = place_numbers(place);
+            put(&bytes, room)
+        }
+        Err(_) => MEMORY,
+    }
+}
+
+/// Puts the parts of a request into the room.
+fn put_request(
+    alloc: Global,
+    request: &Request<'_>,
+    made: &mut RequestNumbers,
+    room: &mut [u8],
+) -> u32
+    ensures reported { UnlessMemory result
+        (PutsRequest (credential_reading request.now) made.new room.old room.new result) }
+    ensures room { LeavesRoom result room.old room.new }
+    ensures numbers { LeavesLengths result made.old made.new }
+    ensures code { (result ≡ memory) ⊎ ((result ≡ ok) ⊎ (result ≡ no_room)) }
+{
+    let (user, password, path) = (
+        part(request.user),
+        part(request.password),
+        part(request.path),
+    );
+    match joined(
+        alloc,
+        &[request.protocol, user, password, request.host, path],
+    ) {
+        Ok(bytes) => {
+            *made = request_numbers(request);
+            put(&bytes, room)
+        }
+        Err(_) => MEMORY,
+    }
+}
+
+/// The numbers of a place.
+fn place_numbers(place: &GitPlace<'_>) -> PlaceNumbers
+    ensures { result ≡ place_numbers (git_reading place.now) }
+{
+    PlaceNumbers {
+        why: 0,
+        protocol: protocol_number(place.protocol),
+        has_user: place.user.is_some(),
+        has_host: place.host.is_some(),
+        has_port: place.port.is_some(),
+        port: place.port.unwrap_or(0),
+        user: part(place.user).len(),
+        host: part(place.host).len(),
+        path: place.path.len(),
+    }
+}
+
+/// The number of a transport.
+fn protocol_number(protocol: Protocol) -> u8
+    ensures { result ≡ protocol_number (scheme_of_protocol protocol) }
+{
+    match protocol {
+        Protocol::Ssh => 1,
+        Protocol::Git => 2,
+        Protocol::File => 3,
+    }
+}
+
+/// The number of the reason why Git reads no place; 0 where that is memory.
+fn unread_number(why: Unread) -> u8
+    ensures { result ≡ unread_number why }
+{
+    match why {
+        Unread::Memory => 0,
+        Unread::ByteZero => 1,
+        Unread::Option => 2,
+        Unread::RemoteHelper => 3,
+        Unread::HomeOrHere => 4,
+        Unread::SecureShellUrl => 5,
+        Unread::Refused => 6,
+    }
+}
+
+/// The numbers of a text without a place, for this reason.
+fn unread_numbers(why: u8) -> PlaceNumbers
+    ensures { result ≡ unread_numbers why }
+{
+    PlaceNumbers {
+        why,
+        protocol: 0,
+        has_user: false,
+        has_host: false,
+        has_port: false,
+        port: 0,
+        user: 0,
+        host: 0,
+        path: 0,
+    }
+}
+
+/// The numbers of a request.
+fn request_numbers(request: &Request<'_>) -> RequestNumbers
+    ensures { result ≡ request_numbers (credential_reading request.now) }
+{
+    RequestNumbers {
+        is_read: true,
+        has_user: request.user.is_some(),
+        has_password: request.password.is_some(),
+        has_path: request.path.is_some(),
+        protocol: request.protocol.len(),
+        user: part(request.user).len(),
+        password: part(request.password).len(),
+        host: request.host.len(),
+        path: part(request.path).len(),
+    }
+}
+
+/// The numbers of a text in which nothing is read.
+fn no_request() -> RequestNumbers
+    ensures { result ≡ no_request }
+{
+    RequestNumbers {
+        is_read: false,
+        has_user: false,
+        has_password: false,
+        has_path: false,
+        protocol: 0,
+        user: 0,
+        password: 0,
+        host: 0,
+        path: 0,
+    }
+}

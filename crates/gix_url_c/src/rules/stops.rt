@@ -1,0 +1,48 @@
+//! The places at which Git stops, and at which a text is no configuration.
+//!
+//! Its contract: the numbers are those of the definitions, which the header repeats.
+
+ghost use Rattle.std.specs.Prelude.{◌≡◌};
+ghost use Rattle.gix_url_c.specs.Stops.{StopsAt, no_stop, no_value};
+
+/// Git stops at an entry without a value.
+pub const NO_VALUE: u32 = 104;
+/// Git stops at an entry whose value is no boolean value.
+pub const NO_BOOLEAN: u32 = 105;
+/// The text is no configuration.
+pub const NO_CONFIGURATION: u32 = 106;
+
+/// A place: of an entry, or in the text of a configuration.
+#[repr(C)]
+#[derive(Clone, Copy)]
+pub struct Stop {
+    /// The place of the entry, or how many bytes of the text are before the flaw.
+    pub at: usize,
+    /// The line of the flaw, from 1; 0 where none is reported.
+    pub line: usize,
+    /// The flaw of a text: 1 to 13; 0 where none is reported.
+    pub flaw: u8,
+}
+
+/// What is reported where Git stops nowhere.
+pub(crate) fn no_stop() -> Stop
+    ensures { result ≡ no_stop }
+{
+    Stop {
+        at: 0,
+        line: 0,
+        flaw: 0,
+    }
+}
+
+/// Reports that Git stops at an entry without a value.
+pub(crate) fn stop_without_value(at: usize, stop: &mut Stop) -> u32
+    ensures { StopsAt no_value at stop.new result }
+{
+    *stop = Stop {
+        at,
+        line: 0,
+        flaw: 0,
+    };
+    NO_VALUE
+}
