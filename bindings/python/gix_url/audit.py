@@ -1,0 +1,109 @@
+"""An audit of a .gitmodules file: `python3 -m gix_url audit FILE [--parent URL]`.
+
+Of each entry it reports what git fsck refuses, and of each URL of a submodule, also of one that a later entry replaces, why it
+is no location, and its dangers. A relative URL is resolved against the parent, the URL of the remote of the repository around
+the file, as it is configured; what it is resolved to is reported likewise, and that it leaves the path of the parent. All of it
+is decided by the calls of `gix_url.rules`. `explain --gitmodules` finds more: docs/EXPLAIN.md has its findings.
+
+>>> text = b'[submodule "a"]\\n\\turl = ext::sh -c id\\n[submodule "b"]\\n\\turl = ../../x\\n'
+>>> for finding in audit(text, "https://h/a"):
+...     print(finding)
+line 2: "submodule.a.url": command: it runs a command: "ext::sh -c id"
+line 4: "submodule.b.url": climbs: it leaves the path of the parent: "https://x"
+
+Nothing is printed of a text but its `gix_url.rules.redacted`, in quotes, with an escape for each character that isn't printable.
+"""
+import argparse
+import dataclasses
+import os
+import sys
+from collections.abc import Iterator
+
+import gix_url
+
+from . import rules
+
+__all__ = ["Finding", "audit"]
+
+_UNRESOLVED = {rules.Unresolved.EMPTY_PARENT: "the URL of the parent is empty", rules.Unresolved.NOTHING_LEFT: "the URL of the parent has too few elements"}
+_REFUSED = {
+    rules.SubmoduleRefusal.NAME: "the name leads out of its folder", rules.SubmoduleRefusal.URL: "the URL is dangerous",
+    rules.SubmoduleRefusal.PATH: "the path looks like an option", rules.SubmoduleRefusal.UPDATE: "the submodule is updated by a command"}
+
+
+@dataclasses.dataclass(frozen=True)
+class Finding:
+    """What is found in an entry: a name, as option_like_host, words for it, and the text that it is about: the entry's value,
+    what a relative URL is resolved to, or None. As a `str` it is a line without a secret that the library knows."""
+
+    entry: rules.Entry
+    name: str
+    words: str
+    text: bytes | None
+
+    def __str__(self) -> str:
+        text = "" if self.text is None else f": {_quoted(self.text)}"
+        return f"line {self.entry.line}: {_quoted(self.entry.key)}: {self.name}: {self.words}{text}"
+
+
+def audit(gitmodules: bytes, parent: str | bytes | None = None) -> tuple[Finding, ...]:
+    """What is found in the text of a .gitmodules file, in the order of its entries. Without a parent a relative URL is a
+    finding. Raises NoConfiguration if the text is no configuration, and Error if the parent is no location."""
+    if parent is not None:
+        gix_url.parse(parent)
+    return tuple(it for entry in rules.Configuration.from_file(gitmodules).entries for it in _found(entry, parent))
+
+
+def _found(entry: rules.Entry, parent: str | bytes | None) -> Iterator[Finding]:
+    """What is found in an entry. It is the URL of a submodule if it is the URL of one when it is alone."""
+    for refusal in rules.check_submodule(entry):
+        yield Finding(entry, str(refusal), _REFUSED[refusal], entry.value)
+    for alone in rules.Configuration((entry,)).submodules():
+        if alone.url is not None and entry.value is not None:
+            yield from _found_in_url(entry, entry.value, parent)
+
+
+def _found_in_url(entry: rules.Entry, url: bytes, parent: str | bytes | None) -> Iterator[Finding]:
+    """What is found in the URL of a submodule."""
+    resolved = rules.resolve_submodule(b"" if parent is None else parent, url)
+    if isinstance(resolved, rules.Unresolved):
+        is_asked = parent is None and resolved == rules.Unresolved.EMPTY_PARENT
+        yield Finding(entry, "no_parent" if is_asked else "unresolved", "a relative URL needs --parent" if is_asked else _UNRESOLVED[resolved], url)
+        return
+    if resolved.climbs:
+        yield Finding(entry, "climbs", "it leaves the path of the parent", resolved.url)
+    try:
+        for danger in rules.dangers(resolved.url):
+            yield Finding(entry, str(danger), danger.words, resolved.url)
+    except gix_url.Error as error:
+        yield Finding(entry, "refused", str(error), resolved.url)
+
+
+def _quoted(text: bytes) -> str:
+    """A text as it may be printed."""
+    shown = (f"\\{it}" if it in '"\\' else it if it.isprintable() else it.encode("unicode_escape").decode() for it in rules.redacted(text))
+    return f'"{"".join(shown)}"'
+
+
+def main(words: list[str]) -> int:
+    """Prints what is found, and returns the exit status: 0 if nothing is found, 1 if anything is, and 2 if the arguments are
+    wrong, or the file can't be read or is no configuration."""
+    parser = argparse.ArgumentParser(prog="python3 -m gix_url audit", description="Audits a .gitmodules file.")
+    parser.add_argument("file", metavar="FILE", help="the file; - is the standard input")
+    parser.add_argument("--parent", metavar="URL", help="the URL of the remote of the repository around it")
+    given = parser.parse_args(words)
+    try:
+        found = audit(_read(given.file), given.parent)
+        sys.stdout.buffer.write("".join(f"{it}\n" for it in found).encode(errors="backslashreplace"))
+        sys.stdout.flush()
+    except (OSError, MemoryError, gix_url.Error) as error:
+        print(f"gix_url audit: {ascii(str(error))[1:-1]}", file=sys.stderr)
+        return 2
+    return 1 if found else 0
+
+
+def _read(file: str) -> bytes:
+    if file == "-":
+        return sys.stdin.buffer.read()
+    with open(os.fsencode(file), "rb") as it:
+        return it.read()
