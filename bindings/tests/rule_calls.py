@@ -1,4 +1,6 @@
 """Carries out orders of calls over a configuration, and over texts that Git reads, by the module `gix_url.rules`."""
+import itertools
+
 import gix_url
 from gix_url import rules
 from gix_url.rules import Configuration, Decider, Decision
@@ -182,9 +184,11 @@ def refusals(order):
 
 
 def secrets(order):
+    """The pieces of a text; those of one kind are joined."""
     pieces = rules.secrets(order["text"])
     assert rules.redacted(order["text"]) == b"".join(b"redacted" if it.is_hidden else it.text for it in pieces).decode(errors="replace")
-    return [{"hidden" if it.is_hidden else "shown": told(it.text)} for it in pieces]
+    joined = itertools.groupby(pieces, lambda it: it.is_hidden)
+    return [{"hidden" if is_hidden else "shown": told(b"".join(it.text for it in of))} for is_hidden, of in joined]
 
 
 CALLS = {

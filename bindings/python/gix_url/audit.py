@@ -22,6 +22,7 @@ from collections.abc import Iterator
 import gix_url
 
 from . import rules
+from ._secrets import Redacted
 
 __all__ = ["Finding", "audit"]
 
@@ -31,8 +32,8 @@ _REFUSED = {
     rules.SubmoduleRefusal.PATH: "the path looks like an option", rules.SubmoduleRefusal.UPDATE: "the submodule is updated by a command"}
 
 
-@dataclasses.dataclass(frozen=True)
-class Finding:
+@dataclasses.dataclass(frozen=True, repr=False)
+class Finding(Redacted):
     """What is found in an entry: a name, as option_like_host, words for it, and the text that it is about: the entry's value,
     what a relative URL is resolved to, or None. As a `str` it is a line without a secret that the library knows."""
 

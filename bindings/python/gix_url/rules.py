@@ -25,7 +25,7 @@ from typing import Any
 
 import gix_url
 
-from . import _calls
+from . import _calls, _results
 from ._calls import lent, make
 from ._library import Problem
 from ._results import (
@@ -42,6 +42,10 @@ __all__ = [
     "resolve_submodule", "secrets", "ssh_words", "transport_of"]
 
 Text = str | bytes
+# What is defined in another module is shown, and pickled, by the name that it has here.
+for _it in (*vars(_results).values(), Piece, redacted, secrets):
+    if getattr(_it, "__name__", None) in __all__:
+        _it.__module__ = __name__
 
 
 class ConfigurationError(gix_url.Error):
@@ -68,7 +72,7 @@ class NoConfiguration(ConfigurationError):
     """The text is no configuration."""
 
 
-_STOPS: dict[int, type[ConfigurationError]] = {104: NoValue, 105: NoBoolean, 106: NoConfiguration}
+_STOPS = {104: NoValue, 105: NoBoolean, 106: NoConfiguration}
 
 
 def _made(name: str, *given: Any) -> _calls.Made:
