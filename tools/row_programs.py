@@ -33,25 +33,12 @@ ONLY_RUST = {
     "Url::set_password", "Url::set_user", "Url::with_request_alternate_form", "Url::write_to",
     "Url:Ord", "UrlFault:fmt", "UrlKind:fmt", "WriteFault:fmt", "expand_path::for_shell", "expand_path::parse",
     "expand_path::with", "ipv6::is_ipv6"}
-# Calls over a configuration and over texts that Git reads.
-RULES = {
-    "Danger::name", "Danger::words", "NormalUrl::parse_in", "Permission::is_allowed", "Protocols::permission", "Reader::new",
-    "Refused::as_str", "Remote::of", "Resolved::to_bstring", "Rewrites::rewrite_fetch", "Rewrites::rewrite_push",
-    "Rewritten::is_rewritten", "Rewritten::to_bstring", "SshCommand::git_protocol", "SshCommand::to_words", "SshProgram::of",
-    "config_file::entries", "credential::reading", "credentials::credentials_for", "danger::dangers",
-    "entries::best_entry", "refusal::check", "resolve::climbs", "resolve::is_relative", "resolve::resolve", "secret::secrets",
-    "settings::settings_for", "settings::settings_without_place", "ssh::ssh_command", "ssh::ssh_command_for", "ssh::ssh_words",
-    "submodules::submodules", "text::transport_of", "transport::reading"}
 # Members that an order for a binding may have.
 MEMBERS = {
     "call", "text", "url", "other", "record", "scheme", "user", "password", "alternative", "style", "kind", "fault",
     "error"}
 # Members that an order for Rust may have as well.
 MEMBERS_RUST = {"path", "home"}
-# Members that an order of those calls may have as well.
-MEMBERS_RULES = {
-    "allow_list", "config", "danger", "family", "file", "from_user", "git_ssh", "git_ssh_command", "git_ssh_variant", "has_push_url", "name",
-    "parent", "program", "section", "service", "variant", "version"}
 # Errors of calls that C doesn't have, and one that Rust doesn't have either: a path is any bytes there.
 FOREIGN_C = {"NoHome", "PathNotUtf8", "Unresolved"}
 FOREIGN_RUST = {"PathNotUtf8"}
@@ -166,11 +153,26 @@ class C(Binding):
         return file
 
 
+# Calls over a configuration and over texts that Git reads, which the package makes.
+RULES_PYTHON = {
+    "Danger::name", "Danger::words", "NormalUrl::parse_in", "Permission::is_allowed", "Protocols::permission", "Reader::new",
+    "Refused::as_str", "Remote::of", "Resolved::to_bstring", "Rewrites::rewrite_fetch", "Rewrites::rewrite_push",
+    "Rewritten::is_rewritten", "Rewritten::to_bstring", "SshCommand::git_protocol", "SshCommand::to_words", "SshProgram::of",
+    "config_file::entries", "credential::reading", "credentials::credentials_for", "danger::dangers",
+    "entries::best_entry", "refusal::check", "resolve::climbs", "resolve::is_relative", "resolve::resolve", "secret::secrets",
+    "settings::settings_for", "settings::settings_without_place", "ssh::ssh_command", "ssh::ssh_command_for", "ssh::ssh_words",
+    "submodules::submodules", "text::transport_of", "transport::reading"}
+# Members that an order of these calls may have as well.
+MEMBERS_RULES_PYTHON = {
+    "allow_list", "config", "danger", "family", "file", "from_user", "git_ssh", "git_ssh_command", "git_ssh_variant", "has_push_url", "name",
+    "parent", "program", "section", "service", "variant", "version"}
+
+
 def is_made_of_rules(row):
-    """Whether the exports report what a row of a call over a configuration expects: a text that is no configuration has no
+    """Whether the exports report what a row of a call over a configuration expects: a text that isn't a configuration has no
     entries, of entries with a URL those of `http.*` are found, and of a normal form only why there is none."""
     call, expected = row.members["call"], row.expected
-    if not MEMBERS.union(MEMBERS_RULES).issuperset(row.members):
+    if not MEMBERS.union(MEMBERS_RULES_PYTHON).issuperset(row.members):
         return False
     if call == "Reader::new":
         return len(expected) == 1 or not any("error" in it for it in expected)
@@ -182,11 +184,11 @@ def is_made_of_rules(row):
 class Python(C):
     """The package of these sources over the shared library of `scripts/bindings`, or the one that the environment names."""
 
-    name, calls = "python", ALL | RULES | {"Scheme:Ord", "Url:Ord"}
+    name, calls = "python", ALL | RULES_PYTHON | {"Scheme:Ord", "Url:Ord"}
 
     def makes(self, row):
         """What C makes, except an error that no call returned."""
-        if row.members["call"] in RULES:
+        if row.members["call"] in RULES_PYTHON:
             return is_made_of_rules(row)
         return super().makes(row) and "error" not in row.members
 

@@ -139,7 +139,8 @@ class Errors(unittest.TestCase):
         ):
             error = raised(call, text)
             self.assertEqual((type(error), error.flaw, error.at, error.line), (rules.NoConfiguration, *wanted))
-        self.assertEqual(str(error), "the text is no configuration (open_quote), at byte 11, line 2")
+        self.assertEqual(str(error), f"{error.args[0]} (open_quote), at byte 11, line 2")
+        self.assertIn("configuration", error.args[0])
 
     def test_errors_keep_their_fields(self):
         for error in (raised(Configuration.from_file, b"[a]\n=\n"), raised(listing(("url.a.insteadof",)).rewrite_fetch, "u")):
@@ -245,7 +246,8 @@ class Audit(unittest.TestCase):
                 status, out, err = audited(*words)
                 self.assertEqual((status, out, bool(err)), (2, "", True), words)
             status, out, err = audited("-", given=b"[a\x1b\n")
-            self.assertEqual((status, out, err[:48]), (2, "", "gix_url audit: the text is no configuration (bad"))
+            self.assertEqual((status, out), (2, ""))
+            self.assertRegex(err, r"^gix_url audit: [a-z ']+ configuration \(bad_section\), at byte 2, line 1\n$")
 
     def test_what_is_no_location_is_refused(self):
         found = audit.audit(b'[submodule "a"]\n\turl = http://h:0x/\n')

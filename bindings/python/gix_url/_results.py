@@ -14,15 +14,15 @@ class Flaw(Named):
 
 
 class NoTransport(Named):
-    """Why Git has no transport for a text: byte 0, a text that begins with -, `rsync:`, or a scheme that is no name of a
-    transport or of a remote helper."""
+    """Why Git has no transport for a text: byte 0, a text that begins with -, `rsync:`, or a scheme that names neither a
+    transport nor a remote helper."""
 
     BYTE_ZERO, OPTION_LIKE, RSYNC, UNKNOWN_SCHEME = range(1, 5)
 
 
 class Decision(Named):
     """What Git does about a transport: it uses it only if it is ALLOWED. It stops if the entry that decides has a value that
-    it doesn't know, or if it needs GIT_PROTOCOL_FROM_USER and that is no boolean value."""
+    it doesn't know, or if it needs GIT_PROTOCOL_FROM_USER and that isn't a boolean value."""
 
     ALLOWED, REFUSED, UNKNOWN_ALLOWANCE, UNKNOWN_FROM_USER = range(1, 5)
 

@@ -1,9 +1,9 @@
 """An audit of a .gitmodules file: `python3 -m gix_url audit FILE [--parent URL]`.
 
-Of each entry it reports what git fsck refuses, and of each URL of a submodule, also of one that a later entry replaces, why it
-is no location, and its dangers. A relative URL is resolved against the parent, the URL of the remote of the repository around
-the file, as it is configured; what it is resolved to is reported likewise, and that it leaves the path of the parent. All of it
-is decided by the calls of `gix_url.rules`. `explain --gitmodules` finds more: docs/EXPLAIN.md has its findings.
+It reports of each entry what git fsck refuses, and of each URL of a submodule its dangers, or why it isn't a location; also of a
+URL that a later entry replaces. A relative URL is resolved against the parent, the URL of the remote of the repository around
+the file, as it is configured: the dangers are those of the result, and it is reported if it leaves the path of the parent. The
+calls of `gix_url.rules` decide all of that. `explain --gitmodules` finds more: docs/EXPLAIN.md has its findings.
 
 >>> text = b'[submodule "a"]\\n\\turl = ext::sh -c id\\n[submodule "b"]\\n\\turl = ../../x\\n'
 >>> for finding in audit(text, "https://h/a"):
@@ -49,14 +49,14 @@ class Finding(Redacted):
 
 def audit(gitmodules: bytes, parent: str | bytes | None = None) -> tuple[Finding, ...]:
     """What is found in the text of a .gitmodules file, in the order of its entries. Without a parent a relative URL is a
-    finding. Raises NoConfiguration if the text is no configuration, and Error if the parent is no location."""
+    finding. Raises NoConfiguration if the text isn't a configuration, and Error if the parent isn't a location."""
     if parent is not None:
         gix_url.parse(parent)
     return tuple(it for entry in rules.Configuration.from_file(gitmodules).entries for it in _found(entry, parent))
 
 
 def _found(entry: rules.Entry, parent: str | bytes | None) -> Iterator[Finding]:
-    """What is found in an entry. It is the URL of a submodule if it is the URL of one when it is alone."""
+    """What is found in an entry. An entry gives the URL of a submodule if it does so by itself."""
     for refusal in rules.check_submodule(entry):
         yield Finding(entry, str(refusal), _REFUSED[refusal], entry.value)
     for alone in rules.Configuration((entry,)).submodules():
@@ -88,7 +88,7 @@ def _quoted(text: bytes) -> str:
 
 def main(words: list[str]) -> int:
     """Prints what is found, and returns the exit status: 0 if nothing is found, 1 if anything is, and 2 if the arguments are
-    wrong, or the file can't be read or is no configuration."""
+    wrong, or the file can't be read or isn't a configuration."""
     parser = argparse.ArgumentParser(prog="python3 -m gix_url audit", description="Audits a .gitmodules file.")
     parser.add_argument("file", metavar="FILE", help="the file; - is the standard input")
     parser.add_argument("--parent", metavar="URL", help="the URL of the remote of the repository around it")

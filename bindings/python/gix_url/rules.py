@@ -49,7 +49,7 @@ for _it in (*vars(_results).values(), Piece, redacted, secrets):
 
 
 class ConfigurationError(gix_url.Error):
-    """Git stops at an entry, or a text is no configuration. `at` is the `at` of the entry, or how many bytes of the text come
+    """Git stops at an entry, or a text isn't a configuration. `at` is the `at` of the entry, or how many bytes of the text come
     before the flaw; `line` is the line of the flaw in a file, from 1, or 0; `flaw` is the flaw of a text, or None."""
 
     line: int = 0
@@ -65,11 +65,11 @@ class NoValue(ConfigurationError):
 
 
 class NoBoolean(ConfigurationError):
-    """Git stops at an entry whose value is no boolean value."""
+    """Git stops at an entry whose value isn't a boolean value."""
 
 
 class NoConfiguration(ConfigurationError):
-    """The text is no configuration."""
+    """The text isn't a configuration."""
 
 
 _STOPS = {104: NoValue, 105: NoBoolean, 106: NoConfiguration}
@@ -110,7 +110,7 @@ class Configuration:
 
     @classmethod
     def from_listing(cls, text: bytes) -> "Configuration":
-        """The entries of what `git config --list -z` writes. Raises NoConfiguration if a line of the text is no entry, or its
+        """The entries of what `git config --list -z` writes. Raises NoConfiguration if a line of the text isn't an entry, or its
         last entry has no end."""
         return cls._read("read_listing", text)
 
