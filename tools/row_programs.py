@@ -33,10 +33,24 @@ ONLY_RUST = {
     "Url::set_password", "Url::set_user", "Url::with_request_alternate_form", "Url::write_to",
     "Url:Ord", "UrlFault:fmt", "UrlKind:fmt", "WriteFault:fmt", "expand_path::for_shell", "expand_path::parse",
     "expand_path::with", "ipv6::is_ipv6"}
+# Calls over a configuration, and over texts that Git reads, which C has.
+RULES = {
+    "Danger::name", "Danger::words", "Permission::is_allowed", "Protocols::permission", "Remote::of", "Resolved::to_bstring",
+    "Rewrites::rewrite_fetch", "Rewrites::rewrite_push", "Rewritten::is_rewritten", "Rewritten::to_bstring",
+    "SshCommand::git_protocol", "SshCommand::to_words", "SshProgram::of", "config::entries", "config_file::entries",
+    "credential::reading", "credentials::credentials_for", "danger::dangers", "entries::best_entry", "refusal::check",
+    "resolve::climbs", "resolve::is_relative", "resolve::resolve", "secret::secrets", "settings::settings_for",
+    "settings::settings_without_place", "ssh::ssh_command", "ssh::ssh_command_for", "ssh::ssh_words", "submodules::submodules",
+    "text::transport_of", "transport::reading"}
+ONLY_PYTHON = {"NormalUrl::parse_in", "Reader::new", "Refused::as_str", "Scheme:Ord", "Url:Ord"}
 # Members that an order for a binding may have.
 MEMBERS = {
     "call", "text", "url", "other", "record", "scheme", "user", "password", "alternative", "style", "kind", "fault",
     "error"}
+# Members that an order for C may have as well.
+MEMBERS_RULES = {
+    "allow_list", "config", "danger", "family", "file", "from_user", "git_ssh", "git_ssh_command", "git_ssh_variant",
+    "has_push_url", "name", "parent", "program", "section", "service", "variant", "version"}
 # Members that an order for Rust may have as well.
 MEMBERS_RUST = {"path", "home"}
 # Errors of calls that C doesn't have, and one that Rust doesn't have either: a path is any bytes there.
@@ -62,6 +76,12 @@ def flat(members, front=""):
             yield f"{front}{name}={str(value).lower()}"
         elif value is not None:
             yield f"{front}{name}={escaped(str(value))}"
+
+
+def is_listing(text):
+    """Whether each line of a configuration is an entry."""
+    keys = [it.split("\n")[0] for it in text.split("\0")[:-1]]
+    return text[-1:] in ("", "\0") and all("." in it.strip(".") and it[0] != "." and it[-1] != "." for it in keys)
 
 
 def run(words, **environment):
@@ -134,62 +154,45 @@ class Binding(Answers):
 
 
 class C(Binding):
-    name, calls = "c", ALL
+    name, calls, members = "c", ALL | RULES, MEMBERS | MEMBERS_RULES
 
     def makes(self, row):
-        """All but other styles than the plain one, parts that are a record of the older form, as C restores parts, and an
-        error that C doesn't have."""
+        """All but other styles than the plain one, except of permissions, parts that are a record of the older form, as C
+        restores parts, an error that C doesn't have, a configuration that C refuses, and entries of another section than
+        `http`."""
         url, error = row.members.get("url"), row.members.get("error", {})
         is_older = isinstance(url, dict) and "spelling" in url and url["spelling"] == url.get("path", "")
-        return super().makes(row) and row.members.get("style") is None and not is_older and error.get("error") not in FOREIGN_C
+        is_foreign = row.members.get("section", "http") != "http" or not is_listing(row.members.get("config") or "")
+        is_plain = row.members.get("style") is None or row.members["call"] == "Protocols::permission"
+        return (super().makes(row) and is_plain and not is_older and not is_foreign
+                and error.get("error") not in FOREIGN_C)
 
     def tells(self, name, outcome):
         return name != "kept" or "total" in outcome
 
     def build(self):
         file = f"{FOLDER}/vectors"
-        sources = ["bindings/tests/vectors.c", "bindings/tests/told.c", f"{FOLDER}/libgix_url.a"]
+        names = ("vectors", "orders", "rule_calls", "rule_configs", "told")
+        sources = [*(f"bindings/tests/{it}.c" for it in names), f"{FOLDER}/libgix_url.a"]
         run([os.environ.get("CC", "cc"), "-std=c11", "-O1", *sources, "-o", file])
         return file
-
-
-# Calls over a configuration and over texts that Git reads, which the package makes.
-RULES_PYTHON = {
-    "Danger::name", "Danger::words", "NormalUrl::parse_in", "Permission::is_allowed", "Protocols::permission", "Reader::new",
-    "Refused::as_str", "Remote::of", "Resolved::to_bstring", "Rewrites::rewrite_fetch", "Rewrites::rewrite_push",
-    "Rewritten::is_rewritten", "Rewritten::to_bstring", "SshCommand::git_protocol", "SshCommand::to_words", "SshProgram::of",
-    "config_file::entries", "credential::reading", "credentials::credentials_for", "danger::dangers",
-    "entries::best_entry", "refusal::check", "resolve::climbs", "resolve::is_relative", "resolve::resolve", "secret::secrets",
-    "settings::settings_for", "settings::settings_without_place", "ssh::ssh_command", "ssh::ssh_command_for", "ssh::ssh_words",
-    "submodules::submodules", "text::transport_of", "transport::reading"}
-# Members that an order of these calls may have as well.
-MEMBERS_RULES_PYTHON = {
-    "allow_list", "config", "danger", "family", "file", "from_user", "git_ssh", "git_ssh_command", "git_ssh_variant", "has_push_url", "name",
-    "parent", "program", "section", "service", "variant", "version"}
-
-
-def is_made_of_rules(row):
-    """Whether the exports report what a row of a call over a configuration expects: a text that isn't a configuration has no
-    entries, of entries with a URL those of `http.*` are found, and of a normal form only why there is none."""
-    call, expected = row.members["call"], row.expected
-    if not MEMBERS.union(MEMBERS_RULES_PYTHON).issuperset(row.members):
-        return False
-    if call == "Reader::new":
-        return len(expected) == 1 or not any("error" in it for it in expected)
-    if call == "NormalUrl::parse_in":
-        return "error" in expected
-    return call != "entries::best_entry" or row.members["section"] == "http"
 
 
 class Python(C):
     """The package of these sources over the shared library of `scripts/bindings`, or the one that the environment names."""
 
-    name, calls = "python", ALL | RULES_PYTHON | {"Scheme:Ord", "Url:Ord"}
+    name, calls = "python", ALL | RULES | ONLY_PYTHON
 
     def makes(self, row):
-        """What C makes, except an error that no call returned."""
-        if row.members["call"] in RULES_PYTHON:
-            return is_made_of_rules(row)
+        """What C makes, except an error that no call returned. A listing that is refused has its flaw alone, and a URL only
+        why it has no normal form."""
+        call, expected = row.members["call"], row.expected
+        if call == "Reader::new":
+            return len(expected) == 1 or not any("error" in it for it in expected)
+        if call == "NormalUrl::parse_in" and "error" not in expected:
+            return False
+        if call == "Refused::as_str":
+            return True
         return super().makes(row) and "error" not in row.members
 
     def built(self):

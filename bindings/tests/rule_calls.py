@@ -208,6 +208,7 @@ CALLS = {
     "SshCommand::git_protocol": git_protocol,
     "SshCommand::to_words": ssh_words,
     "SshProgram::of": ssh_program,
+    "config::entries": read_listing,
     "config_file::entries": read_file,
     "credential::reading": credential_reading,
     "credentials::credentials_for": credentials,

@@ -1,5 +1,6 @@
-"""Answers each line of the standard input as the program `locations` does: `python3 -m gix_url < remotes.txt`. With the word
-`audit` it audits a .gitmodules file: `python3 -m gix_url audit FILE [--parent URL]`."""
+"""Answers each line of the standard input as the program `locations` does: `python3 -m gix_url <
+remotes.txt`. With the word `audit` it audits a .gitmodules file: `python3 -m gix_url audit FILE [--parent
+URL]`."""
 import sys
 
 import gix_url

@@ -1,4 +1,5 @@
-"""The structs and the calls of gix_url_rules.h, and how a call is made: one table says what each takes and stores."""
+"""The structs and the calls of gix_url_rules.h, and how a call is made: one table says what each takes and
+stores."""
 import ctypes
 from typing import Any, NamedTuple
 
@@ -9,7 +10,8 @@ _NO_ROOM = 102
 _START = 64
 _Byte, _Letters = ctypes.c_uint8, ctypes.c_char_p
 
-Entry = struct(**dict.fromkeys(("section", "subsection", "name", "value"), Text), at=Size, line=Size, has_subsection=Truth, has_value=Truth)
+_key_and_value = dict.fromkeys(("section", "subsection", "name", "value"), Text)
+Entry = struct(**_key_and_value, at=Size, line=Size, has_subsection=Truth, has_value=Truth)
 Stop = struct(at=Size, line=Size, flaw=Number)
 Rewritten = struct(text=Text, is_rewritten=Truth, base_len=Size)
 Remote = struct(url_count=Size, push_url_count=Size, vcs=Text, proxy=Text, uploadpack=Text, receivepack=Text)
@@ -17,7 +19,8 @@ Transport = struct(why=Number, name=Text)
 Policy = struct(allow_list=Text, from_user=Text)
 Permission = struct(decision=Number, by=Number, at=Size)
 Piece = struct(len=Size, is_hidden=Size)
-Place = struct(why=Number, protocol=Number, user=Text, host=Text, path=Text, has_port=Truth, port=ctypes.c_uint16)
+_parts = {"user": Text, "host": Text, "path": Text}
+Place = struct(why=Number, protocol=Number, **_parts, has_port=Truth, port=ctypes.c_uint16)
 Request = struct(is_read=Truth, protocol=Text, user=Text, password=Text, host=Text, path=Text)
 SshRequest = struct(service=Number, program=Text, variant=Number, version=_Byte, family=Number)
 SshCommand = struct(refusal=Number, word_count=Size, git_protocol=_Byte)
@@ -31,8 +34,9 @@ Submodule = struct(name=Text, path=Size, url=Size, update=Size, branch=Size)
 
 
 class Call(NamedTuple):
-    """What a call takes, in order: what it reads; the elements of each buffer, with its length; the result; for each buffer
-    where to store how many elements are needed, for the last buffer first if `is_turned`; and a stop."""
+    """What a call takes, in order: what it reads; the elements of each buffer, with its length; the result;
+    for each buffer where to store how many elements are needed, for the last buffer first if `is_turned`; and
+    a stop."""
 
     given: tuple[Any, ...]
     rooms: tuple[Any, ...] = ()
@@ -43,8 +47,13 @@ class Call(NamedTuple):
     def types(self) -> list[Any]:
         """The types of all arguments."""
         rooms = [it for room in self.rooms for it in (ctypes.POINTER(room), Size)]
-        stored = [*([self.result] if self.result else []), *(Size for _ in self.rooms), *([Stop] if self.stops else [])]
+        stored = self.in_order(self.result, [Size for _ in self.rooms], Stop)
         return [*self.given, *rooms, *map(ctypes.POINTER, stored)]
+
+    def in_order(self, result: Any, sizes: list[Any], stop: Any) -> list[Any]:
+        """What the last arguments point to, as far as the call has it."""
+        turned = sizes[::-1] if self.is_turned else sizes
+        return [*([result] if self.result else []), *turned, *([stop] if self.stops else [])]
 
 
 _char = ctypes.c_char
@@ -74,11 +83,15 @@ CALLS = {
     "submodules_of": Call(_config, (_char, Submodule), is_turned=True),
 }
 for _name, _call in CALLS.items():
-    getattr(lib, f"gix_url_{_name}").argtypes = _call.types()
+    try:
+        getattr(lib, f"gix_url_{_name}").argtypes = _call.types()
+    except AttributeError as _error:
+        raise ImportError(f"gix_url: the library lacks a call: {_error}") from _error
 
 
 class Made(NamedTuple):
-    """What a call returned: its error, where Git stops, the fields of its result, and what is in its last buffer."""
+    """What a call returned: its error, where Git stops, the fields of its result, and what is in its last
+    buffer."""
 
     error: int
     stop: Any
@@ -92,14 +105,20 @@ def make(name: str, *given: Any) -> Made:
     result, stop = call.result and call.result(), Stop()
     sizes = [Size() for _ in call.rooms]
     rooms = [array(it, _START) for it in call.rooms]
-    told = [*([result] if call.result else []), *(sizes[::-1] if call.is_turned else sizes), *([stop] if call.stops else [])]
+    stored = call.in_order(result, sizes, stop)
     error = _NO_ROOM
     for _ in range(2):
         if error == _NO_ROOM:
-            error = function(*given, *(it for room in rooms for it in (room, len(room))), *map(ref, told))
-            rooms = [array(type(it)._type_, size.value) if size.value > len(it) else it for it, size in zip(rooms, sizes)]
+            error = function(*given, *(it for room in rooms for it in (room, len(room))), *map(ref, stored))
+            rooms = [_grown(room, size.value) for room, size in zip(rooms, sizes)]
     items = rooms[-1][: sizes[-1].value] if rooms and not error else []
-    return Made(error, stop, fields_of(result), items if isinstance(items, bytes) else [fields_of(it) for it in items])
+    items = items if isinstance(items, bytes) else [fields_of(it) for it in items]
+    return Made(error, stop, fields_of(result), items)
+
+
+def _grown(room: Any, length: int) -> Any:
+    """The buffer itself if it has so many elements, or else a longer one."""
+    return array(type(room)._type_, length) if length > len(room) else room
 
 
 def array(kind: Any, length: int) -> Any:
@@ -117,7 +136,9 @@ def fields_of(of: Any) -> Any:
 
 
 def lent(kind: Any, **fields: Any) -> Any:
-    """A struct with these fields, in which bytes are pointers to them; it keeps the bytes. None leaves a field 0."""
-    made = kind(**{name: text_of(it) if isinstance(it, bytes) else it for name, it in fields.items() if it is not None})
+    """A struct with these fields, in which bytes are pointers to them; it keeps the bytes. None leaves a
+    field 0."""
+    there = {name: it for name, it in fields.items() if it is not None}
+    made = kind(**{name: text_of(it) if isinstance(it, bytes) else it for name, it in there.items()})
     made.kept = fields
     return made

@@ -1,4 +1,5 @@
-"""What the calls of `gix_url.rules` return, and the numbers that they take: those of gix_url_rules.h by their names."""
+"""What the calls of `gix_url.rules` return, and the numbers that they take: those of gix_url_rules.h by their
+names."""
 import dataclasses
 
 from ._calls import make
@@ -7,28 +8,30 @@ from ._values import Named, check_type
 
 
 class Flaw(Named):
-    """What is wrong with the text of a configuration; NO_KEY and NO_END are of a listing, the others of a file."""
+    """What is wrong with the text of a configuration; NO_KEY and NO_END are of a listing, the others of a
+    file."""
 
     PARTIAL_MARK, NO_START, NO_SECTION, BAD_SECTION, NO_QUOTE, OPEN_SUBSECTION, OPEN_HEADER = range(1, 8)
     NO_EQUALS, BAD_ESCAPE, OPEN_QUOTE, ZERO_BYTE, NO_KEY, NO_END = range(8, 14)
 
 
 class NoTransport(Named):
-    """Why Git has no transport for a text: byte 0, a text that begins with -, `rsync:`, or a scheme that names neither a
-    transport nor a remote helper."""
+    """Why Git has no transport for a text: byte 0, a text that begins with -, `rsync:`, or a scheme that
+    names neither a transport nor a remote helper."""
 
     BYTE_ZERO, OPTION_LIKE, RSYNC, UNKNOWN_SCHEME = range(1, 5)
 
 
 class Decision(Named):
-    """What Git does about a transport: it uses it only if it is ALLOWED. It stops if the entry that decides has a value that
-    it doesn't know, or if it needs GIT_PROTOCOL_FROM_USER and that isn't a boolean value."""
+    """What Git does about a transport: it uses it only if it is ALLOWED. It stops if the entry that decides
+    has a value that it doesn't know, or if it needs GIT_PROTOCOL_FROM_USER and that isn't a boolean value."""
 
     ALLOWED, REFUSED, UNKNOWN_ALLOWANCE, UNKNOWN_FROM_USER = range(1, 5)
 
 
 class Decider(Named):
-    """What decides about a transport: GIT_ALLOW_PROTOCOL, an entry of protocol.*, or neither, so that it is as by default."""
+    """What decides about a transport: GIT_ALLOW_PROTOCOL, an entry of protocol.*, or neither, so that it is
+    as by default."""
 
     BY_LIST, BY_ENTRY, BY_DEFAULT = range(1, 4)
 
@@ -46,8 +49,8 @@ class Danger(Named):
 
 
 class Unread(Named):
-    """Why Git reads no place in a text: byte 0, an option, the address of a remote helper, a local path that begins with ~, a
-    word that OpenSSH reads as a URL, or a text that Git or Secure Shell refuses."""
+    """Why Git reads no place in a text: byte 0, an option, the address of a remote helper, a local path that
+    begins with ~, a word that OpenSSH reads as a URL, or a text that Git or Secure Shell refuses."""
 
     BYTE_ZERO, OPTION, REMOTE_HELPER, HOME_OR_HERE, SECURE_SHELL_URL, REFUSED = range(1, 7)
 
@@ -65,7 +68,8 @@ class Service(Named):
 
 
 class Variant(Named):
-    """The program that is run for Secure Shell, by its options: ssh.variant. Of ASKED Git runs the program to find it."""
+    """The program that is run for Secure Shell, by its options: ssh.variant. Of ASKED Git runs the program to
+    find it."""
 
     OPENSSH, SIMPLE, PLINK, PUTTY, TORTOISEPLINK, ASKED = range(6)
 
@@ -79,8 +83,9 @@ class Family(Named):
 class SshRefusal(Named):
     """Why there is no command of Secure Shell: of several reasons the first, in this order."""
 
-    NOT_SECURE_SHELL, PASSWORD, EMPTY_USER, BYTE_ZERO, OPTION_LIKE_USER, NO_HOST, OPTION_LIKE_HOST = range(1, 8)
-    AT_SIGN_IN_HOST, URL_LIKE_DESTINATION, NO_PATH, OPTION_LIKE_PATH, EMPTY_PROGRAM = range(8, 13)
+    NOT_SECURE_SHELL, PASSWORD, EMPTY_USER, BYTE_ZERO, OPTION_LIKE_USER, NO_HOST = range(1, 7)
+    OPTION_LIKE_HOST, AT_SIGN_IN_HOST, URL_LIKE_DESTINATION, NO_PATH = range(7, 11)
+    OPTION_LIKE_PATH, EMPTY_PROGRAM = range(11, 13)
     BYTE_ZERO_IN_PROGRAM, OPTION_LIKE_PROGRAM, FAMILY_OF_SIMPLE, PORT_OF_SIMPLE = range(13, 17)
 
 
@@ -91,15 +96,16 @@ class Abnormal(Named):
 
 
 class Unresolved(Named):
-    """Why Git resolves no relative URL of a submodule: the URL of the remote is empty, or has too few elements."""
+    """Why Git resolves no relative URL of a submodule: the URL of the remote is empty, or has too few
+    elements."""
 
     EMPTY_PARENT, NOTHING_LEFT = 1, 2
 
 
 class SubmoduleRefusal(Named):
-    """Why git fsck refuses an entry of .gitmodules, shown as Git names it: gitmodulesName, gitmodulesUrl, gitmodulesPath or
-    gitmodulesUpdate. The name leads out of its folder, the URL is dangerous, the path looks like an option, or the submodule
-    is updated by a command."""
+    """Why git fsck refuses an entry of .gitmodules, shown as Git names it: gitmodulesName, gitmodulesUrl,
+    gitmodulesPath or gitmodulesUpdate. The name leads out of its folder, the URL is dangerous, the path looks
+    like an option, or the submodule is updated by a command."""
 
     NAME, URL, PATH, UPDATE = range(1, 5)
 
@@ -109,11 +115,13 @@ class SubmoduleRefusal(Named):
 
 @dataclasses.dataclass(frozen=True, repr=False)
 class Entry(Redacted):
-    """An entry of a configuration: section.subsection.name and its value, bytes or None if it has none; a key without = has no
-    value. Section and name are compared without letter case. `at` is how many bytes of the text that was read come before
-    the entry, and `line` the line of a file in which the name begins, from 1; it is 0 of a listing.
+    """An entry of a configuration: section.subsection.name and its value, bytes or None if it has none; a key
+    without = has no value. Section and name are compared without letter case. `at` is how many bytes of the
+    text that was read come before the entry, and `line` the line of a file in which the name begins, from 1;
+    it is 0 of a listing.
 
-    Raises TypeError for a value of another type, and ValueError for a place that is negative or has more than 64 bits."""
+    Raises TypeError for a value of another type, and ValueError for a place that is negative or has more than
+    64 bits."""
 
     section: bytes
     subsection: bytes | None
@@ -140,8 +148,8 @@ class Entry(Redacted):
 
 @dataclasses.dataclass(frozen=True, repr=False)
 class Rewritten(Redacted):
-    """A URL after rewriting: `is_rewritten` if a value of insteadOf or pushInsteadOf matched. The text then begins with the
-    base, which has `base_len` bytes; else that is 0."""
+    """A URL after rewriting: `is_rewritten` if a value of insteadOf or pushInsteadOf matched. The text then
+    begins with the base, which has `base_len` bytes; else that is 0."""
 
     text: bytes
     is_rewritten: bool
@@ -150,8 +158,8 @@ class Rewritten(Redacted):
 
 @dataclasses.dataclass(frozen=True, repr=False)
 class Remote(Redacted):
-    """A remote: git fetch takes the first of `urls`, git push all `push_urls`. Of vcs and proxy it has the last value, of
-    uploadpack and receivepack the first, or None."""
+    """A remote: git fetch takes the first of `urls`, git push all `push_urls`. Of vcs and proxy it has the
+    last value, of uploadpack and receivepack the first, or None."""
 
     urls: tuple[bytes, ...]
     push_urls: tuple[bytes, ...]
@@ -163,8 +171,8 @@ class Remote(Redacted):
 
 @dataclasses.dataclass(frozen=True)
 class Permission:
-    """What Git does about a transport, and by what: None of UNKNOWN_FROM_USER. `at` is that of the entry that decides, or
-    None."""
+    """What Git does about a transport, and by what: None of UNKNOWN_FROM_USER. `at` is that of the entry that
+    decides, or None."""
 
     decision: Decision
     by: Decider | None
@@ -173,8 +181,8 @@ class Permission:
 
 @dataclasses.dataclass(frozen=True, repr=False)
 class GitPlace(Redacted):
-    """The place that Git's own transports read in a text. A host is without brackets, and None if it is empty; the path is
-    decoded if the text is a URL."""
+    """The place that Git's own transports read in a text. A host is without brackets, and None if it is
+    empty; the path is decoded if the text is a URL."""
 
     protocol: Protocol
     user: bytes | None
@@ -185,8 +193,8 @@ class GitPlace(Redacted):
 
 @dataclasses.dataclass(frozen=True, repr=False)
 class Request(Redacted):
-    """What Git's credential code asks helpers for: the parts decoded, the host with its port. The representation leaves the
-    password out."""
+    """What Git's credential code asks helpers for: the parts decoded, the host with its port. The
+    representation leaves the password out."""
 
     protocol: bytes
     user: bytes | None
@@ -197,9 +205,9 @@ class Request(Redacted):
 
 @dataclasses.dataclass(frozen=True, repr=False)
 class SshCommand(Redacted):
-    """A command of Secure Shell: the words after the name of the program, each of which is one argument, without a shell.
-    The last one is the command that a shell on the server reads. `git_protocol` is the version that GIT_PROTOCOL is to be set
-    to, as version=2, or None if it isn't to be set."""
+    """A command of Secure Shell: the words after the name of the program, each of which is one argument,
+    without a shell. The last one is the command that a shell on the server reads. `git_protocol` is the
+    version that GIT_PROTOCOL is to be set to, as version=2, or None if it isn't to be set."""
 
     words: tuple[bytes, ...]
     git_protocol: int | None
@@ -207,7 +215,8 @@ class SshCommand(Redacted):
 
 @dataclasses.dataclass(frozen=True, repr=False)
 class SshProgram(Redacted):
-    """The program that Git runs for Secure Shell: a path or a name, or a command line, which a shell reads."""
+    """The program that Git runs for Secure Shell: a path or a name, or a command line, which a shell
+    reads."""
 
     text: bytes
     is_command_line: bool
@@ -216,8 +225,8 @@ class SshProgram(Redacted):
 
 @dataclasses.dataclass(frozen=True)
 class Settings:
-    """The entries whose values Git uses for a URL. `why` is the reason if the URL has no normal form, so that only entries
-    without a URL apply; else None."""
+    """The entries whose values Git uses for a URL. `why` is the reason if the URL has no normal form, so that
+    only entries without a URL apply; else None."""
 
     entries: tuple[Entry, ...]
     why: Abnormal | None
@@ -225,8 +234,9 @@ class Settings:
 
 @dataclasses.dataclass(frozen=True, repr=False)
 class Credentials(Redacted):
-    """What Git's credential code uses for a URL: the entries whose values are the helpers, in the order in which Git asks
-    them; the user that they are asked about, decoded, or None; and whether they get the path of a URL of HTTP."""
+    """What Git's credential code uses for a URL: the entries whose values are the helpers, in the order in
+    which Git asks them; the user that they are asked about, decoded, or None; and whether they get the path
+    of a URL of HTTP."""
 
     helpers: tuple[Entry, ...]
     user: bytes | None
@@ -235,8 +245,8 @@ class Credentials(Redacted):
 
 @dataclasses.dataclass(frozen=True, repr=False)
 class Resolved(Redacted):
-    """The URL of a submodule after it is resolved. A URL that isn't relative is itself. `climbs` if it leaves the path of the
-    URL of the remote, and so may lead to another host."""
+    """The URL of a submodule after it is resolved. A URL that isn't relative is itself. `climbs` if it leaves
+    the path of the URL of the remote, and so may lead to another host."""
 
     url: bytes
     is_relative: bool

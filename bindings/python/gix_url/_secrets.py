@@ -15,8 +15,9 @@ class Piece:
 
 
 def secrets(text: str | bytes) -> tuple[Piece, ...]:
-    """The pieces of a text, of which some may be secrets: passwords, and tokens of GitHub, GitLab and Bitbucket by how they
-    begin. Joined they are the text, which may be a location or none, or a key or a value of a configuration."""
+    """The pieces of a text, of which some may be secrets: passwords, and tokens of GitHub, GitLab and
+    Bitbucket by how they begin. Joined they are the text, which may be a location or none, or a key or a
+    value of a configuration."""
     given = check_text("text", text)
     pieces, at = [], 0
     for it in make("secrets_of", given, len(given)).items:
@@ -26,8 +27,8 @@ def secrets(text: str | bytes) -> tuple[Piece, ...]:
 
 
 def redacted(text: str | bytes) -> str:
-    """The text for display, with `redacted` for each piece that may be a secret and U+FFFD for what isn't UTF-8. A secret of
-    another form is shown, and so are control characters."""
+    """The text for display, with `redacted` for each piece that may be a secret and U+FFFD for what isn't
+    UTF-8. A secret of another form is shown, and so are control characters."""
     return b"".join(b"redacted" if it.is_hidden else it.text for it in secrets(text)).decode(errors="replace")
 
 

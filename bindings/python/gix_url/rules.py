@@ -1,5 +1,6 @@
-"""What Git does by its configuration before it connects, by the shared library: rewriting, remotes, transports and permission,
-words of Secure Shell, settings of http.*, credentials and submodules; and what Git reads in a text, and what is dangerous in it.
+"""What Git does by its configuration before it connects, by the shared library: rewriting, remotes,
+transports and permission, words of Secure Shell, settings of http.*, credentials and submodules; and what Git
+reads in a text, and what is dangerous in it.
 
 >>> config = Configuration.from_file(b'[url "https://github.com/"]\\n\\tinsteadOf = gh:\\n')
 >>> config.rewrite_fetch("gh:a/b").text
@@ -13,11 +14,11 @@ Decision.REFUSED
 >>> [str(it) for it in dangers("ext::sh -c id")], redacted("https://u:secret@h/p")
 (['command'], 'https://u:redacted@h/p')
 
-The rules are those of Git 2.39.5 on Linux; docs/RULES.md has them, and docs/AUDIT.md those of dangers. No call reads a file or
-the environment, or runs a program: the caller passes texts. A text is bytes, or a str that stands for its UTF-8, with
-`surrogateescape`; a value of another type is a TypeError. Results are bytes. They may have passwords, which the representation
-(`%r`) of a result shows as `redacted`. Calls may run in several threads; all values can be hashed and pickled. Each call
-raises MemoryError if memory is refused.
+The rules are those of Git 2.39.5 on Linux; docs/RULES.md has them, and docs/AUDIT.md those of dangers. No
+call reads a file or the environment, or runs a program: the caller passes texts. A text is bytes, or a str
+that stands for its UTF-8, with `surrogateescape`; a value of another type is a TypeError. Results are bytes.
+They may have passwords, which the representation (`%r`) of a result shows as `redacted`. Calls may run in
+several threads; all values can be hashed and pickled. Each call raises MemoryError if memory is refused.
 """
 import dataclasses
 import functools
@@ -29,16 +30,18 @@ from . import _calls, _results
 from ._calls import lent, make
 from ._library import Problem
 from ._results import (
-    Abnormal, Credentials, Danger, Decider, Decision, Entry, Family, Flaw, GitPlace, NoTransport, Permission, Protocol, Remote, Request,
-    Resolved, Rewritten, Service, Settings, SshCommand, SshProgram, SshRefusal, Submodule, SubmoduleRefusal, Unread, Unresolved, Variant)
+    Abnormal, Credentials, Danger, Decider, Decision, Entry, Family, Flaw, GitPlace, NoTransport, Permission,
+    Protocol, Remote, Request, Resolved, Rewritten, Service, Settings, SshCommand, SshProgram, SshRefusal,
+    Submodule, SubmoduleRefusal, Unread, Unresolved, Variant)
 from ._secrets import Piece, redacted, secrets
 from ._values import check_text, check_type
 
 __all__ = [
-    "Abnormal", "Configuration", "ConfigurationError", "Credentials", "Danger", "Decider", "Decision", "Entry", "Family", "Flaw",
-    "GitPlace", "NoBoolean", "NoConfiguration", "NoTransport", "NoValue", "Permission", "Piece", "Protocol", "Remote", "Request",
-    "Resolved", "Rewritten", "Service", "Settings", "SshCommand", "SshProgram", "SshRefusal", "Submodule", "SubmoduleRefusal",
-    "Unread", "Unresolved", "Variant", "check_submodule", "credential_reading", "dangers", "git_reading", "redacted",
+    "Abnormal", "Configuration", "ConfigurationError", "Credentials", "Danger", "Decider", "Decision",
+    "Entry", "Family", "Flaw", "GitPlace", "NoBoolean", "NoConfiguration", "NoTransport", "NoValue",
+    "Permission", "Piece", "Protocol", "Remote", "Request", "Resolved", "Rewritten", "Service", "Settings",
+    "SshCommand", "SshProgram", "SshRefusal", "Submodule", "SubmoduleRefusal", "Unread", "Unresolved",
+    "Variant", "check_submodule", "credential_reading", "dangers", "git_reading", "redacted",
     "resolve_submodule", "secrets", "ssh_words", "transport_of"]
 
 Text = str | bytes
@@ -49,8 +52,9 @@ for _it in (*vars(_results).values(), Piece, redacted, secrets):
 
 
 class ConfigurationError(gix_url.Error):
-    """Git stops at an entry, or a text isn't a configuration. `at` is the `at` of the entry, or how many bytes of the text come
-    before the flaw; `line` is the line of the flaw in a file, from 1, or 0; `flaw` is the flaw of a text, or None."""
+    """Git stops at an entry, or a text isn't a configuration. `at` is the `at` of the entry, or how many
+    bytes of the text come before the flaw; `line` is the line of the flaw in a file, from 1, or 0; `flaw` is
+    the flaw of a text, or None."""
 
     line: int = 0
     flaw: Flaw | None = None
@@ -80,9 +84,12 @@ def _made(name: str, *given: Any) -> _calls.Made:
     made = make(name, *given)
     if made.error in _STOPS:
         error = gix_url._refusal(made.error, Problem(), _STOPS[made.error])
-        error.at, error.line, error.flaw = made.stop.at, made.stop.line, Flaw(made.stop.flaw) if made.stop.flaw else None
+        error.at, error.line = made.stop.at, made.stop.line
+        error.flaw = Flaw(made.stop.flaw) if made.stop.flaw else None
         raise error
     gix_url._check(made.error)
+    if made.error:
+        raise gix_url._refusal(made.error, Problem(), gix_url.Error)
     return made
 
 
@@ -92,14 +99,15 @@ def _measured(name: str, text: Text) -> tuple[bytes, int]:
     return given, len(given)
 
 
-def _optional(name: str, text: Text | None) -> bytes | None:
-    return None if text is None else check_text(name, text)
+def _optional(**texts: Text | None) -> dict[str, bytes | None]:
+    """The bytes of texts, each of which may be None."""
+    return {name: None if it is None else check_text(name, it) for name, it in texts.items()}
 
 
 @dataclasses.dataclass(frozen=True)
 class Configuration:
-    """A configuration: entries in the order in which Git reads them. They may be joined, left out and made by hand. Raises
-    TypeError for what isn't an entry."""
+    """A configuration: entries in the order in which Git reads them. They may be joined, left out and made by
+    hand. Raises TypeError for what isn't an entry."""
 
     entries: tuple[Entry, ...] = ()
 
@@ -110,73 +118,83 @@ class Configuration:
 
     @classmethod
     def from_listing(cls, text: bytes) -> "Configuration":
-        """The entries of what `git config --list -z` writes. Raises NoConfiguration if a line of the text isn't an entry, or its
-        last entry has no end."""
+        """The entries of what `git config --list -z` writes. Raises NoConfiguration if a line of the text
+        isn't an entry, or its last entry has no end."""
         return cls._read("read_listing", text)
 
     @classmethod
     def from_file(cls, text: bytes) -> "Configuration":
-        """The entries of the text of a configuration file or a .gitmodules file, as `git config --file FILE --list -z` lists
-        them; no file is included. Raises NoConfiguration if the text is none. An entry before any header has no section."""
+        """The entries of the text of a configuration file or a .gitmodules file, as `git config --file FILE
+        --list -z` lists them; no file is included. Raises NoConfiguration if the text is none. An entry
+        before any header has no section."""
         return cls._read("read_file", text)
 
     def rewrite_fetch(self, url: Text) -> Rewritten:
-        """Rewrites a URL as Git does before it fetches from it: git-config(1), url.<base>.insteadOf. Raises NoValue at an
-        entry of insteadOf or pushInsteadOf without a value."""
+        """Rewrites a URL as Git does before it fetches from it: git-config(1), url.<base>.insteadOf. Raises
+        NoValue at an entry of insteadOf or pushInsteadOf without a value."""
         return Rewritten(**self._made("rewrite_fetch", *_measured("url", url)).fields)
 
     def rewrite_push(self, url: Text, has_push_url: bool = False) -> Rewritten:
-        """The same before Git pushes to it: by pushInsteadOf, or if no value of that matches by insteadOf. A URL that is a
-        pushurl of a remote, for which `has_push_url` is true, is rewritten by insteadOf alone. Raises NoValue likewise."""
+        """The same before Git pushes to it: by pushInsteadOf, or if no value of that matches by insteadOf. A
+        URL that is a pushurl of a remote, for which `has_push_url` is true, is rewritten by insteadOf alone.
+        Raises NoValue likewise."""
         check_type("has_push_url", has_push_url, bool)
         return Rewritten(**self._made("rewrite_push", *_measured("url", url), has_push_url).fields)
 
     def remote(self, name: Text) -> Remote:
-        """The remote of this name, its URLs rewritten: git-config(1), remote.<name>.*. Without entries of its own the name is
-        the only URL. Raises NoValue at an entry of insteadOf or pushInsteadOf without a value, or else at one of any remote
-        that is a url, pushurl, vcs, proxy, uploadpack or receivepack without a value."""
+        """The remote of this name, its URLs rewritten: git-config(1), remote.<name>.*. Without entries of its
+        own the name is the only URL. Raises NoValue at an entry of insteadOf or pushInsteadOf without a
+        value, or else at one of any remote that is a url, pushurl, vcs, proxy, uploadpack or receivepack
+        without a value."""
         made = self._made("remote_of", *_measured("name", name))
         count, pushed = made.fields.pop("url_count"), made.fields.pop("push_url_count")
         return Remote(tuple(made.items[:count]), tuple(made.items[count : count + pushed]), **made.fields)
 
-    def permission(self, transport: Text, *, allow_list: Text | None = None, from_user: Text | None = None) -> Permission:
-        """Whether Git may use the transport of this name, as `transport_of` returns it: git-config(1), protocol.allow. The
-        variables GIT_ALLOW_PROTOCOL, `allow_list`, and GIT_PROTOCOL_FROM_USER, `from_user`, are None if they aren't set.
-        Raises Error, NoLocation by its name, for a transport that is not UTF-8."""
-        policy = lent(_calls.Policy, allow_list=_optional("allow_list", allow_list), from_user=_optional("from_user", from_user))
+    def permission(
+        self, transport: Text, *, allow_list: Text | None = None, from_user: Text | None = None
+    ) -> Permission:
+        """Whether Git may use the transport of this name, as `transport_of` returns it: git-config(1),
+        protocol.allow. The variables GIT_ALLOW_PROTOCOL, `allow_list`, and GIT_PROTOCOL_FROM_USER,
+        `from_user`, are None if they aren't set. Raises Error, NoLocation by its name, for a transport that
+        is not UTF-8."""
+        policy = lent(_calls.Policy, **_optional(allow_list=allow_list, from_user=from_user))
         found = self._made("permission_of", policy, *_measured("transport", transport)).fields
         by = Decider(found["by"]) if found["by"] else None
         return Permission(Decision(found["decision"]), by, found["at"] if by == Decider.BY_ENTRY else None)
 
     def settings(self, name: Text, url: Text) -> Settings:
-        """The entries of http.<name> and http.<url>.<name> whose values Git uses for a URL, of names as proxy or extraHeader:
-        git-config(1), http.<url>.*. Most names have one such entry at most; extraHeader and curloptResolve are lists. Raises
-        NoValue at an entry of a list that applies and has no value, and Error, NoLocation by its name, for a name that is not
-        UTF-8."""
+        """The entries of http.<name> and http.<url>.<name> whose values Git uses for a URL, of names as proxy
+        or extraHeader: git-config(1), http.<url>.*. Most names have one such entry at most; extraHeader and
+        curloptResolve are lists. Raises NoValue at an entry of a list that applies and has no value, and
+        Error, NoLocation by its name, for a name that is not UTF-8."""
         made = self._made("settings_of", *_measured("name", name), *_measured("url", url))
         why = made.fields["why"]
         return Settings(tuple(self.entries[it] for it in made.items), Abnormal(why) if why else None)
 
     def credentials(self, url: Text) -> Credentials | None:
-        """What Git's credential code uses for a URL, or None if it reads nothing in it: gitcredentials(7). Raises NoValue at an
-        entry that applies and has no value, and NoBoolean at a useHttpPath that applies and has no boolean value."""
+        """What Git's credential code uses for a URL, or None if it reads nothing in it: gitcredentials(7).
+        Raises NoValue at an entry that applies and has no value, and NoBoolean at a useHttpPath that applies
+        and has no boolean value."""
         made = self._made("credentials_of", *_measured("url", url))
         helpers = tuple(self.entries[it] for it in made.items)
-        return Credentials(helpers, made.fields["user"], made.fields["use_http_path"]) if made.fields["is_read"] else None
+        if not made.fields["is_read"]:
+            return None
+        return Credentials(helpers, made.fields["user"], made.fields["use_http_path"])
 
     def ssh_program(
-        self, *, git_ssh_command: Text | None = None, git_ssh: Text | None = None, git_ssh_variant: Text | None = None
+        self, *, git_ssh_command: Text | None = None, git_ssh: Text | None = None,
+        git_ssh_variant: Text | None = None
     ) -> SshProgram:
-        """The program that Git runs for Secure Shell: git-config(1), core.sshCommand and ssh.variant. The variables
-        GIT_SSH_COMMAND, GIT_SSH and GIT_SSH_VARIANT are None if they aren't set. Raises NoValue at the last core.sshCommand or
-        ssh.variant if that counts and has no value."""
-        variables = {"git_ssh_command": git_ssh_command, "git_ssh": git_ssh, "git_ssh_variant": git_ssh_variant}
-        given = lent(_calls.SshVariables, **{name: _optional(name, it) for name, it in variables.items()})
-        found = self._made("ssh_program_of", given).fields
+        """The program that Git runs for Secure Shell: git-config(1), core.sshCommand and ssh.variant. The
+        variables GIT_SSH_COMMAND, GIT_SSH and GIT_SSH_VARIANT are None if they aren't set. Raises NoValue at
+        the last core.sshCommand or ssh.variant if that counts and has no value."""
+        texts = _optional(git_ssh_command=git_ssh_command, git_ssh=git_ssh, git_ssh_variant=git_ssh_variant)
+        found = self._made("ssh_program_of", lent(_calls.SshVariables, **texts)).fields
         return SshProgram(found["text"], found["is_command_line"], Variant(found["variant"]))
 
     def submodules(self) -> tuple[Submodule, ...]:
-        """The submodules of a .gitmodules file, in the order in which their names come first: gitmodules(5)."""
+        """The submodules of a .gitmodules file, in the order in which their names come first:
+        gitmodules(5)."""
         return tuple(self._submodule(**it) for it in self._made("submodules_of").items)
 
     @classmethod
@@ -201,13 +219,14 @@ class Configuration:
 
     def _submodule(self, name: bytes, **places: int) -> Submodule:
         """A submodule by the indices of its entries: an index past all entries is none."""
-        return Submodule(name, **{it: self.entries[at] if at < len(self.entries) else None for it, at in places.items()})
+        there = {it: self.entries[at] for it, at in places.items() if at < len(self.entries)}
+        return Submodule(name, **{it: there.get(it) for it in places})
 
 
 def _entry(has_subsection: bool, has_value: bool, **fields: Any) -> Entry:
     """An entry that the library read."""
-    absent = {name: None for name, is_there in (("subsection", has_subsection), ("value", has_value)) if not is_there}
-    return Entry(**{**fields, **absent})
+    is_there = {"subsection": has_subsection, "value": has_value}
+    return Entry(**{name: it if is_there.get(name, True) else None for name, it in fields.items()})
 
 
 def _lent_entry(entry: Entry) -> Any:
@@ -218,8 +237,9 @@ def _lent_entry(entry: Entry) -> Any:
 
 
 def transport_of(text: Text) -> str | NoTransport:
-    """The transport that Git takes for a text after rewriting, by the form of the text alone: ssh, git, file, http, https, ext
-    or the name of another remote helper, which may be empty; or why it has none. The rule is of `transport.c` of Git."""
+    """The transport that Git takes for a text after rewriting, by the form of the text alone: ssh, git, file,
+    http, https, ext or the name of another remote helper, which may be empty; or why it has none. The rule is
+    of `transport.c` of Git."""
     found = _made("transport_of", *_measured("text", text)).fields
     return NoTransport(found["why"]) if found["why"] else str(found["name"] or b"", "utf-8")
 
@@ -234,50 +254,58 @@ def git_reading(text: Text) -> GitPlace | Unread:
 
 
 def credential_reading(text: Text) -> Request | None:
-    """What Git's credential code asks helpers for by a URL, or None if it reads nothing in it: `credential.c` of Git."""
+    """What Git's credential code asks helpers for by a URL, or None if it reads nothing in it: `credential.c`
+    of Git."""
     found = _made("credential_reading", *_measured("text", text)).fields
     is_read = found.pop("is_read")
     return Request(**found) if is_read else None
 
 
 def ssh_words(
-    url: gix_url.Url, service: Service = Service.UPLOAD_PACK, *, program: Text | None = None, variant: Variant = Variant.OPENSSH,
-    version: int = 2, family: Family = Family.ANY
+    url: gix_url.Url, service: Service = Service.UPLOAD_PACK, *, program: Text | None = None,
+    variant: Variant = Variant.OPENSSH, version: int = 2, family: Family = Family.ANY
 ) -> SshCommand | SshRefusal:
-    """The words with which Git runs Secure Shell for a location, or why there are none: git-config(1), ssh.variant, and
-    `connect.c` of Git. `program` is what the server runs in place of the service, as remote.<name>.uploadpack, `version`
-    protocol.version: 0, 1 or 2, and else a ValueError. Raises Error, NoLocation by its name, for the variant ASKED."""
-    wanted = {"url": gix_url.Url, "service": Service, "variant": Variant, "version": int, "family": Family}
-    for name, value in {"url": url, "service": service, "variant": variant, "version": version, "family": family}.items():
-        check_type(name, value, wanted[name])
+    """The words with which Git runs Secure Shell for a location, or why there are none: git-config(1),
+    ssh.variant, and `connect.c` of Git. `program` is what the server runs in place of the service, as
+    remote.<name>.uploadpack, `version` protocol.version: 0, 1 or 2, and else a ValueError. Raises Error,
+    NoLocation by its name, for the variant ASKED."""
+    check_type("url", url, gix_url.Url)
+    check_type("service", service, Service)
+    check_type("variant", variant, Variant)
+    check_type("version", version, int)
+    check_type("family", family, Family)
     if not 0 <= version <= 2:
         raise ValueError("gix_url: the version is out of range")
-    request = lent(
-        _calls.SshRequest, service=service, program=_optional("program", program), variant=variant, version=version, family=family)
-    made = _made("ssh_words", url._ref(), request)
+    numbers = {"service": service, "variant": variant, "version": version, "family": family}
+    made = _made("ssh_words", url._ref(), lent(_calls.SshRequest, **numbers, **_optional(program=program)))
     if made.fields["refusal"]:
         return SshRefusal(made.fields["refusal"])
     return SshCommand(tuple(made.items), made.fields["git_protocol"] or None)
 
 
 def dangers(text: Text, url: gix_url.Url | None = None) -> tuple[Danger, ...]:
-    """The dangers of a text that a program uses as a remote, and of the location that is read in it, each once and in order.
-    Without a location that is the one that `gix_url.parse` reads, which raises Error if the text is none."""
+    """The dangers of a text that a program uses as a remote, and of the location that is read in it, each
+    once and in order. Without a location that is the one that `gix_url.parse` reads, which raises Error if
+    the text is none."""
     check_type("url", url, gix_url.Url, type(None))
     given = _measured("text", text)
-    return tuple(Danger(it) for it in _made("dangers_of", *given, (gix_url.parse(text) if url is None else url)._ref()).items)
+    location = gix_url.parse(given[0]) if url is None else url
+    return tuple(map(Danger, _made("dangers_of", *given, location._ref()).items))
 
 
 def resolve_submodule(parent: Text, url: Text) -> Resolved | Unresolved:
-    """The URL of a submodule, resolved against the URL of the remote of the repository around it, `parent`, as
-    git submodule init does; or why Git doesn't resolve it: gitmodules(5), and `submodule--helper.c` of Git."""
+    """The URL of a submodule, resolved against the URL of the remote of the repository around it, `parent`,
+    as git submodule init does; or why Git doesn't resolve it: gitmodules(5), and `submodule--helper.c` of
+    Git."""
     found = _made("resolve_submodule", *_measured("parent", parent), *_measured("url", url)).fields
-    return Unresolved(found["why"]) if found["why"] else Resolved(found["url"] or b"", found["is_relative"], found["climbs"])
+    if found["why"]:
+        return Unresolved(found["why"])
+    return Resolved(found["url"] or b"", found["is_relative"], found["climbs"])
 
 
 def check_submodule(entry: Entry) -> tuple[SubmoduleRefusal, ...]:
-    """What git fsck refuses in an entry of .gitmodules: its name, its value, both or nothing. The rules are of `fsck.c` and
-    `submodule-config.c` of Git."""
+    """What git fsck refuses in an entry of .gitmodules: its name, its value, both or nothing. The rules are
+    of `fsck.c` and `submodule-config.c` of Git."""
     check_type("entry", entry, Entry)
     found = _made("check_submodule", _lent_entry(entry)).fields
     return tuple(SubmoduleRefusal(it) for it in (found["name"], found["value"]) if it)
