@@ -116,5 +116,20 @@ class Layouts(unittest.TestCase):
             self.assertEqual([in_c(it) for it in call.types()], declared[name], name)
 
 
+class Older(unittest.TestCase):
+    def test_a_library_without_the_calls_is_named(self):
+        names = ("error_name", "fault_name", "kind_name", "write_fault_name", "error_words", "version")
+        text = "".join(f'const char *gix_url_{it}(void) {{ return "0"; }}\n' for it in names)
+        program = "import gix_url; print(gix_url.__version__, flush=True); import gix_url.rules"
+        searched = os.path.dirname(os.path.dirname(gix_url.__file__))
+        with tempfile.TemporaryDirectory() as folder:
+            library = f"{folder}/libgix_url.so.1"
+            subprocess.run([COMPILER, "-shared", "-fPIC", "-xc", "-", "-o", library], input=text, text=True, check=True)
+            environment = {**os.environ, "GIX_URL_LIB": library, "PYTHONPATH": searched}
+            ran = subprocess.run([sys.executable, "-B", "-c", program], capture_output=True, text=True, check=False, env=environment)
+        self.assertEqual(ran.stdout, "0\n")
+        self.assertRegex(ran.stderr.split("\n")[-2], "^ImportError: gix_url: the library lacks a call: .*gix_url_read_listing$")
+
+
 if __name__ == "__main__":
     unittest.main()

@@ -20,6 +20,8 @@ import gix_url
 from gix_url import audit, rules
 from gix_url.rules import Configuration, Entry
 
+# Where another process finds the package.
+SEARCHED = os.pathsep.join(filter(None, [os.environ.get("PYTHONPATH"), os.path.dirname(os.path.dirname(gix_url.__file__))]))
 URL = gix_url.parse("ssh://u@h:22/p")
 ENTRY = Entry(b"submodule", b"a", b"url", b"../b")
 NONE = Configuration()
@@ -215,8 +217,7 @@ class Values(unittest.TestCase):
 def audited(*words, given=b""):
     """The status, and what is printed, of the package as a program."""
     command = [sys.executable, "-B", "-W", "error", "-m", "gix_url", "audit", *words]
-    environment = {**os.environ, "PYTHONPATH": os.pathsep.join(filter(None, [os.environ.get("PYTHONPATH"), os.path.dirname(os.path.dirname(gix_url.__file__))]))}
-    ran = subprocess.run(command, input=given, capture_output=True, check=False, env=environment)
+    ran = subprocess.run(command, input=given, capture_output=True, check=False, env={**os.environ, "PYTHONPATH": SEARCHED})
     return ran.returncode, ran.stdout.decode(), ran.stderr.decode()
 
 
@@ -248,6 +249,13 @@ class Audit(unittest.TestCase):
             status, out, err = audited("-", given=b"[a\x1b\n")
             self.assertEqual((status, out), (2, ""))
             self.assertRegex(err, r"^gix_url audit: [a-z ']+ configuration \(bad_section\), at byte 2, line 1\n$")
+
+    def test_what_is_not_printed_is_not_whole(self):
+        command = [sys.executable, "-B", "-m", "gix_url", "audit", "-"]
+        environment = {**os.environ, "PYTHONPATH": SEARCHED}
+        with open("/dev/full", "wb") as full:
+            ran = subprocess.run(command, input=HOSTILE, stdout=full, stderr=subprocess.PIPE, check=False, env=environment)
+        self.assertEqual((ran.returncode, ran.stderr.count(b"\n")), (2, 1))
 
     def test_what_is_no_location_is_refused(self):
         found = audit.audit(b'[submodule "a"]\n\turl = http://h:0x/\n')

@@ -17,7 +17,6 @@ that isn't printable.
 """
 import argparse
 import dataclasses
-import os
 import sys
 from collections.abc import Iterator
 
@@ -113,8 +112,9 @@ def main(words: list[str]) -> int:
     given = parser.parse_args(words)
     try:
         found = audit(_read(given.file), given.parent)
-        sys.stdout.buffer.write("".join(f"{it}\n" for it in found).encode(errors="backslashreplace"))
-        sys.stdout.flush()
+        # A stream of its own: what it fails to write isn't written once more at the end of the program.
+        with open(1, "wb", closefd=False) as out:
+            out.write("".join(f"{it}\n" for it in found).encode())
     except (OSError, MemoryError, gix_url.Error) as error:
         print(f"gix_url audit: {ascii(str(error))[1:-1]}", file=sys.stderr)
         return 2
@@ -124,5 +124,5 @@ def main(words: list[str]) -> int:
 def _read(file: str) -> bytes:
     if file == "-":
         return sys.stdin.buffer.read()
-    with open(os.fsencode(file), "rb") as it:
+    with open(file, "rb") as it:
         return it.read()
