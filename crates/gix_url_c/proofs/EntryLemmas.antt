@@ -17,7 +17,11 @@ pub read_all : (first : Place) (done : List Item) (from : Place) → ReadsUpTo f
 read_all first [] from h empty = ap (λ place. place.rest) h ∙ empty
 read_all first (d ∷ done) from (place, one, others) empty = (place, one, read_all place done from others empty)
 
+-- the items that entries are
+abbrev pub items_of : List ConfigEntry → List Item
+items_of found = map Ok found
+
 -- one entry more
-pub kept_more : (found : List ConfigEntry) (e : ConfigEntry) → map Ok found ++ Ok e ∷ [] ≡ map Ok (found ++ e ∷ [])
+pub kept_more : (found : List ConfigEntry) (e : ConfigEntry) → items_of found ++ Ok e ∷ [] ≡ items_of (found ++ e ∷ [])
 kept_more [] e = refl
 kept_more (f ∷ found) e = ap (λ items. Ok f ∷ items) (kept_more found e)

@@ -21,6 +21,3 @@ pub mod settings;
 pub mod stops;
 pub mod submodules;
 mod written;
-
-#[test]
-fn compiles() {}
