@@ -1,5 +1,6 @@
 #!/usr/bin/env python3
-"""Whether the structs, the numbers and the calls of the package gix_url are those of the headers, as a C compiler has them."""
+"""Whether the structs, the numbers and the calls of the package gix_url are those of the headers, as a C
+compiler has them."""
 import ctypes
 import os
 import re
@@ -17,25 +18,34 @@ from gix_url import _calls, _library, rules
 INCLUDE = f"{HERE}/../c/include"
 COMPILER = os.environ.get("CC", "cc")
 STRUCTS = {
-    "gix_url": _library.Location, "gix_url_problem": _library.Problem, "gix_url_seen": _library.Look, "gix_url_components": _library.Parts,
-    "gix_url_text": _library.Text, "gix_url_entry": _calls.Entry, "gix_url_stop": _calls.Stop, "gix_url_rewritten": _calls.Rewritten,
-    "gix_url_remote": _calls.Remote, "gix_url_transport": _calls.Transport, "gix_url_policy": _calls.Policy,
+    "gix_url": _library.Location, "gix_url_problem": _library.Problem, "gix_url_seen": _library.Look,
+    "gix_url_components": _library.Parts, "gix_url_text": _library.Text, "gix_url_entry": _calls.Entry,
+    "gix_url_stop": _calls.Stop, "gix_url_rewritten": _calls.Rewritten, "gix_url_remote": _calls.Remote,
+    "gix_url_transport": _calls.Transport, "gix_url_policy": _calls.Policy,
     "gix_url_permission": _calls.Permission, "gix_url_piece": _calls.Piece, "gix_url_git_place": _calls.Place,
-    "gix_url_request": _calls.Request, "gix_url_ssh_request": _calls.SshRequest, "gix_url_ssh_command": _calls.SshCommand,
-    "gix_url_ssh_variables": _calls.SshVariables, "gix_url_ssh_program": _calls.SshProgram, "gix_url_settings": _calls.Settings,
-    "gix_url_credentials": _calls.Credentials, "gix_url_resolved": _calls.Resolved, "gix_url_submodule_check": _calls.Check,
-    "gix_url_submodule": _calls.Submodule}
+    "gix_url_request": _calls.Request, "gix_url_ssh_request": _calls.SshRequest,
+    "gix_url_ssh_command": _calls.SshCommand, "gix_url_ssh_variables": _calls.SshVariables,
+    "gix_url_ssh_program": _calls.SshProgram, "gix_url_settings": _calls.Settings,
+    "gix_url_credentials": _calls.Credentials, "gix_url_resolved": _calls.Resolved,
+    "gix_url_submodule_check": _calls.Check, "gix_url_submodule": _calls.Submodule}
 # Numbers, each with what its names begin with in C.
 NUMBERS = {
-    "gix_url_scheme": (gix_url.Scheme, ""), "gix_url_argument": (gix_url.Argument, ""), "gix_url_condition": (gix_url.Condition, "CONDITION_"),
-    "gix_url_flaw": (rules.Flaw, "FLAW_"), "gix_url_no_transport": (rules.NoTransport, "TRANSPORT_"), "gix_url_decision": (rules.Decision, ""),
-    "gix_url_decider": (rules.Decider, ""), "gix_url_danger": (rules.Danger, "DANGER_"), "gix_url_unread": (rules.Unread, "UNREAD_"),
-    "gix_url_protocol": (rules.Protocol, "PROTOCOL_"), "gix_url_service": (rules.Service, ""), "gix_url_ssh_variant": (rules.Variant, "SSH_"),
-    "gix_url_family": (rules.Family, ""), "gix_url_ssh_refusal": (rules.SshRefusal, "SSH_"), "gix_url_abnormal": (rules.Abnormal, "ABNORMAL_"),
-    "gix_url_unresolved": (rules.Unresolved, "UNRESOLVED_"), "gix_url_submodule_refusal": (rules.SubmoduleRefusal, "SUBMODULE_")}
+    "gix_url_scheme": (gix_url.Scheme, ""), "gix_url_argument": (gix_url.Argument, ""),
+    "gix_url_condition": (gix_url.Condition, "CONDITION_"), "gix_url_flaw": (rules.Flaw, "FLAW_"),
+    "gix_url_no_transport": (rules.NoTransport, "TRANSPORT_"), "gix_url_decision": (rules.Decision, ""),
+    "gix_url_decider": (rules.Decider, ""), "gix_url_danger": (rules.Danger, "DANGER_"),
+    "gix_url_unread": (rules.Unread, "UNREAD_"), "gix_url_protocol": (rules.Protocol, "PROTOCOL_"),
+    "gix_url_service": (rules.Service, ""), "gix_url_ssh_variant": (rules.Variant, "SSH_"),
+    "gix_url_family": (rules.Family, ""), "gix_url_ssh_refusal": (rules.SshRefusal, "SSH_"),
+    "gix_url_abnormal": (rules.Abnormal, "ABNORMAL_"),
+    "gix_url_unresolved": (rules.Unresolved, "UNRESOLVED_"),
+    "gix_url_submodule_refusal": (rules.SubmoduleRefusal, "SUBMODULE_")}
 # Calls of the headers that the package has no use for.
 UNUSED = {"danger_name"}
-TYPES = {_library.Size: "size_t", _library.Truth: "_Bool", _library.Number: "int", ctypes.c_uint8: "uint8_t", ctypes.c_char: "char"}
+TYPES = {
+    _library.Size: "size_t", _library.Truth: "_Bool", _library.Number: "int", ctypes.c_uint8: "uint8_t",
+    ctypes.c_char: "char"
+}
 TYPES.update({it: name for name, it in STRUCTS.items()})
 
 
@@ -47,10 +57,13 @@ def preprocessed(header):
 
 def ran(lines):
     """What a program in C with these lines prints."""
-    text = '#include <stdio.h>\n#include "gix_url_rules.h"\nint main(void) {\n' + "".join(f"{it}\n" for it in lines) + "}\n"
+    begin = '#include <stdio.h>\n#include "gix_url_rules.h"\nint main(void) {'
+    text = "\n".join([begin, *lines, "}\n"])
     with tempfile.TemporaryDirectory() as folder:
         program = f"{folder}/program"
-        subprocess.run([COMPILER, "-xc", "-", f"-I{INCLUDE}", "-o", program], input=text, text=True, check=True)
+        subprocess.run(
+            [COMPILER, "-xc", "-", f"-I{INCLUDE}", "-o", program], input=text, text=True, check=True
+        )
         return subprocess.run([program], capture_output=True, text=True, check=True).stdout.split("\n")[:-1]
 
 
@@ -66,6 +79,11 @@ def members(kind, name):
 
 def numbers(name):
     return [it.split("=")[0].strip() for it in members("enum", name)]
+
+
+def short(name, front):
+    """The name that a number of the headers has in Python."""
+    return name.removeprefix(f"GIX_URL_{front}").removeprefix("GIX_URL_").removesuffix("_FAMILY")
 
 
 def in_c(kind):
@@ -93,24 +111,30 @@ class Layouts(unittest.TestCase):
             lines.append(f'printf("{name} %zu\\n", sizeof({name}));')
             wanted.append(f"{name} {ctypes.sizeof(kind)}")
             for field, _ in kind._fields_:
-                lines.append(f'printf("{name}.{field} %zu %zu\\n", offsetof({name}, {field}), sizeof((({name} *)0)->{field}));')
+                place = f"offsetof({name}, {field}), sizeof((({name} *)0)->{field})"
+                lines.append(f'printf("{name}.{field} %zu %zu\\n", {place});')
                 wanted.append(f"{name}.{field} {getattr(kind, field).offset} {getattr(kind, field).size}")
         self.assertEqual(ran(lines), wanted)
 
     def test_numbers_are_those_of_the_headers(self):
         for name, (kind, front) in NUMBERS.items():
             found = dict(it.split() for it in ran(f'printf("{it} %d\\n", {it});' for it in numbers(name)))
-            named = {it.removeprefix(f"GIX_URL_{front}").removeprefix("GIX_URL_").removesuffix("_FAMILY"): int(value) for it, value in found.items()}
+            named = {short(it, front): int(value) for it, value in found.items()}
             wanted = {it.name: it.value for it in kind}
-            self.assertEqual({it: value for it, value in named.items() if value or it in wanted}, wanted, name)
+            self.assertEqual(
+                {it: value for it, value in named.items() if value or it in wanted}, wanted, name
+            )
 
     def test_errors_are_those_of_the_headers(self):
         names = ("_".join(re.findall("[A-Z][a-z]+", it.__name__)).upper() for it in rules._STOPS.values())
-        self.assertEqual(ran(f'printf("%d\\n", GIX_URL_{it});' for it in names), [str(it) for it in rules._STOPS])
+        self.assertEqual(
+            ran(f'printf("%d\\n", GIX_URL_{it});' for it in names), [str(it) for it in rules._STOPS]
+        )
 
     def test_calls_are_those_of_the_header(self):
-        found, others = ({it[1]: it[2] for it in CALL.finditer(text)} for text in (HEADER, preprocessed("gix_url.h")))
-        declared = {name: [parameter(it) for it in given.split(",")] for name, given in found.items() if name not in others}
+        others = {it[1] for it in CALL.finditer(preprocessed("gix_url.h"))}
+        found = {it[1]: it[2].split(",") for it in CALL.finditer(HEADER) if it[1] not in others}
+        declared = {name: [parameter(it) for it in given] for name, given in found.items()}
         self.assertEqual({*declared} - UNUSED, {*_calls.CALLS})
         for name, call in _calls.CALLS.items():
             self.assertEqual([in_c(it) for it in call.types()], declared[name], name)
@@ -124,11 +148,19 @@ class Older(unittest.TestCase):
         searched = os.path.dirname(os.path.dirname(gix_url.__file__))
         with tempfile.TemporaryDirectory() as folder:
             library = f"{folder}/libgix_url.so.1"
-            subprocess.run([COMPILER, "-shared", "-fPIC", "-xc", "-", "-o", library], input=text, text=True, check=True)
+            subprocess.run(
+                [COMPILER, "-shared", "-fPIC", "-xc", "-", "-o", library], input=text, text=True, check=True
+            )
             environment = {**os.environ, "GIX_URL_LIB": library, "PYTHONPATH": searched}
-            ran = subprocess.run([sys.executable, "-B", "-c", program], capture_output=True, text=True, check=False, env=environment)
+            ran = subprocess.run(
+                [sys.executable, "-B", "-c", program], capture_output=True, text=True, check=False,
+                env=environment
+            )
         self.assertEqual(ran.stdout, "0\n")
-        self.assertRegex(ran.stderr.split("\n")[-2], "^ImportError: gix_url: the library lacks a call: .*gix_url_read_listing$")
+        self.assertRegex(
+            ran.stderr.split("\n")[-2],
+            "^ImportError: gix_url: the library lacks a call: .*gix_url_read_listing$"
+        )
 
 
 if __name__ == "__main__":

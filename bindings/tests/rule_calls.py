@@ -1,4 +1,5 @@
-"""Carries out orders of calls over a configuration, and over texts that Git reads, by the module `gix_url.rules`."""
+"""Carries out orders of calls over a configuration, and over texts that Git reads, by the module
+`gix_url.rules`."""
 import itertools
 
 import gix_url
@@ -42,7 +43,8 @@ def read_listing(order):
 
 
 def read_file(order):
-    return [members(it, "section", "subsection", "name", "value") for it in Configuration.from_file(order["file"]).entries]
+    entries = Configuration.from_file(order["file"]).entries
+    return [members(it, "section", "subsection", "name", "value") for it in entries]
 
 
 def rewritten(order):
@@ -70,8 +72,13 @@ def told_permission(order):
     if order.get("style") != WHOLE:
         return named(found.decision)
     entry = f"{{ at: {found.at} }}"
-    by = {Decider.BY_LIST: "(AllowList)", Decider.BY_ENTRY: f"(Entry {entry})", Decider.BY_DEFAULT: "(Default)", None: ""}[found.by]
-    return {"shown": named(found.decision) + (f" {entry}" if found.decision == Decision.UNKNOWN_ALLOWANCE else by)}
+    by = {
+        Decider.BY_LIST: "(AllowList)", Decider.BY_ENTRY: f"(Entry {entry})", Decider.BY_DEFAULT: "(Default)",
+        None: ""
+    }[found.by]
+    return {
+        "shown": named(found.decision) + (f" {entry}" if found.decision == Decision.UNKNOWN_ALLOWANCE else by)
+    }
 
 
 def told_or_error(found):
@@ -88,7 +95,10 @@ def location(order):
 
 def ssh_command(order):
     """The command for the request of an order, as the library has it: a family is a number."""
-    request = {"program": order.get("program"), "variant": VARIANTS[order["variant"]], "version": int(order["version"])}
+    request = {
+        "program": order.get("program"), "variant": VARIANTS[order["variant"]],
+        "version": int(order["version"])
+    }
     family = rules.Family(int(order.get("family", b"0")))
     return rules.ssh_words(location(order), SERVICES[order["service"]], family=family, **request)
 
@@ -106,12 +116,15 @@ def git_protocol(order):
 def ssh_program(order):
     given = {it: order.get(it) for it in ("git_ssh_command", "git_ssh", "git_ssh_variant")}
     found = config(order).ssh_program(**given)
-    variant = {rules.Variant.OPENSSH: "Ssh", rules.Variant.TORTOISEPLINK: "TortoisePlink"}.get(found.variant, named(found.variant))
+    variant = {
+        rules.Variant.OPENSSH: "Ssh", rules.Variant.TORTOISEPLINK: "TortoisePlink"
+    }.get(found.variant, named(found.variant))
     return {"text": told(found.text), "is_command_line": found.is_command_line, "variant": variant}
 
 
 def settings(order):
-    """The indices of the entries that count; without a text those that count if no entry with a URL applies."""
+    """The indices of the entries that count; without a text those that count if no entry with a URL
+    applies."""
     of = config(order)
     return indices(of.settings(order["name"], order.get("text", b"")).entries, of)
 
@@ -186,9 +199,13 @@ def refusals(order):
 def secrets(order):
     """The pieces of a text; those of one kind are joined."""
     pieces = rules.secrets(order["text"])
-    assert rules.redacted(order["text"]) == b"".join(b"redacted" if it.is_hidden else it.text for it in pieces).decode(errors="replace")
+    assert rules.redacted(order["text"]) == b"".join(
+        b"redacted" if it.is_hidden else it.text for it in pieces
+    ).decode(errors="replace")
     joined = itertools.groupby(pieces, lambda it: it.is_hidden)
-    return [{"hidden" if is_hidden else "shown": told(b"".join(it.text for it in of))} for is_hidden, of in joined]
+    return [
+        {"hidden" if is_hidden else "shown": told(b"".join(it.text for it in of))} for is_hidden, of in joined
+    ]
 
 
 CALLS = {
@@ -202,7 +219,9 @@ CALLS = {
     "Remote::of": remote,
     "Resolved::to_bstring": lambda order: told(resolved(order)),
     "Rewrites::rewrite_fetch": lambda order: told(rewritten(order).text),
-    "Rewrites::rewrite_push": lambda order: told(config(order).rewrite_push(order["text"], order["has_push_url"] == b"true").text),
+    "Rewrites::rewrite_push": lambda order: told(
+        config(order).rewrite_push(order["text"], order["has_push_url"] == b"true").text
+    ),
     "Rewritten::is_rewritten": lambda order: rewritten(order).is_rewritten,
     "Rewritten::to_bstring": lambda order: told(rewritten(order).text),
     "SshCommand::git_protocol": git_protocol,
