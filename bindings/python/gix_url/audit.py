@@ -3,8 +3,8 @@
 It reports of each entry what git fsck refuses, and of each URL of a submodule its dangers, or why it isn't a
 location; also of a URL that a later entry replaces. A relative URL is resolved against the parent, the URL of
 the remote of the repository around the file, as it is configured: the dangers are those of the result, and it
-is reported if it leaves the path of the parent. The calls of `gix_url.rules` decide all of that. `explain
---gitmodules` finds more: docs/EXPLAIN.md has its findings.
+is reported if it leaves the path of the parent. The calls of `gix_url.rules` decide all of that. The program
+`explain` finds more: docs/EXPLAIN.md has its findings.
 
 >>> text = b'[submodule "a"]\\n\\turl = ext::sh -c id\\n[submodule "b"]\\n\\turl = ../../x\\n'
 >>> for finding in audit(text, "https://h/a"):
@@ -105,7 +105,8 @@ def _escaped(character: str) -> str:
 
 def main(words: list[str]) -> int:
     """Prints what is found, and returns the exit status: 0 if nothing is found, 1 if anything is, and 2 if
-    the arguments are wrong, or the file can't be read or isn't a configuration."""
+    the file can't be read or isn't a configuration, the parent isn't a location, or the output can't be
+    written. Raises SystemExit with 2 for wrong arguments."""
     parser = argparse.ArgumentParser("python3 -m gix_url audit", description="Audits a .gitmodules file.")
     parser.add_argument("file", metavar="FILE", help="the file; - is the standard input")
     parser.add_argument("--parent", metavar="URL", help="the URL of the remote of the repository around it")

@@ -118,15 +118,15 @@ class Configuration:
 
     @classmethod
     def from_listing(cls, text: bytes) -> "Configuration":
-        """The entries of what `git config --list -z` writes. Raises NoConfiguration if a line of the text
-        isn't an entry, or its last entry has no end."""
+        """The entries of what `git config --list -z` writes. Raises NoConfiguration if a part of the text
+        isn't an entry, or its last entry has no end, a byte 0."""
         return cls._read("read_listing", text)
 
     @classmethod
     def from_file(cls, text: bytes) -> "Configuration":
         """The entries of the text of a configuration file or a .gitmodules file, as `git config --file FILE
-        --list -z` lists them; no file is included. Raises NoConfiguration if the text is none. An entry
-        before any header has no section."""
+        --list -z` lists them; no file is included. An entry before any header has an empty section. Raises
+        NoConfiguration if the text isn't a configuration."""
         return cls._read("read_file", text)
 
     def rewrite_fetch(self, url: Text) -> Rewritten:
@@ -190,7 +190,7 @@ class Configuration:
         the last core.sshCommand or ssh.variant if that counts and has no value."""
         texts = _optional(git_ssh_command=git_ssh_command, git_ssh=git_ssh, git_ssh_variant=git_ssh_variant)
         found = self._made("ssh_program_of", lent(_calls.SshVariables, **texts)).fields
-        return SshProgram(found["text"], found["is_command_line"], Variant(found["variant"]))
+        return SshProgram(found["text"] or b"", found["is_command_line"], Variant(found["variant"]))
 
     def submodules(self) -> tuple[Submodule, ...]:
         """The submodules of a .gitmodules file, in the order in which their names come first:
@@ -285,8 +285,8 @@ def ssh_words(
 
 def dangers(text: Text, url: gix_url.Url | None = None) -> tuple[Danger, ...]:
     """The dangers of a text that a program uses as a remote, and of the location that is read in it, each
-    once and in order. Without a location that is the one that `gix_url.parse` reads, which raises Error if
-    the text is none."""
+    once and in order. Without a `url` that is the location that `gix_url.parse` reads, which raises Error if
+    the text isn't a location."""
     check_type("url", url, gix_url.Url, type(None))
     given = _measured("text", text)
     location = gix_url.parse(given[0]) if url is None else url
