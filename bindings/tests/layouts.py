@@ -140,27 +140,51 @@ class Layouts(unittest.TestCase):
             self.assertEqual([in_c(it) for it in call.types()], declared[name], name)
 
 
-class Older(unittest.TestCase):
-    def test_a_library_without_the_calls_is_named(self):
-        names = ("error_name", "fault_name", "kind_name", "write_fault_name", "error_words", "version")
-        text = "".join(f'const char *gix_url_{it}(void) {{ return "0"; }}\n' for it in names)
-        program = "import gix_url; print(gix_url.__version__, flush=True); import gix_url.rules"
+# Calls of each kind, and the errors that they raise.
+CALLS = """
+import gix_url
+from gix_url import rules
+config, text = rules.Configuration(), "h:p"
+for call in (
+    lambda: rules.Configuration.from_listing(b""), lambda: config.rewrite_fetch(text), config.submodules,
+    lambda: config.permission(text), lambda: rules.secrets(text), lambda: rules.redacted(text),
+    lambda: rules.Danger.TOKEN.words, lambda: rules.check_submodule(rules.Entry(b"a", None, b"b", None)),
+    lambda: rules.ssh_words(gix_url.Url(gix_url.Scheme.SSH))
+):
+    try:
+        print(call())
+    except (MemoryError, gix_url.Error) as error:
+        print(type(error).__name__)
+"""
+
+
+def ran_by(lines, program):
+    """What a program in Python prints, and the last line of its errors, over a library with these lines of
+    C."""
+    names = ("error_name", "fault_name", "kind_name", "write_fault_name", "error_words", "version")
+    texts = (f'const char *gix_url_{it}(void) {{ return "0"; }}' for it in names)
+    with tempfile.TemporaryDirectory() as folder:
+        library = f"{folder}/libgix_url.so.1"
+        command = [COMPILER, "-shared", "-fPIC", "-xc", "-", "-o", library]
+        subprocess.run(command, input="\n".join([*texts, *lines, ""]), text=True, check=True)
         searched = os.path.dirname(os.path.dirname(gix_url.__file__))
-        with tempfile.TemporaryDirectory() as folder:
-            library = f"{folder}/libgix_url.so.1"
-            subprocess.run(
-                [COMPILER, "-shared", "-fPIC", "-xc", "-", "-o", library], input=text, text=True, check=True
-            )
-            environment = {**os.environ, "GIX_URL_LIB": library, "PYTHONPATH": searched}
-            ran = subprocess.run(
-                [sys.executable, "-B", "-c", program], capture_output=True, text=True, check=False,
-                env=environment
-            )
-        self.assertEqual(ran.stdout, "0\n")
-        self.assertRegex(
-            ran.stderr.split("\n")[-2],
-            "^ImportError: gix_url: the library lacks a call: .*gix_url_read_listing$"
-        )
+        environment = {**os.environ, "GIX_URL_LIB": library, "PYTHONPATH": searched}
+        command = [sys.executable, "-B", "-c", program]
+        ran = subprocess.run(command, capture_output=True, text=True, check=False, env=environment)
+    return ran.stdout.split() + ran.stderr.split("\n")[-2:-1]
+
+
+class OtherLibraries(unittest.TestCase):
+    def test_a_library_without_the_calls_is_named(self):
+        self.assertEqual(ran_by((), "import gix_url; print(gix_url.__version__)"), ["0"])
+        error, = ran_by((), "import gix_url.rules")
+        self.assertRegex(error, "^ImportError: gix_url: the library lacks a call: .*gix_url_read_listing$")
+
+    def test_no_error_is_taken_for_a_result(self):
+        wanted_of = {1: "MemoryError", 101: "Error", 102: "Error", 103: "Error", 999: "Error"}
+        for number, wanted in wanted_of.items():
+            lines = [f"int gix_url_{it}(void) {{ return {number}; }}" for it in _calls.CALLS]
+            self.assertEqual(ran_by(lines, CALLS), [wanted] * 9, number)
 
 
 if __name__ == "__main__":

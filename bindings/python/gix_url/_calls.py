@@ -3,9 +3,13 @@ stores."""
 import ctypes
 from typing import Any, NamedTuple
 
-from ._library import Location, Number, Size, Text, Truth, bytes_of, lib, ref, struct, text_of
+import gix_url
+
+from ._library import Location, Number, Problem, Size, Text, Truth, bytes_of, lib, ref, struct, text_of
 
 _NO_ROOM = 102
+# The errors with a stop.
+STOPS = NO_VALUE, NO_BOOLEAN, NO_CONFIGURATION = 104, 105, 106
 # How many elements a buffer has at first.
 _START = 64
 _Byte, _Letters = ctypes.c_uint8, ctypes.c_char_p
@@ -90,8 +94,8 @@ for _name, _call in CALLS.items():
 
 
 class Made(NamedTuple):
-    """What a call returned: its error, where Git stops, the fields of its result, and what is in its last
-    buffer."""
+    """What a call returned: 0 or an error with a stop, the stop, the fields of its result, and what is in its
+    last buffer."""
 
     error: int
     stop: Any
@@ -100,7 +104,8 @@ class Made(NamedTuple):
 
 
 def make(name: str, *given: Any) -> Made:
-    """Makes a call. If its buffers are too short, it is made once more, with buffers that are long enough."""
+    """Makes a call. If its buffers are too short, it is made once more, with buffers that are long enough.
+    Raises MemoryError, and Error for any other error without a stop."""
     call, function = CALLS[name], getattr(lib, f"gix_url_{name}")
     result, stop = call.result and call.result(), Stop()
     sizes = [Size() for _ in call.rooms]
@@ -111,6 +116,9 @@ def make(name: str, *given: Any) -> Made:
         if error == _NO_ROOM:
             error = function(*given, *(it for room in rooms for it in (room, len(room))), *map(ref, stored))
             rooms = [_grown(room, size.value) for room, size in zip(rooms, sizes)]
+    if error not in (0, *STOPS):
+        gix_url._check(error)
+        raise gix_url._refusal(error, Problem(), gix_url.Error)
     items = rooms[-1][: sizes[-1].value] if rooms and not error else []
     items = items if isinstance(items, bytes) else [fields_of(it) for it in items]
     return Made(error, stop, fields_of(result), items)

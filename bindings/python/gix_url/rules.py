@@ -76,20 +76,18 @@ class NoConfiguration(ConfigurationError):
     """The text isn't a configuration."""
 
 
-_STOPS = {104: NoValue, 105: NoBoolean, 106: NoConfiguration}
+_STOPS = {
+    _calls.NO_VALUE: NoValue, _calls.NO_BOOLEAN: NoBoolean, _calls.NO_CONFIGURATION: NoConfiguration}
 
 
 def _made(name: str, *given: Any) -> _calls.Made:
     """What a call returned, unless it is an error, which is raised."""
     made = make(name, *given)
-    if made.error in _STOPS:
+    if made.error:
         error = gix_url._refusal(made.error, Problem(), _STOPS[made.error])
         error.at, error.line = made.stop.at, made.stop.line
         error.flaw = Flaw(made.stop.flaw) if made.stop.flaw else None
         raise error
-    gix_url._check(made.error)
-    if made.error:
-        raise gix_url._refusal(made.error, Problem(), gix_url.Error)
     return made
 
 
