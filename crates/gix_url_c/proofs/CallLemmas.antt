@@ -1,5 +1,5 @@
 -- What a call reports, unless memory was refused.
-use Rattle.std.proofs.Common.{◌≡◌, ℕ, ◌⊎◌}
+use Rattle.std.proofs.Common.{ℕ, ◌⊎◌}
 use mathlib.Core.Logic.{inl, inr}
 use Rattle.gix_url_c.specs.Codes.{UnlessMemory}
 

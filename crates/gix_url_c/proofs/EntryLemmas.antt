@@ -1,5 +1,5 @@
 -- The entries of a listing, read in turn.
-use Rattle.std.proofs.Common.{◌≡◌, ◌∙◌, List, [], ◌∷◌, ◌++◌, map, Ok, Err, refl, ap, sym, subst}
+use Rattle.std.proofs.Common.{◌≡◌, ◌∙◌, List, [], ◌∷◌, ◌++◌, map, Ok, refl, ap, sym, subst}
 use Rattle.git_rules.specs.Config.{ConfigEntry}
 use Rattle.git_rules.specs.ConfigItems.{Item, Place, ReadsItem, ReadsItems}
 use Rattle.gix_url_c.specs.EntryNumbers.{ReadsUpTo}

@@ -4,7 +4,6 @@ use Rattle.git_reads.specs.Credentials.{CredentialReading, CredentialReads}
 use Rattle.git_rules.specs.Config.{ConfigEntry}
 use Rattle.git_rules.specs.CredentialEntries.{CredentialUse}
 use Rattle.git_rules.specs.Credentials.{AreCredentials, StopsFirst}
-use Rattle.git_rules.specs.declared.credentials.CredentialsError.{CredentialsError}
 use Rattle.git_rules.specs.declared.credentials.CredentialsError.TheVariants.{NoBoolean, NoValue}
 use Rattle.gix_url_c.specs.declared.rules.credentials.CredentialNumbers.{CredentialNumbers}
 use Rattle.gix_url_c.specs.declared.rules.stops.Stop.{Stop}

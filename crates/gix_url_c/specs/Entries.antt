@@ -1,5 +1,5 @@
 -- The entries of a configuration as C has them.
-use Rattle.std.specs.Prelude.{◌≡◌, ℕ, List, map}
+use Rattle.std.specs.Prelude.{List, map}
 use Rattle.git_rules.specs.Config.{ConfigEntry}
 use Rattle.gix_url_c.specs.Given.{present}
 use Rattle.gix_url_c.specs.declared.rules.entries.GivenEntry.{GivenEntry}

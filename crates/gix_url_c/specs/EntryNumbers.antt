@@ -1,5 +1,5 @@
 -- The entries of a configuration as C gets them: their parts, one behind the other, and eight numbers for each.
-use Rattle.std.specs.Prelude.{◌≡◌, ℕ, ◌+◌, ◌≤◌, ◌⊎◌, List, [], ◌∷◌, ◌++◌, length, map, Ok, Err}
+use Rattle.std.specs.Prelude.{◌≡◌, ℕ, ◌⊎◌, List, [], ◌∷◌, ◌++◌, length, map, Ok, Err}
 use Rattle.std.specs.List.{concat, flat_map}
 use Rattle.git_rules.specs.Config.{ConfigEntry}
 use Rattle.git_rules.specs.ConfigItems.{Item, Place, ReadsItem, ReadsItems, start}

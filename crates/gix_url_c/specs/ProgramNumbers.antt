@@ -2,7 +2,6 @@
 use Rattle.std.specs.Prelude.{◌≡◌, ◌⊎◌, ℕ, List, length, Ok, Err}
 use Rattle.git_rules.specs.Config.{ConfigEntry}
 use Rattle.git_rules.specs.SshPrograms.{Program, Settings, program_of}
-use Rattle.git_rules.specs.declared.ssh.SshVariant.{SshVariant}
 use Rattle.git_rules.specs.declared.ssh.SshVariant.TheVariants as variant
 use Rattle.git_rules.specs.declared.ssh.program.ProgramVariant.{ProgramVariant}
 use Rattle.git_rules.specs.declared.ssh.program.ProgramVariant.TheVariants.{Known, Asked}

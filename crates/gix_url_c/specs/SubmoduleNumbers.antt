@@ -1,5 +1,5 @@
 -- Submodules for C: a resolved URL, what is refused in an entry, and the list of a file.
-use Rattle.std.specs.Prelude.{◌≡◌, ◌≢◌, ℕ, ◌-◌, ◌^◌, ◌⊎◌, Bool, List, [], ◌∷◌, length, map, Option, Some, None, Result, Ok, Err, MatchOption}
+use Rattle.std.specs.Prelude.{◌≡◌, ◌≢◌, ℕ, ◌-◌, ◌^◌, List, [], ◌∷◌, length, map, Option, Some, None, Result, Ok, Err, MatchOption}
 use Rattle.std.specs.List.{concat, flat_map}
 use Rattle.git_rules.specs.Config.{ConfigEntry}
 use Rattle.git_modules.specs.Resolve.{Resolution, resolution, resolved_text}

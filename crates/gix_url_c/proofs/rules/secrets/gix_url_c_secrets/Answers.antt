@@ -1,5 +1,5 @@
 -- Each piece has two numbers.
-use Rattle.std.proofs.Common.{◌≡◌, ◌*◌, ◌<◌, length, arith, rules}
+use Rattle.std.proofs.Common.{◌<◌, length, arith, rules}
 use Rattle.std.specs.List.{flat_map}
 use Rattle.git_audit.specs.Secrets.{parts_of}
 use Rattle.gix_url_c.specs.PieceNumbers.{part_numbers}
@@ -17,4 +17,4 @@ returns-then-numbers-count-clause-reported c =
 pub put_pieces-requires : goal.put_pieces-requires
 put_pieces-requires c =
     let two = two_each (parts_of c.args.text.now) in
-    omega (arith, two, c.count_pieces.ensures, c.if-numbers-count.false, c.type_inv)
+    omega (arith, two, c.count_pieces.ensures, c.if-numbers-count.false)
