@@ -42,6 +42,7 @@ RULES = {
     "resolve::climbs", "resolve::is_relative", "resolve::resolve", "secret::secrets", "settings::settings_for",
     "settings::settings_without_place", "ssh::ssh_command", "ssh::ssh_command_for", "ssh::ssh_words", "submodules::submodules",
     "text::transport_of", "transport::reading"}
+ONLY_PYTHON = {"NormalUrl::parse_in", "Reader::new", "Refused::as_str", "Scheme:Ord", "Url:Ord"}
 # Members that an order for a binding may have.
 MEMBERS = {
     "call", "text", "url", "other", "record", "scheme", "user", "password", "alternative", "style", "kind", "fault",
@@ -181,10 +182,18 @@ class C(Binding):
 class Python(C):
     """The package of these sources over the shared library of `scripts/bindings`, or the one that the environment names."""
 
-    name, calls, members = "python", ALL | {"Scheme:Ord", "Url:Ord"}, MEMBERS
+    name, calls = "python", ALL | RULES | ONLY_PYTHON
 
     def makes(self, row):
-        """What C makes, except an error that no call returned."""
+        """What C makes, except an error that no call returned. A listing that is refused has its flaw alone, and a URL only
+        why it has no normal form."""
+        call, expected = row.members["call"], row.expected
+        if call == "Reader::new":
+            return len(expected) == 1 or not any("error" in it for it in expected)
+        if call == "NormalUrl::parse_in" and "error" not in expected:
+            return False
+        if call == "Refused::as_str":
+            return True
         return super().makes(row) and "error" not in row.members
 
     def built(self):

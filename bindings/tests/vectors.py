@@ -9,6 +9,7 @@ import sys
 sys.dont_write_bytecode = True
 sys.path.append(f"{os.path.dirname(os.path.realpath(__file__))}/../python")
 import gix_url
+import rule_calls
 
 SCHEMES = {"File": 0, "Git": 1, "Ssh": 2, "Http": 3, "Https": 4, "Ext": 5, "Helper": 6, "HelperUrl": 7}
 NAMES = {number: name for name, number in SCHEMES.items()}
@@ -134,6 +135,8 @@ def of_scheme(call, order):
 
 def outcome(order):
     call = order["call"].decode()
+    if call in rule_calls.CALLS:
+        return rule_calls.outcome({**order, "location": location(order, "url.")} if "url.scheme" in order else order)
     if call in ("Scheme::as_str", "Scheme:Ord"):
         return of_scheme(call, order)
     if call == "Url::from_parts":

@@ -25,14 +25,17 @@ The library is what the environment variable GIX_URL_LIB names, a file or a fold
 of the package, as in a wheel; else the one in PREFIX/lib, for a package in PREFIX/share/gix_url/python; else the one that
 the system finds. man 3 gix_url says more of each call. As a program, `python3 -m gix_url < remotes.txt`, the package
 answers each line as the program `locations` does.
+
+What Git does by its configuration is in the module `gix_url.rules`, and an audit of a .gitmodules file in `gix_url.audit`,
+which `python3 -m gix_url audit .gitmodules` runs.
 """
 import dataclasses
-import enum
 import functools
 import os
-from typing import Any, NamedTuple, get_args
+from typing import Any, NamedTuple, TypeVar, get_args
 
 from ._library import Location, Look, Number, Parts, Problem, Size, Truth, buffer, bytes_of, lib, ref, text_of
+from ._values import Named, check_type
 
 __all__ = ["Argument", "Components", "Condition", "Error", "Scheme", "Seen", "Url", "from_parts", "parse"]
 __version__ = str(lib.gix_url_version(), "ascii")
@@ -40,29 +43,19 @@ __version__ = str(lib.gix_url_version(), "ascii")
 _MEMORY, _NO_ROOM = 1, 102
 
 
-class _Named(enum.IntEnum):
-    """A number of gix_url.h, shown by its name."""
-
-    def __str__(self) -> str:
-        return self.name.lower()
-
-    def __repr__(self) -> str:
-        return f"{type(self).__name__}.{self.name}"
-
-
-class Scheme(_Named):
+class Scheme(Named):
     """What a location is reached by, shown as in texts, as https; HELPER and HELPER_URL also have a `Url.name`."""
 
     FILE, GIT, SSH, HTTP, HTTPS, EXT, HELPER, HELPER_URL = range(8)
 
 
-class Argument(_Named):
+class Argument(Named):
     """What a part is to a command line: DANGEROUS begins with -, and may be taken for an option."""
 
     ABSENT, USABLE, DANGEROUS = range(3)
 
 
-class Condition(_Named):
+class Condition(Named):
     """A condition under which all readers find the same parts in a location's text, in the order in which they are
     tested: docs/READERS.md and man 3 gix_url say what each asks for."""
 
@@ -90,6 +83,9 @@ class Error(ValueError):
 
     def __str__(self) -> str:
         return super().__str__() + ("" if self.reason is None else f", at byte {self.at}")
+
+
+_Kind = TypeVar("_Kind", bound=Error)
 
 
 class Seen(NamedTuple):
@@ -135,10 +131,7 @@ class Url:
     def __post_init__(self) -> None:
         for name, types in _TYPES.items():
             value = getattr(self, name)
-            # A bool is an int to Python.
-            if not isinstance(value, types) or (isinstance(value, bool) and bool not in types):
-                shown, *wanted = ("None" if it is type(None) else it.__name__ for it in (type(value), *types))
-                raise TypeError(f"gix_url: {name} is {shown}, and has to be {' or '.join(wanted)}")
+            check_type(name, value, *types)
             if isinstance(value, str) and value.encode(errors="replace").decode() != value:
                 raise ValueError(f"gix_url: {name} has no UTF-8")
         if self.port is not None and not 0 <= self.port <= 65535:
@@ -259,12 +252,12 @@ def _check(error: int, problem: Any = None) -> None:
     if error == _MEMORY:
         raise MemoryError("gix_url: out of memory")
     if error not in (0, _NO_ROOM):
-        raise _refusal(error, problem or Problem())
+        raise _refusal(error, problem or Problem(), Error)
 
 
-def _refusal(number: int, problem: Any) -> Error:
+def _refusal(number: int, problem: Any, kind: type[_Kind]) -> _Kind:
     """The error of a number, with what is reported of it."""
-    error = Error(lib.gix_url_error_words(number, ref(problem)).decode())
+    error = kind(lib.gix_url_error_words(number, ref(problem)).decode())
     error.name = lib.gix_url_error_name(number).decode()
     for member in ("kind", "fault", "write_fault"):
         of, name_of = getattr(problem, member), getattr(lib, f"gix_url_{member}_name")

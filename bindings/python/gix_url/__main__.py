@@ -1,4 +1,6 @@
-"""Answers each line of the standard input as the program `locations` does: `python3 -m gix_url < remotes.txt`."""
+"""Answers each line of the standard input as the program `locations` does: `python3 -m gix_url <
+remotes.txt`. With the word `audit` it audits a .gitmodules file: `python3 -m gix_url audit FILE [--parent
+URL]`."""
 import sys
 
 import gix_url
@@ -14,7 +16,11 @@ def _answer(line: bytes) -> bytes:
 
 
 def _main() -> int:
-    """0 if all lines are settled, else 1."""
+    """0 if all lines are settled, else 1; of an audit the status of that."""
+    if sys.argv[1:2] == ["audit"]:
+        from . import audit
+
+        return audit.main(sys.argv[2:])
     answers = [_answer(it.removesuffix(b"\n")) for it in sys.stdin.buffer]
     sys.stdout.buffer.write(b"".join(it + b"\n" for it in answers))
     return 0 if all(it.startswith(b"settled") for it in answers) else 1

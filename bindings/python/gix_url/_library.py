@@ -28,7 +28,8 @@ def _loaded() -> ctypes.CDLL:
         raise ImportError(f"gix_url: the library can't be loaded: {error}; GIX_URL_LIB names another file") from error
 
 
-def _struct(**fields: Any) -> Any:
+def struct(**fields: Any) -> Any:
+    """The type of a struct with these members, in their order."""
     return type("_Struct", (ctypes.Structure,), {"_fields_": list(fields.items())})
 
 
@@ -38,14 +39,14 @@ for _name in ("error_name", "fault_name", "kind_name", "write_fault_name", "erro
 
 # The types and the structs of gix_url.h.
 Number, Size, Truth, ref = ctypes.c_int, ctypes.c_size_t, ctypes.c_bool, ctypes.byref
-Text = _struct(at=ctypes.c_void_p, len=Size)
+Text = struct(at=ctypes.c_void_p, len=Size)
 _port = {"has_port": Truth, "port": ctypes.c_uint16}
 _texts = dict.fromkeys(("name", "user", "password", "host"), Text)
 _numbers = dict.fromkeys(("kind", "fault", "reason", "write_fault"), Number)
-Problem = _struct(**_numbers, shown=Size, total=Size, at=Size, len=Size)
-Location = _struct(scheme=Number, **_texts, alternative=Truth, **_port, path=Text, spelling=Text)
-Look = _struct(user=Number, host=Number, path_is_usable=Truth, path_is_root=Truth, original_path=Text, **_port)
-Parts = _struct(path=Text, fragment=Text, query=Text, pair_count=Size)
+Problem = struct(**_numbers, shown=Size, total=Size, at=Size, len=Size)
+Location = struct(scheme=Number, **_texts, alternative=Truth, **_port, path=Text, spelling=Text)
+Look = struct(user=Number, host=Number, path_is_usable=Truth, path_is_root=Truth, original_path=Text, **_port)
+Parts = struct(path=Text, fragment=Text, query=Text, pair_count=Size)
 
 
 def text_of(part: Any) -> Any:

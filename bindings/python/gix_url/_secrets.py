@@ -1,0 +1,47 @@
+"""Pieces of a text that may be secrets, and texts without them."""
+import dataclasses
+from typing import Any
+
+from ._calls import make
+from ._values import check_text
+
+
+@dataclasses.dataclass(frozen=True)
+class Piece:
+    """A piece of a text; `is_hidden` if it may be a secret."""
+
+    text: bytes = dataclasses.field(repr=False)
+    is_hidden: bool
+
+
+def secrets(text: str | bytes) -> tuple[Piece, ...]:
+    """The pieces of a text, of which some may be secrets: passwords, and tokens of GitHub, GitLab and
+    Bitbucket by how they begin. Joined they are the text, which may be a location or none, or a key or a
+    value of a configuration."""
+    given = check_text("text", text)
+    pieces, at = [], 0
+    for it in make("secrets_of", given, len(given)).items:
+        pieces.append(Piece(given[at : at + it["len"]], bool(it["is_hidden"])))
+        at += it["len"]
+    return tuple(pieces)
+
+
+def redacted(text: str | bytes) -> str:
+    """The text for display, with `redacted` for each piece that may be a secret and U+FFFD for what isn't
+    UTF-8. A secret of another form is shown, and so are control characters."""
+    return b"".join(b"redacted" if it.is_hidden else it.text for it in secrets(text)).decode(errors="replace")
+
+
+class Redacted:
+    """A value that is represented with `redacted` for what may be a secret in its texts."""
+
+    def __repr__(self) -> str:
+        fields = dataclasses.fields(self)
+        shown = (f"{it.name}={_shown(getattr(self, it.name))}" for it in fields if it.repr)
+        return f"{type(self).__name__}({', '.join(shown)})"
+
+
+def _shown(value: Any) -> str:
+    if isinstance(value, tuple):
+        return f"({', '.join(map(_shown, value))}{',' if len(value) == 1 else ''})"
+    return repr(redacted(value).encode()) if isinstance(value, bytes) else repr(value)

@@ -1,0 +1,261 @@
+"""Carries out orders of calls over a configuration, and over texts that Git reads, by the module
+`gix_url.rules`."""
+import itertools
+
+import gix_url
+from gix_url import rules
+from gix_url.rules import Configuration, Decider, Decision
+
+SERVICES = {f"git-{it}".replace("_", "-").encode(): it for it in rules.Service}
+VARIANTS = {b"ssh": rules.Variant.OPENSSH, **{str(it).encode(): it for it in list(rules.Variant)[1:]}}
+# A style in which the outcome of a call is shown.
+WHOLE = b"{:?}"
+
+
+def named(of):
+    """A number by its name in the library, which is in camel case."""
+    return of.name.title().replace("_", "")
+
+
+def told(value):
+    """A value as it is printed: each byte past ASCII as U+EF00 with the byte added."""
+    return None if value is None else "".join(chr(it if it < 128 else 0xEF00 + it) for it in value)
+
+
+def members(of, *names):
+    """The fields of these names that there are."""
+    values = {it: getattr(of, it) for it in names}
+    return {name: told(it) if isinstance(it, bytes) else it for name, it in values.items() if it is not None}
+
+
+def config(order):
+    return Configuration.from_listing(order["config"])
+
+
+def indices(entries, of):
+    """The places of entries in a configuration, by where each begins."""
+    begins = [it.at for it in of.entries]
+    return [begins.index(it.at) for it in entries]
+
+
+def read_listing(order):
+    return [members(it, "section", "subsection", "name", "value", "at") for it in config(order).entries]
+
+
+def read_file(order):
+    entries = Configuration.from_file(order["file"]).entries
+    return [members(it, "section", "subsection", "name", "value") for it in entries]
+
+
+def rewritten(order):
+    """The URL after rewriting, which begins with a base of the configuration if it is rewritten."""
+    of = config(order)
+    found = of.rewrite_fetch(order["text"])
+    assert found.base_len == 0 or found.text[: found.base_len] in [it.subsection for it in of.entries]
+    return found
+
+
+def remote(order):
+    found = config(order).remote(order["name"])
+    lists = {name: [told(it) for it in getattr(found, name)] for name in ("urls", "push_urls")}
+    return {**lists, **members(found, "vcs", "proxy", "uploadpack", "receivepack")}
+
+
+def permission(order):
+    given = {it: order.get(it) for it in ("allow_list", "from_user")}
+    return config(order).permission(order["name"], **given)
+
+
+def told_permission(order):
+    """What Git does, and if the style asks for it by what."""
+    found = permission(order)
+    if order.get("style") != WHOLE:
+        return named(found.decision)
+    entry = f"{{ at: {found.at} }}"
+    by = {
+        Decider.BY_LIST: "(AllowList)", Decider.BY_ENTRY: f"(Entry {entry})", Decider.BY_DEFAULT: "(Default)",
+        None: ""
+    }[found.by]
+    return {
+        "shown": named(found.decision) + (f" {entry}" if found.decision == Decision.UNKNOWN_ALLOWANCE else by)
+    }
+
+
+def told_or_error(found):
+    """A text, or the name of the reason why there is none."""
+    if isinstance(found, int):
+        return {"error": named(found)}
+    return told(found.encode() if isinstance(found, str) else found)
+
+
+def location(order):
+    """The location of a text, or of parts, which the caller puts there."""
+    return order["location"] if "location" in order else gix_url.parse(order["url"])
+
+
+def ssh_command(order):
+    """The command for the request of an order, as the library has it: a family is a number."""
+    request = {
+        "program": order.get("program"), "variant": VARIANTS[order["variant"]],
+        "version": int(order["version"])
+    }
+    family = rules.Family(int(order.get("family", b"0")))
+    return rules.ssh_words(location(order), SERVICES[order["service"]], family=family, **request)
+
+
+def ssh_words(order):
+    found = ssh_command(order)
+    return told_or_error(found) if isinstance(found, rules.SshRefusal) else [told(it) for it in found.words]
+
+
+def git_protocol(order):
+    version = ssh_command(order).git_protocol
+    return version and f"version={version}"
+
+
+def ssh_program(order):
+    given = {it: order.get(it) for it in ("git_ssh_command", "git_ssh", "git_ssh_variant")}
+    found = config(order).ssh_program(**given)
+    variant = {
+        rules.Variant.OPENSSH: "Ssh", rules.Variant.TORTOISEPLINK: "TortoisePlink"
+    }.get(found.variant, named(found.variant))
+    return {"text": told(found.text), "is_command_line": found.is_command_line, "variant": variant}
+
+
+def settings(order):
+    """The indices of the entries that count; without a text those that count if no entry with a URL
+    applies."""
+    of = config(order)
+    return indices(of.settings(order["name"], order.get("text", b"")).entries, of)
+
+
+def best_entry(order):
+    """The value of the entry that counts, or why no entry with a URL applies."""
+    found = config(order).settings(order["name"], order["text"])
+    if found.why is not None:
+        return told_or_error(found.why)
+    return told(found.entries[0].value) if found.entries else None
+
+
+def abnormal(order):
+    return told_or_error(Configuration().settings(b"k", order["text"]).why)
+
+
+def credentials(order):
+    of = config(order)
+    found = of.credentials(order["text"])
+    if found is None:
+        return None
+    return {"helpers": indices(found.helpers, of), **members(found, "user", "use_http_path")}
+
+
+def git_reading(order):
+    found = rules.git_reading(order["text"])
+    if isinstance(found, rules.Unread):
+        return told_or_error(found)
+    return {"protocol": named(found.protocol), **members(found, "user", "host", "port", "path")}
+
+
+def credential_reading(order):
+    found = rules.credential_reading(order["text"])
+    return found and members(found, "protocol", "user", "password", "host", "path")
+
+
+def resolved(order):
+    found = rules.resolve_submodule(order.get("parent", b"/p"), order["url"])
+    return found if isinstance(found, rules.Unresolved) else found.url
+
+
+def is_relative(order):
+    found = rules.resolve_submodule(b"https://h/a/b/c", order["url"])
+    return isinstance(found, rules.Unresolved) or found.is_relative
+
+
+def climbs(order):
+    found = rules.resolve_submodule(order["parent"], order["url"])
+    assert not isinstance(found, rules.Unresolved)
+    return found.climbs
+
+
+def submodules(order):
+    """The submodules with a path and a URL."""
+    listed = [it for it in config(order).submodules() if it.path and it.url]
+    update = {it.name: {"update": told(it.update.value)} if it.update else {} for it in listed}
+    return {told(it.name): {"url": told(it.url.value), **update[it.name]} for it in listed}
+
+
+def dangers(order):
+    return [str(it) for it in rules.dangers(order.get("text", order.get("url")), location(order))]
+
+
+def danger(order):
+    return next(it for it in rules.Danger if named(it) == order["danger"].decode())
+
+
+def refusals(order):
+    return [str(it) for entry in config(order).entries for it in rules.check_submodule(entry)]
+
+
+def secrets(order):
+    """The pieces of a text; those of one kind are joined."""
+    pieces = rules.secrets(order["text"])
+    assert rules.redacted(order["text"]) == b"".join(
+        b"redacted" if it.is_hidden else it.text for it in pieces
+    ).decode(errors="replace")
+    joined = itertools.groupby(pieces, lambda it: it.is_hidden)
+    return [
+        {"hidden" if is_hidden else "shown": told(b"".join(it.text for it in of))} for is_hidden, of in joined
+    ]
+
+
+CALLS = {
+    "Danger::name": lambda order: str(danger(order)),
+    "Danger::words": lambda order: danger(order).words,
+    "NormalUrl::parse_in": abnormal,
+    "Permission::is_allowed": lambda order: permission(order).decision == Decision.ALLOWED,
+    "Protocols::permission": told_permission,
+    "Reader::new": read_listing,
+    "Refused::as_str": lambda order: str(rules.SubmoduleRefusal[order["error"].decode().upper()]),
+    "Remote::of": remote,
+    "Resolved::to_bstring": lambda order: told(resolved(order)),
+    "Rewrites::rewrite_fetch": lambda order: told(rewritten(order).text),
+    "Rewrites::rewrite_push": lambda order: told(
+        config(order).rewrite_push(order["text"], order["has_push_url"] == b"true").text
+    ),
+    "Rewritten::is_rewritten": lambda order: rewritten(order).is_rewritten,
+    "Rewritten::to_bstring": lambda order: told(rewritten(order).text),
+    "SshCommand::git_protocol": git_protocol,
+    "SshCommand::to_words": ssh_words,
+    "SshProgram::of": ssh_program,
+    "config::entries": read_listing,
+    "config_file::entries": read_file,
+    "credential::reading": credential_reading,
+    "credentials::credentials_for": credentials,
+    "danger::dangers": dangers,
+    "entries::best_entry": best_entry,
+    "refusal::check": refusals,
+    "resolve::climbs": climbs,
+    "resolve::is_relative": is_relative,
+    "resolve::resolve": lambda order: told_or_error(resolved(order)),
+    "secret::secrets": secrets,
+    "settings::settings_for": settings,
+    "settings::settings_without_place": settings,
+    "ssh::ssh_command": ssh_words,
+    "ssh::ssh_command_for": ssh_words,
+    "ssh::ssh_words": ssh_words,
+    "submodules::submodules": submodules,
+    "text::transport_of": lambda order: told_or_error(rules.transport_of(order["text"])),
+    "transport::reading": git_reading,
+}
+
+
+def outcome(order):
+    """The outcome of a call, or the error that it raises, with its place."""
+    try:
+        return CALLS[order["call"].decode()](order)
+    except rules.NoConfiguration as error:
+        return [{"error": named(error.flaw), "at": error.at}]
+    except rules.ConfigurationError as error:
+        return {"error": error.name, "at": error.at}
+    except gix_url.Error:
+        return {"halt": "not prepared"}
