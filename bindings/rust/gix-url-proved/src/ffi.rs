@@ -93,6 +93,11 @@ impl<'a> Bytes<'a> {
         Bytes { at: bytes.as_ptr(), len: bytes.len(), lent: PhantomData }
     }
 
+    /// The bytes that are there; no bytes where there are none.
+    fn of_some(bytes: Option<&'a [u8]>) -> Bytes<'a> {
+        Bytes::of(bytes.unwrap_or_default())
+    }
+
     fn get(self) -> &'a [u8] {
         // SAFETY: it was made of such a slice, or the library lent it of the slices that a call borrowed for so long.
         unsafe { std::slice::from_raw_parts(self.at, self.len) }
@@ -205,6 +210,19 @@ macro_rules! call {
         unsafe { $export($($given),*) }
     };
 }
+
+mod buffers;
+mod configuration;
+mod remotes;
+mod settings;
+mod texts;
+
+pub(crate) use configuration::{check, read_file, read_listing, submodules};
+pub(crate) use remotes::{permission, remote, rewrite_fetch, rewrite_push};
+pub(crate) use settings::{credentials, settings, ssh_program};
+pub(crate) use texts::{
+    credential_reading, danger_name, danger_words, dangers, git_reading, resolve, secrets, ssh_words, transport,
+};
 
 /// The number of a scheme, and the name that it holds: each by itself, so that a number takes no jump.
 fn number(scheme: &Scheme) -> (u8, &[u8]) {

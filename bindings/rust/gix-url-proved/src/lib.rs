@@ -30,6 +30,7 @@ pub use ::bstr;
 #[path = "bytes.rs"]
 pub mod bstr;
 
+pub mod audit;
 mod chunks;
 mod convert;
 mod debug;
@@ -40,6 +41,7 @@ pub mod ipv6;
 mod lent;
 pub mod parse;
 mod refusal;
+pub mod rules;
 mod scheme;
 #[cfg(feature = "serde")]
 mod stored;
