@@ -73,7 +73,7 @@ abbrev pub bytes_of : Location → List ℕ
 bytes_of v = ((((scheme_name v.scheme ++ or_nothing v.user) ++ or_nothing v.password) ++ or_nothing v.host) ++ v.path) ++ or_nothing v.spelling
 
 -- the bytes are at the front of the room and the rest of it is as it was; or they don't fit, and all of it is
-abbrev pub Puts : List ℕ → List ℕ → List ℕ → ℕ → Type 0
+abbrev pub Puts : {A : Type 0} → List A → List A → List A → ℕ → Type 0
 Puts bytes old new code =
     MatchBool (nat_lt (length old) (length bytes))
     ((code ≡ no_room) × (new ≡ old))

@@ -15,3 +15,9 @@ pub mod DangerNumbers
 pub mod EntryNumbers
 pub mod PieceNumbers
 pub mod ReadingNumbers
+pub mod WordNumbers
+pub mod ProgramNumbers
+pub mod RemoteNumbers
+pub mod SettingNumbers
+pub mod CredentialNumbers
+pub mod SubmoduleNumbers

@@ -12,7 +12,7 @@ ghost use Rattle.gix_url_c.specs.Left.{LeavesLengths, LeavesRoom};
 use crate::codes::{NO_ROOM, OK};
 
 /// Copies the bytes to the front of the room, if they fit into it.
-pub(crate) fn put(bytes: &[u8], room: &mut [u8]) -> u32
+pub(crate) fn put<T: Copy>(bytes: &[T], room: &mut [T]) -> u32
     ensures put { Puts bytes.now room.old room.new result }
     ensures room { LeavesRoom result room.old room.new }
     ensures code { (result ≡ ok) ⊎ (result ≡ no_room) }

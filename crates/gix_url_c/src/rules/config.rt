@@ -10,7 +10,7 @@ ghost use Rattle.gix_url_c.specs.EntryNumbers.{IsListingOf, PutsFile, PutsListin
 ghost use Rattle.gix_url_c.specs.Left.{LeavesLengths, LeavesRoom};
 ghost use Rattle.gix_url_c.specs.Stops.{LeavesStop, no_configuration, no_stop};
 
-use crate::codes::{MEMORY, NO_ROOM};
+use crate::codes::MEMORY;
 use crate::room::put_both;
 use crate::rules::pieces::joined;
 use crate::rules::stops::{NO_CONFIGURATION, Stop, no_stop};
@@ -107,9 +107,8 @@ pub extern "C" fn gix_url_c_read_file(
     };
     match config_file::entries(alloc, text, buffer.as_mut_slice()) {
         Ok(entries) => put_file(alloc, &entries, made, room, numbers),
-        Err(FileError::Memory) => MEMORY,
         // The buffer is as long as the text.
-        Err(FileError::ShortBuffer) => NO_ROOM,
+        Err(FileError::Memory | FileError::ShortBuffer) => MEMORY,
         Err(FileError::Refused { flaw, at, line }) => {
             *stop = Stop {
                 at,

@@ -1,0 +1,48 @@
+-- The program that Git runs for Secure Shell, for C.
+use Rattle.std.specs.Prelude.{◌≡◌, ℕ, List, length, Result, Ok, Err}
+use Rattle.git_rules.specs.Config.{ConfigEntry}
+use Rattle.git_rules.specs.SshPrograms.{Program, Settings}
+use Rattle.git_rules.specs.declared.ssh.SshVariant.{SshVariant}
+use Rattle.git_rules.specs.declared.ssh.SshVariant.TheVariants as variant
+use Rattle.git_rules.specs.declared.ssh.program.ProgramVariant.{ProgramVariant}
+use Rattle.git_rules.specs.declared.ssh.program.ProgramVariant.TheVariants.{Known, Asked}
+use Rattle.git_rules.specs.declared.ssh.program.SshProgramError.{SshProgramError}
+use Rattle.git_rules.specs.declared.ssh.program.SshProgramError.TheVariants.{NoValue}
+use Rattle.gix_url_c.specs.declared.rules.programs.GivenVariables.{GivenVariables}
+use Rattle.gix_url_c.specs.declared.rules.programs.ProgramNumbers.{ProgramNumbers}
+use Rattle.gix_url_c.specs.declared.rules.stops.Stop.{Stop}
+use Rattle.gix_url_c.specs.Given.{present}
+use Rattle.gix_url_c.specs.Handed.{Puts}
+use Rattle.gix_url_c.specs.Stops.{StopsAt, no_stop, no_value}
+
+-- the entries, and the variables that are given
+abbrev pub settings_given : List ConfigEntry → GivenVariables → Settings
+settings_given config given = record {
+  entries = config;
+  git_ssh_command = present given.has_command given.command.now;
+  git_ssh = present given.has_path given.path.now;
+  git_ssh_variant = present given.has_variant given.variant.now;
+}
+
+-- the number of a variant, and one more where Git asks the program
+abbrev pub variant_number : ProgramVariant → ℕ
+variant_number (Known variant.Ssh) = 0
+variant_number (Known variant.Simple) = 1
+variant_number (Known variant.Plink) = 2
+variant_number (Known variant.Putty) = 3
+variant_number (Known variant.TortoisePlink) = 4
+variant_number Asked = 5
+
+-- the numbers of a program
+abbrev pub program_numbers : Program → ProgramNumbers
+program_numbers p =
+    record { is_command_line = p.is_command_line; variant = variant_number p.variant; len = length p.text }
+
+-- a program is put
+abbrev pub PutsProgram : Program → ProgramNumbers → List ℕ → List ℕ → ℕ → Type 0
+PutsProgram p made old new code = (made ≡ program_numbers p) × Puts p.text old new code
+
+-- a program is reported, or the entry at which Git stops
+abbrev pub ReportsProgram : Result Program SshProgramError → ProgramNumbers → List ℕ → List ℕ → Stop → ℕ → Type 0
+ReportsProgram (Ok p) made old new stop code = (stop ≡ no_stop) × PutsProgram p made old new code
+ReportsProgram (Err (NoValue at)) made old new stop code = StopsAt no_value at stop code

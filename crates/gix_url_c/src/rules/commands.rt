@@ -1,0 +1,294 @@
+//! The export that makes the words with which Git runs Secure Shell for a location.
+//!
+//! It uses `given` and `room`. Its contract: what is reported are the words of the library's command, or why there is
+//! none. With an error the room and the lengths are as they were, and the numbers are, except with 102.
+
+ghost use Rattle.std.specs.Prelude.{◌≡◌, ◌<◌, ◌⊎◌, IfOk, IfSome, None, length, map};
+ghost use Rattle.std.specs.List.{concat};
+ghost use Rattle.bstr.specs.Owned.{bstring_bytes};
+ghost use Rattle.git_rules.specs.SecureShell.{command_words};
+ghost use Rattle.gix_url_c.specs.Codes.{UnlessMemory, UnlessNone, memory, no_room, ok};
+ghost use Rattle.gix_url_c.specs.Given.{IsNone, location_of};
+ghost use Rattle.gix_url_c.specs.Left.{LeavesLengths, LeavesRoom};
+ghost use Rattle.gix_url_c.specs.WordNumbers.{IsNoFamily, IsNoRequest, PutsWords, ReportsWords, family_numbered, refusal_number, refused_numbers, request_given, service_numbered, variable_number, variant_numbered, version_number, version_numbered};
+
+use crate::codes::{MEMORY, NO_LOCATION, OK};
+use crate::given::{Given, location_of, present};
+use crate::room::put_both;
+use bstr::BString;
+use git_rules::ssh::{
+    AddressFamily, ProtocolVersion, Service, SshCommand, SshRefusal, SshRequest, SshVariant,
+    ssh_command_for,
+};
+use gix_url::UrlRef;
+use std::alloc::{AllocError, Global};
+
+/// What is asked of Secure Shell beside the location.
+#[repr(C)]
+#[derive(Clone, Copy)]
+pub struct GivenRequest<'a> {
+    /// What the server runs in place of the service.
+    pub program: &'a [u8],
+    /// Whether it runs that.
+    pub has_program: bool,
+    /// The service: 0 `git-upload-pack`, 1 `git-receive-pack`, 2 `git-upload-archive`.
+    pub service: u8,
+    /// The program that is run here: 0 OpenSSH, 1 `simple`, 2 `plink`, 3 `putty`, 4 `tortoiseplink`.
+    pub variant: u8,
+    /// The version of Git's protocol: 0 to 2.
+    pub version: u8,
+    /// The family of addresses: 0 any, 4 or 6.
+    pub family: u8,
+}
+
+/// What is reported of a command beside its words.
+#[repr(C)]
+#[derive(Clone, Copy)]
+pub struct WordNumbers {
+    /// Why there is no command: 1 to 16; 0 where there is one. All else is 0 then.
+    pub refusal: u8,
+    /// The version that the variable `GIT_PROTOCOL` is to have; 0 where it isn't to be set.
+    pub git_protocol: u8,
+    /// The number of words.
+    pub words: usize,
+    /// The length of all words.
+    pub bytes: usize,
+}
+
+/// Puts the words with which Git runs Secure Shell for the location into the room, and their lengths into `lengths`:
+/// [`git_rules::ssh::ssh_command_for`].
+///
+/// It answers 0; 1 where memory is refused; 101 where the parts are none of a location, or a number of the request stands
+/// for nothing; 102 where words or lengths don't fit.
+#[unsafe(no_mangle)]
+pub extern "C" fn gix_url_c_ssh_words(
+    alloc: Global,
+    given: &Given<'_>,
+    request: &GivenRequest<'_>,
+    made: &mut WordNumbers,
+    room: &mut [u8],
+    lengths: &mut [usize],
+) -> u32
+    ensures reported { UnlessNone result (IsNone given.now ⊎ IsNoRequest request.now) (UnlessMemory result
+        (ReportsWords (location_of given.now) (request_given request.now)
+        made.new room.old room.new lengths.old lengths.new result)) }
+    ensures room { LeavesRoom result room.old room.new }
+    ensures lengths { LeavesRoom result lengths.old lengths.new }
+    ensures numbers { LeavesLengths result made.old made.new }
+{
+    let Some(url) = location_of(given) else {
+        return NO_LOCATION;
+    };
+    match request_of(request) {
+        Some(request) => put_command(alloc, &url, &request, made, room, lengths),
+        None => NO_LOCATION,
+    }
+}
+
+/// Puts the words of the command for the location, if there is one.
+fn put_command(
+    alloc: Global,
+    url: &UrlRef<'_>,
+    request: &SshRequest<'_>,
+    made: &mut WordNumbers,
+    room: &mut [u8],
+    lengths: &mut [usize],
+) -> u32
+    ensures reported { UnlessMemory result
+        (ReportsWords url.now request.now made.new room.old room.new lengths.old lengths.new result) }
+    ensures room { LeavesRoom result room.old room.new }
+    ensures lengths { LeavesRoom result lengths.old lengths.new }
+    ensures numbers { LeavesLengths result made.old made.new }
+{
+    match ssh_command_for(url, request) {
+        Ok(command) => put_words(alloc, &command, made, room, lengths),
+        Err(refusal) => {
+            *made = refused_numbers(refusal);
+            OK
+        }
+    }
+}
+
+/// Puts the words of a command.
+fn put_words(
+    alloc: Global,
+    command: &SshCommand<'_>,
+    made: &mut WordNumbers,
+    room: &mut [u8],
+    lengths: &mut [usize],
+) -> u32
+    ensures reported { UnlessMemory result
+        (PutsWords command.now made.new room.old room.new lengths.old lengths.new result) }
+    ensures room { LeavesRoom result room.old room.new }
+    ensures lengths { LeavesRoom result lengths.old lengths.new }
+    ensures numbers { LeavesLengths result made.old made.new }
+{
+    let Ok(words) = command.to_words(alloc) else {
+        return MEMORY;
+    };
+    let Ok(bytes) = joined_words(alloc, &words) else {
+        return MEMORY;
+    };
+    let Ok(measured) = word_lengths(alloc, &words) else {
+        return MEMORY;
+    };
+    *made = WordNumbers {
+        refusal: 0,
+        git_protocol: variable_number(command),
+        words: words.len(),
+        bytes: bytes.len(),
+    };
+    put_both(&bytes, &measured, room, lengths)
+}
+
+/// The bytes of the words, one behind the other.
+fn joined_words(alloc: Global, words: &[BString]) -> Result<Vec<u8>, AllocError>
+    ensures { IfOk result (λ bytes. bytes.items ≡ concat (map bstring_bytes words.now)) }
+{
+    let mut bytes = Vec::new(alloc);
+    for word in words {
+        bytes.extend_from_slice(word.as_bytes())?;
+    }
+    Ok(bytes)
+}
+
+/// The lengths of the words.
+fn word_lengths(alloc: Global, words: &[BString]) -> Result<Vec<usize>, AllocError>
+    ensures { IfOk result (λ lengths. lengths.items ≡ map length (map bstring_bytes words.now)) }
+{
+    let mut lengths = Vec::with_capacity(alloc, words.len())?;
+    for word in words {
+        lengths.push(word.as_bytes().len())?;
+    }
+    Ok(lengths)
+}
+
+/// The numbers of a location without a command, for this reason.
+fn refused_numbers(refusal: SshRefusal) -> WordNumbers
+    ensures { result ≡ refused_numbers refusal }
+{
+    WordNumbers {
+        refusal: refusal_number(refusal),
+        git_protocol: 0,
+        words: 0,
+        bytes: 0,
+    }
+}
+
+/// The version that the variable of a command is to have, or 0.
+fn variable_number(command: &SshCommand<'_>) -> u8
+    ensures { result ≡ variable_number command.now }
+{
+    match command.git_protocol() {
+        None => 0,
+        Some(_) => version_number(command.version),
+    }
+}
+
+/// The number of a version.
+fn version_number(version: ProtocolVersion) -> u8
+    ensures { result ≡ version_number version }
+{
+    match version {
+        ProtocolVersion::V0 => 0,
+        ProtocolVersion::V1 => 1,
+        ProtocolVersion::V2 => 2,
+    }
+}
+
+/// What is asked for, unless a number stands for nothing.
+fn request_of<'a>(given: &GivenRequest<'a>) -> Option<SshRequest<'a>>
+    ensures made { IfSome result (λ request. request ≡ request_given given.now) }
+    ensures whole { IfSome result (λ _. ¬ IsNoRequest given.now) }
+    ensures refused { result ≡ None → IsNoRequest given.now }
+{
+    Some(SshRequest {
+        service: service_numbered(given.service)?,
+        program: present(given.has_program, given.program),
+        variant: variant_numbered(given.variant)?,
+        version: version_numbered(given.version)?,
+        family: family_numbered(given.family)?,
+    })
+}
+
+/// The service of this number.
+fn service_numbered(number: u8) -> Option<Service>
+    ensures made { IfSome result (λ service. service ≡ service_numbered number) }
+    ensures known { IfSome result (λ _. ¬ (2 < number)) }
+    ensures refused { result ≡ None → 2 < number }
+{
+    match number {
+        0 => Some(Service::UploadPack),
+        1 => Some(Service::ReceivePack),
+        2 => Some(Service::UploadArchive),
+        _ => None,
+    }
+}
+
+/// The variant of this number.
+fn variant_numbered(number: u8) -> Option<SshVariant>
+    ensures made { IfSome result (λ variant. variant ≡ variant_numbered number) }
+    ensures known { IfSome result (λ _. ¬ (4 < number)) }
+    ensures refused { result ≡ None → 4 < number }
+{
+    match number {
+        0 => Some(SshVariant::Ssh),
+        1 => Some(SshVariant::Simple),
+        2 => Some(SshVariant::Plink),
+        3 => Some(SshVariant::Putty),
+        4 => Some(SshVariant::TortoisePlink),
+        _ => None,
+    }
+}
+
+/// The version of this number.
+fn version_numbered(number: u8) -> Option<ProtocolVersion>
+    ensures made { IfSome result (λ version. version ≡ version_numbered number) }
+    ensures known { IfSome result (λ _. ¬ (2 < number)) }
+    ensures refused { result ≡ None → 2 < number }
+{
+    match number {
+        0 => Some(ProtocolVersion::V0),
+        1 => Some(ProtocolVersion::V1),
+        2 => Some(ProtocolVersion::V2),
+        _ => None,
+    }
+}
+
+/// The family of this number.
+fn family_numbered(number: u8) -> Option<AddressFamily>
+    ensures made { IfSome result (λ family. family ≡ family_numbered number) }
+    ensures known { IfSome result (λ _. ¬ IsNoFamily number) }
+    ensures refused { result ≡ None → IsNoFamily number }
+{
+    match number {
+        0 => Some(AddressFamily::Any),
+        4 => Some(AddressFamily::V4),
+        6 => Some(AddressFamily::V6),
+        _ => None,
+    }
+}
+
+/// The number of a reason why there is no command.
+fn refusal_number(refusal: SshRefusal) -> u8
+    ensures { result ≡ refusal_number refusal }
+{
+    match refusal {
+        SshRefusal::NotSecureShell => 1,
+        SshRefusal::Password => 2,
+        SshRefusal::EmptyUser => 3,
+        SshRefusal::ByteZero => 4,
+        SshRefusal::OptionLikeUser => 5,
+        SshRefusal::NoHost => 6,
+        SshRefusal::OptionLikeHost => 7,
+        SshRefusal::AtSignInHost => 8,
+        SshRefusal::UrlLikeDestination => 9,
+        SshRefusal::NoPath => 10,
+        SshRefusal::OptionLikePath => 11,
+        SshRefusal::EmptyProgram => 12,
+        SshRefusal::ByteZeroInProgram => 13,
+        SshRefusal::OptionLikeProgram => 14,
+        SshRefusal::FamilyOfSimple => 15,
+        SshRefusal::PortOfSimple => 16,
+    }
+}
