@@ -108,7 +108,7 @@ pub fn dangers(text: impl AsRef<[u8]>, url: &Url) -> Result<Vec<Danger>, Error> 
 /// A piece of a text.
 #[derive(Clone, Copy, PartialEq, Eq, Hash)]
 pub enum Piece<'a> {
-    /// It is no secret that is known.
+    /// It isn't known as a secret.
     Shown(&'a BStr),
     /// It may be a secret.
     Hidden(&'a BStr),

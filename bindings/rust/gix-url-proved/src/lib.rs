@@ -4,7 +4,8 @@
 //! dependency and little else; `docs/FROM_RUST.md` of the repository has each line that changes. The answers come from the
 //! library `gix_url`, whose code is proved, by the static library that is linked in; what is here turns values into
 //! pointers and lengths and back. All `unsafe` code is in the module `ffi`, and in the byte strings that replace those
-//! of the crate `bstr` without the feature `bstr`.
+//! of the crate `bstr` without the feature `bstr`. Two modules are new: [`rules`], what Git does by its configuration, and
+//! [`audit`], dangers and secrets.
 //!
 //! ```
 //! let url = gix_url_proved::parse("ssh://git@example.com/gitoxide")?;

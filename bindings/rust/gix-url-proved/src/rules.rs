@@ -4,7 +4,7 @@
 //! The rules are those of Git 2.39.5 on Linux; `docs/RULES.md` of the repository has them. No call reads a file or the
 //! environment, or runs a program: the caller passes texts. The answers come from proved code, as those about locations.
 //!
-//! A program that wants to know where `git fetch origin` connects to:
+//! A program that finds what `git fetch origin` connects to:
 //!
 //! ```
 //! use gix_url_proved::rules::{ssh_words, transport_of, Configuration, Policy, SshRequest};

@@ -46,7 +46,7 @@ impl<'a> GivenEntry<'a> {
     }
 }
 
-/// The place at which Git stops, or at which a text is no configuration.
+/// The place at which Git stops, or at which a text isn't a configuration.
 #[repr(C)]
 #[derive(Default)]
 pub(super) struct Stop {
@@ -65,7 +65,7 @@ impl Stop {
             NO_VALUE => Err(Error::NoValue { at }),
             NO_BOOLEAN => Err(Error::NoBoolean { at }),
             NO_CONFIGURATION => {
-                let flaw = Flaw::numbered(self.flaw).expect("a text that is no configuration has a flaw");
+                let flaw = Flaw::numbered(self.flaw).expect("a text that isn't a configuration has a flaw");
                 Err(Error::NoConfiguration { flaw, at, line: unless_zero(self.line) })
             }
             _ => unreachable!("the library takes every value of this crate"),

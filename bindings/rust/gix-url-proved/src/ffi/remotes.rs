@@ -130,7 +130,7 @@ pub(crate) fn remote(configuration: &Configuration, name: &[u8]) -> Result<Remot
     stop.unless(code, || remote_of(&made, &found))
 }
 
-/// The remote of these numbers, whose texts are one behind the other.
+/// The remote of these numbers, whose texts are one after the other.
 fn remote_of(made: &RemoteNumbers, found: &Filled) -> Remote {
     let mut bytes = found.bytes.as_slice();
     let mut text = |len| BString::from(next(&mut bytes, len));

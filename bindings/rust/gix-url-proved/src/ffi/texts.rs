@@ -120,7 +120,7 @@ pub(crate) fn git_reading(text: &[u8]) -> Result<GitPlace, Error> {
     })?
 }
 
-/// The place of these numbers, whose parts are one behind the other.
+/// The place of these numbers, whose parts are one after the other.
 fn place(made: &PlaceNumbers, mut parts: &[u8]) -> GitPlace {
     let mut part = |len| BString::from(next(&mut parts, len));
     let (user, host, path) = (part(made.user), part(made.host), part(made.path));
@@ -148,7 +148,7 @@ pub(crate) fn credential_reading(text: &[u8]) -> Result<Option<CredentialRequest
     Stop::default().unless(code, || made.is_read.then(|| request(&made, &parts)))
 }
 
-/// The request of these numbers, whose parts are one behind the other.
+/// The request of these numbers, whose parts are one after the other.
 fn request(made: &RequestNumbers, mut parts: &[u8]) -> CredentialRequest {
     let mut part = |len| BString::from(next(&mut parts, len));
     let (protocol, user, password) = (part(made.protocol), part(made.user), part(made.password));

@@ -57,7 +57,7 @@ impl fmt::Debug for Entry<'_> {
     }
 }
 
-/// The place of an entry in the bytes of a configuration: the lengths of its parts, one behind the other.
+/// The place of an entry in the bytes of a configuration: the lengths of its parts, one after the other.
 #[derive(Clone, Copy, PartialEq, Eq)]
 pub(crate) struct Span {
     pub(crate) start: usize,
@@ -70,7 +70,7 @@ pub(crate) struct Span {
 }
 
 impl Span {
-    /// The place behind the entry.
+    /// The place after the entry.
     pub(crate) fn end(&self) -> usize {
         self.start + self.section + self.subsection.unwrap_or(0) + self.name + self.value.unwrap_or(0)
     }
@@ -114,7 +114,7 @@ impl Configuration {
     ///
     /// # Errors
     ///
-    /// [`Error::NoConfiguration`] if a line is no entry, or the last one has no end; [`Error::Memory`].
+    /// [`Error::NoConfiguration`] if a line isn't an entry, or the last one has no end; [`Error::Memory`].
     pub fn from_listing(text: impl AsRef<[u8]>) -> Result<Configuration, Error> {
         ffi::read_listing(text.as_ref())
     }
@@ -145,7 +145,7 @@ impl Configuration {
         self.spans.iter().map(|span| self.spanned(span))
     }
 
-    /// The entry at an index, from 0; none behind the last.
+    /// The entry at an index, from 0; none after the last.
     pub fn entry(&self, index: usize) -> Option<Entry<'_>> {
         self.spans.get(index).map(|span| self.spanned(span))
     }

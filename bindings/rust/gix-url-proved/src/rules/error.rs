@@ -41,12 +41,12 @@ pub enum Error {
         /// The place of the entry: [`Entry::at`](super::Entry::at).
         at: usize,
     },
-    /// Git stops at an entry whose value is no boolean value.
+    /// Git stops at an entry whose value isn't a boolean value.
     NoBoolean {
         /// The place of the entry: [`Entry::at`](super::Entry::at).
         at: usize,
     },
-    /// The text is no configuration.
+    /// The text isn't a configuration.
     NoConfiguration {
         /// What is wrong with it.
         flaw: Flaw,

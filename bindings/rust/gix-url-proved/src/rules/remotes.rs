@@ -125,7 +125,7 @@ pub enum Permission {
         /// The place of the entry: [`Entry::at`](super::Entry::at).
         at: usize,
     },
-    /// Git stops: it needs `GIT_PROTOCOL_FROM_USER`, which is no boolean value.
+    /// Git stops: it needs `GIT_PROTOCOL_FROM_USER`, which isn't a boolean value.
     UnknownFromUser,
 }
 

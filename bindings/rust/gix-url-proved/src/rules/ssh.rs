@@ -133,7 +133,7 @@ reasons! {
 /// A command of Secure Shell.
 #[derive(Clone, Debug, PartialEq, Eq, Hash)]
 pub struct SshCommand {
-    /// The words behind the name of the program: options, the destination, and last the command, which a shell on the server
+    /// The words after the name of the program: options, the destination, and last the command, which a shell on the server
     /// reads.
     pub words: Vec<BString>,
     /// The version to which the variable `GIT_PROTOCOL` is to be set, if it is to be set.
