@@ -134,14 +134,14 @@ impl fmt::Debug for Piece<'_> {
 }
 
 /// The pieces of a text, of which some may be secrets: passwords, and tokens of GitHub, GitLab and Bitbucket. Joined they are
-/// the text. The text may be a location or none, or a key or a value of a configuration. It allocates the lengths of the
-/// pieces.
+/// the text. Neighbours may be of one kind. The text may be a location or none, or a key or a value of a configuration. It
+/// allocates the lengths of the pieces.
 ///
 /// ```
 /// use gix_url_proved::audit::{secrets, Piece};
 ///
-/// let pieces: Vec<Piece> = secrets("https://u:p@h/").collect();
-/// assert_eq!(pieces, [Piece::Shown("https://u:".into()), Piece::Hidden("p".into()), Piece::Shown("@h/".into())]);
+/// let hidden = secrets("https://u:p@h/").filter(|piece| matches!(piece, Piece::Hidden(_)));
+/// assert_eq!(hidden.collect::<Vec<_>>(), [Piece::Hidden("p".into())]);
 /// ```
 pub fn secrets<T: AsRef<[u8]> + ?Sized>(text: &T) -> impl Iterator<Item = Piece<'_>> {
     let mut rest = text.as_ref();

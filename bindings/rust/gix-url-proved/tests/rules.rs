@@ -1,7 +1,7 @@
 //! What Git does by its configuration, through the crate: results that don't fit into the first buffer, errors with their
 //! places, entries that are put together by hand, and what `Debug` shows.
 
-use gix_url_proved::audit::{redacted, secrets};
+use gix_url_proved::audit::{redacted, secrets, Piece};
 use gix_url_proved::bstr::{BStr, BString};
 use gix_url_proved::parse;
 use gix_url_proved::rules::{
@@ -105,7 +105,8 @@ fn lists_grow_past_the_first_buffer() {
     let remote = listing(&all).remote("r").unwrap();
     assert_eq!((remote.urls, remote.push_urls), (vec_of(&headers), vec_of(&headers)));
     let text: String = (0..100).map(|number| format!("https://u:p{number}@h/ ")).collect();
-    assert_eq!(secrets(&text).count(), 201);
+    let hidden = secrets(&text).filter(|piece| matches!(piece, Piece::Hidden(_)));
+    assert_eq!(hidden.map(|piece| piece.bytes().len()).sum::<usize>(), 10 * 2 + 90 * 3);
     assert_eq!(redacted(&text), "https://u:redacted@h/ ".repeat(100));
 }
 

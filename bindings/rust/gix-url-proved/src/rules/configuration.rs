@@ -126,7 +126,7 @@ impl Configuration {
     /// ```
     /// use gix_url_proved::rules::Configuration;
     ///
-    /// let configuration = Configuration::from_file(b"[Core]\n\tBare ; a comment\n\tsshCommand = \"ssh \" -4\n")?;
+    /// let configuration = Configuration::from_file(b"[Core]\n\tBare\n\tsshCommand = \"ssh \" -4\n")?;
     /// let entry = configuration.entry(1).unwrap();
     /// assert_eq!((entry.key(), entry.value, entry.line), (b"core.sshcommand".to_vec(), Some("ssh  -4".into()), Some(3)));
     /// # Ok::<(), gix_url_proved::rules::Error>(())

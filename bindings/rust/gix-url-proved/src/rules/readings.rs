@@ -63,8 +63,8 @@ impl fmt::Debug for GitPlace {
 /// ```
 /// use gix_url_proved::rules::{git_reading, Protocol};
 ///
-/// let place = git_reading("ssh://u:p@h:22/~a/b")?;
-/// assert_eq!((place.protocol, place.user, place.port), (Protocol::Ssh, Some("u:p".into()), Some(22)));
+/// let place = git_reading("ssh://u@h:22/~a/b")?;
+/// assert_eq!((place.protocol, place.user, place.port), (Protocol::Ssh, Some("u".into()), Some(22)));
 /// assert_eq!(place.path, "~a/b");
 /// # Ok::<(), gix_url_proved::rules::Error>(())
 /// ```
