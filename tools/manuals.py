@@ -1,8 +1,8 @@
 #!/usr/bin/env python3
-"""Writes the manual pages: gix_url(3) from the comments of bindings/c/include/gix_url.h, explain(1) from what the program
-prints for --help, and locations(1) from docs/locations.txt, which has the same layout.
+"""Writes the manual pages: gix_url(3) and gix_url_rules(3) from the comments of the headers in bindings/c/include, explain(1)
+from what the program prints for --help, and locations(1) from docs/locations.txt, which has the same layout.
 
-usage: tools/manuals.py FOLDER     below FOLDER, man1 and man3 get the pages; each call has one that leads to gix_url(3)
+usage: tools/manuals.py FOLDER     below FOLDER, man1 and man3 get the pages; each call has one that leads to its header's
 """
 import os
 import re
@@ -13,8 +13,12 @@ from rt_api import ROOT
 
 PROGRAMS = {"locations": "docs/locations.txt", "explain": "crates/explain/help"}
 # The pages that each page names, with its own left out.
-PAGES = ("locations(1)", "explain(1)", "gix_url(3)")
-LIBRARY = "gix_url \\- parses, writes and compares Git remote locations, by proved code"
+PAGES = ("locations(1)", "explain(1)", "gix_url(3)", "gix_url_rules(3)")
+# The headers, each with what it is for.
+LIBRARIES = {
+    "gix_url": "parses, writes and compares Git remote locations, by proved code",
+    "gix_url_rules": "what Git does with a remote by its configuration, by proved code",
+}
 
 
 def read(name):
@@ -75,11 +79,11 @@ def title(declared):
     return ", ".join("".join(it) for it in found)
 
 
-def library_page(header):
-    """gix_url(3), its lines."""
-    version = re.search(r'GIX_URL_VERSION "(.*)"', header)[1]
-    yield from [*heading("gix_url", 3, version), LIBRARY]
-    yield from [".SH SYNOPSIS", ".nf", ".B #include <gix_url.h>", ".PP", "cc program.c $(pkg\\-config \\-\\-cflags \\-\\-libs gix_url)", ".fi"]
+def library_page(name, header):
+    """The page of a header, its lines."""
+    version = re.search(r'GIX_URL_VERSION "(.*)"', read("bindings/c/include/gix_url.h"))[1]
+    yield from [*heading(name, 3, version), f"{name} \\- {plain(LIBRARIES[name])}"]
+    yield from [".SH SYNOPSIS", ".nf", f".B #include <{name}.h>", ".PP", "cc program.c $(pkg\\-config \\-\\-cflags \\-\\-libs gix_url)", ".fi"]
     yield from [".SH DESCRIPTION", *prose(comment(header.partition("*/")[0]))]
     declared = list(declarations(header))
     for name, calls in (("CALLS", True), ("TYPES", False)):
@@ -87,7 +91,7 @@ def library_page(header):
         for said, code in declared:
             if is_call(code) == calls:
                 yield from [f".SS {title(code)}", *verbatim(code.split("\n")), *prose(said)]
-    yield from also("gix_url(3)")
+    yield from also(f"{name}(3)")
 
 
 def rows_of(lines):
@@ -123,12 +127,13 @@ def program_page(name):
 
 def pages():
     """Each page by its name below the folder."""
-    header = read("bindings/c/include/gix_url.h")
-    yield "man3/gix_url.3", library_page(header)
-    for _, code in declarations(header):
-        if is_call(code):
-            for call in re.findall(r"\b(gix_url_\w+)\(", code):
-                yield f"man3/{call}.3", [".so man3/gix_url.3"]
+    for page in LIBRARIES:
+        header = read(f"bindings/c/include/{page}.h")
+        yield f"man3/{page}.3", library_page(page, header)
+        for _, code in declarations(header):
+            if is_call(code):
+                for call in re.findall(r"\b(gix_url_\w+)\(", code):
+                    yield f"man3/{call}.3", [f".so man3/{page}.3"]
     for name in PROGRAMS:
         yield f"man1/{name}.1", program_page(name)
 

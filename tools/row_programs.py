@@ -33,28 +33,30 @@ ONLY_RUST = {
     "Url::set_password", "Url::set_user", "Url::with_request_alternate_form", "Url::write_to",
     "Url:Ord", "UrlFault:fmt", "UrlKind:fmt", "WriteFault:fmt", "expand_path::for_shell", "expand_path::parse",
     "expand_path::with", "ipv6::is_ipv6"}
-# Calls over a configuration, over texts that Git reads, and over dangers and secrets, which the crate for Rust makes.
+# Calls over a configuration, and over texts that Git reads, which C has.
 RULES = {
-    "CredentialsError:fmt", "Danger::name", "Danger::words", "EntryError:fmt", "NoTransport:fmt", "NormalError:fmt", "Permission::is_allowed",
-    "Protocols::permission", "Reader::new", "Refused::as_str", "Remote::of", "RemoteError:fmt", "ResolveError:fmt", "Resolved::to_bstring",
-    "Rewrites::from_entries", "Rewrites::rewrite_fetch", "Rewrites::rewrite_push", "Rewritten::is_rewritten", "Rewritten::to_bstring",
-    "Service::as_str", "SettingsError:fmt", "SshCommand::git_protocol", "SshCommand::to_words", "SshError:fmt", "SshProgram::of",
-    "SshProgramError:fmt", "SshRefusal:fmt", "UrlPattern::matches", "config::entries", "config_file::entries", "credential::reading",
-    "credentials::credentials_for", "danger::dangers", "entries::best_entry", "refusal::check", "resolve::climbs", "resolve::is_relative",
-    "resolve::resolve", "secret::secrets", "settings::settings_for", "settings::settings_without_place", "ssh::ssh_command",
-    "ssh::ssh_command_for", "ssh::ssh_words", "submodules::submodules", "text::transport_of", "transport::reading"}
-# Members that an order for Rust may have for these calls.
-MEMBERS_RULES = {
-    "allow_list", "at", "config", "danger", "family", "file", "from_user", "git_ssh", "git_ssh_command", "git_ssh_variant", "has_push_url",
-    "name", "parent", "pattern", "program", "section", "service", "variant", "version"}
-# The text that `git config --list -z` writes.
-LISTING = re.compile(r"([^\0\n.]+\.([^\0\n]*\.)?[^\0\n.]+(\n[^\0]*)?\0)*")
+    "Danger::name", "Danger::words", "Permission::is_allowed", "Protocols::permission", "Remote::of", "Resolved::to_bstring",
+    "Rewrites::rewrite_fetch", "Rewrites::rewrite_push", "Rewritten::is_rewritten", "Rewritten::to_bstring",
+    "SshCommand::git_protocol", "SshCommand::to_words", "SshProgram::of", "config::entries", "config_file::entries",
+    "credential::reading", "credentials::credentials_for", "danger::dangers", "entries::best_entry", "refusal::check",
+    "resolve::climbs", "resolve::is_relative", "resolve::resolve", "secret::secrets", "settings::settings_for",
+    "settings::settings_without_place", "ssh::ssh_command", "ssh::ssh_command_for", "ssh::ssh_words", "submodules::submodules",
+    "text::transport_of", "transport::reading"}
 # Members that an order for a binding may have.
 MEMBERS = {
     "call", "text", "url", "other", "record", "scheme", "user", "password", "alternative", "style", "kind", "fault",
     "error"}
+# Members that an order for C may have as well.
+MEMBERS_RULES = {
+    "allow_list", "config", "danger", "family", "file", "from_user", "git_ssh", "git_ssh_command", "git_ssh_variant",
+    "has_push_url", "name", "parent", "program", "section", "service", "variant", "version"}
+# More of them, which only Rust has: calls over a rule, and over the names and the words of errors.
+RULES_RUST = {
+    "CredentialsError:fmt", "EntryError:fmt", "NoTransport:fmt", "NormalError:fmt", "Reader::new", "Refused::as_str", "RemoteError:fmt",
+    "ResolveError:fmt", "Rewrites::from_entries", "Service::as_str", "SettingsError:fmt", "SshError:fmt", "SshProgramError:fmt",
+    "SshRefusal:fmt", "UrlPattern::matches"}
 # Members that an order for Rust may have as well.
-MEMBERS_RUST = {"path", "home"}
+MEMBERS_RUST = {"path", "home", "at", "pattern"}
 # Errors of calls that C doesn't have, and one that Rust doesn't have either: a path is any bytes there.
 FOREIGN_C = {"NoHome", "PathNotUtf8", "Unresolved"}
 FOREIGN_RUST = {"PathNotUtf8"}
@@ -78,6 +80,12 @@ def flat(members, front=""):
             yield f"{front}{name}={str(value).lower()}"
         elif value is not None:
             yield f"{front}{name}={escaped(str(value))}"
+
+
+def is_listing(text):
+    """Whether each line of a configuration is an entry."""
+    keys = [it.split("\n")[0] for it in text.split("\0")[:-1]]
+    return text[-1:] in ("", "\0") and all("." in it.strip(".") and it[0] != "." and it[-1] != "." for it in keys)
 
 
 def run(words, **environment):
@@ -150,21 +158,26 @@ class Binding(Answers):
 
 
 class C(Binding):
-    name, calls = "c", ALL
+    name, calls, members = "c", ALL | RULES, MEMBERS | MEMBERS_RULES
 
     def makes(self, row):
-        """All but other styles than the plain one, parts that are a record of the older form, as C restores parts, and an
-        error that C doesn't have."""
+        """All but other styles than the plain one, except of permissions, parts that are a record of the older form, as C
+        restores parts, an error that C doesn't have, a configuration that C refuses, and entries of another section than
+        `http`."""
         url, error = row.members.get("url"), row.members.get("error", {})
         is_older = isinstance(url, dict) and "spelling" in url and url["spelling"] == url.get("path", "")
-        return super().makes(row) and row.members.get("style") is None and not is_older and error.get("error") not in FOREIGN_C
+        is_foreign = row.members.get("section", "http") != "http" or not is_listing(row.members.get("config") or "")
+        is_plain = row.members.get("style") is None or row.members["call"] == "Protocols::permission"
+        return (super().makes(row) and is_plain and not is_older and not is_foreign
+                and error.get("error") not in FOREIGN_C)
 
     def tells(self, name, outcome):
         return name != "kept" or "total" in outcome
 
     def build(self):
         file = f"{FOLDER}/vectors"
-        sources = ["bindings/tests/vectors.c", "bindings/tests/told.c", f"{FOLDER}/libgix_url.a"]
+        names = ("vectors", "orders", "rule_calls", "rule_configs", "told")
+        sources = [*(f"bindings/tests/{it}.c" for it in names), f"{FOLDER}/libgix_url.a"]
         run([os.environ.get("CC", "cc"), "-std=c11", "-O1", *sources, "-o", file])
         return file
 
@@ -172,7 +185,7 @@ class C(Binding):
 class Python(C):
     """The package of these sources over the shared library of `scripts/bindings`, or the one that the environment names."""
 
-    name, calls = "python", ALL | {"Scheme:Ord", "Url:Ord"}
+    name, calls, members = "python", ALL | {"Scheme:Ord", "Url:Ord"}, MEMBERS
 
     def makes(self, row):
         """What C makes, except an error that no call returned."""
@@ -185,17 +198,16 @@ class Python(C):
 
 
 def is_read_alike(row):
-    """Whether what is read of a listing is reported alike where reading ends at the first error, which the library passes over."""
-    config, expected = row.members.get("config", ""), row.expected
-    return bool(LISTING.fullmatch(config)) or row.members["call"] == "Reader::new" and len(expected) == 1
+    """Whether what is read of a listing is reported alike: reading ends at the first error here, and the library passes over it."""
+    return is_listing(row.members.get("config") or "") or row.members["call"] == "Reader::new" and len(row.expected) == 1
 
 
 class Rust(Binding):
-    name, calls, members = "rust", ALL | ONLY_RUST | RULES, MEMBERS | MEMBERS_RUST | MEMBERS_RULES
+    name, calls, members = "rust", ALL | ONLY_RUST | RULES | RULES_RUST, MEMBERS | MEMBERS_RULES | MEMBERS_RUST
 
     def makes(self, row):
         """All but a location with a spelling or in a padded style, an error that the crate doesn't have, a path that it
-        takes as it is, and a configuration with more than one error."""
+        takes as it is, a configuration with an error and entries, and entries of another section than `http`."""
         if not is_read_alike(row) or row.members.get("error") == "NoRoom" or row.members.get("section", "http") != "http":
             return False
         parts = [it for it in map(row.members.get, ("url", "other", "error")) if isinstance(it, dict)]

@@ -3,15 +3,7 @@
  * What is here is glue: null pointers become errors, parts become pointers and lengths, and what comes back as lengths
  * becomes pointers into the caller's room. Each export and its types are declared as crates/gix_url_c/src has them; a
  * slice of that library is a pointer that isn't null and a length. */
-#include "gix_url.h"
-
-#include <string.h>
-
-typedef struct front {
-    uint8_t scheme;
-    bool alternative, has_user, has_password, has_host, has_port, has_spelling;
-    uint16_t port;
-} front;
+#include "parts.h"
 
 typedef struct made {
     front front;
@@ -34,11 +26,6 @@ typedef struct parted {
     size_t path, fragment, pairs, bytes;
 } parted;
 
-typedef struct given {
-    front front;
-    gix_url_text name, user, password, host, path, spelling;
-} given;
-
 uint32_t gix_url_c_read(const char *, size_t, made *, char *, size_t, told *);
 uint32_t gix_url_c_from_parts(const given *, made *, char *, size_t, told *);
 uint32_t gix_url_c_is_settled(const given *, bool *);
@@ -50,53 +37,6 @@ uint32_t gix_url_c_look(const given *, seen *);
 uint32_t gix_url_c_components(const given *, parted *, char *, size_t, size_t *, size_t);
 uint32_t gix_url_c_reason_name(uint8_t, char *, size_t, size_t *);
 uint32_t gix_url_c_reason_words(uint8_t, char *, size_t, size_t *);
-
-/* Somewhere to point to where there are no bytes. */
-static char nowhere[1];
-static size_t no_lengths[1];
-
-static gix_url_text text_of(const char *at, size_t len, bool is_there) {
-    gix_url_text text = {is_there ? at : NULL, is_there ? len : 0};
-    return text;
-}
-
-/* The part itself, with no length where it isn't there. */
-static gix_url_text part_of(gix_url_text part) { return text_of(part.at, part.len, part.at != NULL); }
-
-/* The bytes of a part; none where it isn't there, whatever its length. */
-static gix_url_text bytes_of(gix_url_text text) {
-    gix_url_text none = {nowhere, 0};
-    return text.at ? text : none;
-}
-
-/* The parts of a location. A scheme that isn't a byte becomes one that is none of the eight. */
-static inline given given_of(const gix_url *url) {
-    return (given){
-        .front = {
-            .scheme = (unsigned)url->scheme < 8 ? (uint8_t)url->scheme : UINT8_MAX,
-            .alternative = url->alternative,
-            .has_user = url->user.at != NULL,
-            .has_password = url->password.at != NULL,
-            .has_host = url->host.at != NULL,
-            .has_port = url->has_port,
-            .has_spelling = url->spelling.at != NULL,
-            .port = url->port,
-        },
-        .name = bytes_of(url->name),
-        .user = bytes_of(url->user),
-        .password = bytes_of(url->password),
-        .host = bytes_of(url->host),
-        .path = bytes_of(url->path),
-        .spelling = bytes_of(url->spelling),
-    };
-}
-
-/* The bytes at the front of the room, which moves on behind them. */
-static gix_url_text next_part(const char **room, size_t len, bool is_there) {
-    gix_url_text part = text_of(*room, len, is_there);
-    *room += len;
-    return part;
-}
 
 /* The location whose parts are in the room, in the order in which they are returned. */
 static gix_url located(const made *made, const char *room) {
@@ -239,7 +179,7 @@ gix_url_error gix_url_path_query_fragment(const gix_url *url, char *room, size_t
     if (!url || !components) return GIX_URL_NULL;
     if (!room) room = nowhere, room_len = 0;
     if (!pairs || pair_room > SIZE_MAX / sizeof *pairs) pair_room = 0;
-    size_t *lengths = pair_room ? &pairs->name_len : no_lengths;
+    size_t *lengths = pair_room ? &pairs->name_len : no_numbers;
     parted parted = {0};
     given given = given_of(url);
     uint32_t error = gix_url_c_components(&given, &parted, room, room_len, lengths, 2 * pair_room);

@@ -1,14 +1,15 @@
-/* Makes every call of gix_url.h over the input of a fuzzer, and checks what each promises: LLVMFuzzerTestOneInput is
- * called by libFuzzer, or by bindings/tests/fuzz_driver.c. scripts/fuzz builds and runs it.
+/* Makes every call of gix_url.h and gix_url_rules.h over the input of a fuzzer, and checks what each promises:
+ * LLVMFuzzerTestOneInput is called by libFuzzer, or by bindings/tests/fuzz_driver.c. scripts/fuzz builds and runs it.
  *
- * The first byte says what the others are: a text, or a location, whose parts are slices of the same bytes, which overlap.
+ * The first byte says what the others are: a text, or a location, whose parts are slices of the same bytes, which overlap, or a
+ * configuration and a text.
  * Buffers end at memory that can't be touched, and are just large enough, one byte short and of no bytes at all. */
-#include "told.h"
+#include "fuzz_rules.h"
 
 #include <pthread.h>
 #include <string.h>
 
-enum { THREADS = 4, THREADED = 64 };
+enum { THREADS = 4, THREADED = 64, RULES = 4 };
 
 /* The next byte of the input; 0 behind its end. */
 static uint8_t next(gix_url_text *from) {
@@ -273,7 +274,9 @@ int LLVMFuzzerTestOneInput(const uint8_t *data, size_t len) {
     gix_url_text input = {(const char *)data, len};
     about(input);
     uint8_t kind = next(&input);
-    if (kind & 1) {
+    if (kind & RULES) {
+        by_rules(input);
+    } else if (kind & 1) {
         gix_url url = parts_of(&input);
         is_answered(&url);
         is_made(&url);

@@ -17,14 +17,15 @@ static uint64_t chance(uint64_t below) {
     return state % below;
 }
 
-/* The lines of the standard input, as many as there is room for, each behind a byte 0. */
+/* The lines of the standard input, as many as there is room for, each behind a byte 0 unless it begins with a control
+ * character. */
 static void read_seeds(void) {
     char line[LONGEST - 1];
     while (fgets(line, sizeof line, stdin)) {
         if (count == SEEDS) continue;
-        lens[count] = 1 + strcspn(line, "\n");
-        memcpy(seeds[count] + 1, line, lens[count] - 1);
-        count++;
+        size_t len = strcspn(line, "\n"), front = (unsigned char)line[0] >= 8;
+        memcpy(seeds[count] + front, line, len);
+        lens[count++] = front + len;
     }
 }
 

@@ -1,5 +1,6 @@
-// The header is C++ too: its types can be made, and its calls named.
+// The headers are C++ too: their types can be made, and their calls named.
 #include <gix_url.h>
+#include <gix_url_rules.h>
 
 gix_url_error settled(const gix_url &url, bool &answer) { return gix_url_is_settled(&url, &answer); }
 
@@ -12,3 +13,9 @@ gix_url_error named(const gix_url_problem &problem, char (&room)[32], size_t &le
 }
 
 gix_url empty() { return gix_url(); }
+
+gix_url_error permitted(const gix_url_policy &policy, gix_url_permission &answer) {
+    return gix_url_permission_of(nullptr, 0, &policy, "ssh", 3, &answer);
+}
+
+gix_url_entry no_entry() { return gix_url_entry(); }

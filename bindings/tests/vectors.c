@@ -1,125 +1,10 @@
 /* Carries out the orders of the standard input, a line each, by the calls of gix_url.h, and prints the outcome of each
  * call, a line of JSON, as the program `answers` does. tools/row_programs.py writes and describes orders. */
 #define _GNU_SOURCE
-#include "told.h"
+#include "rule_calls.h"
 
 #include <string.h>
 #include <sys/types.h>
-
-/* An order: members, each a name and a value. */
-enum { MOST = 16 };
-typedef struct order {
-    const char *names[MOST];
-    gix_url_text values[MOST];
-    size_t count;
-} order;
-
-static const gix_url_text none = {NULL, 0};
-
-static int digit(char c) { return c <= '9' ? c - '0' : c - 'a' + 10; }
-
-/* Takes the escapes out of a value, in its place: `\x` with two digits is a byte. */
-static gix_url_text unescaped(char *value) {
-    size_t len = 0;
-    for (const char *from = value; *from; len++) {
-        bool is_escape = *from == '\\';
-        value[len] = is_escape ? (char)(16 * digit(from[2]) + digit(from[3])) : *from;
-        from += is_escape ? 4 : 1;
-    }
-    return (gix_url_text){value, len};
-}
-
-/* The order of a line, in its place. */
-static order order_of(char *line) {
-    order order = {.count = 0};
-    for (char *member; (member = strsep(&line, "\t"));) {
-        char *value = strchr(member, '=');
-        HOLDS(value && order.count < MOST);
-        *value = '\0';
-        order.names[order.count] = member;
-        order.values[order.count++] = unescaped(value + 1);
-    }
-    return order;
-}
-
-/* The value of a member; none where there is no such member. */
-static gix_url_text value(const order *order, const char *name) {
-    for (size_t i = 0; i < order->count; i++)
-        if (strcmp(order->names[i], name) == 0) return order->values[i];
-    return none;
-}
-
-static bool is_word(gix_url_text text, const char *word) {
-    return text.at && text.len == strlen(word) && memcmp(text.at, word, text.len) == 0;
-}
-
-static const char *const schemes[] = {"File", "Git", "Ssh", "Http", "Https", "Ext", "Helper", "HelperUrl"};
-
-/* Stores the scheme of this text, which has the name behind a space. */
-static void set_scheme(gix_url *url, gix_url_text told) {
-    HOLDS(told.at);
-    const char *space = memchr(told.at, ' ', told.len);
-    size_t len = space ? (size_t)(space - told.at) : told.len;
-    if (space) url->name = (gix_url_text){space + 1, told.len - len - 1};
-    for (int i = 0; i < 8; i++)
-        if (is_word((gix_url_text){told.at, len}, schemes[i])) url->scheme = (gix_url_scheme)i;
-}
-
-/* The part of a location: the member `url.host` for the location `url` and the part `host`. */
-static gix_url_text part(const order *order, const char *whole, const char *name) {
-    char both[32];
-    snprintf(both, sizeof both, "%s.%s", whole, name);
-    return value(order, both);
-}
-
-/* The location of these parts, as they are. */
-static gix_url location(const order *order, const char *whole) {
-    gix_url url;
-    memset(&url, 0, sizeof url);
-    set_scheme(&url, part(order, whole, "scheme"));
-    url.user = part(order, whole, "user");
-    url.password = part(order, whole, "password");
-    url.host = part(order, whole, "host");
-    url.alternative = is_word(part(order, whole, "alternative"), "true");
-    gix_url_text port = part(order, whole, "port");
-    url.has_port = port.at != NULL;
-    url.port = url.has_port ? (uint16_t)atoi(port.at) : 0;
-    url.path = part(order, whole, "path");
-    if (!url.path.at) url.path = (gix_url_text){"", 0};
-    url.spelling = part(order, whole, "spelling");
-    return url;
-}
-
-/* Bytes as the inside of a text of JSON: U+EF00 with the byte added for a byte past ASCII. */
-static void put_inside(line *out, gix_url_text text) {
-    for (size_t i = 0; i < text.len; i++) {
-        unsigned char byte = (unsigned char)text.at[i];
-        char escape[8];
-        bool is_plain = byte >= 32 && byte < 127 && byte != '"' && byte != '\\';
-        if (!is_plain) snprintf(escape, sizeof escape, "\\u%s%02x", byte < 128 ? "00" : "ef", byte);
-        if (is_plain) put(out, text.at + i, 1);
-        else put_word(out, escape);
-    }
-}
-
-static void put_quoted(line *out, gix_url_text text) {
-    if (!text.at) {
-        put_word(out, "null");
-        return;
-    }
-    put_word(out, "\"");
-    put_inside(out, text);
-    put_word(out, "\"");
-}
-
-/* A further member of an object, if there is a text for it. */
-static void put_member(line *out, const char *name, gix_url_text text) {
-    if (!text.at) return;
-    put_word(out, ",\""), put_word(out, name), put_word(out, "\":");
-    put_quoted(out, text);
-}
-
-static void put_truth(line *out, bool is) { put_word(out, is ? "true" : "false"); }
 
 static gix_url_seen seen_of(const gix_url *url) {
     gix_url_seen seen;
@@ -356,6 +241,7 @@ static void scheme_text(line *out, gix_url_text told) {
 
 static void carry_out(line *out, const order *order) {
     gix_url_text call = value(order, "call");
+    if (rule_call(out, call, order)) return;
     if (is_word(call, "parse::parse")) parse(out, value(order, "text"));
     else if (is_word(call, "Url::from_parts")) from_parts(out, order);
     else if (is_word(call, "Error:fmt")) fmt_error(out, order);

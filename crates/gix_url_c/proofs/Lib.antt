@@ -1,6 +1,8 @@
 -- The lemmas that the proofs of functions cite.
+pub mod CallLemmas
 pub mod ComponentLemmas
 pub mod ConditionLemmas
+pub mod EntryLemmas
 pub mod ProblemLemmas
 pub mod ReadingLemmas
 pub mod RoomLemmas

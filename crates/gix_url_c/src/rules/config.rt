@@ -137,7 +137,7 @@ fn listed(alloc: Global, text: &[u8]) -> Result<Vec<Entry<'_>>, Unlisted>
 
 /// Appends an entry.
 fn keep<'a>(found: &mut Vec<Entry<'a>>, entry: Entry<'a>) -> Result<(), AllocError>
-    ensures { OnOk result (found.new.items ≡ found.old.items ++ entry ∷ []) }
+    ensures { OnOk result (found.new.items ≡ found.old.items ++ entry.entry ∷ []) }
 {
     found.push(entry)?;
     Ok(())

@@ -60,10 +60,10 @@ pub struct RemoteNumbers {
 /// It answers 0; 1 where memory is refused; 102 where texts or lengths don't fit; 104 where Git stops at an entry without a
 /// value, with its place.
 #[unsafe(no_mangle)]
-pub extern "C" fn gix_url_c_remote(
+pub extern "C" fn gix_url_c_remote<'a>(
     alloc: Global,
-    entries: &[GivenEntry<'_>],
-    name: &[u8],
+    entries: &[GivenEntry<'a>],
+    name: &'a [u8],
     made: &mut RemoteNumbers,
     room: &mut [u8],
     lengths: &mut [usize],
@@ -84,10 +84,10 @@ pub extern "C" fn gix_url_c_remote(
 }
 
 /// Puts the texts of the remote of this name, by the rules of the entries.
-fn put_named(
+fn put_named<'a>(
     alloc: Global,
-    entries: &[Entry<'_>],
-    name: &[u8],
+    entries: &[Entry<'a>],
+    name: &'a [u8],
     made: &mut RemoteNumbers,
     room: &mut [u8],
     lengths: &mut [usize],

@@ -1,0 +1,11 @@
+/* The calls of gix_url_rules.h over the input of a fuzzer. */
+#ifndef FUZZ_RULES_H
+#define FUZZ_RULES_H
+
+#include "../c/include/gix_url_rules.h"
+#include "told.h"
+
+/* Makes each call over a configuration and a text, which a byte 0x1e separates, and checks what it promises. */
+void by_rules(gix_url_text input);
+
+#endif

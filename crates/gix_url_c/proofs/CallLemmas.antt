@@ -1,0 +1,9 @@
+-- What a call reports, unless memory was refused.
+use Rattle.std.proofs.Common.{◌≡◌, ℕ, ◌⊎◌}
+use mathlib.Core.Logic.{inl, inr}
+use Rattle.gix_url_c.specs.Codes.{UnlessMemory}
+
+-- what follows from what is reported is reported
+pub unless_memory : {A B : Type 0} (code : ℕ) → (A → B) → UnlessMemory code A → UnlessMemory code B
+unless_memory code f (inl refused) = inl refused
+unless_memory code f (inr holds) = inr (f holds)

@@ -1,0 +1,16 @@
+-- What is reported of the location that is made is reported of the one that is given.
+use Rattle.std.proofs.Common.{subst}
+use mathlib.Core.Logic.{inr}
+use Rattle.gix_url_c.specs.Codes.{UnlessMemory}
+use Rattle.gix_url_c.specs.DangerNumbers.{ReportsDangers}
+use Rattle.gix_url_c.proofs.rules.dangers.gix_url_c_dangers.Goals as goal
+
+pub returns-in-Some-clause-reported : goal.returns-in-Some-clause-reported
+returns-in-Some-clause-reported c =
+    let new = c.put_dangers.new in
+    let code = c.put_dangers.result in
+    inr (
+      c.in-Some.ensures.whole,
+      subst (λ v. UnlessMemory code (ReportsDangers c.args.text.now v c.args.room.now new.room new.count code))
+          c.in-Some.ensures.made c.put_dangers.ensures.reported,
+    )
