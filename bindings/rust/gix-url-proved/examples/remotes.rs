@@ -35,8 +35,7 @@ fn fetched(configuration: &Configuration, name: &BStr) -> Result<String, Box<dyn
         return Ok(format!("{transport}: {text}"));
     }
     let words = ssh_words(&url, &SshRequest::default())?.words;
-    let (command, options) = words.split_last().expect("the last word is the command");
-    Ok(options.iter().fold("ssh".to_owned(), |told, word| format!("{told} {word}")) + &format!(" {command:?}"))
+    Ok(words.iter().fold("ssh".to_owned(), |listed, word| format!("{listed}, {word}")))
 }
 
 fn main() -> Result<(), Box<dyn Error>> {
@@ -44,8 +43,8 @@ fn main() -> Result<(), Box<dyn Error>> {
     io::stdin().read_to_end(&mut text)?;
     let configuration = Configuration::from_file(text)?;
     for name in names(&configuration) {
-        let told = fetched(&configuration, name).unwrap_or_else(|error| format!("refused: {error}"));
-        println!("{name}: {told}");
+        let outcome = fetched(&configuration, name).unwrap_or_else(|error| format!("refused: {error}"));
+        println!("{name}: {outcome}");
     }
     Ok(())
 }
