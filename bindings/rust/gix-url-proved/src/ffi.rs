@@ -4,7 +4,8 @@
 //! an answer is stored in must not overlap what is read. Each call passes slices and structs that live until it
 //! returns, and the library keeps no pointer. It returns numbers, bytes in buffers of this crate, of which no more is
 //! read than the library says it filled, and for a text that is read its parts, as slices of the text and of such
-//! buffers. Buffers are on the stack where that is enough, so a question allocates nothing.
+//! buffers. Buffers are on the stack where that is enough, so a question allocates nothing; those of the calls over a
+//! configuration, and over what Git reads, are in memory, and grow.
 
 use crate::bstr::BString;
 use crate::lent::lent;
