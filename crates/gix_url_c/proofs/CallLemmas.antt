@@ -7,3 +7,8 @@ use Rattle.gix_url_c.specs.Codes.{UnlessMemory}
 pub unless_memory : {A B : Type 0} (code : ℕ) → (A → B) → UnlessMemory code A → UnlessMemory code B
 unless_memory code f (inl refused) = inl refused
 unless_memory code f (inr holds) = inr (f holds)
+
+-- what is neither the one nor the other is none of both
+pub neither : {A B : Type 0} → ¬ A → ¬ B → ¬ (A ⊎ B)
+neither no nor (inl a) = no a
+neither no nor (inr b) = nor b

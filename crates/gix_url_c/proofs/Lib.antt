@@ -3,6 +3,7 @@ pub mod CallLemmas
 pub mod ComponentLemmas
 pub mod ConditionLemmas
 pub mod EntryLemmas
+pub mod PieceLemmas
 pub mod ProblemLemmas
 pub mod ReadingLemmas
 pub mod RoomLemmas

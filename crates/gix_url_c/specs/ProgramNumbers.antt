@@ -1,12 +1,11 @@
 -- The program that Git runs for Secure Shell, for C.
-use Rattle.std.specs.Prelude.{◌≡◌, ℕ, List, length, Result, Ok, Err}
+use Rattle.std.specs.Prelude.{◌≡◌, ◌⊎◌, ℕ, List, length, Ok, Err}
 use Rattle.git_rules.specs.Config.{ConfigEntry}
-use Rattle.git_rules.specs.SshPrograms.{Program, Settings}
+use Rattle.git_rules.specs.SshPrograms.{Program, Settings, program_of}
 use Rattle.git_rules.specs.declared.ssh.SshVariant.{SshVariant}
 use Rattle.git_rules.specs.declared.ssh.SshVariant.TheVariants as variant
 use Rattle.git_rules.specs.declared.ssh.program.ProgramVariant.{ProgramVariant}
 use Rattle.git_rules.specs.declared.ssh.program.ProgramVariant.TheVariants.{Known, Asked}
-use Rattle.git_rules.specs.declared.ssh.program.SshProgramError.{SshProgramError}
 use Rattle.git_rules.specs.declared.ssh.program.SshProgramError.TheVariants.{NoValue}
 use Rattle.gix_url_c.specs.declared.rules.programs.GivenVariables.{GivenVariables}
 use Rattle.gix_url_c.specs.declared.rules.programs.ProgramNumbers.{ProgramNumbers}
@@ -42,7 +41,8 @@ program_numbers p =
 abbrev pub PutsProgram : Program → ProgramNumbers → List ℕ → List ℕ → ℕ → Type 0
 PutsProgram p made old new code = (made ≡ program_numbers p) × Puts p.text old new code
 
--- a program is reported, or the entry at which Git stops
-abbrev pub ReportsProgram : Result Program SshProgramError → ProgramNumbers → List ℕ → List ℕ → Stop → ℕ → Type 0
-ReportsProgram (Ok p) made old new stop code = (stop ≡ no_stop) × PutsProgram p made old new code
-ReportsProgram (Err (NoValue at)) made old new stop code = StopsAt no_value at stop code
+-- the program by the settings is reported, or the entry at which Git stops
+abbrev pub ReportsProgram : Settings → ProgramNumbers → List ℕ → List ℕ → Stop → ℕ → Type 0
+ReportsProgram settings made old new stop code =
+    ((at : ℕ) × (program_of settings ≡ Err (NoValue at)) × StopsAt no_value at stop code)
+    ⊎ ((p : Program) × (program_of settings ≡ Ok p) × (stop ≡ no_stop) × PutsProgram p made old new code)

@@ -68,14 +68,15 @@ unread_numbers reason = record {
   path = 0;
 }
 
--- Git reads no place in the text, for this reason, which isn't memory
-abbrev pub IsUnread : List ℕ → Unread → Type 0
-IsUnread text reason = (¬ (reason ≡ why.Memory)) × LacksReading text × Unreads text reason
+-- the reason is reported, which isn't memory
+abbrev pub TellsUnread : Unread → PlaceNumbers → ℕ → Type 0
+TellsUnread reason made code =
+    (¬ (reason ≡ why.Memory)) × (made ≡ unread_numbers (unread_number reason)) × (code ≡ ok)
 
 -- the place that Git reads in the text is reported, or why there is none
 abbrev pub ReportsPlace : List ℕ → PlaceNumbers → List ℕ → List ℕ → ℕ → Type 0
 ReportsPlace text made old new code =
-    ((reason : Unread) × IsUnread text reason × (made ≡ unread_numbers (unread_number reason)) × (new ≡ old) × (code ≡ ok))
+    ((reason : Unread) × LacksReading text × Unreads text reason × (new ≡ old) × TellsUnread reason made code)
     ⊎ ((r : GitReading) × GitReads text r × PutsPlace r made old new code)
 
 -- ---- credentials

@@ -4,7 +4,6 @@
 //! configuration and the variables. With an error the room is as it was, and the numbers are, except with 102.
 
 ghost use Rattle.std.specs.Prelude.{◌≡◌, ◌⊎◌};
-ghost use Rattle.git_rules.specs.SshPrograms.{program_of};
 ghost use Rattle.gix_url_c.specs.Codes.{UnlessMemory, no_room, ok};
 ghost use Rattle.gix_url_c.specs.Entries.{entries_given};
 ghost use Rattle.gix_url_c.specs.Left.{LeavesLengths, LeavesRoom};
@@ -16,6 +15,7 @@ use crate::given::present;
 use crate::room::put;
 use crate::rules::entries::{GivenEntry, entries_of};
 use crate::rules::stops::{Stop, no_stop, stop_without_value};
+use git_rules::config::Entry;
 use git_rules::ssh::SshVariant;
 use git_rules::ssh::program::{ProgramVariant, SshProgram, SshProgramError, SshSettings};
 use std::alloc::Global;
@@ -66,18 +66,36 @@ pub extern "C" fn gix_url_c_ssh_program(
     stop: &mut Stop,
 ) -> u32
     ensures reported { UnlessMemory result
-        (ReportsProgram (program_of (settings_given (entries_given entries.now) variables.now))
+        (ReportsProgram (settings_given (entries_given entries.now) variables.now)
         made.new room.old room.new stop.new result) }
     ensures room { LeavesRoom result room.old room.new }
     ensures numbers { LeavesLengths result made.old made.new }
     ensures stop { LeavesStop result stop.new }
 {
     *stop = no_stop();
-    let Ok(entries) = entries_of(alloc, entries) else {
-        return MEMORY;
-    };
+    match entries_of(alloc, entries) {
+        Ok(entries) => find(&entries, variables, made, room, stop),
+        Err(_) => MEMORY,
+    }
+}
+
+/// Puts the text of the program that Git runs.
+fn find(
+    entries: &[Entry<'_>],
+    variables: &GivenVariables<'_>,
+    made: &mut ProgramNumbers,
+    room: &mut [u8],
+    stop: &mut Stop,
+) -> u32
+    ensures reported { ReportsProgram (settings_given entries.now variables.now)
+        made.new room.old room.new stop.new result }
+    ensures room { LeavesRoom result room.old room.new }
+    ensures numbers { LeavesLengths result made.old made.new }
+    ensures stop { LeavesStop result stop.new }
+{
+    *stop = no_stop();
     let settings = SshSettings {
-        entries: &entries,
+        entries,
         git_ssh_command: present(variables.has_command, variables.command),
         git_ssh: present(variables.has_path, variables.path),
         git_ssh_variant: present(variables.has_variant, variables.variant),

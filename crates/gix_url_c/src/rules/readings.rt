@@ -7,7 +7,7 @@ ghost use Rattle.std.specs.Prelude.{◌≡◌, ◌⊎◌};
 ghost use Rattle.git_reads.specs.Views.{credential_reading, git_reading, scheme_of_protocol};
 ghost use Rattle.gix_url_c.specs.Codes.{UnlessMemory, memory, no_room, ok};
 ghost use Rattle.gix_url_c.specs.Left.{LeavesLengths, LeavesRoom};
-ghost use Rattle.gix_url_c.specs.ReadingNumbers.{PutsPlace, PutsRequest, ReportsPlace, ReportsRequest, no_request, place_numbers, protocol_number, request_numbers, unread_number, unread_numbers};
+ghost use Rattle.gix_url_c.specs.ReadingNumbers.{PutsPlace, PutsRequest, ReportsPlace, ReportsRequest, TellsUnread, no_request, place_numbers, protocol_number, request_numbers, unread_number, unread_numbers};
 
 use crate::codes::{MEMORY, OK};
 use crate::handed::part;
@@ -84,8 +84,22 @@ pub extern "C" fn gix_url_c_git_reading(
     let mut buffers = transport::Buffers::new(alloc);
     match transport::reading(text, &mut buffers) {
         Ok(place) => put_place(alloc, &place, made, room),
-        Err(Unread::Memory) => MEMORY,
-        Err(why) => {
+        Err(why) => tell_unread(why, made),
+    }
+}
+
+/// Reports why Git reads no place, unless it is memory.
+fn tell_unread(why: Unread, made: &mut PlaceNumbers) -> u32
+    ensures reported { UnlessMemory result (TellsUnread why made.new result) }
+    ensures numbers { LeavesLengths result made.old made.new }
+{
+    match why {
+        Unread::Memory => MEMORY,
+        Unread::ByteZero | Unread::Option | Unread::RemoteHelper => {
+            *made = unread_numbers(unread_number(why));
+            OK
+        }
+        Unread::HomeOrHere | Unread::SecureShellUrl | Unread::Refused => {
             *made = unread_numbers(unread_number(why));
             OK
         }

@@ -178,10 +178,17 @@ fn append_texts(bytes: &mut Vec<u8>, outcomes: &[Rewritten<'_>]) -> Result<(), A
     ensures { OnOk result (bytes.new.items ≡ bytes.old.items ++ concat (map outcome_text outcomes.now)) }
 {
     for outcome in outcomes {
-        bytes.extend_from_slice(part(outcome.base))?;
-        bytes.extend_from_slice(outcome.rest)?;
+        append_text(bytes, outcome)?;
     }
     Ok(())
+}
+
+/// Appends the text that came out.
+fn append_text(bytes: &mut Vec<u8>, outcome: &Rewritten<'_>) -> Result<(), AllocError>
+    ensures { OnOk result (bytes.new.items ≡ bytes.old.items ++ outcome_text outcome.now) }
+{
+    bytes.extend_from_slice(part(outcome.base))?;
+    bytes.extend_from_slice(outcome.rest)
 }
 
 /// The lengths of the URLs of a remote.

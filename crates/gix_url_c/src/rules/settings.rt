@@ -58,6 +58,26 @@ pub extern "C" fn gix_url_c_settings(
     let Ok(name) = str::from_utf8(name) else {
         return NO_LOCATION;
     };
+    put_given(alloc, entries, name, text, made, indices, stop)
+}
+
+/// Puts the indices of the settings for a URL, by the entries that are given.
+fn put_given(
+    alloc: Global,
+    entries: &[GivenEntry<'_>],
+    name: &str,
+    text: &[u8],
+    made: &mut SettingNumbers,
+    indices: &mut [usize],
+    stop: &mut Stop,
+) -> u32
+    ensures reported { UnlessMemory result (ReportsSettings (entries_given entries.now) name.now text.now
+        made.new indices.old indices.new stop.new result) }
+    ensures indices { LeavesRoom result indices.old indices.new }
+    ensures numbers { LeavesLengths result made.old made.new }
+    ensures stop { LeavesStop result stop.new }
+{
+    *stop = no_stop();
     match entries_of(alloc, entries) {
         Ok(entries) => put_settings(alloc, &entries, name, text, made, indices, stop),
         Err(_) => MEMORY,

@@ -12,6 +12,6 @@ returns-in-Ok-clause-reported c =
     let code = c.fetch.result in
     let room = c.args.room.now in
     subst
-        (λ config. UnlessMemory code (ReportsRewriting config
-          (IsRewritten (rules_of config).fetching c.args.text.now) new.made room new.room new.stop code))
-        (c.deref.ensures.value ∙ c.in-Ok.ensures) c.fetch.ensures.reported
+    (λ config. UnlessMemory code (ReportsRewriting config
+    (IsRewritten (rules_of config).fetching c.args.text.now) new.made room new.room new.stop code))
+    (c.deref.ensures.value ∙ c.in-Ok.ensures) c.fetch.ensures.reported

@@ -4,8 +4,8 @@ use Rattle.git_audit.specs.Secrets.{parts_of, piece_part}
 use Rattle.gix_url_c.specs.Answers.{reported_length}
 use Rattle.gix_url_c.proofs.rules.secrets.count_pieces.Given as goal
 
-abbrev pub invariant-loop-_piece : goal.invariant-loop-_piece
-invariant-loop-_piece l = record {
-  cut : parts_of l.fn.text ≡ map piece_part l.yielded ++ l._piece-iterator;
+abbrev pub invariant-loop-piece : goal.invariant-loop-piece
+invariant-loop-piece l = record {
+  cut : parts_of l.fn.text ≡ map piece_part l.yielded ++ l.piece-iterator;
   counted : l.count ≡ reported_length (length l.yielded);
 }

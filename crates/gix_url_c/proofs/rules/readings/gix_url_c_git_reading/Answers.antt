@@ -1,0 +1,15 @@
+-- A place that is put is what Git reads, and why there is none is what the reading returns.
+use Rattle.std.proofs.Common.{refl}
+use mathlib.Core.Logic.{inl, inr}
+use Rattle.git_reads.specs.Views.{git_reading}
+use Rattle.gix_url_c.proofs.CallLemmas.{unless_memory}
+use Rattle.gix_url_c.proofs.rules.readings.gix_url_c_git_reading.Goals as goal
+
+pub returns-in-Ok-clause-reported : goal.returns-in-Ok-clause-reported
+returns-in-Ok-clause-reported c =
+    unless_memory c.put_place.result (λ put. inr (git_reading c.in-Ok.place, (c.in-Ok.ensures.read, put))) c.put_place.ensures.reported
+
+pub returns-in-Err-clause-reported : goal.returns-in-Err-clause-reported
+returns-in-Err-clause-reported c =
+    let why = c.in-Err.ensures in
+    unless_memory c.tell_unread.result (λ told. inl (c.in-Err.why, (why.none told.0, (why.why, (refl, told))))) c.tell_unread.ensures.reported
