@@ -165,10 +165,10 @@ pub(crate) fn read_listing(text: &[u8]) -> Result<Configuration, Error> {
     read(gix_url_c_read_listing, text, text.len(), count(text, 0))
 }
 
-/// The entries of a configuration file. Most have a line of their own.
+/// The entries of a configuration file. Most have a line of their own, and a `=`.
 pub(crate) fn read_file(text: &[u8]) -> Result<Configuration, Error> {
-    let lines = count(text, b'\n') + 1;
-    read(gix_url_c_read_file, text, 2 * text.len(), lines)
+    let entries = count(text, b'\n').min(count(text, b'=')) + 1;
+    read(gix_url_c_read_file, text, 2 * text.len(), entries)
 }
 
 /// What `git fsck` refuses in an entry.
