@@ -51,8 +51,13 @@ MEMBERS = {
 MEMBERS_RULES = {
     "allow_list", "config", "danger", "family", "file", "from_user", "git_ssh", "git_ssh_command", "git_ssh_variant",
     "has_push_url", "name", "parent", "program", "section", "service", "variant", "version"}
+# More of them, which only Rust has: calls over a rule, and over the names and the words of errors.
+RULES_RUST = {
+    "CredentialsError:fmt", "EntryError:fmt", "NoTransport:fmt", "NormalError:fmt", "Reader::new", "Refused::as_str", "RemoteError:fmt",
+    "ResolveError:fmt", "Rewrites::from_entries", "Service::as_str", "SettingsError:fmt", "SshError:fmt", "SshProgramError:fmt",
+    "SshRefusal:fmt", "UrlPattern::matches"}
 # Members that an order for Rust may have as well.
-MEMBERS_RUST = {"path", "home"}
+MEMBERS_RUST = {"path", "home", "at", "pattern"}
 # Errors of calls that C doesn't have, and one that Rust doesn't have either: a path is any bytes there.
 FOREIGN_C = {"NoHome", "PathNotUtf8", "Unresolved"}
 FOREIGN_RUST = {"PathNotUtf8"}
@@ -202,12 +207,19 @@ class Python(C):
         return f"{ROOT}/bindings/tests/vectors.py"
 
 
+def is_read_alike(row):
+    """Whether what is read of a listing is reported alike: reading ends at the first error here, and the library passes over it."""
+    return is_listing(row.members.get("config") or "") or row.members["call"] == "Reader::new" and len(row.expected) == 1
+
+
 class Rust(Binding):
-    name, calls, members = "rust", ALL | ONLY_RUST, MEMBERS | MEMBERS_RUST
+    name, calls, members = "rust", ALL | ONLY_RUST | RULES | RULES_RUST, MEMBERS | MEMBERS_RULES | MEMBERS_RUST
 
     def makes(self, row):
-        """All but a location with a spelling or in a padded style, an error that the crate doesn't have, and a path that it
-        takes as it is."""
+        """All but a location with a spelling or in a padded style, an error that the crate doesn't have, a path that it
+        takes as it is, a configuration with an error and entries, and entries of another section than `http`."""
+        if not is_read_alike(row) or row.members.get("error") == "NoRoom" or row.members.get("section", "http") != "http":
+            return False
         parts = [it for it in map(row.members.get, ("url", "other", "error")) if isinstance(it, dict)]
         is_foreign = any(it.get("spelling") is not None or it.get("error") in FOREIGN_RUST for it in parts)
         is_refused = row.expected == [{"error": "PathNotUtf8"}, 0]

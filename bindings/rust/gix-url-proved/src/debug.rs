@@ -61,10 +61,10 @@ impl fmt::Debug for Error {
 }
 
 /// What is shown in place of bytes: how many they are.
-struct Length(usize);
+pub(crate) struct Length(usize);
 
 impl Length {
-    fn of(bytes: &[u8]) -> Length {
+    pub(crate) fn of(bytes: &[u8]) -> Length {
         Length(bytes.len())
     }
 }

@@ -4,7 +4,8 @@
 //! an answer is stored in must not overlap what is read. Each call passes slices and structs that live until it
 //! returns, and the library keeps no pointer. It returns numbers, bytes in buffers of this crate, of which no more is
 //! read than the library says it filled, and for a text that is read its parts, as slices of the text and of such
-//! buffers. Buffers are on the stack where that is enough, so a question allocates nothing.
+//! buffers. Buffers are on the stack where that is enough, so a question allocates nothing; those of the calls over a
+//! configuration, and over what Git reads, are in memory, and grow.
 
 use crate::bstr::BString;
 use crate::lent::lent;
@@ -91,6 +92,11 @@ struct Bytes<'a> {
 impl<'a> Bytes<'a> {
     fn of(bytes: &'a [u8]) -> Bytes<'a> {
         Bytes { at: bytes.as_ptr(), len: bytes.len(), lent: PhantomData }
+    }
+
+    /// The bytes that are there; no bytes where there are none.
+    fn of_some(bytes: Option<&'a [u8]>) -> Bytes<'a> {
+        Bytes::of(bytes.unwrap_or_default())
     }
 
     fn get(self) -> &'a [u8] {
@@ -205,6 +211,19 @@ macro_rules! call {
         unsafe { $export($($given),*) }
     };
 }
+
+mod buffers;
+mod configuration;
+mod remotes;
+mod settings;
+mod texts;
+
+pub(crate) use configuration::{check, read_file, read_listing, submodules};
+pub(crate) use remotes::{permission, remote, rewrite_fetch, rewrite_push};
+pub(crate) use settings::{credentials, settings, ssh_program};
+pub(crate) use texts::{
+    credential_reading, danger_name, danger_words, dangers, git_reading, resolve, secrets, ssh_words, transport,
+};
 
 /// The number of a scheme, and the name that it holds: each by itself, so that a number takes no jump.
 fn number(scheme: &Scheme) -> (u8, &[u8]) {

@@ -4,7 +4,8 @@
 //! dependency and little else; `docs/FROM_RUST.md` of the repository has each line that changes. The answers come from the
 //! library `gix_url`, whose code is proved, by the static library that is linked in; what is here turns values into
 //! pointers and lengths and back. All `unsafe` code is in the module `ffi`, and in the byte strings that replace those
-//! of the crate `bstr` without the feature `bstr`.
+//! of the crate `bstr` without the feature `bstr`. Two modules are new: [`rules`], what Git does by its configuration, and
+//! [`audit`], dangers and secrets.
 //!
 //! ```
 //! let url = gix_url_proved::parse("ssh://git@example.com/gitoxide")?;
@@ -30,6 +31,7 @@ pub use ::bstr;
 #[path = "bytes.rs"]
 pub mod bstr;
 
+pub mod audit;
 mod chunks;
 mod convert;
 mod debug;
@@ -40,6 +42,7 @@ pub mod ipv6;
 mod lent;
 pub mod parse;
 mod refusal;
+pub mod rules;
 mod scheme;
 #[cfg(feature = "serde")]
 mod stored;

@@ -1,4 +1,4 @@
-//! The three programs of `examples` print what the ones in C do, which was written by hand beside those.
+//! The programs of `examples` print what was written by hand: three of them what the ones in C do.
 
 use std::env;
 use std::fs::{self, File};
@@ -10,24 +10,29 @@ fn file(name: &str) -> String {
     format!("{}/examples/{name}", env::var("GIX_URL_REPOSITORY").unwrap_or(here.to_owned()))
 }
 
-/// What an example prints of the remotes.
-fn printed(example: &str) -> String {
+/// What an example prints of a file.
+fn printed(example: &str, input: &str) -> String {
     let tests = env::current_exe().unwrap();
     let program = tests.parent().unwrap().with_file_name("examples").join(example);
     assert!(program.is_file(), "cargo test without --test builds the examples");
-    let ran = Command::new(program).stdin(File::open(file("remotes")).unwrap()).output().unwrap();
+    let ran = Command::new(program).stdin(File::open(file(input)).unwrap()).output().unwrap();
     assert!(ran.status.success());
     String::from_utf8(ran.stdout).unwrap()
 }
 
-/// What the example in C prints.
-fn wanted(example: &str) -> String {
-    fs::read_to_string(file(&format!("c/{example}.wanted"))).unwrap()
+/// What is wanted, by a file.
+fn wanted(name: &str) -> String {
+    fs::read_to_string(file(name)).unwrap()
 }
 
 #[test]
 fn examples_print_what_those_in_c_do() {
     for example in ["hosts", "ssh_command", "without_password"] {
-        assert_eq!(printed(example), wanted(example), "{example}");
+        assert_eq!(printed(example, "remotes"), wanted(&format!("c/{example}.wanted")), "{example}");
     }
+}
+
+#[test]
+fn an_example_says_what_git_does_by_a_configuration() {
+    assert_eq!(printed("remotes", "config"), wanted("config.wanted"));
 }

@@ -1,6 +1,8 @@
 //! Questions take no memory, and answer for all values of the fields.
 #![deny(unsafe_op_in_unsafe_fn)]
 
+use gix_url_proved::audit;
+use gix_url_proved::rules::{self, Configuration};
 use gix_url_proved::testing::TestUrlExtension;
 use gix_url_proved::{parse, Scheme, Url};
 use std::alloc::{GlobalAlloc, Layout, System};
@@ -92,4 +94,17 @@ fn a_short_text_takes_no_memory_but_its_own() {
     assert_eq!(requests(|| url.to_string()), 1);
     assert_eq!(requests(|| url.path_query_fragment()), 0);
     assert_eq!(requests(|| url.write_to(&mut std::io::sink())), 0);
+}
+
+#[test]
+fn a_call_over_a_configuration_allocates_the_entries_and_its_result() {
+    let listing = b"url.a>.insteadof\ngh:\0submodule.a.path\nb\0";
+    assert_eq!(requests(|| Configuration::from_listing(listing)), 3);
+    let configuration = Configuration::from_listing(listing).unwrap();
+    assert_eq!(requests(|| configuration.rewrite_fetch("gh:p")), 2);
+    assert_eq!(requests(|| configuration.permission("ssh", &rules::Policy::default())), 1);
+    assert_eq!(requests(|| configuration.entries().for_each(|entry| used(rules::check_submodule(&entry)))), 0);
+    assert_eq!(requests(|| rules::transport_of("gh:p")), 1);
+    assert_eq!(requests(|| rules::resolve_submodule("https://h/a", "../b")), 1);
+    assert_eq!(requests(|| audit::secrets("https://u:p@h/").count()), 1);
 }

@@ -1,6 +1,8 @@
 //! Carries out the orders of the standard input, a line each, by the calls of the crate, and prints the outcome of each
 //! call, a line of JSON, as the program `answers` does. `tools/row_programs.py` writes and describes orders.
 
+mod rules;
+
 use gix_url_proved::bstr::BString;
 use gix_url_proved::expand_path::{self, ForUser};
 use gix_url_proved::ipv6::is_ipv6;
@@ -426,6 +428,9 @@ fn told_with(order: &Order, path: &[u8]) -> String {
 /// Makes the call of an order, by what it is over.
 fn carry_out(order: &Order) -> Option<String> {
     let call = order.text("call")?;
+    if let Some(told) = rules::carry_out(order, &call) {
+        return Some(told);
+    }
     if let Some(url) = order.url("url") {
         return look(order, &call, &url).or_else(|| change(order, &call, url));
     }

@@ -1,0 +1,169 @@
+//! What is dangerous in a text that a program uses as a remote, and what in a text may be a secret.
+//!
+//! `docs/AUDIT.md` of the repository has programs that audit remotes and submodules of strangers.
+
+use crate::bstr::{BStr, BString, ByteSlice};
+use crate::rules::Error;
+use crate::{ffi, Url};
+use std::fmt;
+use std::sync::{Mutex, PoisonError};
+
+/// What is dangerous in a text, or in the location that is read in it. `Display` says it in a few words, which hold no byte
+/// of the text.
+///
+/// ```
+/// use gix_url_proved::audit::Danger;
+///
+/// assert_eq!(Danger::OptionLikeHost.name(), "option_like_host");
+/// assert_eq!(Danger::OptionLikeHost.words(), "the host begins with -");
+/// ```
+#[derive(Clone, Copy, Debug, PartialEq, Eq, PartialOrd, Ord, Hash)]
+pub enum Danger {
+    /// Git runs the path: the scheme is `ext`.
+    Command,
+    /// The user begins with `-`.
+    OptionLikeUser,
+    /// The host begins with `-`.
+    OptionLikeHost,
+    /// The path begins with `-` or `/-`.
+    OptionLikePath,
+    /// There is a password.
+    Password,
+    /// The user, or a word of the path, may be a token.
+    Token,
+    /// The host has a control character or a space.
+    HostCharacter,
+    /// A part has a line feed, a carriage return or a byte 0.
+    LineEnd,
+    /// Git takes another host from the text.
+    OtherHost,
+    /// Other programs take another host or port from the text.
+    MisreadHost,
+}
+
+impl Danger {
+    /// The dangers in the order of their numbers in the library, which begin at 1.
+    pub const ALL: [Danger; 10] = [
+        Danger::Command,
+        Danger::OptionLikeUser,
+        Danger::OptionLikeHost,
+        Danger::OptionLikePath,
+        Danger::Password,
+        Danger::Token,
+        Danger::HostCharacter,
+        Danger::LineEnd,
+        Danger::OtherHost,
+        Danger::MisreadHost,
+    ];
+
+    /// The danger of a number; none of 0.
+    pub(crate) fn numbered(number: u8) -> Option<Danger> {
+        Danger::ALL.get(usize::from(number).checked_sub(1)?).copied()
+    }
+
+    /// The name of the danger, as programs show it to programs.
+    pub fn name(self) -> &'static str {
+        &self.said().0
+    }
+
+    /// The danger in a few words.
+    pub fn words(self) -> &'static str {
+        &self.said().1
+    }
+
+    /// The name and the words of the library, which is asked once for those of all dangers.
+    fn said(self) -> &'static (String, String) {
+        static SAID: Mutex<Option<&[(String, String)]>> = Mutex::new(None);
+        let all = || (1..=10).map(|number| (ffi::danger_name(number), ffi::danger_words(number))).collect();
+        let mut said = SAID.lock().unwrap_or_else(PoisonError::into_inner);
+        &said.get_or_insert_with(|| Box::leak(all()))[self as usize]
+    }
+}
+
+impl fmt::Display for Danger {
+    fn fmt(&self, f: &mut fmt::Formatter<'_>) -> fmt::Result {
+        f.write_str(self.words())
+    }
+}
+
+/// The dangers of a text that a program uses as a remote, and of the location that is read in it: each once, in the order of
+/// [`Danger::ALL`]. It allocates the result, and what the library needs for it.
+///
+/// ```
+/// use gix_url_proved::audit::{dangers, Danger};
+///
+/// let text = "https://user:secret@h/-p";
+/// let url = gix_url_proved::parse(text).unwrap();
+/// assert_eq!(dangers(text, &url)?, [Danger::OptionLikePath, Danger::Password]);
+/// # Ok::<(), gix_url_proved::rules::Error>(())
+/// ```
+///
+/// # Errors
+///
+/// [`Error::Memory`].
+pub fn dangers(text: impl AsRef<[u8]>, url: &Url) -> Result<Vec<Danger>, Error> {
+    ffi::dangers(text.as_ref(), url)
+}
+
+/// A piece of a text.
+#[derive(Clone, Copy, PartialEq, Eq, Hash)]
+pub enum Piece<'a> {
+    /// It isn't known as a secret.
+    Shown(&'a BStr),
+    /// It may be a secret.
+    Hidden(&'a BStr),
+}
+
+impl<'a> Piece<'a> {
+    /// The bytes of the piece.
+    pub fn bytes(self) -> &'a BStr {
+        match self {
+            Piece::Shown(bytes) | Piece::Hidden(bytes) => bytes,
+        }
+    }
+}
+
+impl fmt::Debug for Piece<'_> {
+    /// Shows the length of a secret in place of its bytes.
+    fn fmt(&self, f: &mut fmt::Formatter<'_>) -> fmt::Result {
+        match self {
+            Piece::Shown(bytes) => f.debug_tuple("Shown").field(bytes).finish(),
+            Piece::Hidden(bytes) => f.debug_tuple("Hidden").field(&crate::debug::Length::of(bytes)).finish(),
+        }
+    }
+}
+
+/// The pieces of a text, of which some may be secrets: passwords, and tokens of GitHub, GitLab and Bitbucket. Joined they are
+/// the text. Neighbours may be of one kind. The text may be a location or none, or a key or a value of a configuration. It
+/// allocates the lengths of the pieces.
+///
+/// ```
+/// use gix_url_proved::audit::{secrets, Piece};
+///
+/// let hidden = secrets("https://u:p@h/").filter(|piece| matches!(piece, Piece::Hidden(_)));
+/// assert_eq!(hidden.collect::<Vec<_>>(), [Piece::Hidden("p".into())]);
+/// ```
+pub fn secrets<T: AsRef<[u8]> + ?Sized>(text: &T) -> impl Iterator<Item = Piece<'_>> {
+    let mut rest = text.as_ref();
+    let mut numbers = ffi::secrets(rest).into_iter();
+    std::iter::from_fn(move || {
+        let (len, is_hidden) = (numbers.next()?, numbers.next()? != 0);
+        let piece = ffi::next(&mut rest, len).as_bstr();
+        Some(if is_hidden { Piece::Hidden(piece) } else { Piece::Shown(piece) })
+    })
+}
+
+/// A text with `redacted` in place of each piece that may be a secret. It allocates the text, and the lengths of the pieces.
+///
+/// ```
+/// use gix_url_proved::audit::redacted;
+///
+/// assert_eq!(redacted("cannot clone https://u:p@h/"), "cannot clone https://u:redacted@h/");
+/// ```
+pub fn redacted(text: impl AsRef<[u8]>) -> BString {
+    let shown = |piece| match piece {
+        Piece::Shown(bytes) => bytes.to_vec(),
+        Piece::Hidden(_) => b"redacted".to_vec(),
+    };
+    secrets(text.as_ref()).flat_map(shown).collect()
+}
