@@ -247,8 +247,8 @@ const char *gix_url_error_words(gix_url_error error, const gix_url_problem *prob
     case GIX_URL_NO_ROOM: return "the room is too small for the answer";
     case GIX_URL_NULL: return "a pointer is null that may not be";
     case GIX_URL_NO_VALUE: return "Git stops at an entry without a value";
-    case GIX_URL_NO_BOOLEAN: return "Git stops at an entry whose value is no boolean value";
-    case GIX_URL_NO_CONFIGURATION: return "the text is no configuration";
+    case GIX_URL_NO_BOOLEAN: return "Git stops at an entry whose value is not a boolean";
+    case GIX_URL_NO_CONFIGURATION: return "the text is not a configuration";
     }
     return "an unknown error";
 }

@@ -286,7 +286,7 @@ static void is_alike(const row *row, const input *in, int null) {
     HOLDS(memcmp(&got, &same, sizeof got) == 0);
 }
 
-/* With this pointer null the call is refused, and stores nothing but that there is no stop. */
+/* With this pointer null the call is refused, and stores only that there is no stop. */
 static void is_refused(const row *row, const input *in, int null) {
     static places got, kept;
     HOLDS(made(row, in, &got, ample, ample_array(row), null) == GIX_URL_NULL);

@@ -64,8 +64,8 @@ typedef enum gix_url_error {
     GIX_URL_NULL = 103,        /* a pointer that may not be null is */
     /* of gix_url_rules.h alone */
     GIX_URL_NO_VALUE = 104,        /* Git stops at an entry without a value */
-    GIX_URL_NO_BOOLEAN = 105,      /* Git stops at an entry whose value is no boolean value */
-    GIX_URL_NO_CONFIGURATION = 106 /* the text is no configuration */
+    GIX_URL_NO_BOOLEAN = 105,      /* Git stops at an entry whose value is not a boolean */
+    GIX_URL_NO_CONFIGURATION = 106 /* the text is not a configuration */
 } gix_url_error;
 
 /* The form that a refused text was taken for. */

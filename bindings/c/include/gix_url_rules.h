@@ -26,8 +26,8 @@
  *   GIX_URL_NO_ROOM           the result doesn't fit: the call stores the lengths and counts that are needed
  *   GIX_URL_NULL              a pointer that may not be null is
  *   GIX_URL_NO_VALUE          Git stops at an entry without a value
- *   GIX_URL_NO_BOOLEAN        Git stops at an entry whose value is no boolean value
- *   GIX_URL_NO_CONFIGURATION  the text is no configuration
+ *   GIX_URL_NO_BOOLEAN        Git stops at an entry whose value is not a boolean
+ *   GIX_URL_NO_CONFIGURATION  the text is not a configuration
  *
  * The last three store in stop where. Each call with a parameter stop sets it: to all 0 unless it returns one of these.
  * A reason for which there is nothing to return, as of a text without a transport, is a result, and not an error.
@@ -80,14 +80,14 @@ typedef enum gix_url_flaw {
     GIX_URL_FLAW_NO_END = 13          /* of a listing: its last entry has no byte 0 behind it */
 } gix_url_flaw;
 
-/* The place at which Git stops, or at which a text is no configuration. What doesn't belong to the error is 0. */
+/* The place at which Git stops, or at which a text is not a configuration. What doesn't belong to the error is 0. */
 typedef struct gix_url_stop {
     size_t at;         /* NO_VALUE, NO_BOOLEAN: at of the entry. NO_CONFIGURATION: how many bytes of the text come before */
     size_t line;       /* NO_CONFIGURATION, of a file: the line, from 1 */
     gix_url_flaw flaw; /* NO_CONFIGURATION */
 } gix_url_stop;
 
-/* Reads the entries that git config --list -z writes. The text is refused if one of its lines is no entry, or its last
+/* Reads the entries that git config --list -z writes. The text is refused if one of its lines is not an entry, or its last
  * entry has no end: GIX_URL_NO_CONFIGURATION.
  *
  * On GIX_URL_OK the entries are in entries, which has entry_room places, and point into the buffer. count is their number
@@ -172,7 +172,7 @@ typedef enum gix_url_decision {
     GIX_URL_ALLOWED = 1,
     GIX_URL_REFUSED = 2,
     GIX_URL_UNKNOWN_ALLOWANCE = 3, /* Git stops: the entry that decides has no value that it knows */
-    GIX_URL_UNKNOWN_FROM_USER = 4  /* Git stops: it needs GIT_PROTOCOL_FROM_USER, which is no boolean value */
+    GIX_URL_UNKNOWN_FROM_USER = 4  /* Git stops: it needs GIT_PROTOCOL_FROM_USER, which is not a boolean */
 } gix_url_decision;
 
 /* What decides about a transport. */
@@ -382,7 +382,8 @@ typedef enum gix_url_abnormal {
     GIX_URL_ABNORMAL_BROKEN_ESCAPE = 2, /* a % without two hexadecimal digits */
     GIX_URL_ABNORMAL_NO_HOST = 3,
     GIX_URL_ABNORMAL_BAD_HOST = 4,  /* a byte that no host has */
-    GIX_URL_ABNORMAL_BAD_PORT = 5,  /* what is in a port's place is no port */
+    GIX_URL_ABNORMAL_BAD_PORT = 5,  /* a port that isn't a number from 1 to 65,535, or any port in a URL of file without a
+                                       host */
     GIX_URL_ABNORMAL_ABOVE_ROOT = 6 /* a segment .. above the root */
 } gix_url_abnormal;
 
