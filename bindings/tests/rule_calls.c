@@ -175,13 +175,15 @@ static void over_danger(line *out, gix_url_text call, gix_url_text name) {
 
 /* ---- calls */
 
-/* Makes a call over the location that is read in a text. */
+/* Makes a call over the location that is read in a text, or over parts as they are. */
 static void over_location(line *out, gix_url_text call, const order *order) {
-    gix_url url;
-    gix_url_error error;
+    gix_url url = {.scheme = GIX_URL_FILE};
+    gix_url_error error = GIX_URL_OK;
     gix_url_problem problem;
     gix_url_text read = value(order, "url"), text = value(order, "text");
-    char *room = read_input(read, &url, &error, &problem);
+    char *room = NULL;
+    if (read.at) room = read_input(read, &url, &error, &problem);
+    else url = location(order, "url");
     if (error != GIX_URL_OK) put_word(out, "{\"halt\":\"not prepared\"}");
     else if (is_word(call, "danger::dangers")) tell_dangers(out, text.at ? text : read, &url);
     else tell_words(out, call, order, &url);

@@ -173,7 +173,7 @@ static const row rows[] = {
     {LIST, "", "a.b_cd_e.f_", "", GIX_URL_NO_CONFIGURATION, {4, 0, GIX_URL_FLAW_NO_KEY}, 0, 0},
     {LIST, "", "a.b_c.d", "", GIX_URL_NO_CONFIGURATION, {4, 0, GIX_URL_FLAW_NO_END}, 0, 0},
     {READ, "", "[a]b=v\nc", "", GIX_URL_OK, {0}, 5, 2},
-    {READ, "", "[a]b=v\n\n[", "", GIX_URL_NO_CONFIGURATION, {9, 3, GIX_URL_FLAW_BAD_SECTION}, 0, 0},
+    {READ, "", "[a]b=v\n\n[", "", GIX_URL_NO_CONFIGURATION, {9, 4, GIX_URL_FLAW_BAD_SECTION}, 0, 0},
     {FETCH, "url.a:.insteadof\nx:_", "x:p", "", GIX_URL_OK, {0}, 3, 0},
     {FETCH, "a.b_url.a:.insteadof_", "x:p", "", GIX_URL_NO_VALUE, {4, 0, GIX_URL_FLAW_NONE}, 0, 0},
     {PUSH, "url.ab:.pushinsteadof\nx:_", "x:p", "", GIX_URL_OK, {0}, 4, 0},
@@ -187,12 +187,12 @@ static const row rows[] = {
     {PERMIT, "", "\xff", "", GIX_URL_NO_LOCATION, {0}, 0, 0},
     {DANGERS, "", "https://u:p@-h/", "u:p@-h", GIX_URL_OK, {0}, 0, 2},
     {DANGERS, "", "x", "\xff", GIX_URL_NO_LOCATION, {0}, 0, 0},
-    {SECRETS, "", "https://u:p@h/", "", GIX_URL_OK, {0}, 0, 3},
+    {SECRETS, "", "x", "", GIX_URL_OK, {0}, 0, 1},
     {PLACE, "", "ssh://u@host:22/p", "", GIX_URL_OK, {0}, 7, 0},
     {PLACE, "", "ext::sh", "", GIX_URL_OK, {0}, 0, 0},
     {REQUEST, "", "https://u:p@h/", "", GIX_URL_OK, {0}, 8, 0},
     {REQUEST, "", "/p", "", GIX_URL_OK, {0}, 0, 0},
-    {WORDS, "", "", "h", GIX_URL_OK, {0}, 42, 4},
+    {WORDS, "", "", "h", GIX_URL_OK, {0}, 43, 4},
     {WORDS, "", "", "-h", GIX_URL_OK, {0}, 0, 0},
     {WORDS, "", "", "\xff", GIX_URL_NO_LOCATION, {0}, 0, 0},
     {WORDS, "", NULL, "h", GIX_URL_NO_LOCATION, {0}, 0, 0},
@@ -270,13 +270,16 @@ static void leaves(const row *row, const input *in, size_t buffer, size_t array)
 
 /* With this pointer null the call does the same as with nothing in its place, and doesn't store there. */
 static void is_alike(const row *row, const input *in, int null) {
-    static places got, same;
+    static places same, got;
     input without = *in;
     size_t buffer = null == BUFFER ? 0 : ample, array = null == ARRAY ? 0 : ample_array(row);
     if (null == TEXT) without.text.len = 0;
     if (null == OTHER) without.other.len = 0;
     if (null == CONFIG) without.count = 0;
-    HOLDS(made(row, in, &got, ample, ample_array(row), null) == made(row, &without, &same, buffer, array, 0));
+    gix_url_error error = made(row, in, &same, ample, ample_array(row), null);
+    /* Texts point into the buffer, so it has to be the same one. */
+    memcpy(&got, &same, sizeof got);
+    HOLDS(made(row, &without, &same, buffer, array, 0) == error);
     if (null == NEEDED) memset(&same.needed, 0xA5, sizeof same.needed);
     if (null == MORE) memset(&same.more, 0xA5, sizeof same.more);
     if (null == STOP) memset(&same.stop, 0xA5, sizeof same.stop);

@@ -1,5 +1,6 @@
 /* Says which URL `git fetch` would use for each remote of the standard input by a configuration, and whether Git may use its
- * transport. A program reads the configuration from `git config --list -z`; here it is a text.
+ * transport. Whether the text is dangerous is another question: gix_url_dangers_of answers it. A program reads the
+ * configuration from `git config --list -z`; here it is a text.
  *
  *   cc fetch.c $(pkg-config --cflags --libs gix_url) -o fetch && ./fetch <../remotes */
 #include <gix_url_rules.h>
@@ -13,22 +14,18 @@ static const char listing[] = "url.https://mirror.example/.insteadof\ngit@exampl
 
 /* Prints a text without what may be a secret. */
 static void show(gix_url_text text) {
-    gix_url_piece pieces[64];
+    gix_url_piece pieces[1024];
     size_t count;
-    if (gix_url_secrets_of(text.at, text.len, pieces, 64, &count) != GIX_URL_OK) {
+    if (gix_url_secrets_of(text.at, text.len, pieces, 1024, &count) != GIX_URL_OK) {
         printf("(too long)");
         return;
     }
-    for (size_t i = 0; i < count; text.at += pieces[i++].len)
-        printf("%.*s", pieces[i].is_hidden ? 3 : (int)pieces[i].len, pieces[i].is_hidden ? "***" : text.at);
-}
-
-/* Whether Git takes the text for an option, or refuses it. */
-static bool is_refused(gix_url_text text) {
-    char buffer[4096];
-    gix_url_git_place place;
-    return gix_url_git_reading(text.at, text.len, buffer, sizeof buffer, &place, NULL) != GIX_URL_OK
-        || place.why == GIX_URL_UNREAD_OPTION || place.why == GIX_URL_UNREAD_REFUSED;
+    for (size_t i = 0; i < count; text.at += pieces[i++].len) {
+        if (!pieces[i].is_hidden)
+            printf("%.*s", (int)pieces[i].len, text.at);
+        else if (i == 0 || !pieces[i - 1].is_hidden)
+            printf("***");
+    }
 }
 
 static void judge(const gix_url_entry *entries, size_t count, gix_url_text text) {
@@ -43,8 +40,7 @@ static void judge(const gix_url_entry *entries, size_t count, gix_url_text text)
     gix_url_text name = transport.name;
     gix_url_error error = gix_url_permission_of(entries, count, NULL, name.at, name.len, &permission);
     bool is_allowed = error == GIX_URL_OK && permission.decision == GIX_URL_ALLOWED;
-    printf(": %.*s, %s\n", (int)name.len, name.at,
-           !is_allowed ? "not allowed" : is_refused(text) ? "which is allowed, but Git refuses the text" : "allowed");
+    printf(": %.*s, %s\n", (int)name.len, name.at, is_allowed ? "allowed" : "not allowed");
 }
 
 int main(void) {

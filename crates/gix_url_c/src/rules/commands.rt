@@ -1,7 +1,8 @@
 //! The export that makes the words with which Git runs Secure Shell for a location.
 //!
-//! It uses `given` and `room`. Its contract: what is reported are the words of the library's command, or why there is
-//! none. With an error the room and the lengths are as they were, and the numbers are, except with 102.
+//! It uses `given` and `room`. Its contract: what is reported are the words of the library's command, or
+//! why there is none. With an error the room and the lengths are as they were, and the numbers are, except
+//! with 102.
 
 ghost use Rattle.std.specs.Prelude.{◌≡◌, ◌<◌, ◌⊎◌, IfOk, IfSome, None, length, map};
 ghost use Rattle.std.specs.List.{concat};
@@ -55,11 +56,11 @@ pub struct WordNumbers {
     pub bytes: usize,
 }
 
-/// Puts the words with which Git runs Secure Shell for the location into the room, and their lengths into `lengths`:
-/// [`git_rules::ssh::ssh_command_for`].
+/// Puts the words with which Git runs Secure Shell for the location into the room, and their lengths into
+/// `lengths`: [`git_rules::ssh::ssh_command_for`].
 ///
-/// It answers 0; 1 where memory is refused; 101 where the parts are none of a location, or a number of the request stands
-/// for nothing; 102 where words or lengths don't fit.
+/// It answers 0; 1 where memory is refused; 101 where the parts are none of a location, or a number of the
+/// request stands for nothing; 102 where words or lengths don't fit.
 #[unsafe(no_mangle)]
 pub extern "C" fn gix_url_c_ssh_words(
     alloc: Global,

@@ -1,8 +1,8 @@
 //! The exports that read a configuration: the output of `git config --list -z`, and the text of a file.
 //!
-//! They use `written`, `stops` and `room`. Their contracts: what is reported are the entries of the text, each once and
-//! in its order, or the first place at which it is no configuration. With an error the room and the numbers are as they
-//! were, except the sizes with 102.
+//! They use `written`, `stops` and `room`. Their contracts: what is reported are the entries of the text,
+//! each once and in its order, or the first place at which it is no configuration. With an error the room
+//! and the numbers are as they were, except the sizes with 102.
 
 ghost use Rattle.std.specs.Prelude.{◌≡◌, ◌++◌, ◌∷◌, [], ◌⊎◌, IfErr, IfOk, OnOk, map};
 ghost use Rattle.gix_url_c.specs.Codes.{UnlessMemory, memory, no_room, ok};
@@ -48,12 +48,12 @@ impl From<AllocError> for Unlisted {
     }
 }
 
-/// Puts the parts of the entries of a listing into the room, and eight numbers for each into `numbers`: the lengths of
-/// section, subsection, name and value, the place, the line, and whether there is a subsection and a value:
-/// [`git_rules::config::Reader`].
+/// Puts the parts of the entries of a listing into the room, and eight numbers for each into `numbers`: the
+/// lengths of section, subsection, name and value, the place, the line, and whether there is a subsection
+/// and a value: [`git_rules::config::Reader`].
 ///
-/// It answers 0; 1 where memory is refused; 102 where parts or numbers don't fit; 106 where a line of the text is no
-/// entry or the text is cut off, with the first such place.
+/// It answers 0; 1 where memory is refused; 102 where parts or numbers don't fit; 106 where a line of the
+/// text is no entry or the text is cut off, with the first such place.
 #[unsafe(no_mangle)]
 pub extern "C" fn gix_url_c_read_listing(
     alloc: Global,
@@ -83,8 +83,8 @@ pub extern "C" fn gix_url_c_read_listing(
 
 /// The same with the text of a configuration file: [`git_modules::config_file::entries`].
 ///
-/// It answers 0; 1 where memory is refused; 102 where parts or numbers don't fit; 106 where the text is none of a
-/// configuration file, with the first place at which it is none.
+/// It answers 0; 1 where memory is refused; 102 where parts or numbers don't fit; 106 where the text is
+/// none of a configuration file, with the first place at which it is none.
 #[unsafe(no_mangle)]
 pub extern "C" fn gix_url_c_read_file(
     alloc: Global,

@@ -1,8 +1,8 @@
 //! The export that finds what Git's credential code uses of a configuration for a URL.
 //!
-//! It uses `entries`, `stops` and `room`. Its contract: what is reported is what the library's call returns for what is
-//! read in the URL, or the first entry at which Git stops. With an error the room and the indices are as they were, and
-//! the numbers are, except with 102.
+//! It uses `entries`, `stops` and `room`. Its contract: what is reported is what the library's call returns
+//! for what is read in the URL, or the first entry at which Git stops. With an error the room and the
+//! indices are as they were, and the numbers are, except with 102.
 
 ghost use Rattle.std.specs.Prelude.{◌≡◌, ◌⊎◌};
 ghost use Rattle.git_reads.specs.Views.{credential_reading};
@@ -22,7 +22,8 @@ use git_rules::credentials::{Credentials, CredentialsError, credentials_for};
 use gix_url::credential::{Buffers, Request, reading};
 use std::alloc::Global;
 
-/// What is reported of credentials: numbers, and the length of the user, whose bytes are in the caller's room.
+/// What is reported of credentials: numbers, and the length of the user, whose bytes are in the caller's
+/// room.
 #[repr(C)]
 #[derive(Clone, Copy)]
 pub struct CredentialNumbers {
@@ -38,12 +39,12 @@ pub struct CredentialNumbers {
     pub user: usize,
 }
 
-/// Puts the user that helpers are asked about into the room, and the indices of the entries whose values are the helpers
-/// into `indices`: [`git_rules::credentials::credentials_for`] for what [`gix_url::credential::reading`] reads in the
-/// text.
+/// Puts the user that helpers are asked about into the room, and the indices of the entries whose values
+/// are the helpers into `indices`: [`git_rules::credentials::credentials_for`] for what
+/// [`gix_url::credential::reading`] reads in the text.
 ///
-/// It answers 0; 1 where memory is refused; 102 where the user or the indices don't fit; 104 and 105 where Git stops at an
-/// entry without a value, or without a boolean value, with its place.
+/// It answers 0; 1 where memory is refused; 102 where the user or the indices don't fit; 104 and 105 where
+/// Git stops at an entry without a value, or without a boolean value, with its place.
 #[unsafe(no_mangle)]
 pub extern "C" fn gix_url_c_credentials(
     alloc: Global,

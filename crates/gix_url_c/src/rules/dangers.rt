@@ -1,7 +1,7 @@
 //! The exports over dangers: those of a text and its location, and the name and the words of one.
 //!
-//! They use `given` and `room`. Their contracts: what is put into the room are the numbers of the library's dangers,
-//! or what its table has for the danger of a number; unless it is put there the room is as it was.
+//! They use `given` and `room`. Their contracts: what is put into the room are the numbers of the library's
+//! dangers, or what its table has for the danger of a number; unless it is put there the room is as it was.
 
 ghost use Rattle.std.specs.Prelude.{◌≡◌, IfOk, IfSome, None, map};
 ghost use Rattle.git_audit.specs.Dangers.{danger_name, danger_words};
@@ -18,10 +18,12 @@ use git_audit::danger::{Danger, dangers};
 use gix_url::UrlRef;
 use std::alloc::{AllocError, Global};
 
-/// Puts the numbers of the dangers of a text and of its location into the room, a byte each, and reports how many
-/// there are: [`git_audit::danger::dangers`]. The numbers are 1 to 10, in the order of [`git_audit::danger::Danger`].
+/// Puts the numbers of the dangers of a text and of its location into the room, a byte each, and reports
+/// how many there are: [`git_audit::danger::dangers`]. The numbers are 1 to 10, in the order of
+/// [`git_audit::danger::Danger`].
 ///
-/// It answers 0; 1 where memory is refused; 101 where the parts are none of a location; 102 where they don't fit.
+/// It answers 0; 1 where memory is refused; 101 where the parts are none of a location; 102 where they
+/// don't fit.
 #[unsafe(no_mangle)]
 pub extern "C" fn gix_url_c_dangers(
     alloc: Global,
@@ -94,8 +96,8 @@ fn danger_number(danger: Danger) -> u8
 /// Puts the name of the danger of this number into the room, and reports its length:
 /// [`git_audit::danger::Danger::name`].
 ///
-/// It answers 0; 101, and a length of 0, where no danger has this number; 102 where the name doesn't fit. It takes no
-/// memory.
+/// It answers 0; 101, and a length of 0, where no danger has this number; 102 where the name doesn't fit.
+/// It takes no memory.
 #[unsafe(no_mangle)]
 pub extern "C" fn gix_url_c_danger_name(danger: u8, room: &mut [u8], len: &mut usize) -> u32
     ensures reported { PutsDanger danger_name danger room.old room.new len.new result }

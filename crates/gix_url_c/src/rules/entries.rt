@@ -1,7 +1,7 @@
 //! The entries of a configuration, as C has them: numbers and the bytes of each part.
 //!
-//! It uses the entries of `git_rules`. Its contract: each entry is copied into one of the library with just these
-//! parts, in their order. The copy takes memory, and the parts stay where they are.
+//! It uses the entries of `git_rules`. Its contract: each entry is copied into one of the library with just
+//! these parts, in their order. The copy takes memory, and the parts stay where they are.
 
 ghost use Rattle.std.specs.Prelude.{◌≡◌, IfOk, map};
 ghost use Rattle.gix_url_c.specs.Entries.{entries_given, entry_given};

@@ -1,7 +1,8 @@
 //! The exports that find the transport of a text, and whether Git may use it.
 //!
-//! They use `entries` and `room`. Their contracts: what is reported is what the library's calls return by the text,
-//! or by the configuration, the variables and the name. With an error the room and the answer are as they were.
+//! They use `entries` and `room`. Their contracts: what is reported is what the library's calls return by
+//! the text, or by the configuration, the variables and the name. With an error the room and the answer are
+//! as they were.
 
 ghost use Rattle.std.specs.Prelude.{◌≡◌, ◌⊎◌, IsUtf8, IfOk, option_map};
 ghost use Rattle.git_rules.specs.Policies.{Policy};
@@ -37,7 +38,8 @@ pub struct GivenPolicy<'a> {
 #[repr(C)]
 #[derive(Clone, Copy)]
 pub struct PermissionNumbers {
-    /// What it does: 1 it uses it, 2 it refuses it; it stops, 3 at the entry that decides, 4 at the second variable.
+    /// What it does: 1 it uses it, 2 it refuses it; it stops, 3 at the entry that decides, 4 at the second
+    /// variable.
     pub decision: u8,
     /// What decides: 1 the first variable, 2 an entry, 3 neither; 0 with 4.
     pub by: u8,
@@ -48,8 +50,8 @@ pub struct PermissionNumbers {
 /// Puts the name of the transport that Git takes for a text into the room, and reports its length:
 /// [`git_rules::protocols::text::transport_of`].
 ///
-/// It answers 0, or 102 where the name doesn't fit. Where the text has no transport the length is 0, the room is as it
-/// was, and `why` is the reason: 1 to 4; else it is 0. It takes no memory.
+/// It answers 0, or 102 where the name doesn't fit. Where the text has no transport the length is 0, the
+/// room is as it was, and `why` is the reason: 1 to 4; else it is 0. It takes no memory.
 #[unsafe(no_mangle)]
 pub extern "C" fn gix_url_c_transport(
     text: &[u8],

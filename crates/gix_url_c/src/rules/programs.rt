@@ -1,7 +1,8 @@
 //! The export that finds the program that Git runs for Secure Shell.
 //!
-//! It uses `entries`, `stops` and `room`. Its contract: what is reported is what the library's call returns by the
-//! configuration and the variables. With an error the room is as it was, and the numbers are, except with 102.
+//! It uses `entries`, `stops` and `room`. Its contract: what is reported is what the library's call returns
+//! by the configuration and the variables. With an error the room is as it was, and the numbers are, except
+//! with 102.
 
 ghost use Rattle.std.specs.Prelude.{◌≡◌, ◌⊎◌};
 ghost use Rattle.gix_url_c.specs.Codes.{UnlessMemory, no_room, ok};
@@ -44,8 +45,8 @@ pub struct GivenVariables<'a> {
 pub struct ProgramNumbers {
     /// Whether the text is a command line, which a shell reads.
     pub is_command_line: bool,
-    /// The variant: 0 OpenSSH, 1 `simple`, 2 `plink`, 3 `putty`, 4 `tortoiseplink`; 5 where Git runs the program to find
-    /// it.
+    /// The variant: 0 OpenSSH, 1 `simple`, 2 `plink`, 3 `putty`, 4 `tortoiseplink`; 5 where Git runs the
+    /// program to find it.
     pub variant: u8,
     /// The length of the text.
     pub len: usize,
@@ -54,8 +55,8 @@ pub struct ProgramNumbers {
 /// Puts the text of the program that Git runs for Secure Shell into the room:
 /// [`git_rules::ssh::program::SshProgram::of`].
 ///
-/// It answers 0; 1 where memory is refused; 102 where the text doesn't fit; 104 where Git stops at an entry without a
-/// value, with its place.
+/// It answers 0; 1 where memory is refused; 102 where the text doesn't fit; 104 where Git stops at an entry
+/// without a value, with its place.
 #[unsafe(no_mangle)]
 pub extern "C" fn gix_url_c_ssh_program(
     alloc: Global,

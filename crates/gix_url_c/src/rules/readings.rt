@@ -1,7 +1,7 @@
 //! The exports that report what Git reads in a text: one of its transports, and its credential code.
 //!
-//! They use `pieces` and `room`. Their contracts: what is reported is what the library's calls return. With an error
-//! the room is as it was, and the numbers are, except with 102.
+//! They use `pieces` and `room`. Their contracts: what is reported is what the library's calls return. With
+//! an error the room is as it was, and the numbers are, except with 102.
 
 ghost use Rattle.std.specs.Prelude.{◌≡◌, ◌⊎◌};
 ghost use Rattle.git_reads.specs.Views.{credential_reading, git_reading, scheme_of_protocol};
@@ -17,7 +17,8 @@ use gix_url::credential::{self, Request};
 use gix_url::transport::{self, GitPlace, Protocol, Unread};
 use std::alloc::Global;
 
-/// The place that Git reads: numbers, and the lengths of its parts, whose bytes are in this order in the caller's room.
+/// The place that Git reads: numbers, and the lengths of its parts, whose bytes are in this order in the
+/// caller's room.
 #[repr(C)]
 #[derive(Clone, Copy)]
 pub struct PlaceNumbers {
@@ -41,8 +42,8 @@ pub struct PlaceNumbers {
     pub path: usize,
 }
 
-/// What Git's credential code asks helpers for: numbers, and the lengths of its parts, whose bytes are in this order in
-/// the caller's room.
+/// What Git's credential code asks helpers for: numbers, and the lengths of its parts, whose bytes are in
+/// this order in the caller's room.
 #[repr(C)]
 #[derive(Clone, Copy)]
 pub struct RequestNumbers {
@@ -106,7 +107,8 @@ fn tell_unread(why: Unread, made: &mut PlaceNumbers) -> u32
     }
 }
 
-/// Puts the parts of what Git's credential code reads in a text into the room: [`gix_url::credential::reading`].
+/// Puts the parts of what Git's credential code reads in a text into the room:
+/// [`gix_url::credential::reading`].
 ///
 /// It answers 0; 1 where memory is refused; 102 where the parts don't fit.
 #[unsafe(no_mangle)]

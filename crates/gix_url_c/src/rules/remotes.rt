@@ -1,8 +1,8 @@
 //! The export that finds a remote of a configuration.
 //!
-//! It uses `entries`, `stops` and `room`. Its contract: what is reported are the texts of the library's remote, or the
-//! first entry at which Git stops. With an error the room and the lengths are as they were, and the numbers are, except
-//! with 102.
+//! It uses `entries`, `stops` and `room`. Its contract: what is reported are the texts of the library's
+//! remote, or the first entry at which Git stops. With an error the room and the lengths are as they were,
+//! and the numbers are, except with 102.
 
 ghost use Rattle.std.specs.Prelude.{◌≡◌, ◌++◌, ◌⊎◌, IfOk, OnOk, length, map};
 ghost use Rattle.std.specs.List.{concat};
@@ -25,8 +25,8 @@ use git_rules::rewrite::outcome::Rewritten;
 use git_rules::rewrite::{RewriteError, Rewrites};
 use std::alloc::{AllocError, Global};
 
-/// What is reported of a remote: numbers, and the lengths of its values, whose bytes are in this order in the caller's
-/// room, behind those of the URLs.
+/// What is reported of a remote: numbers, and the lengths of its values, whose bytes are in this order in
+/// the caller's room, behind those of the URLs.
 #[repr(C)]
 #[derive(Clone, Copy)]
 pub struct RemoteNumbers {
@@ -54,11 +54,11 @@ pub struct RemoteNumbers {
     pub bytes: usize,
 }
 
-/// Puts the texts of the remote of this name into the room, and the lengths of its URLs into `lengths`: those to fetch
-/// from, and then those to push to: [`git_rules::remote::Remote::of`].
+/// Puts the texts of the remote of this name into the room, and the lengths of its URLs into `lengths`:
+/// those to fetch from, and then those to push to: [`git_rules::remote::Remote::of`].
 ///
-/// It answers 0; 1 where memory is refused; 102 where texts or lengths don't fit; 104 where Git stops at an entry without a
-/// value, with its place.
+/// It answers 0; 1 where memory is refused; 102 where texts or lengths don't fit; 104 where Git stops at an
+/// entry without a value, with its place.
 #[unsafe(no_mangle)]
 pub extern "C" fn gix_url_c_remote<'a>(
     alloc: Global,

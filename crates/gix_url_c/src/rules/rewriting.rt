@@ -1,8 +1,8 @@
 //! The exports that rewrite a text by a configuration, as Git does before it fetches or pushes.
 //!
-//! They use `entries`, `stops` and `room`. Their contracts: what is reported is what the library's call makes of
-//! the text by the rules of the entries, or the first entry at which Git stops. With an error the room and the
-//! numbers are as they were, except the numbers with 102.
+//! They use `entries`, `stops` and `room`. Their contracts: what is reported is what the library's call
+//! makes of the text by the rules of the entries, or the first entry at which Git stops. With an error the
+//! room and the numbers are as they were, except the numbers with 102.
 
 ghost use Rattle.std.specs.Prelude.{◌≡◌, ◌⊎◌};
 ghost use Rattle.git_rules.specs.RewriteEntries.{rules_of};

@@ -1,7 +1,7 @@
 //! The export that cuts a text into pieces, of which some may be secrets.
 //!
-//! It uses `room`. Its contract: what is reported are the library's pieces, by two numbers each; unless they are put
-//! the numbers are as they were. It takes no memory: the text is cut twice, first to count.
+//! It uses `room`. Its contract: what is reported are the library's pieces, by two numbers each; unless
+//! they are put the numbers are as they were. It takes no memory: the text is cut twice, first to count.
 
 ghost use Rattle.std.specs.Prelude.{◌≡◌, ◌≤◌, ◌++◌, drop, length};
 ghost use Rattle.std.specs.List.{flat_map};
@@ -15,8 +15,9 @@ use crate::codes::{NO_ROOM, OK};
 use crate::room::put_at;
 use git_audit::secret::{Piece, secrets};
 
-/// Puts two numbers for each piece of a text into `numbers`, its length and 1 if it may be a secret, else 0; and reports
-/// how many pieces there are: [`git_audit::secret::secrets`]. Joined the pieces are the text.
+/// Puts two numbers for each piece of a text into `numbers`, its length and 1 if it may be a secret, else
+/// 0; and reports how many pieces there are: [`git_audit::secret::secrets`]. Joined the pieces are the
+/// text.
 ///
 /// It answers 0, or 102 where the numbers don't fit. It takes no memory.
 #[unsafe(no_mangle)]

@@ -1,8 +1,8 @@
 //! The export that finds the entries of `http.*` whose values Git uses for a URL.
 //!
-//! It uses `entries`, `stops` and `room`. Its contract: what is reported are the indices that the library's calls
-//! return, for the normal form of the URL if it has one, or the entry at which Git stops. With an error the indices are
-//! as they were, and the numbers are, except with 102.
+//! It uses `entries`, `stops` and `room`. Its contract: what is reported are the indices that the library's
+//! calls return, for the normal form of the URL if it has one, or the entry at which Git stops. With an
+//! error the indices are as they were, and the numbers are, except with 102.
 
 ghost use Rattle.std.specs.Prelude.{◌≡◌, ◌⊎◌, IsUtf8, Some, None};
 ghost use Rattle.git_rules.specs.Normal.{NormalPlace};
@@ -35,8 +35,8 @@ pub struct SettingNumbers {
 /// [`git_rules::pattern::settings::settings_for`] for the normal form of the URL, and where it has none
 /// [`git_rules::pattern::settings::settings_without_place`].
 ///
-/// It answers 0; 1 where memory is refused; 101 where the name isn't UTF-8; 102 where the indices don't fit; 104 where Git
-/// stops at an entry without a value, with its place.
+/// It answers 0; 1 where memory is refused; 101 where the name isn't UTF-8; 102 where the indices don't
+/// fit; 104 where Git stops at an entry without a value, with its place.
 #[unsafe(no_mangle)]
 pub extern "C" fn gix_url_c_settings(
     alloc: Global,

@@ -1,7 +1,7 @@
 //! The exports over submodules: a URL that is resolved, an entry that is checked, and the list of a file.
 //!
-//! They use `entries`, `pieces` and `room`. Their contracts: what is reported is what the library's calls return. With an
-//! error rooms and numbers are as they were, except the sizes with 102.
+//! They use `entries`, `pieces` and `room`. Their contracts: what is reported is what the library's calls
+//! return. With an error rooms and numbers are as they were, except the sizes with 102.
 
 ghost use Rattle.std.specs.Prelude.{◌≡◌, ◌≤◌, ◌++◌, ◌⊎◌, IfOk, drop, length, option_map};
 ghost use Rattle.std.specs.List.{flat_map};
@@ -27,7 +27,8 @@ use std::alloc::{AllocError, Global};
 #[repr(C)]
 #[derive(Clone, Copy)]
 pub struct ResolvedNumbers {
-    /// Why Git resolves no URL: 1 the URL of the remote is empty, 2 nothing is left of it; 0 where it resolves one.
+    /// Why Git resolves no URL: 1 the URL of the remote is empty, 2 nothing is left of it; 0 where it
+    /// resolves one.
     pub why: u8,
     /// Whether the URL begins with `./` or `../`.
     pub is_relative: bool,
@@ -57,10 +58,12 @@ pub struct SubmoduleSizes {
     pub bytes: usize,
 }
 
-/// Puts the URL of a submodule, resolved against that of the remote, into the room: [`git_modules::resolve::resolve`],
-/// [`git_modules::resolve::is_relative`] and [`git_modules::resolve::climbs`].
+/// Puts the URL of a submodule, resolved against that of the remote, into the room:
+/// [`git_modules::resolve::resolve`], [`git_modules::resolve::is_relative`] and
+/// [`git_modules::resolve::climbs`].
 ///
-/// It answers 0, or 102 where the URL doesn't fit. Where Git resolves none the room is as it was. It takes no memory.
+/// It answers 0, or 102 where the URL doesn't fit. Where Git resolves none the room is as it was. It takes
+/// no memory.
 #[unsafe(no_mangle)]
 pub extern "C" fn gix_url_c_resolve(
     parent: &[u8],
@@ -164,9 +167,10 @@ fn refused_number(found: Option<Refused>) -> u8
     }
 }
 
-/// Puts the names of the submodules of a `.gitmodules` file into the room, and five numbers for each into `numbers`: the
-/// length of the name, and the indices of the entries of its path, its URL, the way to update and the branch, each the
-/// largest number where there is none: [`git_modules::submodules::submodules`].
+/// Puts the names of the submodules of a `.gitmodules` file into the room, and five numbers for each into
+/// `numbers`: the length of the name, and the indices of the entries of its path, its URL, the way to
+/// update and the branch, each the largest number where there is none:
+/// [`git_modules::submodules::submodules`].
 ///
 /// It answers 0; 1 where memory is refused; 102 where names or numbers don't fit.
 #[unsafe(no_mangle)]
