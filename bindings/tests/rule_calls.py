@@ -220,7 +220,7 @@ CALLS = {
     "Resolved::to_bstring": lambda order: told(resolved(order)),
     "Rewrites::rewrite_fetch": lambda order: told(rewritten(order).text),
     "Rewrites::rewrite_push": lambda order: told(
-        config(order).rewrite_push(order["text"], order["has_push_url"] == b"true").text
+        config(order).rewrite_push(order["text"], order.get("has_push_url") == b"true").text
     ),
     "Rewritten::is_rewritten": lambda order: rewritten(order).is_rewritten,
     "Rewritten::to_bstring": lambda order: told(rewritten(order).text),
