@@ -164,7 +164,7 @@ def ran_by(lines, program):
     names = ("error_name", "fault_name", "kind_name", "write_fault_name", "error_words", "version")
     texts = (f'const char *gix_url_{it}(void) {{ return "0"; }}' for it in names)
     with tempfile.TemporaryDirectory() as folder:
-        library = f"{folder}/libgix_url.so.1"
+        library = f"{folder}/libgix_url.so"
         command = [COMPILER, "-shared", "-fPIC", "-xc", "-", "-o", library]
         subprocess.run(command, input="\n".join([*texts, *lines, ""]), text=True, check=True)
         searched = os.path.dirname(os.path.dirname(gix_url.__file__))

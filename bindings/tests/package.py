@@ -54,7 +54,7 @@ class Library(unittest.TestCase):
         self.addCleanup(scratch.cleanup)
         self.prefix = pathlib.Path(scratch.name).resolve() / "prefix"
         self.python = self.prefix / "share/gix_url/python"
-        shutil.copytree(FOLDER, self.python / "gix_url", ignore=shutil.ignore_patterns("*.so.1", "__pycache__"))
+        shutil.copytree(FOLDER, self.python / "gix_url", ignore=shutil.ignore_patterns("*.so.*", "__pycache__"))
         self.library, = mapped_library()
 
     def put(self, place):
