@@ -66,7 +66,8 @@ impl Reason {
                 "more than 1024 bytes follow `://` before the path; slashes directly behind `://` do not start one"
             }
             Reason::NotUtf8 => "these bytes are not UTF-8",
-            Reason::WhiteSpace => "white space is not allowed in a URL: write a space as `%20`",
+            Reason::WhiteSpace =>
+                "white space is not allowed in a URL: remove it, or write a space as `%20`",
             Reason::BrokenEscape => "a `%` must be followed by two hexadecimal digits",
             Reason::SchemeMissing => "the scheme before `://` is missing",
             Reason::SchemeStart => "a scheme must begin with a letter from a to z",
@@ -77,7 +78,7 @@ impl Reason {
             Reason::Backslash => "a backslash is not allowed in the authority",
             Reason::BackslashInHost => "a backslash is not allowed in a host",
             Reason::EscapesNotUtf8 => "these escapes decode to bytes that are not UTF-8",
-            Reason::UnclosedBracket => "a `[` has no `]`",
+            Reason::UnclosedBracket => "the host has a `[` and no `]`",
             Reason::BehindBracket => "only a `:` may follow the `]` of a host",
             Reason::NotAnAddress => {
                 "the brackets must contain an IPv6 address, which may be followed by `%25` and a zone"
