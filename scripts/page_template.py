@@ -6,7 +6,7 @@ usage: scripts/page_template.py             writes crates/explain_page/src/templ
 
 The template is crates/explain_page/page/page.html. A slot is `<!-- name -->`, outside of style and script. The slot `policy` becomes
 the content security policy, which allows the style and the script of the template by their hashes and nothing else; the others
-are filled in by the program. `scripts/documents` asks for `faults()`.
+are filled in by the program. A block of data isn't run. `scripts/documents` asks for `faults()`.
 """
 import base64
 import hashlib
@@ -19,9 +19,10 @@ sys.path.append(f"{sys.path[0]}/../tools")
 from rt_api import ROOT
 
 SOURCE, CODE = (f"{ROOT}/crates/explain_page/{it}" for it in ("page/page.html", "src/template.rt"))
-SLOTS = ("title", "lines", "verdicts", "forms", "remotes", "hosts")
+SLOTS = ("title", "lines", "dangerous", "rows", "hints", "data")
 SLOT = re.compile(r"<!-- (\w+) -->")
 INLINE = re.compile(r"<(style|script)>(.*?)</\1>", re.S)
+ISLAND = '<script type="application/json" id="data">'
 HEAD = """\
 //! The template of the page, as `scripts/page_template.py` writes it of `page/page.html`: edit that, and run the script.
 
@@ -68,8 +69,10 @@ def template_faults(html):
     yield from (f"an unknown slot {it}" for it in sorted(found - {"policy", *SLOTS}))
     yield from (f"a slot in the {kind}" for kind, text in INLINE.findall(html) if SLOT.search(text))
     for kind in ("style", "script"):
-        if len(re.findall(f"<{kind}\\b", html)) != 1 or html.count(f"<{kind}>") != 1:
+        if len(re.findall(f"<{kind}\\b", html.replace(ISLAND, ""))) != 1 or html.count(f"<{kind}>") != 1:
             yield f"there must be one {kind}, without attributes"
+    if html.count(ISLAND) != 1:
+        yield "there must be one block of data"
     if re.search(r"\s(style|on\w+)=", INLINE.sub("", html)):
         yield "an attribute style or on.., which the policy forbids"
     if not html.isascii() or '"##' in html:

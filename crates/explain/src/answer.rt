@@ -2,7 +2,8 @@
 //!
 //! `explain_report` finds what of the line may be shown, what is reported of a location or why a line is
 //! refused, what people may have got wrong, and what Git does with it by a configuration. `shown` lays that
-//! out for people, `only` one part of it, and with `--json` it goes out as one object. It has no contract but
+//! out for people, `only` one part of it, and with `--json` it goes out as one object, which `--html` adds to the page
+//! with the row of the line. It has no contract but
 //! that it can't abort: the stored run and `scripts/hostile` show its answers.
 
 use crate::results::Origin;
@@ -10,6 +11,8 @@ use crate::style::{Layout, Style};
 use crate::{line_results, only, shown};
 use bstr::BStr;
 use explain_audit::kind::names_of;
+use explain_page::page::Page;
+use explain_page::row::Row;
 use explain_report::advice::danger::names;
 use explain_report::advice::hint::{self, Hint};
 use explain_report::advice::reading::Reading;
@@ -92,19 +95,24 @@ impl<'b> Notes<'b> {
 }
 
 impl Line<'_, '_> {
-    /// The answer, and what is found in the line.
-    pub fn answer(self, alloc: Global) -> Result<(String, Findings), AllocError> {
+    /// The answer, and what is found in the line. For a page it is added there, and the answer is empty.
+    pub fn answer(self, alloc: Global, page: &mut Page) -> Result<(String, Findings), AllocError> {
         let read = parse(alloc, BStr::new(self.bytes));
         let answer = match &read {
-            Ok(url) => self.of_location(alloc, url),
-            Err(error) => self.error(alloc, error),
+            Ok(url) => self.of_location(alloc, url, page),
+            Err(error) => self.error(alloc, error, page),
         };
         drop(read);
         answer
     }
 
     /// What is reported of a location, and what is found in it.
-    fn of_location(self, alloc: Global, url: &Url) -> Result<(String, Findings), AllocError> {
+    fn of_location(
+        self,
+        alloc: Global,
+        url: &Url,
+        page: &mut Page,
+    ) -> Result<(String, Findings), AllocError> {
         let found = dangers(alloc, self.bytes, &url.as_ref())?;
         let (found, rules) = both(found, self.rules(alloc, Some(url)))?;
         let findings = Findings::of_location(url, found.as_slice()).union(found_by(rules.as_ref()));
@@ -113,7 +121,7 @@ impl Line<'_, '_> {
             Layout::Quiet => Ok(String::new(alloc)),
             Layout::Only(part) => only::line(alloc, self.bytes, url, part),
             Layout::Sarif => line_results::location(alloc, self, url, notes),
-            _ => self.location(alloc, url, notes),
+            _ => self.location(alloc, url, notes, page),
         };
         drop(rules);
         drop(found);
@@ -121,14 +129,20 @@ impl Line<'_, '_> {
     }
 
     /// What is reported of a location, without its hints and its readers so far.
-    fn location(self, alloc: Global, url: &Url, notes: Notes<'_>) -> Result<String, AllocError> {
+    fn location(
+        self,
+        alloc: Global,
+        url: &Url,
+        notes: Notes<'_>,
+        page: &mut Page,
+    ) -> Result<String, AllocError> {
         let seen = Seen::of(alloc, self.bytes, url)?;
         let answer = match seen.shown(self.bytes, url) {
             Some((bytes, shown)) => {
                 let readers = Readers::of_location(alloc, self.bytes, url, shown.host());
-                self.shown_so(alloc, bytes, shown, readers, notes)
+                self.shown_so(alloc, bytes, shown, readers, notes, page)
             }
-            None => self.withheld(alloc, url, notes),
+            None => self.withheld(alloc, url, notes, page),
         };
         drop(seen);
         answer
@@ -142,6 +156,7 @@ impl Line<'_, '_> {
         url: &Url,
         readers: Result<Option<Readers>, AllocError>,
         notes: Notes<'_>,
+        page: &mut Page,
     ) -> Result<String, AllocError> {
         let readers = readers?;
         let (readers, seen) = both(readers, SeenLine::of(alloc, bytes))?;
@@ -157,7 +172,12 @@ impl Line<'_, '_> {
             hints: found.as_slice(),
             rules: notes.rules,
         };
-        let answer = self.laid_out(alloc, url, &report, &seen, notes);
+        let row = self.row(&seen, Some(&report), None, notes);
+        let answer = if self.style.layout.has_objects() {
+            self.object(alloc, &row, notes, page)
+        } else {
+            shown::location(alloc, self, url, &report, &seen, notes)
+        };
         drop(found);
         drop(readers);
         drop(report);
@@ -166,28 +186,24 @@ impl Line<'_, '_> {
     }
 
     /// What is reported of a location of which nothing is shown, as its parts may be secrets.
-    fn withheld(self, alloc: Global, url: &Url, notes: Notes<'_>) -> Result<String, AllocError> {
-        let seen = SeenLine::without_parts(alloc, self.bytes)?;
-        let (seen, refusal) = both(seen, Refusal::withheld(alloc))?;
-        let answer = self.laid_out_withheld(alloc, url, &refusal, &seen, notes);
-        drop(refusal);
-        drop(seen);
-        answer
-    }
-
-    /// The answer to a line that is read as a location of which nothing is shown.
-    fn laid_out_withheld<'x>(
+    fn withheld(
         self,
         alloc: Global,
         url: &Url,
-        refusal: &'x Refusal,
-        seen: &'x SeenLine<'_>,
-        notes: Notes<'x>,
+        notes: Notes<'_>,
+        page: &mut Page,
     ) -> Result<String, AllocError> {
-        if matches!(self.style.layout, Layout::Json) {
-            return self.refusal_object(alloc, refusal, seen, notes);
-        }
-        shown::withheld(alloc, self, url, refusal, seen, notes)
+        let seen = SeenLine::without_parts(alloc, self.bytes)?;
+        let (seen, refusal) = both(seen, Refusal::withheld(alloc))?;
+        let row = self.row(&seen, None, Some(&refusal), notes);
+        let answer = if self.style.layout.has_objects() {
+            self.object(alloc, &row, notes, page)
+        } else {
+            shown::withheld(alloc, self, url, &refusal, &seen, notes)
+        };
+        drop(refusal);
+        drop(seen);
+        answer
     }
 
     /// What Git does with the line, which is read as this location unless it is refused, by the configuration
@@ -196,41 +212,14 @@ impl Line<'_, '_> {
         Rules::of_given(alloc, self.style.config, self.bytes, url)
     }
 
-    /// The answer to a line that is read as a location.
-    fn laid_out<'x>(
-        self,
-        alloc: Global,
-        url: &Url,
-        report: &'x Report<'_>,
-        seen: &'x SeenLine<'_>,
-        notes: Notes<'x>,
-    ) -> Result<String, AllocError> {
-        if !matches!(self.style.layout, Layout::Json) {
-            return shown::location(alloc, self, url, report, seen, notes);
-        }
-        let (names, found) = both(names(alloc, notes.dangers)?, names_of(alloc, notes.found))?;
-        let answer = json(
-            alloc,
-            &Answer {
-                line: self.number,
-                input: seen.input.as_str(),
-                location: Some(report),
-                refusal: None,
-                readers: notes.readers,
-                dangers: names.as_slice(),
-                findings: found.as_slice(),
-                hints: notes.hints,
-                rules: notes.rules,
-            },
-        );
-        drop(found);
-        drop(names);
-        answer
-    }
-
     /// What is reported of a line that is read as no location, and what is found in it, unless memory is
     /// refused.
-    fn error(self, alloc: Global, error: &Error) -> Result<(String, Findings), AllocError> {
+    fn error(
+        self,
+        alloc: Global,
+        error: &Error,
+        page: &mut Page,
+    ) -> Result<(String, Findings), AllocError> {
         if let Error::Memory = error {
             return Err(AllocError);
         }
@@ -240,7 +229,7 @@ impl Line<'_, '_> {
             Layout::Quiet => Ok(String::new(alloc)),
             Layout::Only(_) => String::from_str(alloc, "\n"),
             Layout::Sarif => line_results::refusal(alloc, self, error, rules.as_ref()),
-            _ => self.refusal(alloc, error, findings, rules.as_ref()),
+            _ => self.refusal(alloc, error, findings, rules.as_ref(), page),
         };
         drop(rules);
         Ok((answer?, findings))
@@ -253,6 +242,7 @@ impl Line<'_, '_> {
         error: &Error,
         findings: Findings,
         rules: Option<&Rules>,
+        page: &mut Page,
     ) -> Result<String, AllocError> {
         let seen = SeenLine::of(alloc, self.bytes)?;
         let (seen, refusal) = both(seen, Refusal::with_git(alloc, self.bytes, error))?;
@@ -267,7 +257,12 @@ impl Line<'_, '_> {
             hints: found.as_slice(),
             rules,
         };
-        let answer = self.laid_out_refusal(alloc, &refusal, &seen, notes);
+        let row = self.row(&seen, None, Some(&refusal), notes);
+        let answer = if self.style.layout.has_objects() {
+            self.object(alloc, &row, notes, page)
+        } else {
+            shown::refusal(alloc, self, &refusal, &seen, notes)
+        };
         drop(found);
         drop(readers);
         drop(refusal);
@@ -275,47 +270,63 @@ impl Line<'_, '_> {
         answer
     }
 
-    /// The answer to a line that is refused.
-    fn laid_out_refusal<'x>(
+    /// What the row of a page and an object have of the line.
+    fn row<'x, 'a: 'x>(
         self,
-        alloc: Global,
-        refusal: &'x Refusal,
-        seen: &'x SeenLine<'_>,
+        seen: &'x SeenLine<'a>,
+        location: Option<&'x Report<'a>>,
+        refusal: Option<&'x Refusal>,
         notes: Notes<'x>,
-    ) -> Result<String, AllocError> {
-        if matches!(self.style.layout, Layout::Json) {
-            return self.refusal_object(alloc, refusal, seen, notes);
+    ) -> Row<'x, 'a> {
+        Row {
+            number: self.number,
+            seen,
+            location,
+            refusal,
+            dangers: notes.dangers,
+            found: notes.found,
         }
-        shown::refusal(alloc, self, refusal, seen, notes)
     }
 
-    /// The object of a line without a location, or with one of which nothing is shown.
-    fn refusal_object<'x>(
+    /// The object of the line; for a page it is added there with the row.
+    fn object(
         self,
         alloc: Global,
-        refusal: &'x Refusal,
-        seen: &'x SeenLine<'_>,
-        notes: Notes<'x>,
+        row: &Row<'_, '_>,
+        notes: Notes<'_>,
+        page: &mut Page,
     ) -> Result<String, AllocError> {
-        let (names, found) = both(names(alloc, notes.dangers)?, names_of(alloc, notes.found))?;
-        let answer = json(
-            alloc,
-            &Answer {
-                line: self.number,
-                input: seen.input.as_str(),
-                location: None,
-                refusal: Some(refusal),
-                readers: notes.readers,
-                dangers: names.as_slice(),
-                findings: found.as_slice(),
-                hints: notes.hints,
-                rules: notes.rules,
-            },
-        );
-        drop(found);
-        drop(names);
-        answer
+        let object = object_of(alloc, row, notes)?;
+        if !matches!(self.style.layout, Layout::Page) {
+            return Ok(object);
+        }
+        let added = page.add(row, object.as_str());
+        drop(object);
+        added?;
+        Ok(String::new(alloc))
     }
+}
+
+/// The object of a line with this row.
+fn object_of(alloc: Global, row: &Row<'_, '_>, notes: Notes<'_>) -> Result<String, AllocError> {
+    let (names, found) = both(names(alloc, notes.dangers)?, names_of(alloc, notes.found))?;
+    let object = json(
+        alloc,
+        &Answer {
+            line: row.number,
+            input: row.seen.input.as_str(),
+            location: row.location,
+            refusal: row.refusal,
+            readers: notes.readers,
+            dangers: names.as_slice(),
+            findings: found.as_slice(),
+            hints: notes.hints,
+            rules: notes.rules,
+        },
+    );
+    drop(found);
+    drop(names);
+    object
 }
 
 /// The answer as one line of JSON. Each part of an answer has a JSON, so it fails only where memory is

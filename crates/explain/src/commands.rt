@@ -9,6 +9,7 @@ use crate::client::Client;
 use crate::shell_line::line_of;
 use crate::style::{Layout, Style};
 use bstr::BStr;
+use explain_page::page::Page;
 use explain_report::finding::Findings;
 use explain_report::text::secret::has_secret;
 use git_rules::ssh::program::ProgramVariant;
@@ -120,7 +121,10 @@ fn found_in(alloc: Global, line: Line<'_, '_>) -> Result<Findings, AllocError> {
             fail_on: line.style.fail_on,
         },
     };
-    let (answer, found) = quiet.answer(alloc)?;
+    let mut page = Page::new(alloc);
+    let answered = quiet.answer(alloc, &mut page);
+    drop(page);
+    let (answer, found) = answered?;
     drop(answer);
     Ok(found)
 }

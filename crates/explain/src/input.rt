@@ -172,11 +172,6 @@ fn answer_line<W: Write>(
         origin: &seen.origin,
         style,
     };
-    if let Layout::Page = style.layout {
-        let found = seen.page.add(line.number, line.bytes, style.config)?;
-        seen.found = seen.found.union(found);
-        return Ok(());
-    }
     if let Layout::Summary = style.layout {
         let found = seen.summary.add(line.bytes, style.config)?;
         seen.found = seen.found.union(found);
@@ -188,7 +183,7 @@ fn answer_line<W: Write>(
         seen.lacks_command = seen.lacks_command || is_missing;
         return Ok(());
     }
-    let (answer, found) = line.answer(rt.alloc())?;
+    let (answer, found) = line.answer(rt.alloc(), &mut seen.page)?;
     seen.found = seen.found.union(found);
     seen.write(style, answer.as_str(), output)
 }

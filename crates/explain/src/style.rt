@@ -50,6 +50,13 @@ pub enum Layout {
     Summary,
 }
 
+impl Layout {
+    /// Whether a line is answered with its object.
+    pub fn has_objects(self) -> bool {
+        matches!(self, Layout::Json | Layout::Page)
+    }
+}
+
 impl Style<'_, '_> {
     /// Whether nothing that follows can change what the run reports.
     pub fn is_over(&self, seen: &Seen) -> bool {

@@ -1,5 +1,5 @@
--- How a text is put into a page: as text, which begins no tag and ends no value of an attribute.
-use Rattle.std.specs.Prelude.{ℕ, Bool, true, false, not, ◌==◌, ◌&&◌, ◌||◌, List, [], ◌∷◌, codes, flat_map, if◌then◌else◌}
+-- How a text is put into a page: as text, which begins no tag and ends no value of an attribute; and of JSON without `<`.
+use Rattle.std.specs.Prelude.{ℕ, Bool, true, false, not, ◌==◌, ◌&&◌, ◌||◌, List, [], ◌∷◌, codes, flat_map, nat_le, if◌then◌else◌}
 
 -- `<`
 abbrev pub less_than : ℕ
@@ -57,3 +57,28 @@ ends_reference bytes =
 abbrev pub has_no_markup : List ℕ → Bool
 has_no_markup [] = true
 has_no_markup (b ∷ bytes) = not (is_mark b) && ((if b == ampersand then ends_reference bytes else true) && has_no_markup bytes)
+
+-- ---- a text that is shown as it is
+
+-- `\`
+abbrev pub backslash : ℕ
+backslash = 92
+
+-- the byte is ASCII that is seen, and not `\`
+abbrev pub is_plain : ℕ → Bool
+is_plain b = nat_le 32 b && (nat_le b 126 && not (b == backslash))
+
+-- ---- a text of JSON in a page
+
+-- a byte: itself, or the escape of `<`
+abbrev pub island_byte : ℕ → List ℕ
+island_byte b = if b == less_than then backslash ∷ codes "u003c" else b ∷ []
+
+-- the text
+abbrev pub island : List ℕ → List ℕ
+island text = flat_map island_byte text
+
+-- no byte begins a tag
+abbrev pub has_no_tag : List ℕ → Bool
+has_no_tag [] = true
+has_no_tag (b ∷ bytes) = not (b == less_than) && has_no_tag bytes

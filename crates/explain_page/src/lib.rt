@@ -1,19 +1,11 @@
-//! The page that `explain --html` writes.
+//! The page that `explain --html` writes: a table with a row for each line, and the objects of `--json`.
 //!
-//! [`page::Page`] takes a line after the other, and writes the page when it has all. What it says of a line
-//! is what `explain_report` reports of it; text goes in by [`markup::Markup`] alone, by whose contract it
-//! adds no markup.
+//! [`page::Page`] takes the [`row::Row`] of a line after the other, with the object of the line, and writes the page when
+//! it has all. Text goes in by [`markup::Markup`] alone, by whose contract it adds no markup.
 #![tactic(auto)]
 
-mod article;
-mod counts;
-mod cuts;
-mod git_pieces;
 pub mod markup;
 pub mod page;
-mod pieces;
-mod rank;
-mod readers;
-mod rules;
+pub mod row;
 mod template;
-mod withheld;
+mod text;

@@ -1,11 +1,14 @@
 //! Text of a page in HTML: what the template says, and what is put into it.
 //!
 //! There is no way to add bytes but those below: a template's own text goes in as it is, and it is a constant
-//! of this program; all else goes in as text. It uses `line` for how a text is shown. Its contract: of a text
-//! exactly the escaped text is added, in which no byte begins a tag or ends the value of an attribute.
+//! of this program; a text of JSON goes in without `<`, and all else goes in as text. It uses `line` for how a text is
+//! shown. Its contract: of a text or a value exactly the escaped text is added, in which no byte begins a tag or ends the
+//! value of an attribute; of a text of JSON the same text with the escape of each `<`, so that it ends no element.
 
-ghost use Rattle.std.specs.Prelude.{◌≡◌, List, ℕ, ◌++◌, [], true, OnOk, flat_map};
-ghost use Rattle.explain_page.specs.Markup.{escaped, escaped_byte, has_no_markup};
+ghost use Rattle.std.specs.Prelude.{◌≡◌, List, ℕ, ◌++◌, [], true, IfSome, OnOk, flat_map};
+ghost use Rattle.std.specs.List.{list_all};
+ghost use Rattle.explain_page.specs.Markup as spec;
+ghost use Rattle.explain_page.specs.Markup.{escaped, escaped_byte, has_no_markup, has_no_tag, island, island_byte};
 
 use explain_report::text::line::Shown;
 use std::alloc::{AllocError, Global};
@@ -59,16 +62,10 @@ impl Markup {
         push_escaped(&mut self.bytes, text.as_bytes())
     }
 
-    /// Appends a text of the input, as it is shown.
-    pub fn push_shown(&mut self, text: &[u8]) -> Result<(), AllocError>
-        ensures no_markup { OnOk result
-            ((added : List ℕ) × (self.new ≡ self.old ++ added) × (has_no_markup added ≡ true)) }
-    {
-        self.push_value(Shown(text))
-    }
-
     /// Appends a value, as it is formatted.
     pub fn push_value<D: Display + Drop>(&mut self, value: D) -> Result<(), AllocError>
+        ensures value { IfSome (D.Display.output value)
+            (λ text. OnOk result (self.new ≡ self.old ++ escaped text)) }
         ensures no_markup { OnOk result
             ((added : List ℕ) × (self.new ≡ self.old ++ added) × (has_no_markup added ≡ true)) }
     {
@@ -79,18 +76,34 @@ impl Markup {
         pushed
     }
 
-    /// Appends what the template says, and a text of the input behind it.
-    pub fn push_row(&mut self, piece: &'static str, text: &[u8]) -> Result<(), AllocError> {
-        self.push_template(piece)?;
-        self.push_shown(text)
+    /// Appends a text of the input, as it is shown: a plain one is shown as it is.
+    pub fn push_shown(&mut self, text: &[u8]) -> Result<(), AllocError>
+        ensures plain { list_all spec.is_plain text.now ≡ true
+            → OnOk result (self.new ≡ self.old ++ escaped text.now) }
+        ensures no_markup { OnOk result
+            ((added : List ℕ) × (self.new ≡ self.old ++ added) × (has_no_markup added ≡ true)) }
+    {
+        if text.iter().all(|byte| is_plain(*byte)) {
+            return push_escaped(&mut self.bytes, text);
+        }
+        self.push_value(Shown(text))
     }
 
-    /// Appends other text of the page.
-    pub fn append(&mut self, other: &Markup) -> Result<(), AllocError>
-        ensures { OnOk result (self.new ≡ self.old ++ other.now) }
+    /// Appends a text of JSON, in which `<` is in strings alone.
+    pub fn push_json(&mut self, text: &str) -> Result<(), AllocError>
+        ensures escaped { OnOk result (self.new ≡ self.old ++ island text.now) }
+        ensures no_tag { OnOk result
+            ((added : List ℕ) × (self.new ≡ self.old ++ added) × (has_no_tag added ≡ true)) }
     {
-        self.bytes.extend_from_slice(other.as_bytes())
+        push_island(&mut self.bytes, text.as_bytes())
     }
+}
+
+/// Whether the byte is printed as it is in a text that is shown.
+fn is_plain(byte: u8) -> bool
+    ensures { result ≡ spec.is_plain byte }
+{
+    matches!(byte, b' '..=b'~') && byte != b'\\'
 }
 
 /// Appends a text, with references in place of the bytes that are markup.
@@ -104,6 +117,19 @@ fn push_escaped(out: &mut Vec<u8>, text: &[u8]) -> Result<(), AllocError>
             b'&' => out.extend_from_slice(b"&amp;")?,
             b'"' => out.extend_from_slice(b"&quot;")?,
             b'\'' => out.extend_from_slice(b"&#39;")?,
+            other => out.push(other)?,
+        }
+    }
+    Ok(())
+}
+
+/// Appends a text, with the escape of JSON in place of each `<`.
+fn push_island(out: &mut Vec<u8>, text: &[u8]) -> Result<(), AllocError>
+    ensures { OnOk result (out.new.items ≡ out.old.items ++ flat_map island_byte text.now) }
+{
+    for byte in text {
+        match *byte {
+            b'<' => out.extend_from_slice(b"\\u003c")?,
             other => out.push(other)?,
         }
     }

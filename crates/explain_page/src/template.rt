@@ -14,19 +14,19 @@ pub enum Part {
 pub enum Slot {
     Title,
     Lines,
-    Verdicts,
-    Forms,
-    Remotes,
-    Hosts,
+    Dangerous,
+    Rows,
+    Hints,
+    Data,
 }
 
 /// The parts of the page, in order.
-pub const PAGE: [Part; 19] = [
+pub const PAGE: [Part; 15] = [
     Part::Text(
         r##"<!DOCTYPE html>
 <html lang="en">
 <meta charset="utf-8">
-<meta http-equiv="Content-Security-Policy" content="default-src 'none'; style-src 'sha256-lUx4dFiuTbWxwmVCw2m19G/E5AQ7g3ESOA5zbPm36h4='; script-src 'sha256-s0ztrpq2N07TFiro+TitHrvs1jjYqCo6sFnd+OioHY8='; base-uri 'none'; form-action 'none'">
+<meta http-equiv="Content-Security-Policy" content="default-src 'none'; style-src 'sha256-fkh5IDNS77kiBE9IQGmNKfT4kDdn0K10jGTfapPRemc='; script-src 'sha256-Vb8iSFbY4kYH252FDUiT3imL2dlwvPwvyMi9/2KyIEg='; base-uri 'none'; form-action 'none'">
 <meta name="viewport" content="width=device-width, initial-scale=1">
 <meta name="color-scheme" content="light dark">
 <meta name="generator" content="explain --html">
@@ -38,73 +38,56 @@ pub const PAGE: [Part; 19] = [
 <style>
 :root {
   color-scheme: light dark;
-  --paper: #fff; --ink: #1b1d21; --dim: #555b66; --line: #d5d9e0; --card: #f7f8fa; --bar: #4a6fa5;
-  --alarm: #a8071a; --alarm-paper: #fdecec; --mark: #ffe08a;
-  --scheme: #00646b; --user: #7a4f00; --password: #a8071a; --host: #14612a; --port: #6d2f96; --path: #1b489e;
-  --query: #93266d; --fragment: #4145a8;
+  --paper: #fff; --ink: #1b1d21; --dim: #555b66; --line: #d5d9e0; --card: #f7f8fa; --bar: #4a6fa5; --alarm: #a8071a; --mark: #ffe08a;
+  --scheme: #00646b; --user: #7a4f00; --host: #14612a; --port: #6d2f96; --path: #1b489e; --query: #93266d; --fragment: #4145a8;
 }
 @media (prefers-color-scheme: dark) {
   :root {
-    --paper: #15171b; --ink: #e8eaee; --dim: #a9b0bc; --line: #3a3f49; --card: #1d2026; --bar: #7ea2d6;
-    --alarm: #ff9a9a; --alarm-paper: #3a1a1d; --mark: #4a3900;
-    --scheme: #62d4dc; --user: #e8b95f; --password: #ff9a9a; --host: #84dc9a; --port: #d3a4f2; --path: #93baff;
-    --query: #f5a3d5; --fragment: #b9bcff;
+    --paper: #15171b; --ink: #e8eaee; --dim: #a9b0bc; --line: #3a3f49; --card: #1d2026; --bar: #7ea2d6; --alarm: #ff9a9a; --mark: #4a3900;
+    --scheme: #62d4dc; --user: #e8b95f; --host: #84dc9a; --port: #d3a4f2; --path: #93baff; --query: #f5a3d5; --fragment: #b9bcff;
   }
 }
 * { box-sizing: border-box; }
-html { scroll-padding-top: 1rem; }
 body {
-  margin: 0 auto; padding: 1rem; max-width: 70rem; background: var(--paper); color: var(--ink);
+  margin: 0 auto; padding: 1rem; max-width: 80rem; background: var(--paper); color: var(--ink);
   font: 1rem/1.5 system-ui, sans-serif; overflow-wrap: anywhere;
 }
-h1, h2, h3, h4 { line-height: 1.25; margin: 0 0 .5rem; }
+h1, h2, h3 { line-height: 1.25; margin: 0 0 .5rem; font-size: 1rem; }
 h1 { font-size: 1.6rem; }
 h2 { font-size: 1.25rem; margin-top: 1.5rem; }
-h3 { font-size: 1rem; }
-h4 { font-size: .9rem; margin: .75rem 0 .25rem; }
 p { margin: .25rem 0; }
 a { color: var(--path); }
 :focus-visible { outline: 3px solid var(--bar); outline-offset: 2px; }
 .skip { position: absolute; left: -100rem; }
-.skip:focus { left: 1rem; top: 1rem; padding: .5rem 1rem; background: var(--paper); border: 2px solid var(--bar); z-index: 1; }
+.skip:focus { left: 1rem; top: 1rem; padding: .5rem 1rem; background: var(--paper); border: 2px solid var(--bar); }
+table { border-collapse: collapse; }
+th, td { text-align: left; vertical-align: top; padding: .25rem .5rem; white-space: break-spaces; unicode-bidi: isolate; }
+dd { margin: 0; white-space: break-spaces; unicode-bidi: isolate; }
 
-/* Counts */
-.counts { display: grid; grid-template-columns: repeat(auto-fit, minmax(min(20rem, 100%), 1fr)); gap: 1rem 2rem; align-items: start; }
-.counts table { border-collapse: collapse; width: 100%; }
-.counts caption { text-align: left; font-weight: 600; padding: .25rem 0; }
-.counts th { text-align: left; font-weight: 400; padding: .1rem .75rem .1rem 0; unicode-bidi: isolate; white-space: break-spaces; }
-.counts td { text-align: right; width: 1%; white-space: nowrap; font-variant-numeric: tabular-nums; padding: .1rem .5rem; }
-.counts td + td { text-align: left; padding-right: 0; }
-.counts svg { display: block; fill: var(--bar); }
-#hosts th { font-family: ui-monospace, monospace; font-size: .9rem; }
-#hosts th:empty::before { content: "(empty)"; color: var(--dim); font-style: italic; }
-#hosts th.n { font-family: inherit; color: var(--dim); }
+/* The lines. Those that aren't seen are laid out late, by groups: a browser takes minutes for all of them. */
+#lines, #lines > * { display: block; }
+#lines > caption { text-align: left; color: var(--dim); }
+#lines > tbody { content-visibility: auto; contain-intrinsic-size: auto 600rem; }
+#lines > tbody:empty { display: none; }
+#lines > * > tr { display: grid; grid-template-columns: 5rem minmax(0, 5fr) minmax(0, 3fr) minmax(0, 3fr) minmax(0, 2fr); border-bottom: 1px solid var(--line); }
+#lines > * > tr[hidden] { display: none; }
+#lines > * > .more { grid-template-columns: minmax(0, 1fr); background: var(--card); }
+#lines > tbody > tr:not(.more) > * { max-height: 12rem; overflow-y: auto; }
+#lines tr:target { background: var(--card); }
+#lines > tbody > tr > th { font-weight: 400; }
+#lines > tbody > tr > td:nth-child(2), #lines > tbody > tr > td:nth-child(5), .t, .m dd { font-family: ui-monospace, monospace; direction: ltr; }
+b { color: var(--alarm); font-weight: 600; }
+.s, .e { --c: var(--scheme); } .u { --c: var(--user); } .w { --c: var(--alarm); } .h, .a { --c: var(--host); } .o { --c: var(--port); }
+.p { --c: var(--path); } .q { --c: var(--query); } .f { --c: var(--fragment); }
+span { color: var(--c, inherit); unicode-bidi: isolate; }
+mark { background: var(--mark); color: inherit; text-decoration: underline wavy var(--alarm); }
+mark:empty::before { content: "\2038"; color: var(--alarm); }
+/* A slice of a long text */
+span:not([class]) { display: inline-block; width: 100%; vertical-align: top; content-visibility: auto; contain-intrinsic-size: auto 0 auto 25rem; }
 
-/* Filter */
-#filter { display: flex; flex-wrap: wrap; gap: .5rem 1rem; align-items: end; padding: .75rem 1rem 1rem; border: 1px solid var(--line); border-radius: .5rem; margin-top: 1.5rem; }
-#filter[hidden] { display: none; }
-#filter h2 { width: 100%; margin: 0; font-size: 1rem; }
-#filter label { display: flex; flex-direction: column; font-size: .85rem; color: var(--dim); min-width: 0; }
-#filter label.check { flex-direction: row; gap: .4rem; align-items: center; padding-bottom: .4rem; }
-#filter input, #filter select, #filter button { font: inherit; color: var(--ink); background: var(--paper); border: 1px solid var(--dim); border-radius: .25rem; padding: .3rem .5rem; max-width: 100%; }
-
-/* A line */
-article {
-  border: 1px solid var(--line); border-radius: .5rem; padding: .75rem 1rem; margin: .75rem 0; background: var(--card);
-}
-/* What isn't seen is laid out late, by groups: by articles the search for what can have the focus takes minutes. */
-.g { content-visibility: auto; contain-intrinsic-size: auto 3000rem; }
-.g:empty { display: none; }
-article[data-d] { border-left: .4rem solid var(--alarm); }
-article[data-v=refused] { border-left: .4rem double var(--dim); }
-h3 a { color: inherit; }
-strong, .r { color: var(--alarm); font-weight: 600; }
-[data-m$=dangers], [data-m$=no_transport], [data-m$=permission]:not([data-v=allowed]) { color: var(--alarm); }
-.t {
-  font: 1rem/1.4 ui-monospace, monospace; white-space: break-spaces; unicode-bidi: isolate; direction: ltr;
-  max-height: 24rem; overflow-y: auto; margin: .5rem 0; background: var(--paper); border-radius: .25rem; padding: .35rem 3rem .35rem .5rem;
-}
-.t span[class] { display: inline-flex; flex-direction: column; max-width: 100%; min-width: 0; unicode-bidi: isolate; color: var(--c, inherit); }
+/* The details of a line */
+.t { font-size: 1rem; line-height: 1.4; white-space: break-spaces; max-height: 24rem; overflow-y: auto; padding: .35rem 3rem .35rem 0; }
+.t span[class] { display: inline-flex; flex-direction: column; max-width: 100%; min-width: 0; }
 .t span.l, .t .l > i { display: block; }
 /* A label takes no width from the text. It has the first, the second or the third row below it, so that it is free of those beside it. */
 i {
@@ -114,261 +97,314 @@ i {
 .u > i, .p > i, .a > i, .h + .f > i { padding-top: .85rem; }
 .w > i, .o > i, .q > i { padding-top: 1.7rem; }
 .t > span:only-child > i { padding-top: 0; }
-.s, .e { --c: var(--scheme); } .u { --c: var(--user); } .w { --c: var(--password); } .h { --c: var(--host); } .o { --c: var(--port); }
-.p { --c: var(--path); } .q { --c: var(--query); } .f { --c: var(--fragment); } .a { --c: var(--host); }
-.w { font-weight: 700; }
-mark { background: var(--mark); color: inherit; text-decoration: underline wavy var(--alarm); }
-mark:empty::before { content: "\2038"; color: var(--alarm); }
-dl { display: grid; grid-template-columns: max-content minmax(0, 1fr); gap: .1rem 1rem; margin: .5rem 0; }
+dl { display: grid; grid-template-columns: max-content minmax(0, 1fr); gap: .1rem 1rem; margin: 0 0 .75rem; }
 dt { color: var(--dim); }
-dd { margin: 0; min-width: 0; max-height: 12rem; overflow-y: auto; }
-dd, td, q { white-space: break-spaces; unicode-bidi: isolate; }
-/* The browser's own quotes take a time that grows as the square of how many there are. */
-q::before { content: "\201c"; }
-q::after { content: "\201d"; }
-q:empty::after { content: none; }
-dd[data-m]:empty::before, td[data-m]:empty::before, q:empty::before { content: "(empty)"; color: var(--dim); font-style: italic; }
-dd b, td b { font-weight: 600; }
-dd b, dd .m { unicode-bidi: isolate; }
-.m { font-family: ui-monospace, monospace; font-size: .95rem; }
-.x { color: var(--dim); font-style: italic; }
-article table { border-collapse: collapse; width: 100%; margin: .5rem 0; table-layout: fixed; }
-article th, article td { text-align: left; vertical-align: top; border: 1px solid var(--line); padding: .2rem .5rem; font-size: .9rem; }
-article th { font-weight: 600; }
-article tr > th:first-child, article tr:first-child > td:first-child { width: 6rem; font-weight: 400; color: var(--dim); }
-article ul { margin: .5rem 0 0; padding-left: 1.25rem; }
+dd, .more td div { max-height: 12rem; overflow-y: auto; }
+.more table { width: 100%; table-layout: fixed; margin: 0 0 .75rem; }
+.more table th, .more table td { border: 1px solid var(--line); }
+dd:empty::before, .more tr td div:empty::before { content: "(empty)"; color: var(--dim); font-style: italic; }
+ul { margin: 0 0 .75rem; padding-left: 1.25rem; }
 
-/* One text, cut by two readers */
-article table.b { table-layout: auto; width: auto; max-width: 100%; font: .95rem/1.4 ui-monospace, monospace; }
-.b td { border: 0; padding: 0; font-size: inherit; }
-.b td.z { white-space: pre; }
-.b td[colspan] { font: .7rem/1.4 system-ui, sans-serif; white-space: nowrap; overflow-wrap: normal; border-top: .2rem solid var(--c, transparent); padding-right: .3rem; color: var(--c, inherit); }
-article .b tr > th:first-child { border: 0; width: auto; padding: 0 .75rem 0 0; white-space: nowrap; }
+/* Filter and counts */
+form { display: flex; flex-wrap: wrap; gap: .5rem 1rem; align-items: end; padding: .75rem 1rem; border: 1px solid var(--line); border-radius: .5rem; margin: 1rem 0; }
+[hidden] { display: none; }
+form h2 { width: 100%; margin: 0; font-size: 1rem; }
+label { display: flex; flex-direction: column; font-size: .85rem; color: var(--dim); min-width: 0; }
+input, select, button { font: inherit; color: var(--ink); background: var(--paper); border: 1px solid var(--dim); border-radius: .25rem; padding: .3rem .5rem; max-width: 100%; }
+#tables { display: grid; grid-template-columns: repeat(auto-fit, minmax(min(20rem, 100%), 1fr)); gap: 1rem 2rem; align-items: start; }
+#tables caption { text-align: left; font-weight: 600; }
+#tables th { font-weight: 400; width: 100%; }
+#tables th div { max-height: 12rem; overflow-y: auto; contain: inline-size; }
+#tables td { text-align: right; font-variant-numeric: tabular-nums; }
 footer { margin-top: 2rem; border-top: 1px solid var(--line); padding-top: .5rem; color: var(--dim); font-size: .9rem; }
 
-/* A slice of a long text, as the script cuts it */
-span:not([class]) {
-  display: inline-block; width: 100%; vertical-align: top; content-visibility: auto; contain-intrinsic-size: auto 0 auto 25rem;
-}
-mark > span:not([class]) { background: inherit; text-decoration: inherit; }
-td > div, th > div { max-height: 12rem; overflow-y: auto; }
-.counts th > div { contain: inline-size; }
-.b.l, .b.l td:not(.z, [colspan]) { width: 100%; }
-
-@media (max-width: 40rem) {
+@media (max-width: 45rem) {
   body { padding: .5rem; }
-  dl { grid-template-columns: 5rem minmax(0, 1fr); gap: .1rem .5rem; }
-  dt { font-size: .9rem; }
-  article tr > th:first-child, article tr:first-child > td:first-child { width: 4rem; }
-  .b td.z { white-space: break-spaces; }
+  #lines > thead { display: none; }
+  #lines > * > tr:not(.more) { grid-template-columns: 4rem minmax(0, 1fr); }
+  #lines > tbody > tr:not(.more) > td { grid-column: 2; }
+  #lines > tbody > tr > td:empty { display: none; }
+  dl { grid-template-columns: 6rem minmax(0, 1fr); }
 }
 @media print {
   :root {
-    --paper: #fff; --ink: #000; --dim: #444; --line: #999; --card: #fff; --bar: #555; --alarm: #900; --mark: #ddd;
-    --scheme: #00646b; --user: #7a4f00; --password: #900; --host: #14612a; --port: #6d2f96; --path: #1b489e;
-    --query: #93266d; --fragment: #4145a8;
+    --paper: #fff; --ink: #000; --dim: #444; --line: #999; --card: #fff; --alarm: #900; --mark: #ddd;
+    --scheme: #00646b; --user: #7a4f00; --host: #14612a; --port: #6d2f96; --path: #1b489e; --query: #93266d; --fragment: #4145a8;
   }
   body { max-width: none; padding: 0; font-size: 10pt; }
-  .skip, #filter, #shown { display: none; }
-  .g { content-visibility: visible; }
+  .skip, form, #shown, #to-counts { display: none; }
+  #lines > tbody { content-visibility: visible; }
   span:not([class]) { display: block; content-visibility: visible; }
-  article { break-inside: avoid; }
-  .t, dd, td > div, th > div { max-height: none; overflow: visible; }
+  tr { break-inside: avoid; }
+  .t, dd, .more td div, #tables th div, #lines > tbody > tr:not(.more) > * { max-height: none; overflow: visible; }
 }
 </style>
 <body>
-<a class="skip" href="#remotes">To the remotes</a>
+<a class="skip" href="#lines">To the lines</a>
 <header>
 <h1>"##,
     ),
     Part::Slot(Slot::Title),
     Part::Text(
         r##"</h1>
-<p id="lines">Lines: <b>"##,
+<p>"##,
     ),
     Part::Slot(Slot::Lines),
+    Part::Text(r##" lines, "##),
+    Part::Slot(Slot::Dangerous),
     Part::Text(
-        r##"</b>, the dangerous ones first. <a href="#hosts">Hosts</a> are counted at the end.</p>
+        r##" of them with a danger: these come first, and then the others in which something was found.
+<span id="to-counts" class="n" hidden>A number opens what is known of a line. <a href="#counts">The counts</a> are at the end.</span></p>
 </header>
-<script>
-"use strict";
-(() => {
-  const by = (name) => document.getElementById(name);
-
-  // Laying out a text of a megabyte takes minutes in some scripts. So a long text is cut into slices, before it is first
-  // laid out, and of those only what is seen is laid out.
-  const SLICE = 2000;
-  const parents = new Set();
-  const cut = (text) => {
-    const slices = [], parent = text.parentNode;
-    for (let from = 0, to; from < text.length; from = to) {
-      to = from + SLICE;
-      to += /[\udc00-\udfff]/.test(text.data.charAt(to));
-      const slice = document.createElement("span");
-      slice.textContent = text.data.slice(from, to);
-      slices.push(slice);
-    }
-    text.replaceWith(...slices);
-    parents.add(parent);
-    if (parent.nodeName === "SPAN") {
-      parent.classList.add("l");
-    }
-  };
-  const cutIn = (element) => {
-    const texts = document.createTreeWalker(element, NodeFilter.SHOW_TEXT);
-    for (let text = texts.nextNode(), next; text; text = next) {
-      next = texts.nextNode();
-      if (text.length > 2 * SLICE) {
-        cut(text);
-      }
-    }
-  };
-  const articles = document.getElementsByTagName("article");
-  let seen = 0;
-  const cutLong = () => {
-    for (; seen < articles.length; seen++) {
-      if (articles[seen].textContent.length > 2 * SLICE) {
-        cutIn(articles[seen]);
-      }
-    }
-    // The last one may have more to come.
-    seen = Math.max(0, seen - 1);
-  };
-  const eachFrame = () => {
-    cutLong();
-    if (document.readyState === "loading") {
-      requestAnimationFrame(eachFrame);
-    }
-  };
-  eachFrame();
-
-  // A cell can't be scrolled, but a box in it.
-  const boxCells = () => {
-    for (const cell of parents) {
-      if (cell.nodeName === "TD" || cell.nodeName === "TH") {
-        const box = document.createElement("div");
-        box.append(...cell.childNodes);
-        cell.append(box);
-        cell.closest("table").classList.add("l");
-      }
-    }
-  };
-
-  const filter = () => {
-    const form = by("filter");
-    const wanted = { text: by("f-text"), part: by("f-part"), form: by("f-form"), host: by("f-host"), verdict: by("f-verdict"), danger: by("f-danger") };
-    const small = (element) => (element ? element.textContent.toLowerCase() : "");
-    let lines = null;
-
-    // Each line once, and the texts that were looked for in it.
-    const all = () => (lines ??= Array.from(document.querySelectorAll("article"), (element) => ({ element, texts: {} })));
-    const text = (line, part) => (line.texts[part] ??= small(part ? line.element.querySelector(`[data-m=${part}]`) : line.element));
-
-    const isShown = (line) => {
-      const { f, v, d } = line.element.dataset;
-      return (!wanted.form.value || (f ?? "refused") === wanted.form.value)
-        && (!wanted.verdict.value || v === wanted.verdict.value)
-        && (!wanted.danger.checked || d !== undefined)
-        && (!wanted.host.value || text(line, "host").includes(wanted.host.value.toLowerCase()))
-        && (!wanted.text.value || text(line, wanted.part.value).includes(wanted.text.value.toLowerCase()));
-    };
-    const apply = () => {
-      let count = 0;
-      for (const line of all()) {
-        const shown = isShown(line);
-        line.element.hidden = !shown;
-        count += shown;
-      }
-      for (const rank of document.querySelectorAll(".k, .g")) {
-        rank.hidden = !rank.querySelector("article:not([hidden])");
-      }
-      by("shown").textContent = `${count} of ${all().length} lines shown`;
-    };
-    form.addEventListener("input", apply);
-    form.addEventListener("reset", () => setTimeout(apply));
-    form.addEventListener("submit", (event) => event.preventDefault());
-    form.hidden = false;
-  };
-
-  document.addEventListener("DOMContentLoaded", () => {
-    cutLong();
-    cutIn(by("hosts"));
-    boxCells();
-    filter();
-  });
-})();
-</script>
 <main>
-<section id="counts" aria-labelledby="counts-name">
-<h2 id="counts-name">Counts</h2>
-<div class="counts">
-<table id="verdicts"><caption>By verdict</caption>"##,
-    ),
-    Part::Slot(Slot::Verdicts),
-    Part::Text(
-        r##"</table>
-<table id="forms"><caption>By form</caption>"##,
-    ),
-    Part::Slot(Slot::Forms),
-    Part::Text(
-        r##"</table>
-</div>
-</section>
 <form id="filter" aria-labelledby="filter-name" hidden>
 <h2 id="filter-name">Filter</h2>
 <label>Text <input id="f-text" type="search" autocomplete="off" spellcheck="false"></label>
 <label>in
 <select id="f-part">
-<option value="">any part</option><option>scheme</option><option>user</option><option>host</option><option>port</option><option>path</option>
+<option value="input">the line</option><option>scheme</option><option>user</option><option>host</option><option>port</option><option>path</option>
 </select>
 </label>
-<label>Form
-<select id="f-form">
-<option value="">any</option><option value="url">URL</option><option value="scp">scp form</option><option value="local">local path</option>
-<option value="remote_helper">remote helper</option><option value="refused">none: refused</option>
-</select>
-</label>
+<label>Form <select id="f-form"><option value="">any</option></select></label>
+<label>Verdict <select id="f-verdict"><option value="">any</option></select></label>
+<label>Danger <select id="f-danger"><option value="">any line</option></select></label>
 <label>Host <input id="f-host" type="search" autocomplete="off" spellcheck="false"></label>
-<label>Verdict
-<select id="f-verdict">
-<option value="">any</option><option value="settled">settled</option><option value="unsettled">not settled</option>
-<option value="refused">refused</option>
-</select>
-</label>
-<label class="check"><input id="f-danger" type="checkbox"> dangerous alone</label>
 <button type="reset">Show all</button>
 </form>
-<section id="remotes" aria-labelledby="remotes-name" tabindex="-1">
-<h2 id="remotes-name">Remotes</h2>
-<p id="shown" role="status">"##,
-    ),
-    Part::Slot(Slot::Lines),
-    Part::Text(r##" of "##),
-    Part::Slot(Slot::Lines),
-    Part::Text(
-        r##" lines shown</p>
+<p id="shown" role="status"></p>
+<table id="lines" tabindex="-1">
+<caption>A line that is settled is read as the same location again from its own text.</caption>
+<thead><tr><th scope="col">Line<th scope="col">Text<th scope="col">Verdict<th scope="col">Dangers<th scope="col">Host</thead>
 "##,
     ),
-    Part::Slot(Slot::Remotes),
+    Part::Slot(Slot::Rows),
     Part::Text(
         r##"
-</section>
-<section aria-labelledby="hosts-name">
-<h2 id="hosts-name">Hosts</h2>
-<div class="counts">
-<table id="hosts"><caption>By host</caption>"##,
-    ),
-    Part::Slot(Slot::Hosts),
-    Part::Text(
-        r##"</table>
-</div>
+</table>
+<section id="counts" aria-labelledby="counts-name" hidden>
+<h2 id="counts-name">Counts</h2>
+<div id="tables"></div>
 </section>
 </main>
 <footer>
 <p>Control characters, bytes that are not UTF-8 and characters that can't be seen are written as <code>\n</code>, <code>\xff</code> and
-<code>\u{200f}</code>, a backslash as <code>\\</code>. A password is written as the word <code>redacted</code>.
-A location is settled if its own text is read as the same location again.</p>
+<code>\u{200f}</code>, a backslash as <code>\\</code>. What may be a secret is written as the word <code>redacted</code>.</p>
 </footer>
+<template id="hints">"##,
+    ),
+    Part::Slot(Slot::Hints),
+    Part::Text(
+        r##"</template>
+<script type="application/json" id="data">[
+"##,
+    ),
+    Part::Slot(Slot::Data),
+    Part::Text(
+        r##"]</script>
+<script>
+"use strict";
+(() => {
+  const by = (id) => document.getElementById(id);
+  // An object of `--json` in each line. It is read when it is needed: all of them take much memory.
+  const texts = by("data").textContent.split("\n").slice(1, -1);
+  const objectOf = (number) => JSON.parse(texts[number - 1].replace(/^,/, ""));
+  const numberOf = (row) => Number(row.id.slice(1));
+  const make = (name, members, ...below) => {
+    const it = document.createElement(name);
+    for (const [member, value] of Object.entries(members)) {
+      it.setAttribute(member, value);
+    }
+    it.append(...below);
+    return it;
+  };
+
+  // A text as it is shown: what isn't seen or changes the direction is escaped, and a long text is in slices.
+  const SHORT = { "\0": "\\0", "\t": "\\t", "\n": "\\n", "\r": "\\r", "\\": "\\\\" };
+  const escaped = (it) => SHORT[it] ?? `\\u{${it.codePointAt(0).toString(16)}}`;
+  const sliced = (text) => (text.length < 4000 ? [text] : text.match(/.{1,2000}/gu).map((it) => make("span", {}, it)));
+  const shown = (value) => sliced(String(value).replace(/(?! )[\\\p{C}\p{Z}\p{Mn}\p{Me}\p{Default_Ignorable_Code_Point}]/gu, escaped));
+  const words = (name) => name.replaceAll("_", " ");
+
+  // Verdict and form of a line, by its object.
+  const FORMS = { url: "URL", scp: "scp form", local: "local path", remote_helper: "remote helper", none: "none" };
+  const verdictOf = ({ location, refusal }) =>
+    location ? (location.settled ? "settled" : "not settled") : refusal.error === "Withheld" ? "withheld" : "refused";
+  const factsOf = (row) => {
+    const it = objectOf(numberOf(row)), at = it.location ?? {};
+    return {
+      row, input: it.input, scheme: at.scheme, user: at.user, host: at.host, port: at.port, path: at.path,
+      form: FORMS[at.form ?? "none"], verdict: verdictOf(it), dangers: it.dangers, isDangerous: it.findings.includes("danger"),
+    };
+  };
+  const lines = Array.from(document.querySelectorAll("#lines > tbody > tr"), factsOf);
+  const groups = Array.from(document.querySelectorAll("#lines > tbody"));
+
+  // The details of a line.
+  const LABELS = {
+    s: "scheme", u: "user", w: "password", h: "host", o: "port", p: "path", q: "query", f: "fragment", e: "helper", a: "address",
+  };
+  // A line in its pieces: the cell has the letter of each and its number of characters.
+  const textOf = (cell) => {
+    if (!cell.dataset.p) {
+      return make("p", { class: "t" }, ...cell.cloneNode(true).childNodes);
+    }
+    const characters = Array.from(cell.textContent);
+    return make("p", { class: "t" }, ...Array.from(cell.dataset.p.matchAll(/(\D)(\d+)/g), ([, letter, length]) => {
+      const below = sliced(characters.splice(0, Number(length)).join(""));
+      return LABELS[letter] ? make("span", { class: below[1] ? `${letter} l` : letter }, ...below, make("i", {}, LABELS[letter])) : below[0];
+    }));
+  };
+  // Each member below a value that isn't null, with its whole name; names in a list are one text.
+  const leaves = (value, name) => {
+    if (value === null || typeof value !== "object") {
+      return value === null ? [] : [[name, value]];
+    }
+    if (Array.isArray(value) && value.every((it) => typeof it === "string")) {
+      return [[name, value.join(", ") || "none"]];
+    }
+    return Object.entries(value).flatMap(([below, it]) => leaves(it, `${name}.${below}`));
+  };
+  const list = (value, name) => make("dl", { class: "m" }, ...leaves(value, name).flatMap(([whole, it]) => [
+    make("dt", {}, words(whole.slice(name.length + 1)).replaceAll(".", " ")), make("dd", { "data-m": whole }, ...shown(it))]));
+  const table = (heads, rows) => make("table", {},
+    make("tr", {}, ...["", ...heads].map((it) => make(it ? "th" : "td", it ? { scope: "col" } : {}, it))),
+    ...rows.map(([name, ...cells]) => make("tr", {}, make("th", { scope: "row" }, name), ...cells)));
+  const named = (value, name) => make("div", name ? { "data-m": name } : {}, ...shown(value));
+  const cell = (value, name) => make("td", {}, (value ?? null) === null ? "none" : named(value, name));
+  const section = (heading, ...below) => [make("h3", {}, heading), ...below];
+
+  const PLACE = ["protocol", "user", "host", "port", "path"];
+  const readings = ({ scheme, user, host, port, path, git_reads, credential, curl }) => {
+    const others = Object.entries({ git_reads, credential, curl }).filter(([, it]) => it);
+    const own = { protocol: scheme, user, host, port, path };
+    const heads = { git_reads: "Git", credential: "Git's credential code", curl: "curl" };
+    const column = (part) => others.map(([name, it]) => (part in it ? cell(it[part], `location.${name}.${part}`) : make("td", {})));
+    return !others.length ? [] : section("Who reads what in its own text",
+      table(["here", ...others.map(([name]) => heads[name])], PLACE.map((part) => [part, cell(own[part]), ...column(part)])),
+      ...(git_reads?.why ? [make("p", {}, "Git may read another place: ", make("b", { "data-m": "location.git_reads.why" }, git_reads.why))] : []));
+  };
+  const again = ({ words, difference, refusal }) => section("Its own text is read otherwise",
+    make("p", { "data-m": "location.reread.words" }, words),
+    ...(difference ? [table(["here", "its own text"], [[named(difference.field, "location.reread.difference.field"),
+      cell(difference.here, "location.reread.difference.here"), cell(difference.instead, "location.reread.difference.instead")]])] : []),
+    ...(refusal ? [list(refusal, "location.reread.refusal")] : []));
+  const hintsOf = (names) => section("Hints",
+    make("ul", {}, ...names.map((it) => make("li", { "data-m": `hints.${it}` }, by("hints").content.getElementById(it).textContent))));
+  const detailsOf = (row, it) => {
+    const { git_reads, credential, curl, reread, ...plain } = it.location ?? {};
+    return [
+      textOf(row.cells[1]),
+      ...(it.hints.length ? hintsOf(it.hints) : []),
+      ...(it.refusal ? section("Refused", list(it.refusal, "refusal")) : section("Location", list(plain, "location"))),
+      ...(reread ? again(reread) : []),
+      ...(it.location ? readings(it.location) : []),
+      ...(it.readers ? section("Other readers", list(it.readers, "readers")) : []),
+      ...(it.rules ? section("By the configuration", list(it.rules, "rules")) : []),
+      ...(it.findings.length ? section("Found", make("p", { "data-m": "findings" }, it.findings.join(", "))) : []),
+    ];
+  };
+  const opened = new Map();
+  const toggle = (row, isOpen = !opened.has(row)) => {
+    opened.get(row)?.remove();
+    opened.delete(row);
+    if (isOpen) {
+      const more = make("tr", { class: "more" }, make("td", { colspan: 5 }, ...detailsOf(row, objectOf(numberOf(row)))));
+      row.after(more);
+      opened.set(row, more);
+    }
+    row.querySelector("a").setAttribute("aria-expanded", isOpen);
+  };
+  by("lines").addEventListener("click", (event) => {
+    const row = event.target.closest("th a")?.closest("tr");
+    if (row) {
+      event.preventDefault();
+      toggle(row);
+    }
+  });
+  by("lines").addEventListener("focusin", ({ target }) => {
+    if (target.matches("th a:not([aria-expanded])")) {
+      target.setAttribute("aria-expanded", false);
+    }
+  });
+  const openTarget = () => {
+    const row = by(location.hash.slice(1));
+    if (row?.matches("#lines > tbody > tr")) {
+      toggle(row, true);
+      row.scrollIntoView();
+    }
+  };
+
+  // The counts: names and numbers of lines, the largest first.
+  const HOSTS = 20;
+  const counted = (names) => {
+    const counts = new Map();
+    for (const it of names) {
+      counts.set(it, (counts.get(it) ?? 0) + 1);
+    }
+    return [...counts].sort(([a, one], [b, other]) => other - one || (a < b ? -1 : 1));
+  };
+  const countTable = (id, heading, rows) => make("table", { id: `by-${id}` }, make("caption", {}, heading),
+    ...rows.map(([name, count]) => make("tr", {}, make("th", { scope: "row" }, make("div", {}, ...shown(name))), make("td", {}, String(count)))));
+  const dangerWords = {};
+  for (const { row, dangers } of lines) {
+    dangers.forEach((name, at) => dangerWords[name] ??= row.querySelectorAll("td > b")[at].textContent);
+  }
+  const counts = () => {
+    const hosts = counted(lines.map((it) => it.host).filter((it) => it !== null && it !== undefined)), others = hosts.slice(HOSTS);
+    const sum = others.reduce((all, [, count]) => all + count, 0), none = lines.filter((it) => (it.host ?? null) === null).length;
+    const dangers = counted(lines.flatMap((it) => it.dangers)).map(([name, count]) => [dangerWords[name], count, name]);
+    const verdicts = counted(lines.map((it) => it.verdict)), forms = counted(lines.map((it) => it.form));
+    by("tables").append(
+      countTable("danger", "By danger", dangers), countTable("verdict", "By verdict", verdicts), countTable("form", "By form", forms),
+      countTable("host", "By host", [...hosts.slice(0, HOSTS), ...(others.length ? [[`${others.length} other hosts`, sum]] : []), ...(none ? [["no host", none]] : [])]));
+    const option = (value, text) => make("option", { value }, text);
+    by("f-danger").append(option("any", "any danger"), ...dangers.map(([text, , name]) => option(name, text)));
+    by("f-verdict").append(...verdicts.map(([it]) => option(it, it)));
+    by("f-form").append(...forms.map(([it]) => option(it, it)));
+    by("counts").hidden = by("to-counts").hidden = false;
+  };
+
+  // The filter.
+  const say = (count) => {
+    by("shown").textContent = `${count} of ${lines.length} lines shown`;
+  };
+  const holds = (value, part) => (part === "" ? true : String(value ?? "").toLowerCase().includes(part));
+  const apply = () => {
+    const [text, part, form, verdict, danger, host] = ["text", "part", "form", "verdict", "danger", "host"].map((it) => by(`f-${it}`).value);
+    const isShown = (it) => (!form || it.form === form) && (!verdict || it.verdict === verdict)
+      && (!danger || (danger === "any" ? it.isDangerous : it.dangers.includes(danger)))
+      && holds(it.host, host.toLowerCase()) && holds(it[part], text.toLowerCase());
+    const left = new Map(groups.map((it) => [it, 0]));
+    let count = 0;
+    for (const it of lines) {
+      const { row } = it, isHidden = !isShown(it);
+      if (row.hidden !== isHidden) {
+        row.hidden = isHidden;
+      }
+      if (!isHidden) {
+        left.set(row.parentNode, left.get(row.parentNode) + 1);
+        count++;
+      }
+    }
+    for (const [row, more] of opened) {
+      more.hidden = row.hidden;
+    }
+    for (const [group, size] of left) {
+      group.hidden = size === 0;
+      group.style.containIntrinsicSize = `auto ${2.2 * size}rem`;
+    }
+    say(count);
+  };
+  by("filter").addEventListener("input", apply);
+  by("filter").addEventListener("reset", () => setTimeout(apply));
+  by("filter").addEventListener("submit", (event) => event.preventDefault());
+  by("filter").hidden = false;
+  counts();
+  say(lines.length);
+  addEventListener("hashchange", openTarget);
+  openTarget();
+})();
+</script>
 "##,
     ),
 ];

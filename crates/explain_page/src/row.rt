@@ -1,0 +1,109 @@
+//! The row of a line in the table of the page: its number, its text, the verdict, its dangers and its host.
+//!
+//! It uses what `explain_report` found, and `text` for the cell of the text. It has no contract but that it can't abort: that
+//! nothing but text is put in is `markup`'s.
+
+use crate::markup::Markup;
+use crate::text;
+use explain_report::finding::Findings;
+use explain_report::location_report::Report;
+use explain_report::refusal::Refusal;
+use explain_report::text::line::SeenLine;
+use git_audit::danger::Danger;
+use std::alloc::{AllocError, Global};
+
+/// A line, with what is reported of it.
+#[derive(Clone, Copy)]
+pub struct Row<'b, 'a: 'b> {
+    /// The number of the line, from 1.
+    pub number: u64,
+    /// The line as it may be shown.
+    pub seen: &'b SeenLine<'a>,
+    /// What the line is read as.
+    pub location: Option<&'b Report<'a>>,
+    /// Why it is read as nothing, or nothing is shown of that.
+    pub refusal: Option<&'b Refusal>,
+    /// What is dangerous in it.
+    pub dangers: &'b [Danger],
+    /// What was found in it, for which a run may fail.
+    pub found: Findings,
+}
+
+impl Row<'_, '_> {
+    /// Appends the row.
+    pub(crate) fn push(&self, alloc: Global, out: &mut Markup) -> Result<(), AllocError> {
+        out.push_template("<tr\nid=l")?;
+        out.push_value(self.number)?;
+        out.push_template("><th scope=row><a href=#l")?;
+        out.push_value(self.number)?;
+        out.push_template(">")?;
+        out.push_value(self.number)?;
+        out.push_template("</a><td")?;
+        match self.refusal {
+            None => text::push_parts(alloc, out, self.seen)?,
+            Some(refusal) => text::push_refused(out, self.seen, refusal)?,
+        }
+        out.push_template("<td>")?;
+        self.push_verdict(out)?;
+        out.push_template("<td>")?;
+        push_dangers(out, self.dangers)?;
+        out.push_template("<td>")?;
+        match self.location {
+            Some(report) => out.push_shown(report.host.unwrap_or("").as_bytes()),
+            None => Ok(()),
+        }
+    }
+
+    /// Appends the verdict, why it isn't better, and what Git does otherwise.
+    fn push_verdict(&self, out: &mut Markup) -> Result<(), AllocError> {
+        match (self.location, self.refusal) {
+            (Some(report), _) => push_settled(out, report)?,
+            (None, Some(refusal)) => push_refusal(out, refusal)?,
+            (None, None) => {}
+        }
+        if self.found.git_differs {
+            out.push_template("; Git isn't known to read the same")?;
+        }
+        if self.found.policy {
+            out.push_template("; Git has no transport that it uses")?;
+        }
+        Ok(())
+    }
+}
+
+/// Appends whether a location is settled, and what its own text is read as if it isn't.
+fn push_settled(out: &mut Markup, report: &Report<'_>) -> Result<(), AllocError> {
+    if report.settled {
+        return out.push_template("settled");
+    }
+    out.push_template("not settled")?;
+    match &report.reread {
+        None => Ok(()),
+        Some(reread) => {
+            out.push_template(": ")?;
+            out.push_text(reread.words.as_str())
+        }
+    }
+}
+
+/// Appends why a line is read as nothing, or nothing is shown of that.
+fn push_refusal(out: &mut Markup, refusal: &Refusal) -> Result<(), AllocError> {
+    out.push_template(if refusal.error == "Withheld" {
+        "withheld: "
+    } else {
+        "refused: "
+    })?;
+    out.push_text(refusal.words.as_str())
+}
+
+/// Appends dangers in words.
+fn push_dangers(out: &mut Markup, found: &[Danger]) -> Result<(), AllocError> {
+    let mut open = "<b>";
+    for danger in found {
+        out.push_template(open)?;
+        out.push_template(danger.words())?;
+        out.push_template("</b>")?;
+        open = ", <b>";
+    }
+    Ok(())
+}
