@@ -1,14 +1,15 @@
 """The filter of a page, used by the keyboard alone: the lines that are shown are those of the answers."""
-from page_answers import form, is_dangerous, verdict
+from page_answers import form, verdict
+from second_reading.dangers import WORDS
 from selenium.webdriver import Keys
 
 FOCUSED = "document.activeElement?.id || document.activeElement?.type || document.activeElement?.nodeName"
 TO_TOP = "document.activeElement.blur(); getSelection().removeAllRanges(); scrollTo(0, 0)"
-# Whether a rank is seen without a line.
-EMPTY = "[...document.querySelectorAll('.k')].some(it => it.checkVisibility() && !it.querySelector('article:not([hidden])'))"
 # The lines that are seen, in order, and what the page says of that.
-SHOWN = """[[...document.querySelectorAll('article')].filter(it => it.checkVisibility())
-  .map(it => +it.getAttribute('aria-labelledby').slice(1)).sort((a, b) => a - b), document.querySelector('#shown').textContent]"""
+SHOWN = """[[...document.querySelectorAll('#lines > tbody > tr:not(.more)')].filter(it => it.checkVisibility())
+  .map(it => +it.id.slice(1)).sort((a, b) => a - b), document.querySelector('#shown').textContent]"""
+# Whether the details of the line that has the focus are seen.
+OPENED = "document.activeElement.closest('tr').nextElementSibling?.matches('.more') ?? false"
 
 
 def reach(page, name):
@@ -27,22 +28,26 @@ def part_of(answer, part):
 
 
 def cases(wanted):
-    """What is typed into the controls, in their order, and which lines are shown then: a choice by its first word. The texts are
-    in no word of the program; which lines have one in any part is not known."""
+    """What is typed into the controls, in their order, and which lines are shown then: a choice by its first word."""
     hosts = [part_of(it, "host") for it in wanted]
     host = max({it for it in hosts if len(it) > 5}, key=lambda it: (hosts.count(it), it))
-    yield {"f-text": host[1:-1].upper()}, None
+    yield {"f-text": host[1:-1].upper()}, [host[1:-1] in it["input"].lower() for it in wanted]
     yield {"f-host": host.upper()}, [host in it for it in hosts]
     for part, text in (("host", host[1:-1]), ("path", "p"), ("scheme", "ssh"), ("port", "2"), ("user", "git")):
         yield {"f-text": text, "f-part": part}, [text in part_of(it, part) for it in wanted]
-    for word, kind in (("URL", "url"), ("scp", "scp"), ("local", "local"), ("remote", "remote_helper"), ("none:", None)):
-        yield {"f-form": word}, [form(it) == kind for it in wanted]
-    for word, kind in (("settled", "settled"), ("not", "unsettled"), ("refused", "refused")):
-        yield {"f-verdict": word}, [verdict(it) == kind for it in wanted]
-    yield {"f-danger": " "}, [*map(is_dangerous, wanted)]
-    yield {"f-form": "URL", "f-verdict": "settled", "f-danger": " "}, [
-        form(it) == "url" and verdict(it) == "settled" and is_dangerous(it) for it in wanted]
+    for word in ("URL", "scp form", "local path", "remote helper", "none"):
+        yield {"f-form": word}, [form(it) == word for it in wanted]
+    for word in ("settled", "not settled", "refused", "withheld"):
+        yield {"f-verdict": word}, [verdict(it) == word for it in wanted]
+    yield {"f-danger": "any d"}, [*map(is_dangerous, wanted)]
+    yield {"f-danger": WORDS["password"]}, ["password" in it["dangers"] for it in wanted]
+    yield {"f-form": "URL", "f-verdict": "settled", "f-danger": "any d"}, [
+        form(it) == "URL" and verdict(it) == "settled" and is_dangerous(it) for it in wanted]
     yield {"f-text": "no line has this text"}, [False] * len(wanted)
+
+
+def is_dangerous(answer):
+    return "danger" in answer["findings"]
 
 
 def use(page, controls):
@@ -55,20 +60,28 @@ def use(page, controls):
 
 
 def faults_of(page, wanted):
-    """What the filter shows otherwise; that it shows all again when it is reset; and that an empty rank isn't seen."""
+    """What the filter shows otherwise, and that it shows all again when it is reset."""
     for controls, are_shown in cases(wanted):
         use(page, controls)
         numbers, said = page.ask(SHOWN)
-        if not 0 < len(numbers) < len(wanted) if are_shown is None else numbers != [n for n, it in enumerate(are_shown, 1) if it]:
+        if numbers != [n for n, it in enumerate(are_shown, 1) if it]:
             yield f"by {controls} {len(numbers)} lines are shown: {numbers[:5]}"
         if said != f"{len(numbers)} of {len(wanted)} lines shown":
             yield f"by {controls} {len(numbers)} lines are shown, and it says {said!r}"
-        if page.ask(EMPTY):
-            yield f"by {controls} a rank is shown that has no line"
         reach(page, "reset")
         page.press(Keys.ENTER)
         page.settle()
         yield from (f"after {controls}: {it}" for it in hidden_faults(page, len(wanted)))
+
+
+def detail_faults(page):
+    """Whether the details of the first line are opened and closed by the keyboard."""
+    skip_faults(page)
+    page.press(Keys.TAB)
+    for is_open in (False, True, False, True):
+        if page.ask(OPENED) != is_open:
+            yield f"the details are {'closed' if is_open else 'open'}"
+        page.press(Keys.ENTER)
 
 
 def hidden_faults(page, lines):
@@ -80,8 +93,9 @@ def hidden_faults(page, lines):
 
 def plain_faults(page, lines):
     """What of a page without scripts can't be read, or can't be used and is there."""
-    yield from hidden_faults(page, lines)
-    if page.ask("document.querySelector('#filter').checkVisibility()"):
+    if page.ask(SHOWN)[0] != [*range(1, lines + 1)]:
+        yield "without scripts a line isn't shown"
+    if page.ask("['#filter', '#counts', '#to-counts'].some(it => document.querySelector(it).checkVisibility())"):
         yield "without scripts there is a filter that does nothing"
 
 
@@ -90,5 +104,5 @@ def skip_faults(page):
     page.execute_script(TO_TOP)
     page.press(Keys.TAB + Keys.ENTER)
     page.settle()
-    if page.ask(FOCUSED) != "remotes":
+    if page.ask(FOCUSED) != "lines":
         yield "the first Tab and Enter do not lead to the lines"

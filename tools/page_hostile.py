@@ -2,13 +2,13 @@
 each of which the test has to find."""
 MARKUP = [
     "<script>alert(1)</script>", '"><img src=x onerror=alert(1)>', "'><img src=x onerror=alert(1)>", "</article>",
-    "</p></section></main></body></html>", "<!--", "-->", "<!-- remotes -->", "<!-- title -->", "]]>", "<![CDATA[x]]>", "&lt;b&gt;",
+    "</p></section></main></body></html>", "<!--", "-->", "<!-- rows -->", "<!-- title -->", "]]>", "<![CDATA[x]]>", "&lt;b&gt;",
     "&#60;", "&#x3c;script&#x3e;", "&amp;amp;", "&nbsp", "&lt", "&", "</title><script>alert(1)</script>",
     "</script><script>alert(1)</script>", "</style><style>*{display:none}", "<svg onload=alert(1)>",
     "<svg><style>*{display:none}</style></svg>", "<iframe srcdoc='<script>alert(1)</script>'>",
     "<meta http-equiv=refresh content=0;url=javascript:alert(1)>", "<base href=//h/>", "<form action=//h/><input name=q>",
     "<details open ontoggle=alert(1)>", "<input autofocus onfocus=alert(1)>", "<plaintext>", "<textarea>", "<table><tr><td>",
-    "<math><mtext></math>", "<template><article>", "<i>host</i>", "<mark>x</mark>", "<article data-v=settled aria-labelledby=l1>",
+    "<math><mtext></math>", "<template><tr>", "<i>host</i>", "<mark>x</mark>", "<tr id=l1><th>",
     "` onclick=alert(1)", "' x='", '" x="', "=alert(1) ", "\\u003cscript\\u003e", "\\x3cb\\x3e", "\\0\\n\\\\"]
 # Put into each part of a location.
 PARTS = [
@@ -16,7 +16,7 @@ PARTS = [
     "u@h:~{}/r", "ext::{}", "a::{}", "file:///{}", "./{}", "/srv/{}", "http://h:{}/p", "x://{}/p"]
 OTHERS = [
     "javascript:alert(1)", "javascript://h/%0Aalert(1)", "JaVaScRiPt:alert`1`", "data:text/html,<script>alert(1)</script>", "data://h/p",
-    "vbscript:x", "blob:https://h/p", "https://h/p#:~:text=x", "//h/p", "https://h/#remotes", "ssh://h/\u202eexe.git\u202c", "\u202e",
+    "vbscript:x", "blob:https://h/p", "https://h/p#:~:text=x", "//h/p", "https://h/#lines", "ssh://h/\u202eexe.git\u202c", "\u202e",
     "h:\u2066x\u2069", "u\u2067@h:p", "\u061c\u200e\u200fh:p", "h:\u05e9\u05dc\u05d5\u05dd/\u05d0", "\u0627\u0644\u0639:\u0631\u0628",
     "https://h/\u0645\u0631\u062d\u0628\u0627?\u05d0=\u05d1#\u062c", "git@\u05d0.example:p", "h:a\u200bb\u200cc\u200dd\u2060e\ufefff",
     "\ufeffh:p", "h:e\u0301\u0300\u0489", "h:" + "a" + "\u0310" * 200, "h:\ufe0f\ufe0e", "h:\U000e0041\U000e007f",
@@ -42,7 +42,7 @@ LONG = [
 WHOLE = 2
 TITLES = [
     "</title><script>alert(1)</script>", '"><img src=x onerror=alert(1)>', "&lt;b&gt; &amp; <!-- x --> ' \"", "\u202eabc \u200b",
-    "<!-- remotes -->", "a\tb\\n\x1b[31m", " ", "\u05e9\u05dc\u05d5\u05dd", "x" * 5_000]
+    "<!-- rows -->", "a\tb\\n\x1b[31m", " ", "\u05e9\u05dc\u05d5\u05dd", "x" * 5_000]
 
 
 def lines():
@@ -55,13 +55,25 @@ def lines():
 FAULTS = {
     "a text as markup": (rb"&lt;script&gt;alert\(1\)&lt;/script&gt;", rb"<script>alert(1)</script>"),
     "an image of a text": (rb"&lt;img src=x onerror=alert\(1\)&gt;", rb"<img src=x onerror=alert(1)>"),
-    "an article that a text ends": (rb"&lt;/article&gt;", rb"</article>"),
-    "a comment that a text begins": (rb"(<p[^>]*data-m=\"?input[^>]*>(?:<span[^>]*>)?)&lt;!--", rb"\1<!--"),
+    "a row that a text ends": (rb"&lt;/article&gt;", rb"</table>"),
+    "a comment that a text begins": (rb"&lt;!--", rb"<!--"),
     "a reference that is read": (rb"&amp;#60;", rb"&#60;"),
     "a text escaped twice": (rb"&lt;b", rb"&amp;lt;b"),
     "a style of a text": (rb"&lt;style&gt;", rb"<style>"),
-    "another verdict": (rb"data-v=\"?refused\"?", rb"data-v=settled"),
-    "an article less": (rb"(?s)<article.*?</article>", rb""),
+    "data that ends": (rb"\\u003c/script", rb"</script"),
+    "data with a tag": (rb"\\u003cb", rb"<b"),
+    "data escaped twice": (rb"\\u003cb", rb"\\\\u003cb"),
+    "another object": (rb'"scheme":"https"', rb'"scheme":"http"'),
+    "an object less": (rb"\n,\{.*", rb""),
+    "another verdict": (rb"refused: ", rb"settled: "),
+    "another danger": (rb"it holds a password", rb"it may hold a token"),
+    "another host": (rb"<td>h(?=<tr)", rb"<td>g"),
+    "another piece": (rb'data-p="s5\.3h', rb'data-p="s5.3u'),
+    "another place of a fault": (rb"<mark>(.)", rb"\1<mark>"),
+    "a row less": (rb"(?s)<tr\nid.*?(?=<tr)", rb""),
+    "two rows in another order": (rb"(?s)(<tr\nid.*?)(<tr\nid.*?)(?=<tr)", rb"\2\1"),
+    "another hint": (rb"names\.", rb"names"),
+    "a member less in the details": (rb'"location"\)\)\),', rb'"location.x"))),'),
     "no policy": (rb"http-equiv=\"Content-Security-Policy\"", rb""),
     "a policy for all": (rb"default-src 'none'", rb"default-src *"),
     "another script": (rb"\"use strict\";", rb'"use strict"; '),

@@ -6,25 +6,27 @@ import base64
 WIDTHS = (320, 768, 1280)
 LEAST_CONTRAST = 4.5
 # What has to have a name for a screen reader.
-NAMED = {"article", "button", "checkbox", "combobox", "form", "heading", "image", "img", "link", "region", "searchbox", "textbox"}
-# What is beyond the window, or beyond the article that clips it, what has to be scrolled to the side, and articles that are
-# higher than so many points. What scrolls by itself may be longer inside.
+NAMED = {"button", "columnheader", "combobox", "form", "heading", "link", "region", "rowheader", "searchbox", "table", "textbox"}
+# Opens the details of each line.
+OPEN = "document.querySelectorAll('#lines > tbody > tr:not(.more) a').forEach(it => it.ariaExpanded === 'true' || it.click())"
+# What is beyond the window, what has to be scrolled to the side, and rows of lines that are higher than so many points. What
+# scrolls by itself may be longer inside.
 WIDE = """(most => {
-  for (const it of document.querySelectorAll('article')) it.style.contentVisibility = 'visible';
-  const whole = document.scrollingElement, faults = new Set();
-  if (whole.scrollWidth > whole.clientWidth) faults.add(`the page is ${whole.scrollWidth} wide in ${whole.clientWidth}`);
-  const visit = (it, right) => {
-    const box = it.getBoundingClientRect(), article = it.closest('article'), line = article?.getAttribute('aria-labelledby');
-    const add = said => faults.add(`${it.nodeName} ${it.className} ${it.dataset?.m ?? ''} in ${line} ${said}`);
-    if (box.width && box.right > right + 1) add(`reaches ${Math.round(box.right)} of ${Math.round(right)}`);
-    if (it === article && most && it.offsetHeight > most) add(`is ${it.offsetHeight} high`);
-    if (it.nodeName === 'svg' || /auto|scroll/.test(getComputedStyle(it).overflowX)) {
+  for (const it of document.querySelectorAll('tbody')) it.style.contentVisibility = 'visible';
+  const whole = document.scrollingElement, faults = new Set(), right = whole.clientWidth;
+  if (whole.scrollWidth > right) faults.add(`the page is ${whole.scrollWidth} wide in ${right}`);
+  const visit = it => {
+    const box = it.getBoundingClientRect();
+    const add = said => faults.add(`${it.nodeName} ${it.className} ${it.dataset?.m ?? ''} in ${it.closest('tr')?.id} ${said}`);
+    if (box.width && box.right > right + 1) add(`reaches ${Math.round(box.right)} of ${right}`);
+    if (most && it.matches('tr:not(.more)') && it.offsetHeight > most) add(`is ${it.offsetHeight} high`);
+    if (/auto|scroll/.test(getComputedStyle(it).overflowX)) {
       if (it.scrollWidth > it.clientWidth + 1) add('has to be scrolled to the side');
     } else {
-      for (const below of it.children) visit(below, it === article ? box.right : right);
+      for (const below of it.children) visit(below);
     }
   };
-  visit(document.body, whole.clientWidth);
+  visit(document.body);
   return [...faults].slice(0, 20);
 })(arguments[0])"""
 # The colours of each text and of what is behind it, by the rule of WCAG 2: each pair once, with its contrast and a place.
@@ -54,12 +56,12 @@ COLOURS = """(isPaper => {
   return Object.entries(found);
 })(arguments[0])"""
 # Letters that are written from right to left must not reorder what is beside a value.
-ISOLATED = """[...new Set([...document.querySelectorAll('[data-m]:not(li, [data-m="git_reads.why"])')]
-  .filter(it => !getComputedStyle(it).unicodeBidi.includes('isolate')).map(it => `${it.nodeName} ${it.dataset.m}`))]"""
+ISOLATED = """[...new Set([...document.querySelectorAll('td, th, dd, .t span')]
+  .filter(it => !getComputedStyle(it).unicodeBidi.includes('isolate')).map(it => `${it.nodeName} ${it.className}`))]"""
 
 
 def layout_faults(page, widths=WIDTHS, most=None):
-    """What is too wide in windows of these widths, and which articles are higher than so many points."""
+    """What is too wide in windows of these widths, and which rows are higher than so many points."""
     for width in widths:
         page.look(width)
         yield from (f"at {width} columns of pixels {it}" for it in page.ask(WIDE, most))
@@ -81,17 +83,18 @@ def contrast_faults(page):
 
 def name_faults(page, lines):
     """What a screen reader has no name for. The tree has groups of lines that are off the screen only once they are laid out."""
-    page.execute_script("document.querySelectorAll('.g').forEach(it => { it.style.contentVisibility = 'visible' })")
+    page.execute_script("document.querySelectorAll('tbody').forEach(it => { it.style.contentVisibility = 'visible' })")
     nodes = [it for it in page.execute_cdp_cmd("Accessibility.getFullAXTree", {})["nodes"] if not it["ignored"]]
     roles = [(it["role"]["value"], it.get("name", {}).get("value", "").strip()) for it in nodes]
     yield from (f"a {role} has no name" for role, name in roles if role.lower() in NAMED and not name)
-    names = [name for role, name in roles if role == "article"]
-    if len(names) != lines or len({*names}) != lines:
-        yield f"{len({*names})} names of {len(names)} articles are for {lines} lines"
+    headers = [name for role, name in roles if role == "rowheader" and name.isdecimal()]
+    if sorted(map(int, headers)) != [*range(1, lines + 1)]:
+        yield f"{len(headers)} rows have a header for {lines} lines"
+    columns = [name for role, name in roles if role == "columnheader"][:5]
+    if columns != ["Line", "Text", "Verdict", "Dangers", "Host"]:
+        yield f"the columns are {columns}"
     yield from (f"{count} {role} are on the page" for role in ("main", "banner", "contentinfo", "status")
                 if (count := sum(it[0] == role for it in roles)) != 1)
-    if sum(it[0] == "heading" for it in roles) < lines:
-        yield "an article has no heading"
 
 
 def print_faults(page):

@@ -12,7 +12,6 @@ import page_answers
 import page_filter
 import page_hostile
 import page_look
-import page_markup
 import page_rules
 import png_text
 from rt_api import ROOT
@@ -29,11 +28,11 @@ PICTURED = [
 # Without --whole so many bytes of most long lines are looked at, and of the remotes each this many.
 MOST_LONG, STEP = 20_000, 20
 # How soon a page with a line of a megabyte has to be seen, on a slow machine that does other work as well, and how many points
-# high its article may be: other lines are beside it.
-MOST_SECONDS, MOST_HEIGHT = 60, 4_000
-# How large the page of 10,000 remotes may be, how soon it has to be loaded and its first text seen, at best of a few tries, and
-# what a filter may take, from the top of the page: a dozen keys.
-MOST_BYTES, MOST_MILLISECONDS, TRIES, MOST_FILTERED = 10_000_000, 2_000, 3, 10
+# high its row may be: other lines are beside it.
+MOST_SECONDS, MOST_HEIGHT = 60, 400
+# Of the page of 10,000 remotes and of ten times as many: its bytes, in how many milliseconds it has to be loaded and its first text
+# seen, at best of a few tries. What a filter may take, from the top of the page: a dozen keys.
+SIZES, TRIES, MOST_FILTERED = {1: (10_000_000, 2_000), 10: (100_000_000, 5_000)}, 3, 10
 TIMES = """[performance.getEntriesByType('navigation')[0].loadEventEnd,
   performance.getEntriesByName('first-contentful-paint')[0].startTime]"""
 
@@ -44,8 +43,8 @@ def texts_that_surprise():
 
 
 def second_reading(lines):
-    """What the second reading of the grammar answers, and beside it what the page shows."""
-    return page_answers.with_withheld(lines, [json.loads(stored_run.answer(number, line)) for number, line in enumerate(lines, 1)])
+    """What the second reading of the grammar answers."""
+    return [json.loads(stored_run.answer(number, line)) for number, line in enumerate(lines, 1)]
 
 
 def written(page, lines, title=None, end=b"\n", more=()):
@@ -57,12 +56,14 @@ def written(page, lines, title=None, end=b"\n", more=()):
 
 
 def shown_faults(page, file, lines, wanted, title=None, widths=page_look.WIDTHS, most=None):
-    """What is wrong with a page as it is made, which is opened."""
+    """What is wrong with a page as it is made, which is opened, also with the details of each line."""
     try:
         page.open(file)
-        faults = [*page_answers.faults_of(page, lines, wanted), *page_markup.faults_of(page, title)]
+        faults = [*page_answers.faults_of(page, lines, wanted, title)]
+        if widths:
+            page.ask(page_look.OPEN)
         return [*faults, *page_look.layout_faults(page, widths, most), *page.found()]
-    except (WebDriverException, ValueError, KeyError, TypeError) as fault:
+    except (WebDriverException, ValueError, KeyError, TypeError, IndexError) as fault:
         return [f"the page can't be read: {fault!r}"]
 
 
@@ -141,17 +142,13 @@ def hostile(page, is_whole):
 
 
 def rules(page, _is_whole):
-    """Lines by configurations: as `explain --json --config` answers them, with the rows of `explain --config`."""
-    faults, rows = [], 0
+    """Lines by configurations: as `explain --json --config` answers them."""
+    faults = []
     for case in page_rules.CASES:
         with page_rules.given(case, f"{page.folder}/config") as words:
-            lines = [*case.lines]
-            file, wanted = written(page, lines, more=words), page_answers.answers(lines, words)
-            faults += [*shown_faults(page, file, lines, wanted), *page_rules.faults_of(page, case, words)]
-            faults += page_look.contrast_faults(page) if case is page_rules.CASES[0] else []
-            missed, tried = page_rules.missed(page, file, case, wanted, words)
-            faults, rows = faults + missed, rows + tried
-    return faults, f"{sum(len(it.lines) for it in page_rules.CASES)} lines by {len(page_rules.CASES)} configurations; {rows} rows that were left out"
+            file, wanted = written(page, case.lines, more=words), page_answers.answers(case.lines, words)
+            faults += [*shown_faults(page, file, case.lines, wanted), *page_rules.faults_of(case, words), *page_look.contrast_faults(page)]
+    return faults, f"{sum(len(it.lines) for it in page_rules.CASES)} lines by {len(page_rules.CASES)} configurations"
 
 
 def use(page, is_whole):
@@ -160,28 +157,32 @@ def use(page, is_whole):
     lines += make_remotes.remotes()[:None if is_whole else 300:40]
     wanted, file = page_answers.answers(lines), written(page, lines)
     page.open(file)
-    faults = [*page_filter.skip_faults(page), *page_filter.faults_of(page, wanted), *page_look.layout_faults(page)]
+    faults = [*page_filter.skip_faults(page), *page_filter.faults_of(page, wanted), *page_filter.detail_faults(page), *page_look.layout_faults(page)]
+    page.ask(page_look.OPEN)
     faults += [*page_look.contrast_faults(page), *page_look.name_faults(page, len(lines)), *page_look.print_faults(page), *page.found()]
     page.open(file, script=False)
-    faults += [*page_filter.plain_faults(page, len(lines)), *page_answers.faults_of(page, lines, wanted), *page.found()]
+    faults += [*page_filter.plain_faults(page, len(lines)), *page_answers.faults_of(page, lines, wanted, script=False), *page.found()]
     return faults, f"{len(lines)} lines, used by the keyboard, without scripts, in each colour and on paper"
 
 
 def large(page, _is_whole):
-    """The page of all remotes: its size, how soon it is shown, and whether it can be used."""
-    lines, times = make_remotes.remotes(), []
-    file = written(page, lines)
-    for _ in range(TRIES):
-        page.open(file)
-        page.settle()
-        times.append(page.ask(TIMES))
-    faults, started = [*page_filter.skip_faults(page)], time.monotonic()
-    page_filter.use(page, {"f-host": "github", "f-verdict": "settled"})
-    seconds, size, (loaded, seen) = time.monotonic() - started, os.path.getsize(file), map(min, zip(*times))
-    if size >= MOST_BYTES or max(loaded, seen) >= MOST_MILLISECONDS or seconds > MOST_FILTERED:
-        faults.append("the page is too large or too slow")
-    said = f"{len(lines)} remotes in {size / 1e6:.1f} MB, loaded after {loaded:.0f} ms, seen after {seen:.0f} ms"
-    return [*faults, *page.found()], f"{said}, filtered by the keyboard in {seconds:.1f} s"
+    """The pages of all remotes, and of ten times as many: their sizes, how soon they are shown, and whether they can be used."""
+    faults, said = [], []
+    for times, (most_bytes, most_milliseconds) in SIZES.items():
+        file, taken = written(page, make_remotes.remotes() * times), []
+        for _ in range(TRIES):
+            page.open(file)
+            page.settle()
+            taken.append(page.ask(TIMES))
+        started = time.monotonic()
+        faults += page_filter.skip_faults(page)
+        page_filter.use(page, {"f-verdict": "settled", "f-host": "github"})
+        seconds, size, (loaded, seen) = time.monotonic() - started, os.path.getsize(file), map(min, zip(*taken))
+        if size >= most_bytes or max(loaded, seen) >= most_milliseconds or seconds > MOST_FILTERED:
+            faults.append(f"the page of {size} bytes is too large or too slow")
+        said.append(f"{times * 10_000} remotes in {size / 1e6:.1f} MB, loaded after {loaded:.0f} ms, seen after {seen:.0f} ms, "
+                    f"filtered by the keyboard in {seconds:.1f} s")
+    return [*faults, *page.found()], "; ".join(said)
 
 
 def faults(page, _is_whole):
