@@ -48,7 +48,7 @@ MADE = """(() => {
 TAGS = set("html head meta title style body a header h1 h2 h3 p b code main form label input select option button table caption thead tbody tr "
            "th td span mark section div footer template script ul li dl dt dd i".split())
 ATTRIBUTES = set("lang charset http-equiv content name class id href role hidden type value autocomplete spellcheck scope colspan tabindex style "
-                 "aria-labelledby aria-expanded data-m data-p".split())
+                 "aria-label aria-labelledby aria-expanded data-m data-p".split())
 WHOLE = ["A HEADER MAIN FOOTER TEMPLATE SCRIPT SCRIPT", 2, 1, "CSS1Compat"]
 POLICY = """<meta http-equiv="Content-Security-Policy" content="default-src 'none'; style-src 'sha256-%s'; \
 script-src 'sha256-%s'; base-uri 'none'; form-action 'none'">"""

@@ -4,7 +4,8 @@ from second_reading.dangers import WORDS
 from selenium.webdriver import Keys
 
 FOCUSED = "document.activeElement?.id || document.activeElement?.type || document.activeElement?.nodeName"
-TO_TOP = "document.activeElement.blur(); getSelection().removeAllRanges(); scrollTo(0, 0)"
+# The first control of the page has the focus.
+TO_TOP = "document.querySelector('.skip').focus()"
 # The lines that are seen, in order, and what the page says of that.
 SHOWN = """[[...document.querySelectorAll('#lines > tbody > tr:not(.more)')].filter(it => it.checkVisibility())
   .map(it => +it.id.slice(1)).sort((a, b) => a - b), document.querySelector('#shown').textContent]"""
@@ -76,8 +77,8 @@ def faults_of(page, wanted):
 
 def detail_faults(page):
     """Whether the details of the first line are opened and closed by the keyboard."""
-    skip_faults(page)
-    page.press(Keys.TAB)
+    page.execute_script(TO_TOP)
+    page.press(Keys.ENTER + Keys.TAB)
     for is_open in (False, True, False, True):
         if page.ask(OPENED) != is_open:
             yield f"the details are {'closed' if is_open else 'open'}"
@@ -100,8 +101,7 @@ def plain_faults(page, lines):
 
 
 def skip_faults(page):
-    """Whether the first Tab reaches the link to the lines, which Enter follows."""
-    page.execute_script(TO_TOP)
+    """Whether in a page that was just opened the first Tab reaches the link to the lines, which Enter follows."""
     page.press(Keys.TAB + Keys.ENTER)
     page.settle()
     if page.ask(FOCUSED) != "lines":

@@ -26,7 +26,7 @@ pub const PAGE: [Part; 15] = [
         r##"<!DOCTYPE html>
 <html lang="en">
 <meta charset="utf-8">
-<meta http-equiv="Content-Security-Policy" content="default-src 'none'; style-src 'sha256-fkh5IDNS77kiBE9IQGmNKfT4kDdn0K10jGTfapPRemc='; script-src 'sha256-Vb8iSFbY4kYH252FDUiT3imL2dlwvPwvyMi9/2KyIEg='; base-uri 'none'; form-action 'none'">
+<meta http-equiv="Content-Security-Policy" content="default-src 'none'; style-src 'sha256-fkh5IDNS77kiBE9IQGmNKfT4kDdn0K10jGTfapPRemc='; script-src 'sha256-9PoMD2qzUjX+7edcyDsKM46sZMWag3LvO3aqWIJcjJ0='; base-uri 'none'; form-action 'none'">
 <meta name="viewport" content="width=device-width, initial-scale=1">
 <meta name="color-scheme" content="light dark">
 <meta name="generator" content="explain --html">
@@ -266,7 +266,7 @@ footer { margin-top: 2rem; border-top: 1px solid var(--line); padding-top: .5rem
   };
   const list = (value, name) => make("dl", { class: "m" }, ...leaves(value, name).flatMap(([whole, it]) => [
     make("dt", {}, words(whole.slice(name.length + 1)).replaceAll(".", " ")), make("dd", { "data-m": whole }, ...shown(it))]));
-  const table = (heads, rows) => make("table", {},
+  const table = (name, heads, rows) => make("table", { "aria-label": name },
     make("tr", {}, ...["", ...heads].map((it) => make(it ? "th" : "td", it ? { scope: "col" } : {}, it))),
     ...rows.map(([name, ...cells]) => make("tr", {}, make("th", { scope: "row" }, name), ...cells)));
   const named = (value, name) => make("div", name ? { "data-m": name } : {}, ...shown(value));
@@ -280,12 +280,12 @@ footer { margin-top: 2rem; border-top: 1px solid var(--line); padding-top: .5rem
     const heads = { git_reads: "Git", credential: "Git's credential code", curl: "curl" };
     const column = (part) => others.map(([name, it]) => (part in it ? cell(it[part], `location.${name}.${part}`) : make("td", {})));
     return !others.length ? [] : section("Who reads what in its own text",
-      table(["here", ...others.map(([name]) => heads[name])], PLACE.map((part) => [part, cell(own[part]), ...column(part)])),
+      table("readings", ["here", ...others.map(([name]) => heads[name])], PLACE.map((part) => [part, cell(own[part]), ...column(part)])),
       ...(git_reads?.why ? [make("p", {}, "Git may read another place: ", make("b", { "data-m": "location.git_reads.why" }, git_reads.why))] : []));
   };
   const again = ({ words, difference, refusal }) => section("Its own text is read otherwise",
     make("p", { "data-m": "location.reread.words" }, words),
-    ...(difference ? [table(["here", "its own text"], [[named(difference.field, "location.reread.difference.field"),
+    ...(difference ? [table("difference", ["here", "its own text"], [[named(difference.field, "location.reread.difference.field"),
       cell(difference.here, "location.reread.difference.here"), cell(difference.instead, "location.reread.difference.instead")]])] : []),
     ...(refusal ? [list(refusal, "location.reread.refusal")] : []));
   const hintsOf = (names) => section("Hints",
