@@ -88,12 +88,13 @@ def is_secret(line):
 
 def unescaped(text):
     """The bytes that are shown so."""
-    out, end = b"", 0
+    out, end = [], 0
     for found in ESCAPE.finditer(text):
         it = found[1]
         byte = PLAIN.get(it) or (bytes([int(it[1:], 16)]) if it[0] == "x" else chr(int(it[2:-1], 16)).encode())
-        out, end = out + text[end:found.start()].encode() + byte, found.end()
-    return out + text[end:].encode()
+        out += [text[end:found.start()].encode(), byte]
+        end = found.end()
+    return b"".join(out) + text[end:].encode()
 
 
 def columns(text):

@@ -14,6 +14,7 @@ from second_reading.seen import seen
 
 FORMS = {"url": "URL", "scp": "scp form", "local": "local path", "remote_helper": "remote helper", None: "none"}
 MOST_HOSTS = 20
+REWRITTEN = "once the configuration has rewritten it"
 # The second reading takes much memory for longer lines.
 MOST_READ = 10_000
 # The data, and of each row its number, the text with a byte 0 around what is marked, and what the other cells say.
@@ -82,10 +83,18 @@ def host(answer):
 
 
 def words_of_verdict(answer):
-    """The cell of the verdict."""
+    """The cell of the verdict: that, why it isn't better, what is found in what the line is rewritten to, and what Git does otherwise."""
     reason = (answer["refusal"] or (answer["location"]["reread"] or {"words": None}))["words"]
-    also = {"git-differs": "; Git isn't known to read the same", "policy": "; Git has no transport that it uses"}
-    return verdict(answer) + (f": {reason}" if reason else "") + "".join(it for name, it in also.items() if name in answer["findings"])
+    own = {"settled": [], "not settled": ["unsettled"]}.get(verdict(answer), ["refused", "unsettled"])
+    also = {"refused": f"refused {REWRITTEN}", "unsettled": f"not settled {REWRITTEN}",
+            "git-differs": "Git isn't known to read the same", "policy": "Git has no transport that it uses"}
+    said = [f"; {words}" for name, words in also.items() if name in answer["findings"] and name not in own]
+    return verdict(answer) + (f": {reason}" if reason else "") + "".join(said)
+
+
+def words_of_dangers(answer):
+    """The cell of the dangers."""
+    return ", ".join(dangers.WORDS[it] for it in answer["dangers"]) or REWRITTEN * ("danger" in answer["findings"])
 
 
 def rank(answer):
@@ -101,7 +110,7 @@ def text_of(shown):
 def row_faults(row, answer):
     """What a row shows otherwise than the object of its line."""
     number, text, *cells, at_host = row
-    wanted = [str(answer["line"]), words_of_verdict(answer), ", ".join(dangers.WORDS[it] for it in answer["dangers"])]
+    wanted = [str(answer["line"]), words_of_verdict(answer), words_of_dangers(answer)]
     if cells != wanted or text_of(text.replace("\0", "")) != answer["input"] or text_of(at_host) != (host(answer) or ""):
         yield f"the row {row} isn't {[number, answer['input'], *wanted, host(answer)]}"
 

@@ -47,6 +47,9 @@ impl Row<'_, '_> {
         self.push_verdict(out)?;
         out.push_template("<td>")?;
         push_dangers(out, self.dangers)?;
+        if self.found.danger && self.dangers.is_empty() {
+            out.push_template("<b>once the configuration has rewritten it</b>")?;
+        }
         out.push_template("<td>")?;
         match self.location {
             Some(report) => out.push_shown(report.host.unwrap_or("").as_bytes()),
@@ -57,7 +60,10 @@ impl Row<'_, '_> {
     /// Appends the verdict, why it isn't better, and what Git does otherwise.
     fn push_verdict(&self, out: &mut Markup) -> Result<(), AllocError> {
         match (self.location, self.refusal) {
-            (Some(report), _) => push_settled(out, report)?,
+            (Some(report), _) => {
+                push_settled(out, report)?;
+                self.push_rewritten(out, report.settled)?;
+            }
             (None, Some(refusal)) => push_refusal(out, refusal)?,
             (None, None) => {}
         }
@@ -66,6 +72,17 @@ impl Row<'_, '_> {
         }
         if self.found.policy {
             out.push_template("; Git has no transport that it uses")?;
+        }
+        Ok(())
+    }
+
+    /// Appends whether what a location is rewritten to is refused or, unlike itself, isn't settled.
+    fn push_rewritten(&self, out: &mut Markup, is_settled: bool) -> Result<(), AllocError> {
+        if self.found.refused {
+            out.push_template("; refused once the configuration has rewritten it")?;
+        }
+        if self.found.unsettled && is_settled {
+            out.push_template("; not settled once the configuration has rewritten it")?;
         }
         Ok(())
     }
