@@ -79,9 +79,10 @@ def digest(page):
 
 
 def pictures(page, _is_whole):
-    """Writes the pictures of a page in light and in dark, each with the digest of the page."""
+    """Writes the pictures of a page with the details of a line, in light and in dark, each with the digest of the page."""
     for name, dark in PICTURES.items():
         page.open(written(page, PICTURED), 1152, dark=dark)
+        page.ask("document.querySelector('#l2 a').click()")
         page.settle()
         with open(name, "wb") as it:
             it.write(png_text.with_text(page.get_screenshot_as_png(), DIGEST, digest(page)))
@@ -153,7 +154,7 @@ def rules(page, _is_whole):
 
 def use(page, is_whole):
     """The page as it is used: by the keyboard, without scripts, by a screen reader, in each colour, on paper."""
-    lines = [*texts_that_surprise(), *explain_lines.HELPERS, *explain_lines.URLS, *explain_lines.SLIPS, *explain_lines.REFUSED]
+    lines = [*texts_that_surprise(), *explain_lines.HELPERS, *explain_lines.URLS, *explain_lines.SLIPS, *explain_lines.REFUSED, *explain_lines.SECRETS]
     lines += make_remotes.remotes()[:None if is_whole else 300:40]
     wanted, file = page_answers.answers(lines), written(page, lines)
     page.open(file)

@@ -26,7 +26,7 @@ pub const PAGE: [Part; 15] = [
         r##"<!DOCTYPE html>
 <html lang="en">
 <meta charset="utf-8">
-<meta http-equiv="Content-Security-Policy" content="default-src 'none'; style-src 'sha256-fkh5IDNS77kiBE9IQGmNKfT4kDdn0K10jGTfapPRemc='; script-src 'sha256-9PoMD2qzUjX+7edcyDsKM46sZMWag3LvO3aqWIJcjJ0='; base-uri 'none'; form-action 'none'">
+<meta http-equiv="Content-Security-Policy" content="default-src 'none'; style-src 'sha256-BqmJTYUbeSgv7EgaRVSe1RavggxG6UJPwhJ9uCOOPDE='; script-src 'sha256-9PoMD2qzUjX+7edcyDsKM46sZMWag3LvO3aqWIJcjJ0='; base-uri 'none'; form-action 'none'">
 <meta name="viewport" content="width=device-width, initial-scale=1">
 <meta name="color-scheme" content="light dark">
 <meta name="generator" content="explain --html">
@@ -75,7 +75,7 @@ dd { margin: 0; white-space: break-spaces; unicode-bidi: isolate; }
 #lines > tbody > tr:not(.more) > * { max-height: 12rem; overflow-y: auto; }
 #lines tr:target { background: var(--card); }
 #lines > tbody > tr > th { font-weight: 400; }
-#lines > tbody > tr > td:nth-child(2), #lines > tbody > tr > td:nth-child(5), .t, .m dd { font-family: ui-monospace, monospace; direction: ltr; }
+#lines > tbody > tr > td:nth-child(2), #lines > tbody > tr > td:nth-child(5), .t, .m dd { font-family: ui-monospace, monospace; font-size: .95rem; direction: ltr; }
 b { color: var(--alarm); font-weight: 600; }
 .s, .e { --c: var(--scheme); } .u { --c: var(--user); } .w { --c: var(--alarm); } .h, .a { --c: var(--host); } .o { --c: var(--port); }
 .p { --c: var(--path); } .q { --c: var(--query); } .f { --c: var(--fragment); }
@@ -86,7 +86,7 @@ mark:empty::before { content: "\2038"; color: var(--alarm); }
 span:not([class]) { display: inline-block; width: 100%; vertical-align: top; content-visibility: auto; contain-intrinsic-size: auto 0 auto 25rem; }
 
 /* The details of a line */
-.t { font-size: 1rem; line-height: 1.4; white-space: break-spaces; max-height: 24rem; overflow-y: auto; padding: .35rem 3rem .35rem 0; }
+.t { line-height: 1.4; white-space: break-spaces; max-height: 24rem; overflow-y: auto; padding: .35rem 3rem .35rem 0; }
 .t span[class] { display: inline-flex; flex-direction: column; max-width: 100%; min-width: 0; }
 .t span.l, .t .l > i { display: block; }
 /* A label takes no width from the text. It has the first, the second or the third row below it, so that it is free of those beside it. */
@@ -102,7 +102,7 @@ dt { color: var(--dim); }
 dd, .more td div { max-height: 12rem; overflow-y: auto; }
 .more table { width: 100%; table-layout: fixed; margin: 0 0 .75rem; }
 .more table th, .more table td { border: 1px solid var(--line); }
-dd:empty::before, .more tr td div:empty::before { content: "(empty)"; color: var(--dim); font-style: italic; }
+dd:empty::before, td div:empty::before, th div:empty::before { content: "(empty)"; color: var(--dim); font-style: italic; }
 ul { margin: 0 0 .75rem; padding-left: 1.25rem; }
 
 /* Filter and counts */
@@ -111,13 +111,16 @@ form { display: flex; flex-wrap: wrap; gap: .5rem 1rem; align-items: end; paddin
 form h2 { width: 100%; margin: 0; font-size: 1rem; }
 label { display: flex; flex-direction: column; font-size: .85rem; color: var(--dim); min-width: 0; }
 input, select, button { font: inherit; color: var(--ink); background: var(--paper); border: 1px solid var(--dim); border-radius: .25rem; padding: .3rem .5rem; max-width: 100%; }
-#tables { display: grid; grid-template-columns: repeat(auto-fit, minmax(min(20rem, 100%), 1fr)); gap: 1rem 2rem; align-items: start; }
+#tables { display: grid; grid-template-columns: repeat(auto-fit, minmax(min(15rem, 100%), 1fr)); gap: 1rem 2rem; align-items: start; }
 #tables caption { text-align: left; font-weight: 600; }
 #tables th { font-weight: 400; width: 100%; }
 #tables th div { max-height: 12rem; overflow-y: auto; contain: inline-size; }
 #tables td { text-align: right; font-variant-numeric: tabular-nums; }
 footer { margin-top: 2rem; border-top: 1px solid var(--line); padding-top: .5rem; color: var(--dim); font-size: .9rem; }
 
+@media (min-width: 60rem) {
+  dl { grid-template-columns: max-content minmax(0, 1fr) max-content minmax(0, 1fr); }
+}
 @media (max-width: 45rem) {
   body { padding: .5rem; }
   #lines > thead { display: none; }
