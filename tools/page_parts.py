@@ -148,7 +148,8 @@ def rules(page, _is_whole):
     for case in page_rules.CASES:
         with page_rules.given(case, f"{page.folder}/config") as words:
             file, wanted = written(page, case.lines, more=words), page_answers.answers(case.lines, words)
-            faults += [*shown_faults(page, file, case.lines, wanted), *page_rules.faults_of(case, words), *page_look.contrast_faults(page)]
+            faults += [*shown_faults(page, file, case.lines, wanted), *page_rules.faults_of(case, words)]
+            faults += page_look.contrast_faults(page) if case is page_rules.CASES[0] else []
     return faults, f"{sum(len(it.lines) for it in page_rules.CASES)} lines by {len(page_rules.CASES)} configurations"
 
 
