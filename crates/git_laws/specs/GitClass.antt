@@ -15,7 +15,7 @@ HostForGit git None host = host ≡ None
 HostForGit git (Some own) host = (inner : List ℕ) × Unbrackets own inner × (host ≡ Some inner)
 HostForGit _ own host = host ≡ own
 
--- the location's own protocol, user, port and path, with this host
+-- the location's own scheme, user, port and path, with this host
 abbrev pub own_reading : Location → Option (List ℕ) → GitReading
 own_reading v place = record {
   protocol = v.scheme;

@@ -113,8 +113,8 @@ pub fn law_closed()
 /// - `spelling_last`: the public fields decide the order, and the retained spelling decides only if they are
 ///   all equal. So locations with equal public fields are adjacent in a sorted list.
 ///
-/// Equality doesn't decide whether two locations name one repository: it ignores default ports, letter case in
-/// paths and different texts of one location.
+/// Equality doesn't decide whether two locations name one repository: it takes no account of default ports, of
+/// letter case in paths or of different texts of one location.
 pub fn law_order()
     ensures same { EqualIsSame location_eq }
     ensures tied { TiedIsEqual location_eq location_cmp }
@@ -170,9 +170,9 @@ pub fn law_components()
 /// - `password`: without its password it is settled exactly if it has none, or its user isn't empty. An empty
 ///   user is written only before a password, so `http://:secret@host/` isn't settled without it. Hiding
 ///   passwords from logs and from other programs keeps all other locations settled.
-/// - `web_spelling`: a settled location of HTTP is settled without its spelling. A program that keeps only the
+/// - `web_spelling`: a settled location of HTTP is settled without its spelling. A program that keeps only its
 ///   public fields, and makes a location of them by [`Url::from_parts`](gix_url::Url::from_parts), gets a
-///   settled one.
+///   settled one again.
 /// - `spelling`: the same holds for each kind except the URLs of Secure Shell, of Git and of other schemes. One
 ///   of these is settled without its spelling exactly if its path has neither `%` nor white space, and, if it
 ///   has no host, the text of its public fields is short enough.

@@ -12,7 +12,7 @@ pub data Judgement : Type 0 where
 abbrev pub judgement_of_text : List ℕ → Judgement
 judgement_of_text text = if is_option_like text then dangerous text else usable text
 
--- the judgement of a part
+-- the judgement of a field that may be missing
 abbrev pub judgement_of : Option (List ℕ) → Judgement
 judgement_of None = absent
 judgement_of (Some text) = judgement_of_text text

@@ -48,16 +48,16 @@ is_tilde_second [] = false
 is_tilde_second (a ∷ []) = false
 is_tilde_second (a ∷ b ∷ rest) = b == tilde
 
--- the scp form with `rsync` as its only host: the text of such a settled location of Secure Shell begins with
--- `rsync:`, which Git refuses
+-- the scp form without a user and with the host `rsync`: the text of such a settled location of Secure Shell
+-- begins with `rsync:`, which Git refuses
 pub record IsRsync (v : Location) : Type 0 where
   pub scp : v.flag ≡ true
   pub no_user : v.user ≡ None
   pub host : v.host ≡ Some (codes "rsync")
 
--- the conditions of Git's own transports: for `ssh`, the path's second byte is not `~`, the host is not just
--- `rsync`, and the user is not empty; for `git`, no user and no end of a line in the path; for `file`, no host,
--- a path that doesn't begin with `~`, and in a URL no `%`, which Git decodes and this library doesn't
+-- the conditions of Git's own transports: for `ssh`, the path's second byte is not `~`, the host is not `rsync`
+-- without a user, and the user is not empty; for `git`, no user and no end of a line in the path; for `file`,
+-- no host, a path that doesn't begin with `~`, and in a URL no `%`, which Git decodes and this library doesn't
 abbrev pub SuitsTransport : Scheme → Location → Type 0
 SuitsTransport ssh v = (is_tilde_second v.path ≡ false) × (¬ IsRsync v) × ¬ (v.user ≡ Some [])
 SuitsTransport git v = (v.user ≡ None) × FreeOf newline v.path

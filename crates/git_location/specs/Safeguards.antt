@@ -7,7 +7,7 @@ use Rattle.git_location.specs.Arguments.Judgement.{usable}
 use Rattle.git_location.specs.Display.{display}
 pub use Rattle.git_syntax.specs.Safeguards.{PathSet, PasswordSet, UserSet, DecidesAddresses}
 
--- `Display` has the same output for locations that differ in the text of their passwords only
+-- `Display` has the same output for locations that differ only in the text of their passwords
 abbrev pub HidesPassword : Type 0
 HidesPassword = (v : Location) (p q : List ℕ)
     → display (record v { password = Some p }) ≡ display (record v { password = Some q })

@@ -1,4 +1,4 @@
--- The judgement of an argument, for that of the code.
+-- The judgement of the definitions for that of the code.
 use Rattle.git_location.specs.declared.argument.ArgumentSafety.{ArgumentSafety}
 use Rattle.git_location.specs.declared.argument.ArgumentSafety.TheVariants.{Absent, Usable, Dangerous}
 use Rattle.git_location.specs.Arguments.{Judgement}

@@ -1,4 +1,4 @@
-//! Answers that follow from a borrowed location's scheme and path: the port, and whether the path is the root.
+//! Methods on the port and the path of a borrowed location.
 
 ghost use Rattle.std.specs.Prelude.{◌≡◌, ◌↔◌, IsTrue, [], ◌∷◌};
 ghost use Rattle.std.specs.Option.{option_or};

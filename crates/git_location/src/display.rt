@@ -1,7 +1,7 @@
 //! `Display` of borrowed locations: the text, with the field `password` hidden.
 //!
 //! If formatting succeeds, the output is the location's text with another password in place of its own,
-//! whatever width, precision and flags the formatter has; two locations that differ in their passwords only
+//! whatever width, precision and flags the formatter has; two locations that differ only in their passwords
 //! have the same output. If the location has no text, formatting fails and writes nothing.
 //!
 //! No contract says how much was written before a formatter failed: `fmt::Write` specifies a call only if it
@@ -56,7 +56,7 @@ pub fn hidden_password(password: Option<&str>) -> Option<&str>
     }
 }
 
-/// Locations that differ in their fields `password` only have the same output, so if `Display` returns `Ok`,
+/// Locations that differ only in their fields `password` have the same output, so if `Display` returns `Ok`,
 /// the output says nothing about that field. The law says nothing about other fields, which may contain a
 /// secret too.
 pub fn law_hidden_password()

@@ -113,8 +113,8 @@ fn is_tilde_second(text: &[u8]) -> bool
     }
 }
 
-/// Whether the location has the scp form and `rsync` as its only host. In the scp form of Secure Shell its text
-/// begins with `rsync:`.
+/// Whether the location has the scp form, no user and the host `rsync`. With Secure Shell its text begins with
+/// `rsync:`.
 fn is_rsync(url: &UrlRef<'_>) -> bool
     ensures { IsTrue result ↔ IsRsync url.now }
 {

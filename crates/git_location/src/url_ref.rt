@@ -9,9 +9,9 @@ use std::marker::Model;
 ///
 /// Contracts see the same value in it as in a `Url`: eight fields, among them the retained spelling of the
 /// path. The fields are those of `Url`, and a program may set them itself; [`UrlRef::is_settled`] reports
-/// whether the location's text is read as the same location. It owns nothing: making one, writing it and asking
-/// it allocates nothing. Slices that its methods return live for `'a`. `Display` writes `redacted` in place of
-/// the field `password`, like that of `Url`; it has no `Debug`.
+/// whether the location's text is read as the same location. It owns nothing, and none of its methods
+/// allocates. Slices that they return live for `'a`. `Display` writes `redacted` in place of the field
+/// `password`, like that of `Url`; it has no `Debug`.
 ///
 /// ```
 /// /// Writes the location of a repository on a host, without a copy of either.

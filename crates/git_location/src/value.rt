@@ -20,7 +20,7 @@ pub fn law_lent_value(url: &UrlRef<'_>)
     law_spelling(url.spelling);
 }
 
-/// A text that is there is UTF-8.
+/// A text, if it is there, is UTF-8.
 fn law_text(text: Option<&str>)
     ensures { IfSome (option_map (λ t. t.now) text.entry) IsUtf8 }
 {

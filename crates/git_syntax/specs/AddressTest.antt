@@ -58,7 +58,7 @@ are_items ending (suc (suc n)) t = any_cut colon is_group (are_items ending (suc
 abbrev pub is_full_address : List ℕ → Bool
 is_full_address t = are_items true 8 t
 
--- whether the text is two lists of groups around `::`, of at most seven
+-- whether the text is two lists of groups around `::`, with at most seven groups
 abbrev pub is_short_address : List ℕ → Bool
 is_short_address t =
     any_up_to (λ m. any_cut colon (are_items false m)

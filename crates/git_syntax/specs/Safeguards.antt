@@ -17,6 +17,6 @@ PasswordSet = (PASSWORD ≡ password_set) × HoldsExactly password_set is_passwo
 abbrev pub UserSet : Type 0
 UserSet = (USER ≡ user_set) × HoldsExactly user_set is_user_escaped
 
--- exactly the IPv6 texts pass the test that the text of a location uses
+-- exactly the IPv6 texts pass the test that the definition of a location's text uses
 abbrev pub DecidesAddresses : Type 0
 DecidesAddresses = (t : List ℕ) → IsTrue (is_ipv6_text t) ↔ IsIpv6Text t

@@ -48,8 +48,8 @@ pub const PASSWORD: AsciiSet = ascii_set!(
 /// The bytes that are escaped in a user: those of the password, and `:`.
 pub const USER: AsciiSet = ascii_set!(PASSWORD.add(b':'));
 
-/// Each set of escaped bytes is the documented set, to which the text of a location refers. It has exactly
-/// these bytes of ASCII; bytes that are not ASCII are always escaped.
+/// Each set of escaped bytes is the documented set, to which the definition of a location's text refers. It has
+/// exactly these bytes of ASCII; bytes that are not ASCII are always escaped.
 ///
 /// - `path`: in a path of HTTP, the controls, the space, `"`, `%`, `<`, `>`, `` ` ``, `{` and `}`.
 /// - `password`: in a password, those and `#`, `/`, `?`, `@`, `[`, `\`, `]`, `^` and `|`.
@@ -124,7 +124,7 @@ pub(crate) fn begins_high(text: &[u8]) -> bool
     }
 }
 
-/// Whether the decoding of the text is UTF-8. Most texts have ASCII in it.
+/// Whether the decoding of the text is UTF-8. In most texts it is ASCII.
 pub(crate) fn decoding_is_utf8(text: &[u8]) -> bool
     ensures { IsTrue result ↔ IsUtf8 (percent.percent_decode text.now) }
 {

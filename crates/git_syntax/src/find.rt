@@ -1,7 +1,7 @@
 //! Finds the form of a text and the slices that its location consists of.
 //!
-//! If a text has an error, the definitions spell no location with it, and the flaw that is named is in the
-//! text.
+//! If an error is returned, the definitions spell no location with the text, and the flaw that it names is in
+//! the text.
 
 ghost use Rattle.std.specs.Prelude.{◌≡◌, ◌≤◌, [], Err, IfErr, IfOk, length};
 ghost use Rattle.git_syntax.specs.Flaws.{NamesFlaw};

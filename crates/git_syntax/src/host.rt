@@ -1,7 +1,7 @@
 //! Host and port, which follow the user information in an authority.
 //!
-//! Both are read exactly if the definitions have them, as slices of the text. If an error is returned, the text
-//! has its flaw. Only [`HostPort::build`] allocates.
+//! Both are read, as slices of the text, exactly if the definitions spell them. If an error is returned, the
+//! text has the flaw that it names. Only [`HostPort::build`] allocates.
 
 ghost use Rattle.std.specs.Prelude.{◌≡◌, ℕ, IsUtf8, ◌<◌, ◌↔◌, ◌++◌, ◌∷◌, List, Option, None, IsTrue, IfOk, IfErr, IfSome, MatchOption, false, length};
 ghost use Rattle.git_syntax.specs.Bytes.{FreeOf, begins_with, left_bracket, right_bracket};

@@ -1,8 +1,8 @@
 //! The length test of URLs.
 //!
-//! A check takes the text after the `://` of a URL in any number of pieces, so that a text can be measured that
-//! is nowhere as a whole. It reads no further once the outcome is fixed. A text that isn't longer than the
-//! limit passes without being read.
+//! A check takes the text after the `://` of a URL in any number of pieces, so it also works for a text that is
+//! in no single buffer. It reads no further once the outcome is fixed. If the text is no longer than the limit,
+//! it passes without being read.
 
 ghost use Rattle.std.specs.Prelude.{◌≡◌, ◌↔◌, ◌++◌, [], List, ℕ, IsTrue, not};
 ghost use Rattle.std.specs.List.{count_by};
@@ -171,6 +171,6 @@ pub fn fits(web: bool, scheme: &[u8], rest: &[u8]) -> bool
     if scheme.len() > LIMIT {
         return false;
     }
-    // The bytes that count are at most all of them, so a short rest need not be read.
+    // At most all bytes count, so a short rest need not be read.
     rest.len() <= LIMIT || advance_slashes(web, rest).is_in_time(web)
 }

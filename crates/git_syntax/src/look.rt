@@ -46,7 +46,7 @@ impl Look {
         }
     }
 
-    /// Whether the text is known to hold no `%`.
+    /// Whether the text is known to have no `%`.
     pub(crate) fn is_plain(self) -> bool
         ensures { result ≡ knows_plain self }
     {

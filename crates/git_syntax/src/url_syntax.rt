@@ -33,7 +33,7 @@ pub struct ParsedUrl<'a> {
     pub host: Option<HostPort<'a>>,
     /// The path with its escapes, and in HTTP with the query and the fragment.
     pub path: &'a [u8],
-    /// Whether the path holds a `%`.
+    /// Whether the path has a `%`.
     pub escaped: bool,
 }
 

@@ -107,8 +107,8 @@ impl Url {
 
     /// Whether the path is `/`. Allocates nothing.
     ///
-    /// It is for `https://host`, whose text has no path. For `https://host/?x` it isn't: an HTTP path includes
-    /// the query and the fragment.
+    /// The path of `https://host`, whose text has none, is `/`. That of `https://host/?x` isn't: an HTTP path
+    /// includes the query and the fragment.
     ///
     /// ```
     /// fn names_a_repository(url: &Url) -> bool {

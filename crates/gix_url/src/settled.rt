@@ -13,8 +13,8 @@ impl Url {
     /// its path. For the other kinds some have: Git with the host `]` and the path `/p` is not settled, though
     /// it comes back.
     ///
-    /// Almost everything that is read is settled. Exceptions are `[host]::path`, whose text `host::path` names
-    /// a remote helper, and a location whose field a program changed so that its text means another place.
+    /// Most locations that are read are settled. `[host]::path` isn't: its text `host::path` names a remote
+    /// helper. Nor is a location of which a program changed a field so that its text means another place.
     ///
     /// The clause `value` of the contract is the premise of [`law_separation`](git_laws::laws::law_separation)
     /// and of the other laws.
