@@ -106,7 +106,7 @@ pub fn law_closed()
 ///   about one holds for the other: matchers and caches need only `==`.
 /// - `tied`: the order returns `Equal` exactly for equal locations. So a sorted list and a `BTreeMap`
 ///   distinguish the same locations as `==`.
-/// - `total`: the order is total. Of two locations, one comes first or they are equal.
+/// - `total`: the order is total: one of two locations comes first, or they are equal.
 /// - `hashed`: equal locations are fed to a hasher alike. So a `HashMap` finds the same locations as `==`.
 /// - `hashed_apart`: no others are. No field is left out, so a good hasher distinguishes any two locations.
 ///   (Each `Url` is such a value: `law_value`.)

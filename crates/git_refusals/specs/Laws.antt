@@ -6,7 +6,7 @@ use Rattle.git_refusals.specs.declared.refusal.Refusal.{Refusal}
 use Rattle.git_refusals.specs.Reasons.{Refused}
 use Rattle.git_refusals.specs.Promised.{NamesKind}
 
--- a text has at most one refusal: of several flaws always the same one is named, at one place
+-- a text has at most one refusal: if it has several flaws, always the same one is named, at one place
 abbrev pub OneRefusal : Type 0
 OneRefusal = (b : List ℕ) (r s : Refusal) → Refused b r → Refused b s → r ≡ s
 

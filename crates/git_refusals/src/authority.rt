@@ -88,7 +88,7 @@ fn bad_alone(syntax: HostSyntax, needed: bool, authority: &[u8]) -> Option<Place
     None
 }
 
-/// The flaw of user information. Of a user and a password, the password is checked first.
+/// The flaw of user information. The password is checked before the user.
 fn bad_user(information: &[u8]) -> Option<Place>
     ensures { Checks information.now (BadUser information.now) (HoldsUser information.now) result }
 {

@@ -49,7 +49,7 @@ pub enum UrlFault {
     HostRequired,
 }
 
-/// Why a text spells no location: a flaw that is in it. Of several flaws it is the one that
+/// Why a text spells no location: a flaw that is in it. If the text has several flaws, it is the one that
 /// `find` returns; `git_refusals` defines the one reason for an error and its one place.
 #[derive(Clone, Copy)]
 pub enum Refusal {
