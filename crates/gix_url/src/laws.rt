@@ -41,8 +41,8 @@ pub fn law_readers()
 ///   [`parse`](crate::parse::parse) refuses.
 /// - `refusal`: the same holds for a [`Refusal`](crate::Refusal), which reading into a buffer returns, and for
 ///   the answer to a line.
-/// - `one`: a text has at most one refusal. If a text has several, every call names the same one, at the same place:
-///   the first in the order of checks.
+/// - `one`: a text has at most one refusal. If it has several flaws, every call names the same one, at the same
+///   place: the first in the order of checks.
 /// - `flaw`: the flaw that the error of a refusal names is in the text.
 /// - `within`: the place of a refusal is in its text, so the text can be cut there.
 /// - `flawless`: bytes that spell a location have no flaw, whether or not there is an error with a copy of
