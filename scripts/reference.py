@@ -15,17 +15,17 @@ import sys
 sys.dont_write_bytecode = True
 sys.path.append(f"{sys.path[0]}/../tools")
 from definitions import named_in
-from public_items import DOC, HEAD_COMMENT, documented_items, sources_of
-from reference_names import PASSED, anchors, by_last_name, crates, link, module_of, modules, name_for_programs, prose, target
+from doc_comments import documented, of_module, own_words, sentence
+from public_items import DOC, documented_items, sources_of
+from reference_names import PASSED, anchors, by_last_name, crates, link, module_of, modules, name_for_programs, target
 from rt_api import LAYERS, LIBRARIES, ROOT
 
 FOLDER = "docs/reference"
 INDEX, HEAD = f"{FOLDER}/README.md", "<!-- Written by `scripts/reference.py --write`. -->\n"
-# What begins a clause, or what an implementation of a trait states; a documented field, variant or call of a type or a trait;
-# and the doc comment of an item: that at its margin, or, of a member of an `impl`, that below the first line.
+# What begins a clause, or what an implementation of a trait states; a documented field, variant or member of a type or a trait;
+# and the example at the end of a doc comment, unless a sentence leads to it.
 STATED = re.compile(r"(?m)^ *(?:(ensures|requires)(?: (\w+))?|ghost (\w+) =) (?=\{)")
-MEMBER = re.compile(r"(?m)((?:^( +)///.*\n)+)(?: +#\[.*\n)* *(?:pub )?(?:fn )?(\w+)")
-OWN = re.compile(r"(?m)\A(?:///.*\n)+|(?<=\A)impl.*\n(?: {4}///.*\n)+")
+MEMBER = re.compile(r"(?m)((?:^( +)///.*\n)+)(?: +#\[.*\n)* *(?:pub )?(?:fn |type |const )?(\w+)")
 EXAMPLE = re.compile(r"(?s)(?<!:)\n\n(```rust\n(?:(?!```).)*```)\Z")
 
 
@@ -34,54 +34,19 @@ def read(name):
         return it.read()
 
 
-def words_of(text):
-    """The Markdown of doc comments without their marks: examples as code of Rust, headings in bold."""
-    lines, inside = [], False
-    for line in re.findall(r"(?m)^ *//[/!] ?(.*)$", text):
-        if line.startswith("```"):
-            line, inside = line if inside or len(line) > 3 else "```rust", not inside
-        lines.append(line if inside else re.sub(r"^#+ (.*)", r"**\1**", line))
-    return "\n".join(lines)
-
-
-def documented(crate, module, text, page=None):
-    """The Markdown of doc comments, with links outside of their examples."""
-    parts = re.split(r"(?ms)(^```.*?^```$)", words_of(text))
-    return "".join(it if at % 2 else prose(crate, module, it, page) for at, it in enumerate(parts)).strip()
-
-
-def of_module(crate, module, page=None):
-    """The Markdown of the head of a module."""
-    return documented(crate, module, "".join(f"//! {it}" for it in HEAD_COMMENT.findall(sources_of(crate).get(module, ""))), page)
-
-
-def own_words(text):
-    found = OWN.match(text)
-    return "".join(DOC.findall(found[0])) if found else ""
-
-
-def sentence(crate, path, page):
-    """The first sentence of an item's doc comment, in one line."""
-    module, text = documented_items(crate)[path]
-    below = PASSED.fullmatch(text)
-    it = target(crate, module, f"{below[1]}::{below[2]}") if below else None
-    if it and not it[1].startswith("mod "):
-        return sentence(*it, page)
-    words = of_module(it[0], modules(it[0])[it[1].removeprefix("mod ")], page) if it else documented(crate, module, own_words(text), page)
-    first = words.partition("\n\n")[0]
-    return re.sub(r"\s+", " ", re.match(r"(?s).*?(?:\.(?=\s)|$)", first)[0])
-
-
 def stated(text):
-    """The text without doc comments and without what it states, and this: the kind, the name and the formal text of each clause."""
+    """The text without doc comments and without what it states, and this: of each clause its kind, its function if there are several,
+    its name and its formal text."""
     text, found = DOC.sub("", text), []
+    functions = len(re.findall(r"\bfn \w", text))
     while start := STATED.search(text):
         end = depth = 0
         for end, letter in enumerate(text[start.end():], start.end() + 1):
             depth += {"{": 1, "}": -1}.get(letter, 0)
             if not depth:
                 break
-        found.append((start[1] or start[3], start[2] or "", re.sub(r"\s+", " ", text[start.end() + 1 : end - 1]).strip()))
+        function = re.findall(r"\bfn (\w+)", text[: start.start()])[-1:] if start[1] and functions > 1 else []
+        found.append((start[1] or start[3], [*function, *filter(None, [start[2]])], re.sub(r"\s+", " ", text[start.end() + 1 : end - 1]).strip()))
         text = text[: start.start()] + re.sub(r"\A;?\n", "", text[end:])
     return text, found
 
@@ -89,9 +54,9 @@ def stated(text):
 def clauses(crate, module, found):
     """The list of what is stated, and below each clause the definitions that no clause before it names."""
     named = set()
-    for kind, name, formal in found:
-        label = f"`{name}`: " if name else "" if kind in ("ensures", "requires") else f"`{kind}`: "
-        yield f"- {'requires ' if kind == 'requires' else ''}{label}`{formal}`"
+    for kind, names, formal in found:
+        label = " ".join(f"`{it}`" for it in names or [kind] if it not in ("ensures", "requires"))
+        yield f"- {'requires ' if kind == 'requires' else ''}{label}{': ' if label else ''}`{formal}`"
         for word, (file, meaning, inside) in named_in(formal, sources_of(crate)[module]).items():
             if word not in named:
                 named.add(word)
