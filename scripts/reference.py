@@ -15,18 +15,16 @@ import sys
 sys.dont_write_bytecode = True
 sys.path.append(f"{sys.path[0]}/../tools")
 from definitions import named_in
-from doc_comments import documented, of_module, own_words, sentence
+from doc_comments import documented, of_module, own_words, parted, sentence
 from public_items import DOC, documented_items, sources_of
 from reference_names import PASSED, anchors, by_last_name, crates, link, module_of, modules, name_for_programs, target
 from rt_api import LAYERS, LIBRARIES, ROOT
 
 FOLDER = "docs/reference"
 INDEX, HEAD = f"{FOLDER}/README.md", "<!-- Written by `scripts/reference.py --write`. -->\n"
-# What begins a clause, or what an implementation of a trait states; a documented field, variant or member of a type or a trait;
-# and the example at the end of a doc comment, unless a sentence leads to it.
+# What begins a clause, or what an implementation of a trait states; and a documented field, variant or member.
 STATED = re.compile(r"(?m)^ *(?:(ensures|requires)(?: (\w+))?|ghost (\w+) =) (?=\{)")
 MEMBER = re.compile(r"(?m)((?:^( +)///.*\n)+)(?: +#\[.*\n)* *(?:pub )?(?:fn |type |const )?(\w+)")
-EXAMPLE = re.compile(r"(?s)(?<!:)\n\n(```rust\n(?:(?!```).)*```)\Z")
 
 
 def read(name):
@@ -92,11 +90,11 @@ def item(crate, path):
     if it:
         return f"{head}\n{sentence(crate, path, crate)} It is {link(it[0], crate, f'`{below[1]}::{below[2]}`', it[1])}.\n"
     signature, found = stated(text)
-    words = documented(crate, module, own_words(text))
+    words, examples = parted(documented(crate, module, own_words(text)))
     return "\n".join(filter(None, [
-        head, EXAMPLE.sub("", words) + "\n" if words else "", f"```rust\n{signature}```\n", members(crate, module, text),
+        head, words + "\n" if words else "", f"```rust\n{signature}```\n", members(crate, module, text),
         "[Promised](CLAUSES.md):\n\n" + "\n".join(clauses(crate, module, found)) + "\n" if found else "",
-        "".join(f"Example, proved:\n\n{it}\n" for it in EXAMPLE.findall(words)),
+        "\n".join(f"Example, proved:\n\n{it}\n" for it in examples),
         origin(crate, path, file)]))
 
 

@@ -24,6 +24,17 @@ def documented(crate, module, text, page=None):
     return "".join(it if at % 2 else prose(crate, module, it, page) for at, it in enumerate(parts)).strip()
 
 
+def parted(words):
+    """The words of an item without its examples, except those that a sentence leads to; and these examples."""
+    kept, examples = "", []
+    for at, it in enumerate(re.split(r"(?ms)(^```rust\n.*?^```$)", words)):
+        if at % 2 and not kept.rstrip().endswith(":"):
+            examples.append(it)
+        else:
+            kept += it
+    return re.sub(r"\n{3,}", "\n\n", kept).strip(), examples
+
+
 def of_module(crate, module, page=None):
     """The Markdown of the head of a module."""
     return documented(crate, module, "".join(f"//! {it}" for it in HEAD_COMMENT.findall(sources_of(crate).get(module, ""))), page)

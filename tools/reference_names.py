@@ -114,6 +114,7 @@ def prose(crate, module, text, page=None):
         if (address or "").startswith("http"):
             return found[0]
         it = target(crate, module, name or address or words.strip("`"))
-        return link(it[0], page or crate, words or plain, it[1]) if it else words or plain
+        shown = re.sub(r"^`(?:(?:crate|super|self)::)+", "`", words or plain)
+        return link(it[0], page or crate, shown, it[1]) if it else shown
 
     return LINK.sub(linked, text)
