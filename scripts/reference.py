@@ -70,7 +70,7 @@ def members(crate, module, text):
     for doc, margin, name in MEMBER.findall(re.sub(r"(?m)^///.*\n", "", text)):
         inner = " " * (len(margin) // 2 - 2)
         found += f"{inner}- `{name}`: " + documented(crate, module, doc).replace("\n", f"\n{inner}  ") + "\n"
-    return found
+    return re.sub(r"(?m)^ +$", "", found)
 
 
 def origin(crate, path, file):
@@ -142,10 +142,15 @@ def wanted():
     return {**found, INDEX: read(INDEX).partition(HEAD)[0] + HEAD + "\n" + "".join(index())}
 
 
+def written():
+    """The names of the files that are there, without the page on clauses."""
+    return {f"{FOLDER}/{it}" for it in glob.glob("*", root_dir=f"{ROOT}/{FOLDER}")} - {f"{FOLDER}/CLAUSES.md"}
+
+
 def faults():
     """Which files have no crate or are not current."""
-    there, right = {f"{FOLDER}/{it}" for it in glob.glob("*", root_dir=f"{ROOT}/{FOLDER}")}, wanted()
-    for name in sorted(there - {f"{FOLDER}/CLAUSES.md"} | right.keys()):
+    there, right = written(), wanted()
+    for name in sorted(there | right.keys()):
         if name not in there or name not in right or read(name) != right[name]:
             yield f"{name} is {'not what the sources say' if name in right else 'without a crate'}: scripts/reference.py --write mends it"
 
@@ -153,6 +158,8 @@ def faults():
 def main(words):
     if words != ["--write"]:
         sys.exit(__doc__)
+    for name in written() - wanted().keys():
+        os.remove(f"{ROOT}/{name}")
     for name, text in wanted().items():
         with open(f"{ROOT}/{name}", "w", encoding="utf-8") as it:
             it.write(text)
