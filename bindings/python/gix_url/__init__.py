@@ -151,7 +151,8 @@ class Url:
         return bool(self._asked(lib.gix_url_is_settled, Truth()).value)
 
     def agrees_with_git(self) -> bool:
-        """True only if Git reads this very place in the location's text, apart from the brackets of a `git://` host."""
+        """True only if Git reads this very place in the location's text, apart from the brackets of a `git://` host
+        and the slashes around a path of HTTP."""
         return bool(self._asked(lib.gix_url_agrees_with_git, Truth()).value)
 
     def is_unambiguous(self) -> bool:
