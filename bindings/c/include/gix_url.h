@@ -7,9 +7,9 @@
  * byte 0 among them, and don't end in one. Nothing here has to be freed: what a call returns goes into the room, a
  * buffer that the caller supplies, and a call allocates memory only for its own work. gix_url_is_settled,
  * gix_url_agrees_with_git, gix_url_is_unambiguous, gix_url_unmet_condition, gix_url_write, gix_url_look and
- * gix_url_scheme_text allocate none, and never return GIX_URL_MEMORY; nor does gix_url_parse for an input of at most 256
- * bytes. A location that was read points into the room, so the room has to stay as long as the location is used. No call
- * keeps a pointer past its return. Calls may run in several threads, as long as no room is shared.
+ * gix_url_scheme_text allocate none, and never return GIX_URL_MEMORY. gix_url_parse doesn't return it for an input of at
+ * most 256 bytes. A location that was read points into the room, so the room has to stay as long as the location is used.
+ * No call keeps a pointer past its return. Calls may run in several threads, as long as no room is shared.
  *
  * Any pointer may be null: a null part is a part that isn't there, a null input or path is empty, null room has no bytes
  * and null pairs no places, whatever the length beside them; where needed, needed_pairs or problem is null, it is not
@@ -177,7 +177,8 @@ typedef struct gix_url {
                               still stands for the path */
 } gix_url;
 
-/* Ample room for the parts of what is read of a text of this many bytes: no byte of it is in more than two parts. */
+/* Ample room for the parts of what is read of a text of this many bytes: no byte of it is in more than two parts. This is
+ * tested, not proved. */
 #define GIX_URL_ROOM(len) (2 * (size_t)(len) + 32)
 
 /* Reads the one location that the bytes spell.
@@ -195,8 +196,8 @@ gix_url_error gix_url_parse(const char *input, size_t len, char *room, size_t ro
 gix_url_error gix_url_from_parts(const gix_url *parts, char *room, size_t room_len, gix_url *url, size_t *needed,
                                  gix_url_problem *problem);
 
-/* True only if the location's text is read as the same parts and is written the same again. False promises nothing: it is
- * the answer of git://%5D/p, which comes back. */
+/* True only if the location's text is read as the same parts, except for the spelling, and is written the same again.
+ * False promises nothing: it is the answer of git://%5D/p, which comes back. */
 gix_url_error gix_url_is_settled(const gix_url *url, bool *settled);
 
 /* True only if Git reads this very place in the text that gix_url_write puts: the same protocol, user, host, port and
@@ -205,13 +206,13 @@ gix_url_error gix_url_is_settled(const gix_url *url, bool *settled);
  * is a definition. No proof says that Git keeps to it: a second reading of it was compared with git 2.39.5 on Linux.
  *
  * Git passes a text of HTTP to curl, and asks its credential code for a password. Of such a location, yes says that in
- * the text this code reads the location's own scheme, user, password, host with port, and path, and that the text is a
- * URI of RFC 3986 in the normal form, whose components are the location's own. Such a location is settled. Its host is
- * a name of lower-case letters, digits, -, . and _ whose last label begins with a letter, an IPv4 address, or an IPv6
- * address in brackets. Neither user, password nor path has a control character, and the user has no colon. The path
- * begins with one slash, and has no #, no ? at its end and no segment . or .., not in the query either; it is written
- * in the bytes that a path and a query of a URI have. Neither what is written for the password nor what is written for
- * the path holds both a colon and an escape.
+ * the text this code reads the location's own scheme, user, password, host with port, and path, this without the slashes
+ * around it, and that the text is a URI of RFC 3986 in the normal form, whose components are the location's own. Such a
+ * location is settled. Its host is a name of lower-case letters, digits, -, . and _ whose last label begins with a
+ * letter, an IPv4 address, or an IPv6 address in brackets. Neither user, password nor path has a control character, and
+ * the user has no colon. The path begins with one slash, and has no #, no ? at its end and no segment . or .., not in
+ * the query either; it is written in the bytes that a path and a query of a URI have. Neither what is written for the
+ * password nor what is written for the path holds both a colon and an escape.
  *
  * It is false for what Git passes to another remote helper, for an empty user of Secure Shell, for a local path that
  * begins with ~, for what isn't settled, and for some texts that Git reads alike: outside HTTP, among them those

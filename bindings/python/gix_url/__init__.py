@@ -146,11 +146,13 @@ class Url:
         return dataclasses.replace(self, **fields)
 
     def is_settled(self) -> bool:
-        """True only if the location's text is read as the same parts and is written the same again."""
+        """True only if the location's text is read as the same parts, except for the spelling, and is written the
+        same again."""
         return bool(self._asked(lib.gix_url_is_settled, Truth()).value)
 
     def agrees_with_git(self) -> bool:
-        """True only if Git reads this very place in the location's text."""
+        """True only if Git reads this very place in the location's text, apart from the brackets of a `git://` host
+        and the slashes around a path of HTTP."""
         return bool(self._asked(lib.gix_url_agrees_with_git, Truth()).value)
 
     def is_unambiguous(self) -> bool:

@@ -17,8 +17,9 @@ Decision.REFUSED
 The rules are those of Git 2.39.5 on Linux; docs/RULES.md has them, and docs/AUDIT.md those of dangers. No
 call reads a file or the environment, or runs a program: the caller passes texts. A text is bytes, or a str
 that stands for its UTF-8, with `surrogateescape`; a value of another type is a TypeError. Results are bytes.
-They may have passwords, which the representation (`%r`) of a result shows as `redacted`. Calls may run in
-several threads; all values can be hashed and pickled. Each call raises MemoryError if memory is refused.
+They may have secrets: the representation (`%r`) of a result shows each one that `secrets` finds as `redacted`.
+Calls may run in several threads; all values can be hashed and pickled. Each call raises MemoryError if memory
+is refused.
 """
 import dataclasses
 import functools

@@ -257,8 +257,8 @@ fn scheme(number: u8, name: Bytes<'_>) -> Scheme {
     }
 }
 
-/// Makes a call that fills the front of the room. It returns its number and how many bytes it needs; an error leaves
-/// the room as it was.
+/// Makes a call that fills the front of the room. It returns its number and how many bytes it needs. A debug build tests
+/// that an error leaves the room as it was, which is proved of each call but `gix_url_c_read_in`.
 fn fill(room: &mut [MaybeUninit<u8>], call: &mut impl FnMut(*mut u8, usize) -> (u32, usize)) -> (u32, usize) {
     if cfg!(debug_assertions) {
         room.fill(MaybeUninit::new(BLANK));
@@ -392,7 +392,7 @@ fn error(code: u32, told: &Problem, input: impl FnOnce() -> BString, name: &[u8]
     }
 }
 
-/// What the bytes are read as. The parts are slices of the bytes, or of a buffer where they differ, and are copied.
+/// What the bytes are read as. The parts are slices of the bytes or of a buffer, and are copied.
 pub(crate) fn read(input: &[u8]) -> Result<Url, Error> {
     let (mut lent, mut told) = (Given::none(), Problem::default());
     let (mut near, mut far) = ([MaybeUninit::<u8>::uninit(); NEAR], Vec::<u8>::new());

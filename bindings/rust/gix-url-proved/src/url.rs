@@ -269,9 +269,9 @@ impl Url {
     /// compared with git 2.39.5 on Linux.
     ///
     /// Git passes a text of HTTP to curl, and asks its credential code for a password. Of such a location, yes says
-    /// that in the text this code reads the location's own scheme, user, password, host with port, and path, and that
-    /// the text is a URI of RFC 3986 in the normal form, whose components are the location's own. Such a location is
-    /// settled, and
+    /// that in the text this code reads the location's own scheme, user, password, host with port, and path, this
+    /// without the slashes around it, and that the text is a URI of RFC 3986 in the normal form, whose components are
+    /// the location's own. Such a location is settled, and
     ///
     /// - its host is a name of lower-case letters, digits, `-`, `.` and `_` whose last label begins with a letter, an IPv4
     ///   address, or an IPv6 address in brackets;
