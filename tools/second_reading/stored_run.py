@@ -15,7 +15,7 @@ from second_reading.seen import seen
 
 
 def found(line, v):
-    """The names of what is found in a line, for which a run may fail."""
+    """The names of the findings in a line, for which a run may fail."""
     if v is None:
         return ["refused"]
     is_found = {"danger": dangers(line, v), "unsettled": not told(v)["settled"], "git-differs": not told(v)["agrees_with_git"]}
@@ -23,7 +23,7 @@ def found(line, v):
 
 
 def answer(number, line):
-    """The object of a line. Of a location it is reported what is read in the line as it is shown."""
+    """The object of a line. For a location the reading of the line as it is shown is reported."""
     v, other = grammar.spells(line), seen(line)
     location = None if v is None or other is None else told(grammar.spells(other))
     refusal = refusal_of_line(line) if v is None else WITHHELD if other is None else None
