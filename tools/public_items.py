@@ -1,4 +1,4 @@
-"""The public items of a crate with their contracts, read from its sources as `rt fmt` lays them out: an item begins a line of
+"""The public items of a crate with their contracts, read from its sources in the layout of `rt fmt`: an item begins a line of
 its indentation, and its other lines are indented further, except brackets and `where`."""
 import functools
 import glob
@@ -7,7 +7,7 @@ import re
 
 from rt_api import ROOT
 
-# Comments that document nothing, and attributes that promise nothing; doc comments; the doc comment of a module.
+# Comments that aren't documentation, and attributes without a contract; doc comments; the doc comment of a module.
 SILENT = re.compile(r"(?m)^\s*(?://(?!/)|#!|#\[(?:allow|inline|tactic)\b).*\n|^\n")
 DOC = re.compile(r"(?m)^ *///.*\n")
 HEAD_COMMENT = re.compile(r"(?m)^//! ?(.*\n)")
@@ -22,7 +22,7 @@ def files_of(crate):
 
 
 def items(text, depth=4):
-    """The items of an indentation: of each its doc comment and attributes, and its text."""
+    """The items of an indentation: the doc comment, the attributes and the text of each."""
     more = rf"(?: {{{depth + 1},}}\S.*\n| {{{depth}}}(?:[)\]}}{{]|where\b).*\n)*"
     return re.findall(rf"(?m)^((?: {{{depth}}}(?:#\[|///).*\n{more})*)( {{{depth}}}(?!where\b)[a-z].*\n{more})", text)
 
@@ -62,7 +62,7 @@ def uses(inside, front):
 
 
 def definition(modules, module, name):
-    """The module that defines what a module calls by a name, and its name there; None where that is of another crate."""
+    """The module that defines a name used in a module, and its name there; None if it is of another crate."""
     inside = modules.get(module, [])
     if name in names(inside):
         return module, name
@@ -74,7 +74,7 @@ def definition(modules, module, name):
 
 
 def public_paths(modules):
-    """The path of each public item, by its module and its name there; and what is passed on, by its path."""
+    """The path of each public item, by its module and its name there; and the re-exports, by their paths."""
     found = {(module, name): "::".join((*module, name)) for module in opened(modules) for name in names(modules[module], "pub ")}
     passed = {}
     for module in opened(modules):
@@ -88,13 +88,13 @@ def public_paths(modules):
 
 
 def head(text):
-    """What is before a body, which opens on a line of its own or on one of the item's indentation."""
+    """The text before a body, which opens on a line of its own or on one of the item's indentation."""
     margin = re.match(" *", text)[0]
     return re.sub(rf"(?ms)^({margin}(?:\S[^\n]*?(?= \{{))?)[ ]?\{{.*", r"\1", text).rstrip() + "\n"
 
 
 def promised(attributes, text):
-    """The text of an item without bodies and private fields: of a call its clauses, of a trait or an `impl` its members."""
+    """The text of an item without bodies and private fields: for a call its clauses, for a trait or an `impl` its members."""
     kind = ITEM.match(text)[1]
     if kind in ("impl", "trait"):
         text = head(text) + "".join(promised(*it) for it in items(text) if not it[1].startswith("    ghost use "))
@@ -107,7 +107,7 @@ def promised(attributes, text):
 
 
 def of_block(modules, paths, module, text):
-    """What an `impl` adds, by its path: itself if it is of a trait, else its public members."""
+    """The additions of an `impl`, by its path: itself if it is of a trait, otherwise its public members."""
     trait, of, name = IMPL.match(text).groups()
     owner = paths.get(definition(modules, module, name))
     local = {definition(modules, module, it) for it in re.findall(r"\w+", f"{trait} {of}")} - {None}
@@ -121,7 +121,7 @@ def of_block(modules, paths, module, text):
 
 @functools.cache
 def documented_items(crate):
-    """Of each public item the module that has it and its text with doc comments, by its path and in the order of paths."""
+    """The module of each public item, and its text with doc comments, by its path and in the order of paths."""
     modules = modules_of(crate)
     paths, passed = public_paths(modules)
     found = {path: ((), text) for path, text in passed.items()}
