@@ -1,4 +1,4 @@
-"""The calls and clauses that the table of docs/PROOFS.md names and that aren't there."""
+"""The calls and clauses that the tables of docs/PROOFS.md name and that aren't there, and their links to other items."""
 import glob
 import re
 
@@ -7,6 +7,8 @@ from row_coverage import contracts
 from rt_api import LAYERS, ROOT
 
 PROOFS = "docs/PROOFS.md"
+# An item of the reference: its name, and the place that the link leads to.
+LINK = re.compile(r"\[(`([^`]+)`)\]\((reference/[^)\s]+)\)")
 
 
 def read(name):
@@ -21,16 +23,18 @@ def fields():
 
 
 def promises():
-    """What the table of proofs names: of each group of calls the clauses behind its colon."""
-    rows = re.findall(r"(?m)^\| .* \| (`.*) \|$", read(PROOFS))
+    """What the tables of proofs name: of each group of calls the clauses behind its colon."""
+    rows = re.findall(r"(?m)^\| .* \| (`.*) \|$", LINK.sub(r"\1", read(PROOFS)))
     for group in (part for row in rows for part in row.split("; ")):
         calls, _, clauses = group.partition("`: ")
         yield re.findall(r"`?(\w+::\w+)`?", calls), re.findall(r"`([a-z]\w*)`", clauses)
 
 
 def faults():
-    """Which calls of the table aren't public, and which clauses none of them has."""
+    """Which calls of the tables aren't public, which clauses none of them has, and which links lead to another item."""
     known, parts = contracts(), fields()
+    yield from (f"{PROOFS}: the link of {name} leads to {place}" for _, name, place in LINK.findall(read(PROOFS))
+                if not re.search(rf"[#/-]{name.rpartition('::')[2].lower()}(\.md)?$", place))
     for calls, clauses in promises():
         yield from (f"{PROOFS}: {it} is not a public call" for it in calls if it not in known)
         stated = {clause for call in calls for clause in CLAUSE.findall(known.get(call, ""))} | parts
