@@ -187,12 +187,12 @@ def cell(text):
 
 def condition_table():
     names = [*SHORT]
-    out = ["| Condition | Broken by | Example | " + " | ".join(SHORT.values()) + " |\n", "|---" * (len(names) + 3) + "|\n"]
+    out = ["| Condition | Broken by | Example |" + "|".join(SHORT.values()) + "|\n", "|---" * (len(names) + 3) + "|\n"]
     for it in lines("conditions"):
         marks = [next((letter for kind, letter in KINDS.items() if name in it[kind]), "") for name in names]
         example = cell(it["example"]) if len(it["example"]) < 60 else ""
         words = it["words"].rstrip(".").replace("|", "\\|")
-        out.append(f"| `{it['name']}` | {words} | {example} | " + " | ".join(marks) + " |\n")
+        out.append(f"| `{it['name']}` | {words} | {example} |" + "|".join(marks) + "|\n")
     return "".join(out)
 
 
@@ -221,25 +221,13 @@ def group_table():
     return "".join(["| Group | The host that it finds | Programs |\n", "|---|---|---|\n", *rows])
 
 
-def count_table():
-    """The behaviour of each program in the texts of its groups."""
-    heads = ["Group", "Program", "Of other hosts than Git's", "Of misread texts", "No host", "Git's", "Another", "Where it takes another host than the group"]
-    out = [f"| {' | '.join(heads)} |\n", "|---|---" + "|--:" * 5 + "|---|\n"]
-    for it in lines("groups"):
-        pairs = [f"{it[some]:,} of {it[all]:,}" for some, all in (("takes", "differs"), ("same", "misread"))]
-        cells = [f"`{it['group']}`", it["program"], *pairs, *(f"{it[member]:,}" for member in ("none", "gits", "another")), " ".join(it["shapes"])]
-        out.append(f"| {' | '.join(cells)} |\n")
-    return "".join(out)
-
-
 def reader_table():
     named = [f"{it['reader']} {it['version']}" + (f" ({SHORT[it['reader']]})" if it["reader"] in SHORT else "") for it in lines("readers")]
     return ", ".join(named) + ".\n"
 
 
 def tables():
-    return {"readers": reader_table(), "confusions": confusion_table(), "conditions": condition_table(), "groups": group_table(),
-            "counts": count_table()}
+    return {"readers": reader_table(), "confusions": confusion_table(), "conditions": condition_table(), "groups": group_table()}
 
 
 def read_document():
