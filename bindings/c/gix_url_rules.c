@@ -139,16 +139,16 @@ static void make_entries(gix_url_entry *entries, size_t count, const char *end) 
 typedef uint32_t reader(const char *, size_t, sizes *, char *, size_t, size_t *, size_t, stop *);
 
 static gix_url_error read_entries(reader *read, const char *text, size_t len, char *buffer, size_t buffer_len,
-                                  gix_url_entry *entries, size_t entry_room, size_t *count, size_t *needed,
+                                  gix_url_entry *entries, size_t entry_capacity, size_t *count, size_t *needed,
                                   gix_url_stop *stopped) {
     if (!count) return null_pointer(stopped);
     if (!text) text = nowhere, len = 0;
     if (!buffer) buffer = nowhere, buffer_len = 0;
     void *numbers = entries;
-    size_t room = number_room(&numbers, entry_room, sizeof *entries, ENTRY_NUMBERS);
+    size_t capacity = number_capacity(&numbers, entry_capacity, sizeof *entries, ENTRY_NUMBERS);
     sizes sizes = {0};
     stop stop = {0};
-    uint32_t error = read(text, len, &sizes, buffer, buffer_len, numbers, room, &stop);
+    uint32_t error = read(text, len, &sizes, buffer, buffer_len, numbers, capacity, &stop);
     if (is_measured(error)) *count = sizes.count, store(needed, sizes.bytes);
     if (error == GIX_URL_OK) make_entries(entries, sizes.count, buffer + sizes.bytes);
     tell(&stop, stopped);
@@ -156,13 +156,13 @@ static gix_url_error read_entries(reader *read, const char *text, size_t len, ch
 }
 
 gix_url_error gix_url_read_listing(const char *text, size_t len, char *buffer, size_t buffer_len, gix_url_entry *entries,
-                                   size_t entry_room, size_t *count, size_t *needed, gix_url_stop *stop) {
-    return read_entries(gix_url_c_read_listing, text, len, buffer, buffer_len, entries, entry_room, count, needed, stop);
+                                   size_t entry_capacity, size_t *count, size_t *needed, gix_url_stop *stop) {
+    return read_entries(gix_url_c_read_listing, text, len, buffer, buffer_len, entries, entry_capacity, count, needed, stop);
 }
 
 gix_url_error gix_url_read_file(const char *text, size_t len, char *buffer, size_t buffer_len, gix_url_entry *entries,
-                                size_t entry_room, size_t *count, size_t *needed, gix_url_stop *stop) {
-    return read_entries(gix_url_c_read_file, text, len, buffer, buffer_len, entries, entry_room, count, needed, stop);
+                                size_t entry_capacity, size_t *count, size_t *needed, gix_url_stop *stop) {
+    return read_entries(gix_url_c_read_file, text, len, buffer, buffer_len, entries, entry_capacity, count, needed, stop);
 }
 
 /* Returns what was rewritten into the buffer, or the error. */
@@ -217,17 +217,17 @@ static void make_remote(const remote *made, const char *values, gix_url_remote *
 }
 
 gix_url_error gix_url_remote_of(const gix_url_entry *entries, size_t count, const char *name, size_t len, char *buffer,
-                                size_t buffer_len, gix_url_text *urls, size_t url_room, gix_url_remote *found,
+                                size_t buffer_len, gix_url_text *urls, size_t url_capacity, gix_url_remote *found,
                                 size_t *needed, size_t *needed_urls, gix_url_stop *stopped) {
     const gix_url_entry *config = whole(entries, &count);
     if (!config || !found) return null_pointer(stopped);
     if (!name) name = nowhere, len = 0;
     if (!buffer) buffer = nowhere, buffer_len = 0;
     void *lengths = urls;
-    size_t room = number_room(&lengths, url_room, sizeof *urls, 1);
+    size_t capacity = number_capacity(&lengths, url_capacity, sizeof *urls, 1);
     remote made = {0};
     stop stop = {0};
-    uint32_t error = gix_url_c_remote(config, count, name, len, &made, buffer, buffer_len, lengths, room, &stop);
+    uint32_t error = gix_url_c_remote(config, count, name, len, &made, buffer, buffer_len, lengths, capacity, &stop);
     if (is_measured(error)) store(needed, made.bytes), store(needed_urls, made.urls + made.push_urls);
     if (error == GIX_URL_OK) {
         const char *values = buffer + made.bytes - made.vcs - made.proxy - made.uploadpack - made.receivepack;
@@ -292,16 +292,16 @@ gix_url_error gix_url_ssh_program_of(const gix_url_entry *entries, size_t count,
 }
 
 gix_url_error gix_url_settings_of(const gix_url_entry *entries, size_t count, const char *name, size_t name_len,
-                                  const char *text, size_t len, size_t *indices, size_t setting_room,
+                                  const char *text, size_t len, size_t *indices, size_t setting_capacity,
                                   gix_url_settings *found, size_t *needed, gix_url_stop *stopped) {
     const gix_url_entry *config = whole(entries, &count);
     if (!config || !found) return null_pointer(stopped);
     if (!name) name = nowhere, name_len = 0;
     if (!text) text = nowhere, len = 0;
-    if (!indices) indices = no_numbers, setting_room = 0;
+    if (!indices) indices = no_numbers, setting_capacity = 0;
     settings made = {0};
     stop stop = {0};
-    uint32_t error = gix_url_c_settings(config, count, name, name_len, text, len, &made, indices, setting_room, &stop);
+    uint32_t error = gix_url_c_settings(config, count, name, name_len, text, len, &made, indices, setting_capacity, &stop);
     if (is_measured(error)) store(needed, made.count);
     if (error == GIX_URL_OK) {
         memset(found, 0, sizeof *found);
@@ -313,17 +313,17 @@ gix_url_error gix_url_settings_of(const gix_url_entry *entries, size_t count, co
 }
 
 gix_url_error gix_url_credentials_of(const gix_url_entry *entries, size_t count, const char *text, size_t len, char *buffer,
-                                     size_t buffer_len, size_t *helpers, size_t helper_room, gix_url_credentials *found,
+                                     size_t buffer_len, size_t *helpers, size_t helper_capacity, gix_url_credentials *found,
                                      size_t *needed, size_t *needed_helpers, gix_url_stop *stopped) {
     const gix_url_entry *config = whole(entries, &count);
     if (!config || !found) return null_pointer(stopped);
     if (!text) text = nowhere, len = 0;
     if (!buffer) buffer = nowhere, buffer_len = 0;
-    if (!helpers) helpers = no_numbers, helper_room = 0;
+    if (!helpers) helpers = no_numbers, helper_capacity = 0;
     credentials made = {0};
     stop stop = {0};
     uint32_t error =
-        gix_url_c_credentials(config, count, text, len, &made, buffer, buffer_len, helpers, helper_room, &stop);
+        gix_url_c_credentials(config, count, text, len, &made, buffer, buffer_len, helpers, helper_capacity, &stop);
     if (is_measured(error)) store(needed, made.user), store(needed_helpers, made.helpers);
     if (error == GIX_URL_OK) {
         memset(found, 0, sizeof *found);
@@ -358,15 +358,15 @@ static void make_submodules(gix_url_submodule *submodules, size_t count, const c
 }
 
 gix_url_error gix_url_submodules_of(const gix_url_entry *entries, size_t count, char *buffer, size_t buffer_len,
-                                    gix_url_submodule *submodules, size_t submodule_room, size_t *submodule_count,
+                                    gix_url_submodule *submodules, size_t submodule_capacity, size_t *submodule_count,
                                     size_t *needed) {
     const gix_url_entry *config = whole(entries, &count);
     if (!config || !submodule_count) return GIX_URL_NULL;
     if (!buffer) buffer = nowhere, buffer_len = 0;
     void *numbers = submodules;
-    size_t room = number_room(&numbers, submodule_room, sizeof *submodules, SUBMODULE_NUMBERS);
+    size_t capacity = number_capacity(&numbers, submodule_capacity, sizeof *submodules, SUBMODULE_NUMBERS);
     sizes sizes = {0};
-    uint32_t error = gix_url_c_submodules(config, count, &sizes, buffer, buffer_len, numbers, room);
+    uint32_t error = gix_url_c_submodules(config, count, &sizes, buffer, buffer_len, numbers, capacity);
     if (is_measured(error)) *submodule_count = sizes.count, store(needed, sizes.bytes);
     if (error == GIX_URL_OK) make_submodules(submodules, sizes.count, buffer + sizes.bytes);
     return (gix_url_error)error;

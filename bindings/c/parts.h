@@ -57,10 +57,10 @@ static inline given given_of(const gix_url *url) {
     };
 }
 
-/* The bytes at the front of the room, which moves on behind them. */
-static inline gix_url_text next_part(const char **room, size_t len, bool is_there) {
-    gix_url_text part = text_of(*room, len, is_there);
-    *room += len;
+/* The bytes at the front of the buffer, which moves on behind them. */
+static inline gix_url_text next_part(const char **buffer, size_t len, bool is_there) {
+    gix_url_text part = text_of(*buffer, len, is_there);
+    *buffer += len;
     return part;
 }
 
@@ -73,7 +73,7 @@ static inline void store(size_t *where, size_t number) {
 
 /* How many numbers fit into the array of so many elements of this size, each of which has so many numbers. A null pointer
  * becomes an array of none. */
-static inline size_t number_room(void **array, size_t count, size_t size, size_t numbers) {
+static inline size_t number_capacity(void **array, size_t count, size_t size, size_t numbers) {
     if (*array && count <= SIZE_MAX / size) return count * numbers;
     *array = no_numbers;
     return 0;

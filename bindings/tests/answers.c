@@ -16,17 +16,17 @@ static void comes_back(const gix_url *url, gix_url_text text) {
     gix_url again;
     gix_url_error error;
     gix_url_problem problem;
-    char *room = read_input(text, &again, &error, &problem);
+    char *buffer = read_input(text, &again, &error, &problem);
     HOLDS(error == GIX_URL_OK && has_same_fields(url, &again));
-    free(room);
+    free(buffer);
     gix_url parts = *url;
     bool settled;
     parts.spelling = (gix_url_text){NULL, 0};
     HOLDS(gix_url_is_settled(&parts, &settled) == GIX_URL_OK);
     if (!settled) return;
-    room = make_parts(url, &again, &error, &problem);
+    buffer = make_parts(url, &again, &error, &problem);
     HOLDS(error == GIX_URL_OK && has_same_fields(url, &again));
-    free(room);
+    free(buffer);
 }
 
 /* No text that begins with - is returned as usable, and the original path is one of the two. */
@@ -70,13 +70,13 @@ static void is_shown(const gix_url *url, gix_url_text text) {
     gix_url_error error;
     gix_url_problem problem;
     gix_url_text shown;
-    char *room = text_of_location(gix_url_display, url, &shown.len, &error, &problem);
-    HOLDS(room);
-    shown.at = room;
+    char *buffer = text_of_location(gix_url_display, url, &shown.len, &error, &problem);
+    HOLDS(buffer);
+    shown.at = buffer;
     bool is_ascii = true;
     for (size_t i = 0; i < text.len; i++) is_ascii &= (unsigned char)text.at[i] < 128;
     if (!url->password.at && is_ascii) HOLDS(is_same(shown, text));
-    free(room);
+    free(buffer);
 }
 
 static void answer_read(line *out, const gix_url *url) {
@@ -90,13 +90,13 @@ static void answer_read(line *out, const gix_url *url) {
     free(told.at);
     HOLDS(gix_url_is_settled(url, &settled) == GIX_URL_OK);
     is_for_git(url, settled);
-    char *room = text_of_location(gix_url_write, url, &text.len, &error, &problem);
-    text.at = room;
-    put_word(out, !room ? "unwritable\t" : settled ? "settled\t" : "unsettled\t");
-    put_text(out, room && settled ? text : gix_url_scheme_text(url));
-    if (room) is_shown(url, text);
+    char *buffer = text_of_location(gix_url_write, url, &text.len, &error, &problem);
+    text.at = buffer;
+    put_word(out, !buffer ? "unwritable\t" : settled ? "settled\t" : "unsettled\t");
+    put_text(out, buffer && settled ? text : gix_url_scheme_text(url));
+    if (buffer) is_shown(url, text);
     if (settled) comes_back(url, text);
-    free(room);
+    free(buffer);
 }
 
 static void answer(line *out, gix_url_text input) {
@@ -104,11 +104,11 @@ static void answer(line *out, gix_url_text input) {
     gix_url_error error;
     gix_url_problem problem;
     about(input);
-    char *room = read_input(input, &url, &error, &problem);
+    char *buffer = read_input(input, &url, &error, &problem);
     if (error == GIX_URL_OK) answer_read(out, &url);
     else answer_refused(out, error, &problem);
     put_word(out, "\n");
-    free(room);
+    free(buffer);
 }
 
 int main(void) {

@@ -62,7 +62,7 @@ static void is_problem_of(gix_url_error error, const gix_url_problem *problem) {
     if (error == GIX_URL_OK || error == GIX_URL_NO_ROOM || error == GIX_URL_NO_LOCATION) HOLDS(has_no_problem(problem));
 }
 
-/* The text that a call puts, in room that is one byte short, which keeps its bytes, and in room that is just large enough.
+/* The text that a call puts, in a buffer that is one byte short, which keeps its bytes, and in a buffer that is just large enough.
  * It is to be freed. */
 static char *put_of(putter *call, const gix_url *url, size_t *len) {
     gix_url_problem problem;
@@ -77,15 +77,15 @@ static char *put_of(putter *call, const gix_url *url, size_t *len) {
         HOLDS(call(url, NULL, 0, &again, NULL) == error && again == 77);
         return NULL;
     }
-    char *room = at_wall(1, NULL, *len - 1);
-    memset(room, 0xA5, *len - 1);
-    HOLDS(call(url, room, *len - 1, &again, &problem) == GIX_URL_NO_ROOM && again == *len);
-    HOLDS(is_blank(room, *len - 1) && has_no_problem(&problem));
-    room = at_wall(1, NULL, *len);
-    HOLDS(call(url, room, *len, &again, &problem) == GIX_URL_OK && again == *len && has_no_problem(&problem));
+    char *buffer = at_wall(1, NULL, *len - 1);
+    memset(buffer, 0xA5, *len - 1);
+    HOLDS(call(url, buffer, *len - 1, &again, &problem) == GIX_URL_NO_ROOM && again == *len);
+    HOLDS(is_blank(buffer, *len - 1) && has_no_problem(&problem));
+    buffer = at_wall(1, NULL, *len);
+    HOLDS(call(url, buffer, *len, &again, &problem) == GIX_URL_OK && again == *len && has_no_problem(&problem));
     char *text = malloc(*len);
     HOLDS(text);
-    memcpy(text, room, *len);
+    memcpy(text, buffer, *len);
     return text;
 }
 
@@ -108,12 +108,12 @@ static void is_remade(const gix_url *url, size_t len) {
     made.spelling.at = NULL;
     HOLDS(gix_url_is_settled(&made, &settled) == GIX_URL_OK);
     if (!settled) return;
-    size_t room_len = GIX_URL_ROOM(len);
-    char *room = malloc(room_len);
+    size_t buffer_len = GIX_URL_ROOM(len);
+    char *buffer = malloc(buffer_len);
     /* The parts and the answer are the same struct. */
-    HOLDS(room && gix_url_from_parts(&made, room, room_len, &made, NULL, &problem) == GIX_URL_OK);
+    HOLDS(buffer && gix_url_from_parts(&made, buffer, buffer_len, &made, NULL, &problem) == GIX_URL_OK);
     HOLDS(has_same_fields(&wanted, &made) && has_no_problem(&problem));
-    free(room);
+    free(buffer);
 }
 
 /* A settled location is read and written the same again. */
@@ -123,12 +123,12 @@ static void comes_back(const gix_url *url, const char *text, size_t len) {
     gix_url_error error;
     gix_url_problem problem;
     size_t len_again = 0;
-    char *room = read_input((gix_url_text){text, len}, &again, &error, &problem);
+    char *buffer = read_input((gix_url_text){text, len}, &again, &error, &problem);
     HOLDS(error == GIX_URL_OK && has_same_fields(&wanted, &again));
     char *text_again = put_of(gix_url_write, &again, &len_again);
     HOLDS(len_again == len && memcmp(text, text_again, len) == 0);
     free(text_again);
-    free(room);
+    free(buffer);
     is_remade(url, len);
 }
 
@@ -214,38 +214,38 @@ static void is_made(const gix_url *parts) {
     gix_url url;
     gix_url_error error;
     gix_url_problem problem;
-    char *room = make_parts(parts, &url, &error, &problem);
+    char *buffer = make_parts(parts, &url, &error, &problem);
     is_problem_of(error, &problem);
     if (is_refusal(error)) is_refused(*parts, error, &problem);
     if (error == GIX_URL_OK) is_answered(&url);
-    free(room);
+    free(buffer);
 }
 
 static void is_read(gix_url_text input) {
     gix_url url;
     gix_url_error error;
     gix_url_problem problem;
-    char *room = read_input(input, &url, &error, &problem);
+    char *buffer = read_input(input, &url, &error, &problem);
     is_problem_of(error, &problem);
     HOLDS(problem.at <= input.len && problem.len <= input.len - problem.at);
     if (error == GIX_URL_OK) is_answered(&url);
-    free(room);
+    free(buffer);
 }
 
 /* What one thread reads and writes. */
 typedef struct work {
     gix_url_text input;
     gix_url_error error;
-    char *room, *text;
+    char *buffer, *text;
     size_t len;
 } work;
 
 static void *works(void *of) {
     work *work = of;
     gix_url url;
-    size_t room = GIX_URL_ROOM(work->input.len);
-    work->room = malloc(room);
-    work->error = gix_url_parse(work->input.at, work->input.len, work->room, room, &url, NULL, NULL);
+    size_t capacity = GIX_URL_ROOM(work->input.len);
+    work->buffer = malloc(capacity);
+    work->error = gix_url_parse(work->input.at, work->input.len, work->buffer, capacity, &url, NULL, NULL);
     if (work->error != GIX_URL_OK || gix_url_write(&url, NULL, 0, &work->len, NULL) != GIX_URL_NO_ROOM) return NULL;
     work->text = malloc(work->len);
     gix_url_write(&url, work->text, work->len, &work->len, NULL);
@@ -266,7 +266,7 @@ static void is_threaded(gix_url_text input) {
         HOLDS(one->error == first->error && one->len == first->len && !one->text == !first->text);
         HOLDS(!one->text || memcmp(one->text, first->text, one->len) == 0);
     }
-    for (size_t i = 0; i < THREADS; i++) free(works_of[i].room), free(works_of[i].text);
+    for (size_t i = 0; i < THREADS; i++) free(works_of[i].buffer), free(works_of[i].text);
 }
 
 int LLVMFuzzerTestOneInput(const uint8_t *data, size_t len);

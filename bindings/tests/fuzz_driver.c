@@ -17,7 +17,7 @@ static uint64_t chance(uint64_t below) {
     return state % below;
 }
 
-/* The lines of the standard input, as many as there is room for, each behind a byte 0 unless it begins with a control
+/* The lines of the standard input, as many as there is buffer for, each behind a byte 0 unless it begins with a control
  * character. */
 static void read_seeds(void) {
     char line[LONGEST - 1];

@@ -135,7 +135,7 @@ static void has_words(gix_url_text text) {
     gix_url_ssh_command command;
     gix_url_text words[GIX_URL_SSH_WORDS];
     uint8_t dangers[GIX_URL_DANGERS];
-    char buffer[BYTES], *room = read_input(text, &url, &error, &problem);
+    char buffer[BYTES], *parts = read_input(text, &url, &error, &problem);
     size_t count = 0;
     if (error == GIX_URL_OK) {
         error = gix_url_ssh_words(&url, &usual, buffer, BYTES, words, GIX_URL_SSH_WORDS, &command, NULL, NULL);
@@ -144,7 +144,7 @@ static void has_words(gix_url_text text) {
         error = gix_url_dangers_of(text.at, text.len, &url, dangers, GIX_URL_DANGERS, &count);
         for (size_t i = 1; error == GIX_URL_OK && i < count; i++) HOLDS(dangers[i - 1] < dangers[i]);
     }
-    free(room);
+    free(parts);
 }
 
 static void is_resolved(gix_url_text parent, gix_url_text url) {

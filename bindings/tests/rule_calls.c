@@ -181,13 +181,13 @@ static void over_location(line *out, gix_url_text call, const order *order) {
     gix_url_error error = GIX_URL_OK;
     gix_url_problem problem;
     gix_url_text read = value(order, "url"), text = value(order, "text");
-    char *room = NULL;
-    if (read.at) room = read_input(read, &url, &error, &problem);
+    char *buffer = NULL;
+    if (read.at) buffer = read_input(read, &url, &error, &problem);
     else url = location(order, "url");
     if (error != GIX_URL_OK) put_word(out, "{\"halt\":\"not prepared\"}");
     else if (is_word(call, "danger::dangers")) tell_dangers(out, text.at ? text : read, &url);
     else tell_words(out, call, order, &url);
-    free(room);
+    free(buffer);
 }
 
 static bool is_of_location(gix_url_text call) {

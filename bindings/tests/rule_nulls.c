@@ -47,7 +47,7 @@ typedef struct places {
 enum { TEXT = 1, OTHER = 2, URL = 4, CONFIG = 8, BUFFER = 16, ARRAY = 32, RESULT = 64, NEEDED = 128, MORE = 256, STOP = 512,
        POINTERS = 1024 };
 
-/* The calls, with one of these pointers null, and so much room. */
+/* The calls, with one of these pointers null, and so much buffer. */
 typedef gix_url_error caller(const input *in, places *to, size_t buffer, size_t array, int null);
 #define OR_NULL(pointer, place) (null == (pointer) ? NULL : (place))
 #define ENTRIES OR_NULL(CONFIG, in->entries), in->count
@@ -246,7 +246,7 @@ static gix_url_error made(const row *row, const input *in, places *to, size_t bu
     return calls[row->call].call(in, to, buffer, array, null);
 }
 
-/* What the row's call leaves behind in so much room, with no pointer null. */
+/* What the row's call leaves behind in so much buffer, with no pointer null. */
 static void leaves(const row *row, const input *in, size_t buffer, size_t array) {
     static places got, kept;
     gix_url_error wanted = row->error;

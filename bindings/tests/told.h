@@ -1,4 +1,4 @@
-/* Lines of text, the calls of the library in room that is just large enough, and memory that ends at a wall. */
+/* Lines of text, the calls of the library in a buffer that is just large enough, and memory that ends at a wall. */
 #ifndef TOLD_H
 #define TOLD_H
 
@@ -10,7 +10,7 @@
 /* Text that grows. */
 typedef struct line {
     char *at;
-    size_t len, room;
+    size_t len, capacity;
 } line;
 
 void put(line *out, const char *bytes, size_t len);
@@ -18,7 +18,7 @@ void put_text(line *out, gix_url_text text);
 void put_word(line *out, const char *word);
 void put_number(line *out, size_t number);
 
-/* What is read of an input, or made of parts, in room that is just large enough: the room is to be freed. */
+/* What is read of an input, or made of parts, in a buffer that is just large enough: the buffer is to be freed. */
 char *read_input(gix_url_text input, gix_url *url, gix_url_error *error, gix_url_problem *problem);
 char *make_parts(const gix_url *parts, gix_url *url, gix_url_error *error, gix_url_problem *problem);
 
@@ -28,7 +28,7 @@ bool is_refusal(gix_url_error error);
 /* Checks that reading the text is refused with this error and this problem. */
 void is_refused_so(gix_url_text text, gix_url_error error, const gix_url_problem *problem);
 
-/* The name of a reason, or its sentence, in room that is just large enough: a block to be freed. */
+/* The name of a reason, or its sentence, in a buffer that is just large enough: a block to be freed. */
 typedef gix_url_error reason_putter(gix_url_reason, char *, size_t, size_t *);
 char *text_of_reason(reason_putter *call, gix_url_reason reason, size_t *len);
 
@@ -37,7 +37,7 @@ typedef gix_url_error putter(const gix_url *, char *, size_t, size_t *, gix_url_
 char *text_of_location(putter *call, const gix_url *url, size_t *len, gix_url_error *error, gix_url_problem *problem);
 
 /* What the path of a location is made of, and the lengths of the query, a block to be freed. The components stay until
- * the next call that answers in room. */
+ * the next call that answers in a buffer. */
 gix_url_pair *components_of(const gix_url *url, gix_url_components *parts);
 void tell_components(line *out, const gix_url *url);
 

@@ -63,10 +63,10 @@ static void parse(line *out, gix_url_text input) {
     gix_url url;
     gix_url_error error;
     gix_url_problem problem;
-    char *room = read_input(input, &url, &error, &problem);
+    char *buffer = read_input(input, &url, &error, &problem);
     if (error == GIX_URL_OK) tell_url(out, &url);
     else tell_error(out, error, &problem, input);
-    free(room);
+    free(buffer);
 }
 
 /* The text that these parts are written as; none where there is no such text. It is to be freed. */
@@ -81,11 +81,11 @@ static void from_parts(line *out, const order *order) {
     gix_url_error error;
     gix_url_problem problem;
     gix_url_text text = written(&parts, &error, &problem);
-    char *room = make_parts(&parts, &url, &error, &problem);
+    char *buffer = make_parts(&parts, &url, &error, &problem);
     if (is_refusal(error)) is_refused_so(text, error, &problem);
     if (error == GIX_URL_OK) tell_url(out, &url);
     else tell_error(out, error, &problem, text);
-    free(room);
+    free(buffer);
     free((char *)text.at);
 }
 
@@ -110,11 +110,11 @@ static void fmt(line *out, const gix_url *url) {
     size_t len;
     gix_url_error error;
     gix_url_problem problem;
-    char *room = text_of_location(gix_url_display, url, &len, &error, &problem);
+    char *buffer = text_of_location(gix_url_display, url, &len, &error, &problem);
     put_word(out, "{\"shown\":\"");
-    if (room) put_inside(out, (gix_url_text){room, len});
-    put_word(out, room ? "\"}" : "\",\"failed\":true}");
-    free(room);
+    if (buffer) put_inside(out, (gix_url_text){buffer, len});
+    put_word(out, buffer ? "\"}" : "\",\"failed\":true}");
+    free(buffer);
 }
 
 static void path_query_fragment(line *out, const gix_url *url) {
@@ -193,12 +193,12 @@ static void over_url(line *out, gix_url_text call, const order *order) {
     gix_url_error error = GIX_URL_OK;
     gix_url_problem problem;
     gix_url_text text = value(order, "url");
-    char *room = NULL;
-    if (text.at) room = read_input(text, &url, &error, &problem);
+    char *buffer = NULL;
+    if (text.at) buffer = read_input(text, &url, &error, &problem);
     else url = location(order, "url");
     if (error == GIX_URL_OK) tell_call(out, call, &url);
     else put_word(out, "{\"halt\":\"not prepared\"}");
-    free(room);
+    free(buffer);
 }
 
 /* The error of these names, with its details. */
@@ -227,13 +227,13 @@ static void fmt_error(line *out, const order *order) {
     gix_url_problem problem = {.total = 2016};
     gix_url_error error;
     gix_url_text names = value(order, "error.error");
-    char *room = NULL;
+    char *buffer = NULL;
     if (names.at) error = named_error(names, &problem);
-    else room = read_input(value(order, "text"), &url, &error, &problem);
+    else buffer = read_input(value(order, "text"), &url, &error, &problem);
     put_word(out, "{\"shown\":\""), put_word(out, gix_url_error_words(error, &problem));
     if (error == GIX_URL_TOO_LONG) put_word(out, ", in a text of "), put_number(out, problem.total), put_word(out, " bytes");
     put_word(out, "\"}");
-    free(room);
+    free(buffer);
 }
 
 static void scheme_text(line *out, gix_url_text told) {
@@ -269,9 +269,9 @@ static void answer(const char *input, size_t len) {
 
 int main(void) {
     char *input = NULL;
-    size_t room = 0;
+    size_t buffer = 0;
     ssize_t len;
-    while ((len = getline(&input, &room, stdin)) > 0) answer(input, strcspn(input, "\n"));
+    while ((len = getline(&input, &buffer, stdin)) > 0) answer(input, strcspn(input, "\n"));
     free(input);
     return 0;
 }

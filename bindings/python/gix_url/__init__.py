@@ -164,7 +164,7 @@ class Url:
 
     def __bytes__(self) -> bytes:
         """The location's text, with its password. Raises Error where it has none."""
-        return bytes(_in_room(lib.gix_url_write, self._ref()))
+        return bytes(_filled(lib.gix_url_write, self._ref()))
 
     def __str__(self) -> str:
         """The same text, decoded as UTF-8 with `surrogateescape` in every locale, so that `parse` reads it again."""
@@ -173,7 +173,7 @@ class Url:
     @property
     def redacted(self) -> str:
         """The text for display, with `redacted` for the password; a secret in another part is shown."""
-        return bytes(_in_room(lib.gix_url_display, self._ref())).decode()
+        return bytes(_filled(lib.gix_url_display, self._ref())).decode()
 
     def __repr__(self) -> str:
         """The fields that aren't as by default, with `redacted` for the password."""
@@ -198,12 +198,12 @@ class Url:
     def components(self) -> Components:
         """Path, query and fragment."""
         parts, needed, count = Parts(), Size(), Size()
-        room: Any = None
+        filled: Any = None
         lengths: Any = None
         for _ in range(2):
             answers = map(ref, (parts, needed, count))
-            _check(lib.gix_url_path_query_fragment(self._ref(), room, needed, lengths, count, *answers))
-            room, lengths = room or buffer(needed.value + 1), lengths or (Size * (2 * count.value + 1))()
+            _check(lib.gix_url_path_query_fragment(self._ref(), filled, needed, lengths, count, *answers))
+            filled, lengths = filled or buffer(needed.value + 1), lengths or (Size * (2 * count.value + 1))()
         query, cut, at = bytes_of(parts.query), [], 0
         for length in list(lengths or ())[: 2 * parts.pair_count]:
             cut.append((query or b"")[at : at + length])
@@ -248,7 +248,7 @@ def from_parts(url: Url) -> Url:
 
 
 def _check(error: int, problem: Any = None) -> None:
-    """Raises what a call was refused for, unless it has its answer or only needs more room."""
+    """Raises what a call was refused for, unless it has its answer or only needs a longer buffer."""
     if error == _MEMORY:
         raise MemoryError("gix_url: out of memory")
     if error not in (0, _NO_ROOM):
@@ -265,25 +265,25 @@ def _refusal(number: int, problem: Any, kind: type[_Kind]) -> _Kind:
     error.shown, error.total, error.at, error.len = problem.shown, problem.total, problem.at, problem.len
     if problem.reason:
         calls = (lib.gix_url_reason_name, lib.gix_url_reason_words)
-        error.reason, error.words = (bytes(_in_room(it, problem.reason, is_told=False)).decode() for it in calls)
+        error.reason, error.words = (bytes(_filled(it, problem.reason, is_told=False)).decode() for it in calls)
     return error
 
 
-def _in_room(call: Any, *given: Any, stored: Any = (), is_told: bool = True) -> Any:
+def _filled(call: Any, *given: Any, stored: Any = (), is_told: bool = True) -> Any:
     """The buffer that a call filled, which first returns how many bytes it takes, and mostly what the problem is."""
     needed, problem = Size(), Problem()
     told = [ref(problem)] if is_told else []
-    room: Any = None
+    filled: Any = None
     for _ in range(2):
-        _check(call(*given, room, needed, *stored, ref(needed), *told), problem)
-        room = room or buffer(needed.value)
-    return room
+        _check(call(*given, filled, needed, *stored, ref(needed), *told), problem)
+        filled = filled or buffer(needed.value)
+    return filled
 
 
 def _located(call: Any, *given: Any) -> Url:
     """The location that a call puts into a buffer."""
     url = Location()
-    _kept = _in_room(call, *given, stored=[ref(url)])
+    _kept = _filled(call, *given, stored=[ref(url)])
     parts: dict[str, Any] = {it: bytes_of(getattr(url, it)) for it in _PARTS}
     for name in _PARTS:
         if parts[name] is not None and str in _TYPES[name]:

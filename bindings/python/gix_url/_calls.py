@@ -43,16 +43,16 @@ class Call(NamedTuple):
     a stop."""
 
     given: tuple[Any, ...]
-    rooms: tuple[Any, ...] = ()
+    buffers: tuple[Any, ...] = ()
     result: Any = None
     stops: bool = False
     is_turned: bool = False
 
     def types(self) -> list[Any]:
         """The types of all arguments."""
-        rooms = [it for room in self.rooms for it in (ctypes.POINTER(room), Size)]
-        stored = self.in_order(self.result, [Size for _ in self.rooms], Stop)
-        return [*self.given, *rooms, *map(ctypes.POINTER, stored)]
+        buffers = [it for kind in self.buffers for it in (ctypes.POINTER(kind), Size)]
+        stored = self.in_order(self.result, [Size for _ in self.buffers], Stop)
+        return [*self.given, *buffers, *map(ctypes.POINTER, stored)]
 
     def in_order(self, result: Any, sizes: list[Any], stop: Any) -> list[Any]:
         """What the last arguments point to, as far as the call has it."""
@@ -108,25 +108,25 @@ def make(name: str, *given: Any) -> Made:
     Raises MemoryError, and Error for any other error without a stop."""
     call, function = CALLS[name], getattr(lib, f"gix_url_{name}")
     result, stop = call.result and call.result(), Stop()
-    sizes = [Size() for _ in call.rooms]
-    rooms = [array(it, _START) for it in call.rooms]
+    sizes = [Size() for _ in call.buffers]
+    buffers = [array(it, _START) for it in call.buffers]
     stored = call.in_order(result, sizes, stop)
     error = _NO_ROOM
     for _ in range(2):
         if error == _NO_ROOM:
-            error = function(*given, *(it for room in rooms for it in (room, len(room))), *map(ref, stored))
-            rooms = [_grown(room, size.value) for room, size in zip(rooms, sizes)]
+            error = function(*given, *(it for items in buffers for it in (items, len(items))), *map(ref, stored))
+            buffers = [_grown(items, size.value) for items, size in zip(buffers, sizes)]
     if error not in (0, *STOPS):
         gix_url._check(error)
         raise gix_url._refusal(error, Problem(), gix_url.Error)
-    items = rooms[-1][: sizes[-1].value] if rooms and not error else []
+    items = buffers[-1][: sizes[-1].value] if buffers and not error else []
     items = items if isinstance(items, bytes) else [fields_of(it) for it in items]
     return Made(error, stop, fields_of(result), items)
 
 
-def _grown(room: Any, length: int) -> Any:
+def _grown(items: Any, length: int) -> Any:
     """The buffer itself if it has so many elements, or else a longer one."""
-    return array(type(room)._type_, length) if length > len(room) else room
+    return array(type(items)._type_, length) if length > len(items) else items
 
 
 def array(kind: Any, length: int) -> Any:

@@ -60,5 +60,5 @@ def bytes_of(text: Any) -> bytes | None:
 
 
 def buffer(length: int) -> Any:
-    """Room for so many bytes."""
+    """A buffer of so many bytes."""
     return (ctypes.c_char * length)()

@@ -4,9 +4,9 @@
 
 use crate::bstr::{BStr, BString, ByteSlice};
 use crate::rules::Error;
+use crate::words::worded;
 use crate::{ffi, Url};
 use std::fmt;
-use std::sync::{Mutex, PoisonError};
 
 /// What is dangerous in a text, or in the location that is read in it. `Display` says it in a few words, which hold no byte
 /// of the text.
@@ -55,36 +55,9 @@ impl Danger {
         Danger::OtherHost,
         Danger::MisreadHost,
     ];
-
-    /// The danger of a number; none of 0.
-    pub(crate) fn numbered(number: u8) -> Option<Danger> {
-        Danger::ALL.get(usize::from(number).checked_sub(1)?).copied()
-    }
-
-    /// The name of the danger, as programs show it to programs.
-    pub fn name(self) -> &'static str {
-        &self.said().0
-    }
-
-    /// The danger in a few words.
-    pub fn words(self) -> &'static str {
-        &self.said().1
-    }
-
-    /// The name and the words of the library, which is asked once for those of all dangers.
-    fn said(self) -> &'static (String, String) {
-        static SAID: Mutex<Option<&[(String, String)]>> = Mutex::new(None);
-        let all = || (1..=10).map(|number| (ffi::danger_name(number), ffi::danger_words(number))).collect();
-        let mut said = SAID.lock().unwrap_or_else(PoisonError::into_inner);
-        &said.get_or_insert_with(|| Box::leak(all()))[self as usize]
-    }
 }
 
-impl fmt::Display for Danger {
-    fn fmt(&self, f: &mut fmt::Formatter<'_>) -> fmt::Result {
-        f.write_str(self.words())
-    }
-}
+worded!(Danger, ffi::danger_name, ffi::danger_words);
 
 /// The dangers of a text that a program uses as a remote, and of the location that is read in it: each once, in the order of
 /// [`Danger::ALL`]. It allocates the result, and what the library needs for it.

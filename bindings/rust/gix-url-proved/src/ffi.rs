@@ -120,20 +120,20 @@ struct Given<'a> {
 
 #[rustfmt::skip]
 extern "C" {
-    fn gix_url_c_read_in(input: *const u8, len: usize, room: *mut u8, room_len: usize, lent: &mut Given, told: &mut Problem) -> u32;
-    fn gix_url_c_from_parts(given: &Given, made: &mut Made, room: *mut u8, room_len: usize, told: &mut Problem) -> u32;
+    fn gix_url_c_read_in(input: *const u8, len: usize, buffer: *mut u8, buffer_len: usize, lent: &mut Given, told: &mut Problem) -> u32;
+    fn gix_url_c_from_parts(given: &Given, made: &mut Made, buffer: *mut u8, buffer_len: usize, told: &mut Problem) -> u32;
     fn gix_url_c_is_settled(given: &Given, settled: &mut bool) -> u32;
     fn gix_url_c_agrees_with_git(given: &Given, agrees: &mut bool) -> u32;
     fn gix_url_c_unmet_condition(given: &Given, unmet: &mut u8) -> u32;
-    fn gix_url_c_write(given: &Given, room: *mut u8, room_len: usize, len: &mut usize, told: &mut Problem) -> u32;
-    fn gix_url_c_components(given: &Given, told: &mut Parted, room: *mut u8, room_len: usize, lengths: *mut usize, lengths_len: usize) -> u32;
+    fn gix_url_c_write(given: &Given, buffer: *mut u8, buffer_len: usize, len: &mut usize, told: &mut Problem) -> u32;
+    fn gix_url_c_components(given: &Given, told: &mut Parted, buffer: *mut u8, buffer_len: usize, lengths: *mut usize, lengths_len: usize) -> u32;
     fn gix_url_c_argument(is_there: bool, text: *const u8, len: usize) -> u32;
     fn gix_url_c_path_argument(path: *const u8, len: usize) -> u32;
     fn gix_url_c_path_is_root(path: *const u8, len: usize) -> u32;
     fn gix_url_c_is_spelled(path: *const u8, len: usize, spelling: *const u8, spelling_len: usize) -> u32;
     fn gix_url_c_port_or_default(scheme: u8, has_port: bool, port: u16) -> u32;
-    fn gix_url_c_reason_name(reason: u8, room: *mut u8, room_len: usize, len: &mut usize) -> u32;
-    fn gix_url_c_reason_words(reason: u8, room: *mut u8, room_len: usize, len: &mut usize) -> u32;
+    fn gix_url_c_reason_name(reason: u8, buffer: *mut u8, buffer_len: usize, len: &mut usize) -> u32;
+    fn gix_url_c_reason_words(reason: u8, buffer: *mut u8, buffer_len: usize, len: &mut usize) -> u32;
 }
 
 impl<'a> Given<'a> {
@@ -257,17 +257,17 @@ fn scheme(number: u8, name: Bytes<'_>) -> Scheme {
     }
 }
 
-/// Makes a call that fills the front of the room. It returns its number and how many bytes it needs; an error leaves
-/// the room as it was.
-fn fill(room: &mut [MaybeUninit<u8>], call: &mut impl FnMut(*mut u8, usize) -> (u32, usize)) -> (u32, usize) {
+/// Makes a call that fills the front of the buffer. It returns its number and how many bytes it needs; an error leaves
+/// the buffer as it was.
+fn fill(buffer: &mut [MaybeUninit<u8>], call: &mut impl FnMut(*mut u8, usize) -> (u32, usize)) -> (u32, usize) {
     if cfg!(debug_assertions) {
-        room.fill(MaybeUninit::new(BLANK));
+        buffer.fill(MaybeUninit::new(BLANK));
     }
-    let (code, needed) = call(room.as_mut_ptr().cast(), room.len());
+    let (code, needed) = call(buffer.as_mut_ptr().cast(), buffer.len());
     if cfg!(debug_assertions) && code != OK {
-        // SAFETY: all of the room was filled above.
-        let is_blank = room.iter().all(|byte| unsafe { byte.assume_init() } == BLANK);
-        assert!(is_blank, "error {code} leaves something in the room");
+        // SAFETY: all of the buffer was filled above.
+        let is_blank = buffer.iter().all(|byte| unsafe { byte.assume_init() } == BLANK);
+        assert!(is_blank, "error {code} leaves something in the buffer");
     }
     (code, needed)
 }
@@ -281,7 +281,7 @@ fn filled(ample: usize, mut call: impl FnMut(*mut u8, usize) -> (u32, usize)) ->
         (code, needed) = fill(bytes.spare_capacity_mut(), &mut call);
     }
     if code == OK {
-        assert!(needed <= bytes.capacity(), "the library fills no more than the room");
+        assert!(needed <= bytes.capacity(), "the library fills no more than the buffer");
         // SAFETY: with no error the library has filled as many bytes as it says.
         unsafe { bytes.set_len(needed) };
     }
@@ -299,7 +299,7 @@ impl Room {
         Room { near: [MaybeUninit::uninit(); NEAR], far: Vec::new() }
     }
 
-    /// Fills the room with what a call answers, of which so many bytes are ample.
+    /// Fills the buffer with what a call answers, of which so many bytes are ample.
     fn filled(&mut self, ample: usize, mut call: impl FnMut(*mut u8, usize) -> (u32, usize)) -> (u32, &[u8]) {
         if ample <= NEAR {
             let (code, needed) = fill(&mut self.near, &mut call);
@@ -396,14 +396,14 @@ fn error(code: u32, told: &Problem, input: impl FnOnce() -> BString, name: &[u8]
 pub(crate) fn read(input: &[u8]) -> Result<Url, Error> {
     let (mut lent, mut told) = (Given::none(), Problem::default());
     let (mut near, mut far) = ([MaybeUninit::<u8>::uninit(); NEAR], Vec::<u8>::new());
-    let room = if input.len() <= NEAR {
+    let buffer = if input.len() <= NEAR {
         &mut near[..input.len()]
     } else {
         far.reserve_exact(input.len());
         &mut far.spare_capacity_mut()[..input.len()]
     };
-    let (code, _) = fill(room, &mut |room, len| {
-        (call!(gix_url_c_read_in, input.as_ptr(), input.len(), room, len, &mut lent, &mut told), 0)
+    let (code, _) = fill(buffer, &mut |buffer, len| {
+        (call!(gix_url_c_read_in, input.as_ptr(), input.len(), buffer, len, &mut lent, &mut told), 0)
     });
     match code {
         OK => Ok(located(&lent)),
@@ -411,7 +411,7 @@ pub(crate) fn read(input: &[u8]) -> Result<Url, Error> {
     }
 }
 
-/// Why the bytes are refused, and where; none where they spell a location. They are read without room, which takes no
+/// Why the bytes are refused, and where; none where they spell a location. They are read without buffer, which takes no
 /// memory.
 pub(crate) fn refusal(input: &[u8]) -> Option<Refusal> {
     let (mut lent, mut told) = (Given::none(), Problem::default());
@@ -435,19 +435,19 @@ pub(crate) fn refusal_of_front(shown: &[u8]) -> Option<Refusal> {
 
 /// The name of the reason of this number.
 pub(crate) fn reason_name(reason: u8) -> String {
-    said(|room, room_len, len| call!(gix_url_c_reason_name, reason, room, room_len, len))
+    said(|buffer, buffer_len, len| call!(gix_url_c_reason_name, reason, buffer, buffer_len, len))
 }
 
 /// The reason of this number in words.
 pub(crate) fn reason_words(reason: u8) -> String {
-    said(|room, room_len, len| call!(gix_url_c_reason_words, reason, room, room_len, len))
+    said(|buffer, buffer_len, len| call!(gix_url_c_reason_words, reason, buffer, buffer_len, len))
 }
 
 /// What a call says of a reason.
 fn said(call: impl Fn(*mut u8, usize, &mut usize) -> u32) -> String {
-    let (code, said) = filled(128, |room, room_len| {
+    let (code, said) = filled(128, |buffer, buffer_len| {
         let mut len = 0;
-        (call(room, room_len, &mut len), len)
+        (call(buffer, buffer_len, &mut len), len)
     });
     assert!(code == OK, "every reason has a name and words");
     String::from_utf8(said).expect("names and words are UTF-8")
@@ -456,9 +456,9 @@ fn said(call: impl Fn(*mut u8, usize, &mut usize) -> u32) -> String {
 /// What the text of these parts means.
 pub(crate) fn from_parts(parts: &Url) -> Result<Url, Error> {
     let given = Given::of(parts);
-    let (mut made, mut told, mut room) = (Made::default(), Problem::default(), Room::new());
-    let (code, bytes) = room.filled(NEAR, |room, len| {
-        let code = call!(gix_url_c_from_parts, &given, &mut made, room, len, &mut told);
+    let (mut made, mut told, mut buffer) = (Made::default(), Problem::default(), Room::new());
+    let (code, bytes) = buffer.filled(NEAR, |buffer, len| {
+        let code = call!(gix_url_c_from_parts, &given, &mut made, buffer, len, &mut told);
         (code, bytes_of(&made))
     });
     match code {
@@ -498,9 +498,9 @@ fn is_answered(code: u32) -> bool {
 pub(crate) fn write(url: &Url) -> Result<Vec<u8>, Error> {
     let given = Given::of(url);
     let mut told = Problem::default();
-    let (code, bytes) = filled(given.bytes() + 32, |room, room_len| {
+    let (code, bytes) = filled(given.bytes() + 32, |buffer, buffer_len| {
         let mut len = 0;
-        let code = call!(gix_url_c_write, &given, room, room_len, &mut len, &mut told);
+        let code = call!(gix_url_c_write, &given, buffer, buffer_len, &mut len, &mut told);
         (code, len)
     });
     match code {
@@ -533,10 +533,10 @@ pub(crate) fn display<T>(url: &Url, take: impl FnOnce(&[u8]) -> T) -> Result<T, 
 }
 
 fn with_text_of<T>(given: &Given<'_>, take: impl FnOnce(&[u8]) -> T) -> Result<T, Error> {
-    let (mut told, mut room) = (Problem::default(), Room::new());
-    let (code, bytes) = room.filled(given.bytes() + 32, |room, room_len| {
+    let (mut told, mut buffer) = (Problem::default(), Room::new());
+    let (code, bytes) = buffer.filled(given.bytes() + 32, |buffer, buffer_len| {
         let mut len = 0;
-        let code = call!(gix_url_c_write, given, room, room_len, &mut len, &mut told);
+        let code = call!(gix_url_c_write, given, buffer, buffer_len, &mut len, &mut told);
         (code, len)
     });
     match code {
@@ -581,12 +581,12 @@ pub(crate) fn port_or_default(scheme: &Scheme, port: Option<u16>) -> Option<u16>
 /// Takes the path of the location apart. What the library copies into a buffer is found in the path, and borrowed.
 pub(crate) fn components(url: &Url) -> Result<PathComponents<'_>, Error> {
     let given = Given::path_of(url);
-    let (mut told, mut room) = (Parted::default(), Room::new());
+    let (mut told, mut buffer) = (Parted::default(), Room::new());
     let (mut near, mut far) = ([0; NEAR_LENGTHS], vec![0; 0]);
-    let (code, bytes) = room.filled(url.path.len() + 1, |room, len| {
+    let (code, bytes) = buffer.filled(url.path.len() + 1, |buffer, len| {
         far.resize(if told.pairs > NEAR_LENGTHS / 2 { 2 * told.pairs } else { 0 }, 0);
         let lengths = if far.is_empty() { &mut near[..] } else { &mut far };
-        let code = call!(gix_url_c_components, &given, &mut told, room, len, lengths.as_mut_ptr(), lengths.len());
+        let code = call!(gix_url_c_components, &given, &mut told, buffer, len, lengths.as_mut_ptr(), lengths.len());
         (code, told.bytes)
     });
     match code {

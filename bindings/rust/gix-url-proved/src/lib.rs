@@ -49,6 +49,7 @@ mod stored;
 pub mod testing;
 pub mod unambiguous;
 mod url;
+mod words;
 
 pub use expand_path::expand_path;
 pub use parse::parse;

@@ -2,8 +2,8 @@
 
 use crate::ffi;
 use crate::parse::{UrlFault, UrlKind};
+use crate::words::worded;
 use std::fmt;
-use std::sync::{Mutex, PoisonError};
 
 /// For which reason a text spells no location. `Display` says it in one sentence, which holds no byte of the text.
 ///
@@ -107,36 +107,9 @@ impl Reason {
         Reason::FilePathMissing,
         Reason::ScpPathMissing,
     ];
-
-    /// The reason of a number; none of 0.
-    pub(crate) fn numbered(number: u8) -> Option<Reason> {
-        Reason::ALL.get(usize::from(number).checked_sub(1)?).copied()
-    }
-
-    /// The name of the reason, as programs show it to programs: that of its variant.
-    pub fn name(self) -> &'static str {
-        &self.said().0
-    }
-
-    /// The reason in one sentence, which holds no byte of the text.
-    pub fn words(self) -> &'static str {
-        &self.said().1
-    }
-
-    /// The name and the words of the library, which is asked once for those of all reasons.
-    fn said(self) -> &'static (String, String) {
-        static SAID: Mutex<Option<&[(String, String)]>> = Mutex::new(None);
-        let all = || (1..=28).map(|number| (ffi::reason_name(number), ffi::reason_words(number))).collect();
-        let mut said = SAID.lock().unwrap_or_else(PoisonError::into_inner);
-        &said.get_or_insert_with(|| Box::leak(all()))[self as usize]
-    }
 }
 
-impl fmt::Display for Reason {
-    fn fmt(&self, f: &mut fmt::Formatter<'_>) -> fmt::Result {
-        f.write_str(self.words())
-    }
-}
+worded!(Reason, ffi::reason_name, ffi::reason_words);
 
 /// Why a text spells no location, and where: what is wrong are the `len` bytes of the text behind its first `at`. Of
 /// several flaws it is the first in the order of checks, so a text has one refusal. It holds no byte of the text, and

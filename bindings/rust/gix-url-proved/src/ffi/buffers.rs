@@ -26,8 +26,8 @@ impl Sizes {
     }
 
     /// Whether these fit into buffers of other sizes.
-    fn fit(self, room: Sizes) -> bool {
-        self.bytes <= room.bytes && self.numbers <= room.numbers
+    fn fit(self, buffer: Sizes) -> bool {
+        self.bytes <= buffer.bytes && self.numbers <= buffer.numbers
     }
 }
 
@@ -59,23 +59,23 @@ impl Filled {
 
 /// Makes a call with buffers of these sizes, and once more with larger ones if its result doesn't fit. The call returns its
 /// number, and how many bytes and numbers its result has. After an error there is no result.
-pub(super) fn filled(mut room: Sizes, mut call: impl FnMut(&mut [u8], &mut [usize]) -> (u32, Sizes)) -> (u32, Filled) {
+pub(super) fn filled(mut buffer: Sizes, mut call: impl FnMut(&mut [u8], &mut [usize]) -> (u32, Sizes)) -> (u32, Filled) {
     loop {
-        let mut buffers = Filled::blank(room);
+        let mut buffers = Filled::blank(buffer);
         let (code, needed) = call(&mut buffers.bytes, &mut buffers.numbers);
         if code != NO_ROOM {
-            assert!(code != OK || needed.fit(room), "a result that fits is no longer than its buffer");
+            assert!(code != OK || needed.fit(buffer), "a result that fits is no longer than its buffer");
             return (code, buffers.fronts(if code == OK { needed } else { Sizes::default() }));
         }
-        assert!(!needed.fit(room), "a result that doesn't fit is longer than its buffer");
+        assert!(!needed.fit(buffer), "a result that doesn't fit is longer than its buffer");
         buffers.fronts(Sizes::default());
-        room = Sizes { bytes: needed.bytes.max(room.bytes), numbers: needed.numbers.max(room.numbers) };
+        buffer = Sizes { bytes: needed.bytes.max(buffer.bytes), numbers: needed.numbers.max(buffer.numbers) };
     }
 }
 
 /// Makes a call whose result are bytes.
-pub(super) fn filled_bytes(room: usize, mut call: impl FnMut(&mut [u8]) -> (u32, usize)) -> (u32, Vec<u8>) {
-    let (code, filled) = filled(Sizes::of_bytes(room), |bytes, _| {
+pub(super) fn filled_bytes(buffer: usize, mut call: impl FnMut(&mut [u8]) -> (u32, usize)) -> (u32, Vec<u8>) {
+    let (code, filled) = filled(Sizes::of_bytes(buffer), |bytes, _| {
         let (code, needed) = call(bytes);
         (code, Sizes::of_bytes(needed))
     });
@@ -91,16 +91,16 @@ mod tests {
     fn stores<'a>(
         bytes: &'a [u8],
         numbers: &'a [usize],
-        rooms: &'a mut Vec<(usize, usize)>,
+        buffers: &'a mut Vec<(usize, usize)>,
     ) -> impl FnMut(&mut [u8], &mut [usize]) -> (u32, Sizes) + 'a {
-        move |room, places| {
-            rooms.push((room.len(), places.len()));
-            assert!(room.iter().all(|byte| *byte == BYTE) && places.iter().all(|number| *number == NUMBER));
+        move |buffer, places| {
+            buffers.push((buffer.len(), places.len()));
+            assert!(buffer.iter().all(|byte| *byte == BYTE) && places.iter().all(|number| *number == NUMBER));
             let needed = Sizes { bytes: bytes.len(), numbers: numbers.len() };
-            if room.len() < bytes.len() || places.len() < numbers.len() {
+            if buffer.len() < bytes.len() || places.len() < numbers.len() {
                 return (NO_ROOM, needed);
             }
-            room[..bytes.len()].copy_from_slice(bytes);
+            buffer[..bytes.len()].copy_from_slice(bytes);
             places[..numbers.len()].copy_from_slice(numbers);
             (OK, needed)
         }
@@ -109,17 +109,17 @@ mod tests {
     #[test]
     fn buffers_grow_to_what_is_needed() {
         let (bytes, numbers) = (b"abc".as_slice(), [1, 2].as_slice());
-        for (room, wanted) in [
+        for (buffer, wanted) in [
             ((3, 2), vec![(3, 2)]),
             ((9, 9), vec![(9, 9)]),
             ((2, 9), vec![(2, 9), (3, 9)]),
             ((9, 1), vec![(9, 1), (9, 2)]),
             ((0, 0), vec![(0, 0), (3, 2)]),
         ] {
-            let mut rooms = Vec::new();
-            let (code, result) = filled(Sizes { bytes: room.0, numbers: room.1 }, stores(bytes, numbers, &mut rooms));
+            let mut buffers = Vec::new();
+            let (code, result) = filled(Sizes { bytes: buffer.0, numbers: buffer.1 }, stores(bytes, numbers, &mut buffers));
             assert_eq!((code, result), (OK, Filled { bytes: bytes.into(), numbers: numbers.into() }));
-            assert_eq!(rooms, wanted);
+            assert_eq!(buffers, wanted);
         }
     }
 
@@ -132,8 +132,8 @@ mod tests {
     #[test]
     #[should_panic(expected = "a call writes after its result")]
     fn bytes_after_a_result_are_seen() {
-        filled_bytes(4, |room| {
-            room[2] = 0;
+        filled_bytes(4, |buffer| {
+            buffer[2] = 0;
             (OK, 2)
         });
     }

@@ -97,10 +97,10 @@ type Reads = unsafe extern "C" fn(*const u8, usize, &mut Counted, *mut u8, usize
 
 #[rustfmt::skip]
 extern "C" {
-    fn gix_url_c_read_listing(text: *const u8, len: usize, made: &mut Counted, room: *mut u8, room_len: usize, numbers: *mut usize, numbers_len: usize, stop: &mut Stop) -> u32;
-    fn gix_url_c_read_file(text: *const u8, len: usize, made: &mut Counted, room: *mut u8, room_len: usize, numbers: *mut usize, numbers_len: usize, stop: &mut Stop) -> u32;
+    fn gix_url_c_read_listing(text: *const u8, len: usize, made: &mut Counted, buffer: *mut u8, buffer_len: usize, numbers: *mut usize, numbers_len: usize, stop: &mut Stop) -> u32;
+    fn gix_url_c_read_file(text: *const u8, len: usize, made: &mut Counted, buffer: *mut u8, buffer_len: usize, numbers: *mut usize, numbers_len: usize, stop: &mut Stop) -> u32;
     fn gix_url_c_check(entry: &GivenEntry, made: &mut CheckNumbers) -> u32;
-    fn gix_url_c_submodules(entries: Entries, count: usize, made: &mut Counted, room: *mut u8, room_len: usize, numbers: *mut usize, numbers_len: usize) -> u32;
+    fn gix_url_c_submodules(entries: Entries, count: usize, made: &mut Counted, buffer: *mut u8, buffer_len: usize, numbers: *mut usize, numbers_len: usize) -> u32;
 }
 
 /// A number, or none for 0.
@@ -134,18 +134,18 @@ fn configuration(read: Filled) -> Configuration {
     Configuration { bytes: read.bytes, spans }
 }
 
-/// Reads a configuration by one of the two calls, with room for so many bytes and entries at first.
+/// Reads a configuration by one of the two calls, with buffer for so many bytes and entries at first.
 fn read(reads: Reads, text: &[u8], bytes: usize, entries: usize) -> Result<Configuration, Error> {
     let mut stop = Stop::default();
-    let (code, read) = filled(Sizes { bytes, numbers: OF_ENTRY * entries }, |room, numbers| {
+    let (code, read) = filled(Sizes { bytes, numbers: OF_ENTRY * entries }, |buffer, numbers| {
         let mut made = Counted::default();
         let code = call!(
             reads,
             text.as_ptr(),
             text.len(),
             &mut made,
-            room.as_mut_ptr(),
-            room.len(),
+            buffer.as_mut_ptr(),
+            buffer.len(),
             numbers.as_mut_ptr(),
             numbers.len(),
             &mut stop
@@ -182,16 +182,16 @@ pub(crate) fn check(entry: &Entry<'_>) -> SubmoduleCheck {
 /// The submodules of a `.gitmodules` file. Each has an entry of its own.
 pub(crate) fn submodules(configuration: &Configuration) -> Result<Vec<Submodule<'_>>, Error> {
     let entries = GivenEntry::all(configuration);
-    let room = Sizes { bytes: configuration.bytes.len(), numbers: OF_SUBMODULE * entries.len() };
-    let (code, listed) = filled(room, |room, numbers| {
+    let buffer = Sizes { bytes: configuration.bytes.len(), numbers: OF_SUBMODULE * entries.len() };
+    let (code, listed) = filled(buffer, |buffer, numbers| {
         let mut made = Counted::default();
         let code = call!(
             gix_url_c_submodules,
             entries.as_ptr(),
             entries.len(),
             &mut made,
-            room.as_mut_ptr(),
-            room.len(),
+            buffer.as_mut_ptr(),
+            buffer.len(),
             numbers.as_mut_ptr(),
             numbers.len()
         );

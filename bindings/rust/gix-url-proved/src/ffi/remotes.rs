@@ -53,9 +53,9 @@ struct PermissionNumbers {
 
 #[rustfmt::skip]
 extern "C" {
-    fn gix_url_c_rewrite_fetch(entries: Entries, count: usize, text: *const u8, len: usize, made: &mut RewriteNumbers, room: *mut u8, room_len: usize, stop: &mut Stop) -> u32;
-    fn gix_url_c_rewrite_push(entries: Entries, count: usize, text: *const u8, len: usize, has_push_url: bool, made: &mut RewriteNumbers, room: *mut u8, room_len: usize, stop: &mut Stop) -> u32;
-    fn gix_url_c_remote(entries: Entries, count: usize, name: *const u8, len: usize, made: &mut RemoteNumbers, room: *mut u8, room_len: usize, lengths: *mut usize, lengths_len: usize, stop: &mut Stop) -> u32;
+    fn gix_url_c_rewrite_fetch(entries: Entries, count: usize, text: *const u8, len: usize, made: &mut RewriteNumbers, buffer: *mut u8, buffer_len: usize, stop: &mut Stop) -> u32;
+    fn gix_url_c_rewrite_push(entries: Entries, count: usize, text: *const u8, len: usize, has_push_url: bool, made: &mut RewriteNumbers, buffer: *mut u8, buffer_len: usize, stop: &mut Stop) -> u32;
+    fn gix_url_c_remote(entries: Entries, count: usize, name: *const u8, len: usize, made: &mut RemoteNumbers, buffer: *mut u8, buffer_len: usize, lengths: *mut usize, lengths_len: usize, stop: &mut Stop) -> u32;
     fn gix_url_c_permission(entries: Entries, count: usize, policy: &GivenPolicy, name: *const u8, len: usize, made: &mut PermissionNumbers) -> u32;
 }
 
@@ -65,14 +65,14 @@ fn rewritten(
     mut call: impl FnMut(&mut RewriteNumbers, &mut [u8], &mut Stop) -> u32,
 ) -> Result<Rewritten, Error> {
     let (mut made, mut stop) = (RewriteNumbers::default(), Stop::default());
-    let (code, text) = filled_bytes(len + SHORT, |room| (call(&mut made, room, &mut stop), made.len));
+    let (code, text) = filled_bytes(len + SHORT, |buffer| (call(&mut made, buffer, &mut stop), made.len));
     stop.unless(code, || Rewritten { text: text.into(), base_len: made.is_rewritten.then_some(made.base) })
 }
 
 /// The text that Git fetches from.
 pub(crate) fn rewrite_fetch(configuration: &Configuration, text: &[u8]) -> Result<Rewritten, Error> {
     let entries = GivenEntry::all(configuration);
-    rewritten(text.len(), |made, room, stop| {
+    rewritten(text.len(), |made, buffer, stop| {
         call!(
             gix_url_c_rewrite_fetch,
             entries.as_ptr(),
@@ -80,8 +80,8 @@ pub(crate) fn rewrite_fetch(configuration: &Configuration, text: &[u8]) -> Resul
             text.as_ptr(),
             text.len(),
             made,
-            room.as_mut_ptr(),
-            room.len(),
+            buffer.as_mut_ptr(),
+            buffer.len(),
             stop
         )
     })
@@ -90,7 +90,7 @@ pub(crate) fn rewrite_fetch(configuration: &Configuration, text: &[u8]) -> Resul
 /// The text that Git pushes to, and whether that is a push URL of a remote.
 pub(crate) fn rewrite_push(configuration: &Configuration, text: &[u8], has_push_url: bool) -> Result<Rewritten, Error> {
     let entries = GivenEntry::all(configuration);
-    rewritten(text.len(), |made, room, stop| {
+    rewritten(text.len(), |made, buffer, stop| {
         call!(
             gix_url_c_rewrite_push,
             entries.as_ptr(),
@@ -99,8 +99,8 @@ pub(crate) fn rewrite_push(configuration: &Configuration, text: &[u8], has_push_
             text.len(),
             has_push_url,
             made,
-            room.as_mut_ptr(),
-            room.len(),
+            buffer.as_mut_ptr(),
+            buffer.len(),
             stop
         )
     })
@@ -110,8 +110,8 @@ pub(crate) fn rewrite_push(configuration: &Configuration, text: &[u8], has_push_
 pub(crate) fn remote(configuration: &Configuration, name: &[u8]) -> Result<Remote, Error> {
     let entries = GivenEntry::all(configuration);
     let (mut made, mut stop) = (RemoteNumbers::default(), Stop::default());
-    let room = Sizes { bytes: name.len() + SHORT, numbers: FEW };
-    let (code, found) = filled(room, |room, lengths| {
+    let buffer = Sizes { bytes: name.len() + SHORT, numbers: FEW };
+    let (code, found) = filled(buffer, |buffer, lengths| {
         let code = call!(
             gix_url_c_remote,
             entries.as_ptr(),
@@ -119,8 +119,8 @@ pub(crate) fn remote(configuration: &Configuration, name: &[u8]) -> Result<Remot
             name.as_ptr(),
             name.len(),
             &mut made,
-            room.as_mut_ptr(),
-            room.len(),
+            buffer.as_mut_ptr(),
+            buffer.len(),
             lengths.as_mut_ptr(),
             lengths.len(),
             &mut stop

@@ -78,24 +78,24 @@ struct ResolvedNumbers {
 
 #[rustfmt::skip]
 extern "C" {
-    fn gix_url_c_transport(text: *const u8, len: usize, room: *mut u8, room_len: usize, needed: &mut usize, why: &mut u8) -> u32;
-    fn gix_url_c_git_reading(text: *const u8, len: usize, made: &mut PlaceNumbers, room: *mut u8, room_len: usize) -> u32;
-    fn gix_url_c_credential_reading(text: *const u8, len: usize, made: &mut RequestNumbers, room: *mut u8, room_len: usize) -> u32;
-    fn gix_url_c_ssh_words(given: &Given, request: &GivenRequest, made: &mut WordNumbers, room: *mut u8, room_len: usize, lengths: *mut usize, lengths_len: usize) -> u32;
-    fn gix_url_c_resolve(parent: *const u8, parent_len: usize, url: *const u8, len: usize, made: &mut ResolvedNumbers, room: *mut u8, room_len: usize) -> u32;
-    fn gix_url_c_dangers(text: *const u8, len: usize, given: &Given, room: *mut u8, room_len: usize, count: &mut usize) -> u32;
-    fn gix_url_c_danger_name(danger: u8, room: *mut u8, room_len: usize, needed: &mut usize) -> u32;
-    fn gix_url_c_danger_words(danger: u8, room: *mut u8, room_len: usize, needed: &mut usize) -> u32;
+    fn gix_url_c_transport(text: *const u8, len: usize, buffer: *mut u8, buffer_len: usize, needed: &mut usize, why: &mut u8) -> u32;
+    fn gix_url_c_git_reading(text: *const u8, len: usize, made: &mut PlaceNumbers, buffer: *mut u8, buffer_len: usize) -> u32;
+    fn gix_url_c_credential_reading(text: *const u8, len: usize, made: &mut RequestNumbers, buffer: *mut u8, buffer_len: usize) -> u32;
+    fn gix_url_c_ssh_words(given: &Given, request: &GivenRequest, made: &mut WordNumbers, buffer: *mut u8, buffer_len: usize, lengths: *mut usize, lengths_len: usize) -> u32;
+    fn gix_url_c_resolve(parent: *const u8, parent_len: usize, url: *const u8, len: usize, made: &mut ResolvedNumbers, buffer: *mut u8, buffer_len: usize) -> u32;
+    fn gix_url_c_dangers(text: *const u8, len: usize, given: &Given, buffer: *mut u8, buffer_len: usize, count: &mut usize) -> u32;
+    fn gix_url_c_danger_name(danger: u8, buffer: *mut u8, buffer_len: usize, needed: &mut usize) -> u32;
+    fn gix_url_c_danger_words(danger: u8, buffer: *mut u8, buffer_len: usize, needed: &mut usize) -> u32;
     fn gix_url_c_secrets(text: *const u8, len: usize, numbers: *mut usize, numbers_len: usize, count: &mut usize) -> u32;
 }
 
 /// The name of the transport of a text.
 pub(crate) fn transport(text: &[u8]) -> Result<String, NoTransport> {
     let mut why = 0;
-    let (code, name) = filled_bytes(SHORT, |room| {
+    let (code, name) = filled_bytes(SHORT, |buffer| {
         let mut needed = 0;
         let code =
-            call!(gix_url_c_transport, text.as_ptr(), text.len(), room.as_mut_ptr(), room.len(), &mut needed, &mut why);
+            call!(gix_url_c_transport, text.as_ptr(), text.len(), buffer.as_mut_ptr(), buffer.len(), &mut needed, &mut why);
         (code, needed)
     });
     assert!(code == OK, "the transport of each text is found or missing");
@@ -110,8 +110,8 @@ fn utf8(name: Vec<u8>) -> String {
 /// What Git reads in a text.
 pub(crate) fn git_reading(text: &[u8]) -> Result<GitPlace, Error> {
     let mut made = PlaceNumbers::default();
-    let (code, parts) = filled_bytes(text.len() + SHORT, |room| {
-        let code = call!(gix_url_c_git_reading, text.as_ptr(), text.len(), &mut made, room.as_mut_ptr(), room.len());
+    let (code, parts) = filled_bytes(text.len() + SHORT, |buffer| {
+        let code = call!(gix_url_c_git_reading, text.as_ptr(), text.len(), &mut made, buffer.as_mut_ptr(), buffer.len());
         (code, made.user + made.host + made.path)
     });
     Stop::default().unless(code, || match Unread::numbered(made.why) {
@@ -140,9 +140,9 @@ fn place(made: &PlaceNumbers, mut parts: &[u8]) -> GitPlace {
 /// What Git's credential code reads in a text, if it reads anything.
 pub(crate) fn credential_reading(text: &[u8]) -> Result<Option<CredentialRequest>, Error> {
     let mut made = RequestNumbers::default();
-    let (code, parts) = filled_bytes(text.len() + SHORT, |room| {
+    let (code, parts) = filled_bytes(text.len() + SHORT, |buffer| {
         let code =
-            call!(gix_url_c_credential_reading, text.as_ptr(), text.len(), &mut made, room.as_mut_ptr(), room.len());
+            call!(gix_url_c_credential_reading, text.as_ptr(), text.len(), &mut made, buffer.as_mut_ptr(), buffer.len());
         (code, made.protocol + made.user + made.password + made.host + made.path)
     });
     Stop::default().unless(code, || made.is_read.then(|| request(&made, &parts)))
@@ -174,15 +174,15 @@ pub(crate) fn ssh_words(url: &Url, request: &SshRequest<'_>) -> Result<SshComman
         family: request.family as u8,
     };
     let mut made = WordNumbers::default();
-    let room = Sizes { bytes: given.bytes() + asked.program.len + SHORT, numbers: WORDS };
-    let (code, words) = filled(room, |room, lengths| {
+    let buffer = Sizes { bytes: given.bytes() + asked.program.len + SHORT, numbers: WORDS };
+    let (code, words) = filled(buffer, |buffer, lengths| {
         let code = call!(
             gix_url_c_ssh_words,
             &given,
             &asked,
             &mut made,
-            room.as_mut_ptr(),
-            room.len(),
+            buffer.as_mut_ptr(),
+            buffer.len(),
             lengths.as_mut_ptr(),
             lengths.len()
         );
@@ -199,7 +199,7 @@ pub(crate) fn ssh_words(url: &Url, request: &SshRequest<'_>) -> Result<SshComman
 /// The URL of a submodule after it is resolved. It is no longer than both texts and 2 bytes.
 pub(crate) fn resolve(parent: &[u8], url: &[u8]) -> Resolved {
     let mut made = ResolvedNumbers::default();
-    let (code, text) = filled_bytes(parent.len() + url.len() + 2, |room| {
+    let (code, text) = filled_bytes(parent.len() + url.len() + 2, |buffer| {
         let code = call!(
             gix_url_c_resolve,
             parent.as_ptr(),
@@ -207,8 +207,8 @@ pub(crate) fn resolve(parent: &[u8], url: &[u8]) -> Resolved {
             url.as_ptr(),
             url.len(),
             &mut made,
-            room.as_mut_ptr(),
-            room.len()
+            buffer.as_mut_ptr(),
+            buffer.len()
         );
         (code, made.len)
     });
@@ -223,10 +223,10 @@ pub(crate) fn resolve(parent: &[u8], url: &[u8]) -> Resolved {
 /// The dangers of a text and its location.
 pub(crate) fn dangers(text: &[u8], url: &Url) -> Result<Vec<Danger>, Error> {
     let given = Given::of(url);
-    let (code, numbers) = filled_bytes(DANGERS, |room| {
+    let (code, numbers) = filled_bytes(DANGERS, |buffer| {
         let mut count = 0;
         let code =
-            call!(gix_url_c_dangers, text.as_ptr(), text.len(), &given, room.as_mut_ptr(), room.len(), &mut count);
+            call!(gix_url_c_dangers, text.as_ptr(), text.len(), &given, buffer.as_mut_ptr(), buffer.len(), &mut count);
         (code, count)
     });
     Stop::default().unless(code, || numbers.into_iter().filter_map(Danger::numbered).collect())
@@ -234,19 +234,19 @@ pub(crate) fn dangers(text: &[u8], url: &Url) -> Result<Vec<Danger>, Error> {
 
 /// The name of the danger of this number.
 pub(crate) fn danger_name(danger: u8) -> String {
-    said(|room, needed| call!(gix_url_c_danger_name, danger, room.as_mut_ptr(), room.len(), needed))
+    said(|buffer, needed| call!(gix_url_c_danger_name, danger, buffer.as_mut_ptr(), buffer.len(), needed))
 }
 
 /// The danger of this number in a few words.
 pub(crate) fn danger_words(danger: u8) -> String {
-    said(|room, needed| call!(gix_url_c_danger_words, danger, room.as_mut_ptr(), room.len(), needed))
+    said(|buffer, needed| call!(gix_url_c_danger_words, danger, buffer.as_mut_ptr(), buffer.len(), needed))
 }
 
 /// What a call says of a danger.
 fn said(call: impl Fn(&mut [u8], &mut usize) -> u32) -> String {
-    let (code, said) = filled_bytes(SHORT, |room| {
+    let (code, said) = filled_bytes(SHORT, |buffer| {
         let mut needed = 0;
-        (call(room, &mut needed), needed)
+        (call(buffer, &mut needed), needed)
     });
     assert!(code == OK, "every danger has a name and words");
     utf8(said)

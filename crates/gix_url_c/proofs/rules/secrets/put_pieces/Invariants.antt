@@ -3,8 +3,8 @@ use Rattle.std.proofs.Common.{◌≡◌, ◌++◌, length, map}
 use Rattle.std.specs.List.{flat_map}
 use Rattle.git_audit.specs.Secrets.{parts_of, piece_part}
 use Rattle.gix_url_c.specs.PieceNumbers.{part_numbers}
-use Rattle.gix_url_c.proofs.RoomLemmas.{BeginsWith}
-use Rattle.gix_url_c.proofs.rules.secrets.put_pieces.Given as goal
+use Rattle.gix_url_c.proofs.BufferLemmas.{BeginsWith}
+use Rattle.gix_url_c.proofs.rules.secrets.put_pieces.PartBytes as goal
 
 abbrev pub invariant-loop-piece : goal.invariant-loop-piece
 invariant-loop-piece l = record {
