@@ -289,14 +289,14 @@ fn filled(ample: usize, mut call: impl FnMut(*mut u8, usize) -> (u32, usize)) ->
 }
 
 /// A buffer for what a call returns: on the stack, and in memory where that is too little.
-struct Room {
+struct Buffer {
     near: [MaybeUninit<u8>; NEAR],
     far: Vec<u8>,
 }
 
-impl Room {
-    fn new() -> Room {
-        Room { near: [MaybeUninit::uninit(); NEAR], far: Vec::new() }
+impl Buffer {
+    fn new() -> Buffer {
+        Buffer { near: [MaybeUninit::uninit(); NEAR], far: Vec::new() }
     }
 
     /// Fills the buffer with what a call answers, of which so many bytes are ample.
@@ -411,7 +411,7 @@ pub(crate) fn read(input: &[u8]) -> Result<Url, Error> {
     }
 }
 
-/// Why the bytes are refused, and where; none where they spell a location. They are read without buffer, which takes no
+/// Why the bytes are refused, and where; none where they spell a location. They are read without a buffer, which takes no
 /// memory.
 pub(crate) fn refusal(input: &[u8]) -> Option<Refusal> {
     let (mut lent, mut told) = (Given::none(), Problem::default());
@@ -456,7 +456,7 @@ fn said(call: impl Fn(*mut u8, usize, &mut usize) -> u32) -> String {
 /// What the text of these parts means.
 pub(crate) fn from_parts(parts: &Url) -> Result<Url, Error> {
     let given = Given::of(parts);
-    let (mut made, mut told, mut buffer) = (Made::default(), Problem::default(), Room::new());
+    let (mut made, mut told, mut buffer) = (Made::default(), Problem::default(), Buffer::new());
     let (code, bytes) = buffer.filled(NEAR, |buffer, len| {
         let code = call!(gix_url_c_from_parts, &given, &mut made, buffer, len, &mut told);
         (code, bytes_of(&made))
@@ -533,7 +533,7 @@ pub(crate) fn display<T>(url: &Url, take: impl FnOnce(&[u8]) -> T) -> Result<T, 
 }
 
 fn with_text_of<T>(given: &Given<'_>, take: impl FnOnce(&[u8]) -> T) -> Result<T, Error> {
-    let (mut told, mut buffer) = (Problem::default(), Room::new());
+    let (mut told, mut buffer) = (Problem::default(), Buffer::new());
     let (code, bytes) = buffer.filled(given.bytes() + 32, |buffer, buffer_len| {
         let mut len = 0;
         let code = call!(gix_url_c_write, given, buffer, buffer_len, &mut len, &mut told);
@@ -581,7 +581,7 @@ pub(crate) fn port_or_default(scheme: &Scheme, port: Option<u16>) -> Option<u16>
 /// Takes the path of the location apart. What the library copies into a buffer is found in the path, and borrowed.
 pub(crate) fn components(url: &Url) -> Result<PathComponents<'_>, Error> {
     let given = Given::path_of(url);
-    let (mut told, mut buffer) = (Parted::default(), Room::new());
+    let (mut told, mut buffer) = (Parted::default(), Buffer::new());
     let (mut near, mut far) = ([0; NEAR_LENGTHS], vec![0; 0]);
     let (code, bytes) = buffer.filled(url.path.len() + 1, |buffer, len| {
         far.resize(if told.pairs > NEAR_LENGTHS / 2 { 2 * told.pairs } else { 0 }, 0);

@@ -26,8 +26,8 @@ impl Sizes {
     }
 
     /// Whether these fit into buffers of other sizes.
-    fn fit(self, buffer: Sizes) -> bool {
-        self.bytes <= buffer.bytes && self.numbers <= buffer.numbers
+    fn fit(self, sizes: Sizes) -> bool {
+        self.bytes <= sizes.bytes && self.numbers <= sizes.numbers
     }
 }
 
@@ -59,23 +59,23 @@ impl Filled {
 
 /// Makes a call with buffers of these sizes, and once more with larger ones if its result doesn't fit. The call returns its
 /// number, and how many bytes and numbers its result has. After an error there is no result.
-pub(super) fn filled(mut buffer: Sizes, mut call: impl FnMut(&mut [u8], &mut [usize]) -> (u32, Sizes)) -> (u32, Filled) {
+pub(super) fn filled(mut sizes: Sizes, mut call: impl FnMut(&mut [u8], &mut [usize]) -> (u32, Sizes)) -> (u32, Filled) {
     loop {
-        let mut buffers = Filled::blank(buffer);
+        let mut buffers = Filled::blank(sizes);
         let (code, needed) = call(&mut buffers.bytes, &mut buffers.numbers);
         if code != NO_ROOM {
-            assert!(code != OK || needed.fit(buffer), "a result that fits is no longer than its buffer");
+            assert!(code != OK || needed.fit(sizes), "a result that fits is no longer than its buffer");
             return (code, buffers.fronts(if code == OK { needed } else { Sizes::default() }));
         }
-        assert!(!needed.fit(buffer), "a result that doesn't fit is longer than its buffer");
+        assert!(!needed.fit(sizes), "a result that doesn't fit is longer than its buffer");
         buffers.fronts(Sizes::default());
-        buffer = Sizes { bytes: needed.bytes.max(buffer.bytes), numbers: needed.numbers.max(buffer.numbers) };
+        sizes = Sizes { bytes: needed.bytes.max(sizes.bytes), numbers: needed.numbers.max(sizes.numbers) };
     }
 }
 
 /// Makes a call whose result are bytes.
-pub(super) fn filled_bytes(buffer: usize, mut call: impl FnMut(&mut [u8]) -> (u32, usize)) -> (u32, Vec<u8>) {
-    let (code, filled) = filled(Sizes::of_bytes(buffer), |bytes, _| {
+pub(super) fn filled_bytes(size: usize, mut call: impl FnMut(&mut [u8]) -> (u32, usize)) -> (u32, Vec<u8>) {
+    let (code, filled) = filled(Sizes::of_bytes(size), |bytes, _| {
         let (code, needed) = call(bytes);
         (code, Sizes::of_bytes(needed))
     });
@@ -109,7 +109,7 @@ mod tests {
     #[test]
     fn buffers_grow_to_what_is_needed() {
         let (bytes, numbers) = (b"abc".as_slice(), [1, 2].as_slice());
-        for (buffer, wanted) in [
+        for (sizes, wanted) in [
             ((3, 2), vec![(3, 2)]),
             ((9, 9), vec![(9, 9)]),
             ((2, 9), vec![(2, 9), (3, 9)]),
@@ -117,7 +117,8 @@ mod tests {
             ((0, 0), vec![(0, 0), (3, 2)]),
         ] {
             let mut buffers = Vec::new();
-            let (code, result) = filled(Sizes { bytes: buffer.0, numbers: buffer.1 }, stores(bytes, numbers, &mut buffers));
+            let (code, result) =
+                filled(Sizes { bytes: sizes.0, numbers: sizes.1 }, stores(bytes, numbers, &mut buffers));
             assert_eq!((code, result), (OK, Filled { bytes: bytes.into(), numbers: numbers.into() }));
             assert_eq!(buffers, wanted);
         }

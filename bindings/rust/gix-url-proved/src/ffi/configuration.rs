@@ -134,7 +134,7 @@ fn configuration(read: Filled) -> Configuration {
     Configuration { bytes: read.bytes, spans }
 }
 
-/// Reads a configuration by one of the two calls, with buffer for so many bytes and entries at first.
+/// Reads a configuration by one of the two calls, with buffers for so many bytes and entries at first.
 fn read(reads: Reads, text: &[u8], bytes: usize, entries: usize) -> Result<Configuration, Error> {
     let mut stop = Stop::default();
     let (code, read) = filled(Sizes { bytes, numbers: OF_ENTRY * entries }, |buffer, numbers| {
@@ -182,8 +182,8 @@ pub(crate) fn check(entry: &Entry<'_>) -> SubmoduleCheck {
 /// The submodules of a `.gitmodules` file. Each has an entry of its own.
 pub(crate) fn submodules(configuration: &Configuration) -> Result<Vec<Submodule<'_>>, Error> {
     let entries = GivenEntry::all(configuration);
-    let buffer = Sizes { bytes: configuration.bytes.len(), numbers: OF_SUBMODULE * entries.len() };
-    let (code, listed) = filled(buffer, |buffer, numbers| {
+    let sizes = Sizes { bytes: configuration.bytes.len(), numbers: OF_SUBMODULE * entries.len() };
+    let (code, listed) = filled(sizes, |buffer, numbers| {
         let mut made = Counted::default();
         let code = call!(
             gix_url_c_submodules,

@@ -110,8 +110,8 @@ pub(crate) fn rewrite_push(configuration: &Configuration, text: &[u8], has_push_
 pub(crate) fn remote(configuration: &Configuration, name: &[u8]) -> Result<Remote, Error> {
     let entries = GivenEntry::all(configuration);
     let (mut made, mut stop) = (RemoteNumbers::default(), Stop::default());
-    let buffer = Sizes { bytes: name.len() + SHORT, numbers: FEW };
-    let (code, found) = filled(buffer, |buffer, lengths| {
+    let sizes = Sizes { bytes: name.len() + SHORT, numbers: FEW };
+    let (code, found) = filled(sizes, |buffer, lengths| {
         let code = call!(
             gix_url_c_remote,
             entries.as_ptr(),

@@ -114,8 +114,8 @@ pub(crate) fn settings<'a>(configuration: &'a Configuration, name: &str, text: &
 pub(crate) fn credentials<'a>(configuration: &'a Configuration, text: &[u8]) -> Result<Option<Credentials<'a>>, Error> {
     let entries = GivenEntry::all(configuration);
     let (mut made, mut stop) = (CredentialNumbers::default(), Stop::default());
-    let buffer = Sizes { bytes: text.len() + SHORT, numbers: FEW };
-    let (code, found) = filled(buffer, |buffer, indices| {
+    let sizes = Sizes { bytes: text.len() + SHORT, numbers: FEW };
+    let (code, found) = filled(sizes, |buffer, indices| {
         let code = call!(
             gix_url_c_credentials,
             entries.as_ptr(),

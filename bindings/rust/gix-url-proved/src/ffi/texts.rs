@@ -94,8 +94,15 @@ pub(crate) fn transport(text: &[u8]) -> Result<String, NoTransport> {
     let mut why = 0;
     let (code, name) = filled_bytes(SHORT, |buffer| {
         let mut needed = 0;
-        let code =
-            call!(gix_url_c_transport, text.as_ptr(), text.len(), buffer.as_mut_ptr(), buffer.len(), &mut needed, &mut why);
+        let code = call!(
+            gix_url_c_transport,
+            text.as_ptr(),
+            text.len(),
+            buffer.as_mut_ptr(),
+            buffer.len(),
+            &mut needed,
+            &mut why
+        );
         (code, needed)
     });
     assert!(code == OK, "the transport of each text is found or missing");
@@ -111,7 +118,8 @@ fn utf8(name: Vec<u8>) -> String {
 pub(crate) fn git_reading(text: &[u8]) -> Result<GitPlace, Error> {
     let mut made = PlaceNumbers::default();
     let (code, parts) = filled_bytes(text.len() + SHORT, |buffer| {
-        let code = call!(gix_url_c_git_reading, text.as_ptr(), text.len(), &mut made, buffer.as_mut_ptr(), buffer.len());
+        let code =
+            call!(gix_url_c_git_reading, text.as_ptr(), text.len(), &mut made, buffer.as_mut_ptr(), buffer.len());
         (code, made.user + made.host + made.path)
     });
     Stop::default().unless(code, || match Unread::numbered(made.why) {
@@ -141,8 +149,14 @@ fn place(made: &PlaceNumbers, mut parts: &[u8]) -> GitPlace {
 pub(crate) fn credential_reading(text: &[u8]) -> Result<Option<CredentialRequest>, Error> {
     let mut made = RequestNumbers::default();
     let (code, parts) = filled_bytes(text.len() + SHORT, |buffer| {
-        let code =
-            call!(gix_url_c_credential_reading, text.as_ptr(), text.len(), &mut made, buffer.as_mut_ptr(), buffer.len());
+        let code = call!(
+            gix_url_c_credential_reading,
+            text.as_ptr(),
+            text.len(),
+            &mut made,
+            buffer.as_mut_ptr(),
+            buffer.len()
+        );
         (code, made.protocol + made.user + made.password + made.host + made.path)
     });
     Stop::default().unless(code, || made.is_read.then(|| request(&made, &parts)))
@@ -174,8 +188,8 @@ pub(crate) fn ssh_words(url: &Url, request: &SshRequest<'_>) -> Result<SshComman
         family: request.family as u8,
     };
     let mut made = WordNumbers::default();
-    let buffer = Sizes { bytes: given.bytes() + asked.program.len + SHORT, numbers: WORDS };
-    let (code, words) = filled(buffer, |buffer, lengths| {
+    let sizes = Sizes { bytes: given.bytes() + asked.program.len + SHORT, numbers: WORDS };
+    let (code, words) = filled(sizes, |buffer, lengths| {
         let code = call!(
             gix_url_c_ssh_words,
             &given,
