@@ -1,6 +1,6 @@
-//! Enums whose names and sentences are those of the library.
+//! Enums whose names and sentences come from the library.
 
-/// Writes the calls of an enum with a constant `ALL`, whose variants have the numbers from 1 on in the library.
+/// Writes the methods of an enum with a constant `ALL`, whose variants have the numbers from 1 on in the library.
 macro_rules! worded {
     ($enum:ident, $name:path, $words:path) => {
         impl $enum {
@@ -9,7 +9,7 @@ macro_rules! worded {
                 $enum::ALL.get(usize::from(number).checked_sub(1)?).copied()
             }
 
-            /// The name, which programs show to programs.
+            /// The name, for use by programs.
             pub fn name(self) -> &'static str {
                 &self.said().0
             }
@@ -19,7 +19,7 @@ macro_rules! worded {
                 &self.said().1
             }
 
-            /// The name and the sentence. The library is asked once for those of all variants.
+            /// The name and the sentence. Those of all variants are requested from the library once.
             fn said(self) -> &'static (String, String) {
                 use std::sync::{Mutex, PoisonError};
                 static SAID: Mutex<Option<&[(String, String)]>> = Mutex::new(None);

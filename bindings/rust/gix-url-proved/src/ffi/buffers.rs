@@ -1,9 +1,9 @@
-//! Buffers that a call fills with bytes and numbers. They are initialised, and grow to what the call reports.
+//! Buffers that a call fills with bytes and numbers. They are initialised, and grow to the size that the call reports.
 
 use super::{BLANK, NO_ROOM, OK};
 use std::mem::size_of;
 
-/// What buffers hold before a call: zeros, and in a debug build, which checks them after it, a rarely written byte.
+/// The byte in buffers before a call: 0, and in a debug build, which checks them after it, a rarely written byte.
 const BYTE: u8 = if cfg!(debug_assertions) { BLANK } else { 0 };
 const NUMBER: usize = usize::from_ne_bytes([BYTE; size_of::<usize>()]);
 
@@ -15,23 +15,23 @@ pub(super) struct Sizes {
 }
 
 impl Sizes {
-    /// So many bytes, and no number.
+    /// This many bytes, and no number.
     pub(super) fn of_bytes(bytes: usize) -> Sizes {
         Sizes { bytes, numbers: 0 }
     }
 
-    /// So many numbers, and no byte.
+    /// This many numbers, and no byte.
     pub(super) fn of_numbers(numbers: usize) -> Sizes {
         Sizes { bytes: 0, numbers }
     }
 
-    /// Whether these fit into buffers of other sizes.
+    /// Whether these sizes fit into buffers of other sizes.
     fn fit(self, sizes: Sizes) -> bool {
         self.bytes <= sizes.bytes && self.numbers <= sizes.numbers
     }
 }
 
-/// What a call put into its buffers.
+/// The result that a call wrote into its buffers.
 #[derive(Debug, Default, PartialEq, Eq)]
 pub(super) struct Filled {
     pub(super) bytes: Vec<u8>,
@@ -39,12 +39,12 @@ pub(super) struct Filled {
 }
 
 impl Filled {
-    /// Buffers of these sizes, which nothing was put into yet.
+    /// Buffers of these sizes into which nothing was written yet.
     fn blank(sizes: Sizes) -> Filled {
         Filled { bytes: vec![BYTE; sizes.bytes], numbers: vec![NUMBER; sizes.numbers] }
     }
 
-    /// The fronts of these sizes. What is after them is as it was before the call.
+    /// The fronts with these sizes. The rest is unchanged by the call.
     fn fronts(mut self, sizes: Sizes) -> Filled {
         if cfg!(debug_assertions) {
             let is_blank = self.bytes[sizes.bytes..].iter().all(|byte| *byte == BYTE)
@@ -57,7 +57,7 @@ impl Filled {
     }
 }
 
-/// Makes a call with buffers of these sizes, and once more with larger ones if its result doesn't fit. The call returns its
+/// Makes a call with buffers of these sizes, and again with larger ones if its result doesn't fit. The call returns its
 /// number, and how many bytes and numbers its result has. After an error there is no result.
 pub(super) fn filled(mut sizes: Sizes, mut call: impl FnMut(&mut [u8], &mut [usize]) -> (u32, Sizes)) -> (u32, Filled) {
     loop {
@@ -73,7 +73,7 @@ pub(super) fn filled(mut sizes: Sizes, mut call: impl FnMut(&mut [u8], &mut [usi
     }
 }
 
-/// Makes a call whose result are bytes.
+/// Makes a call whose result is bytes.
 pub(super) fn filled_bytes(size: usize, mut call: impl FnMut(&mut [u8]) -> (u32, usize)) -> (u32, Vec<u8>) {
     let (code, filled) = filled(Sizes::of_bytes(size), |bytes, _| {
         let (code, needed) = call(bytes);

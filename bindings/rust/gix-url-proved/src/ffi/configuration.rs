@@ -8,11 +8,11 @@ const MEMORY: u32 = 1;
 const NO_VALUE: u32 = 104;
 const NO_BOOLEAN: u32 = 105;
 const NO_CONFIGURATION: u32 = 106;
-/// How many numbers an entry and a submodule have.
+/// How many numbers describe an entry and a submodule.
 const OF_ENTRY: usize = 8;
 const OF_SUBMODULE: usize = 5;
 
-/// An entry, as the library takes it.
+/// An entry, in the form that the library takes.
 #[repr(C)]
 #[derive(Clone, Copy)]
 pub(super) struct GivenEntry<'a> {
@@ -46,7 +46,7 @@ impl<'a> GivenEntry<'a> {
     }
 }
 
-/// The place at which Git stops, or at which a text isn't a configuration.
+/// The position at which Git stops, or at which a text isn't a configuration.
 #[repr(C)]
 #[derive(Default)]
 pub(super) struct Stop {
@@ -81,7 +81,7 @@ struct Counted {
     bytes: usize,
 }
 
-/// What is refused in an entry.
+/// The reasons why an entry is refused.
 #[repr(C)]
 #[derive(Default)]
 struct CheckNumbers {
@@ -103,12 +103,12 @@ extern "C" {
     fn gix_url_c_submodules(entries: Entries, count: usize, made: &mut Counted, buffer: *mut u8, buffer_len: usize, numbers: *mut usize, numbers_len: usize) -> u32;
 }
 
-/// A number, or none for 0.
+/// A number, or `None` for 0.
 fn unless_zero(number: usize) -> Option<usize> {
     (number != 0).then_some(number)
 }
 
-/// The entry of these numbers, whose parts begin at this place of their buffer.
+/// The entry with these numbers, whose parts begin at `start` in their buffer.
 fn span(start: usize, numbers: &[usize]) -> Span {
     let part = |len: usize, has: usize| (has != 0).then_some(len);
     Span {
@@ -122,7 +122,7 @@ fn span(start: usize, numbers: &[usize]) -> Span {
     }
 }
 
-/// The entries whose parts and numbers these are.
+/// The configuration with these parts and numbers.
 fn configuration(read: Filled) -> Configuration {
     let mut start = 0;
     let place = |numbers: &[usize]| {
@@ -134,7 +134,7 @@ fn configuration(read: Filled) -> Configuration {
     Configuration { bytes: read.bytes, spans }
 }
 
-/// Reads a configuration by one of the two calls, with buffers for so many bytes and entries at first.
+/// Parses a configuration by one of the two calls, with buffers for this many bytes and entries at first.
 fn read(reads: Reads, text: &[u8], bytes: usize, entries: usize) -> Result<Configuration, Error> {
     let mut stop = Stop::default();
     let (code, read) = filled(Sizes { bytes, numbers: OF_ENTRY * entries }, |buffer, numbers| {
@@ -155,7 +155,7 @@ fn read(reads: Reads, text: &[u8], bytes: usize, entries: usize) -> Result<Confi
     stop.unless(code, || configuration(read))
 }
 
-/// How often a byte is in a text.
+/// The number of times that a byte occurs in a text.
 fn count(text: &[u8], byte: u8) -> usize {
     text.iter().filter(|it| **it == byte).count()
 }
@@ -171,7 +171,7 @@ pub(crate) fn read_file(text: &[u8]) -> Result<Configuration, Error> {
     read(gix_url_c_read_file, text, 2 * text.len(), entries)
 }
 
-/// What `git fsck` refuses in an entry.
+/// The reasons why `git fsck` refuses an entry.
 pub(crate) fn check(entry: &Entry<'_>) -> SubmoduleCheck {
     let mut made = CheckNumbers::default();
     let code = call!(gix_url_c_check, &GivenEntry::of(entry), &mut made);

@@ -6,7 +6,7 @@ use super::{next, Bytes};
 use crate::bstr::BString;
 use crate::rules::{Configuration, Decider, Error, Permission, Policy, Remote, Rewritten};
 
-/// How many bytes and URLs a buffer takes at first, beside the text that is read.
+/// How many bytes and URLs a buffer holds at first, in addition to the text that is read.
 const SHORT: usize = 256;
 const FEW: usize = 8;
 
@@ -59,7 +59,7 @@ extern "C" {
     fn gix_url_c_permission(entries: Entries, count: usize, policy: &GivenPolicy, name: *const u8, len: usize, made: &mut PermissionNumbers) -> u32;
 }
 
-/// The text that a call rewrites, of which so many bytes are read.
+/// The text that a call rewrites, whose length is `len`.
 fn rewritten(
     len: usize,
     mut call: impl FnMut(&mut RewriteNumbers, &mut [u8], &mut Stop) -> u32,
@@ -87,7 +87,7 @@ pub(crate) fn rewrite_fetch(configuration: &Configuration, text: &[u8]) -> Resul
     })
 }
 
-/// The text that Git pushes to, and whether that is a push URL of a remote.
+/// The text that Git pushes to, for a URL or for a push URL of a remote.
 pub(crate) fn rewrite_push(configuration: &Configuration, text: &[u8], has_push_url: bool) -> Result<Rewritten, Error> {
     let entries = GivenEntry::all(configuration);
     rewritten(text.len(), |made, buffer, stop| {
@@ -106,7 +106,7 @@ pub(crate) fn rewrite_push(configuration: &Configuration, text: &[u8], has_push_
     })
 }
 
-/// The remote of a name.
+/// The remote with this name.
 pub(crate) fn remote(configuration: &Configuration, name: &[u8]) -> Result<Remote, Error> {
     let entries = GivenEntry::all(configuration);
     let (mut made, mut stop) = (RemoteNumbers::default(), Stop::default());
@@ -130,7 +130,7 @@ pub(crate) fn remote(configuration: &Configuration, name: &[u8]) -> Result<Remot
     stop.unless(code, || remote_of(&made, &found))
 }
 
-/// The remote of these numbers, whose texts are one after the other.
+/// The remote with these numbers, whose texts follow each other.
 fn remote_of(made: &RemoteNumbers, found: &Filled) -> Remote {
     let mut bytes = found.bytes.as_slice();
     let mut text = |len| BString::from(next(&mut bytes, len));
@@ -145,7 +145,7 @@ fn remote_of(made: &RemoteNumbers, found: &Filled) -> Remote {
     }
 }
 
-/// What Git does about a transport.
+/// Whether Git allows a transport.
 pub(crate) fn permission(configuration: &Configuration, name: &str, policy: &Policy<'_>) -> Result<Permission, Error> {
     let entries = GivenEntry::all(configuration);
     let policy = GivenPolicy {
@@ -160,7 +160,7 @@ pub(crate) fn permission(configuration: &Configuration, name: &str, policy: &Pol
     Stop::default().unless(code, || permission_of(&made))
 }
 
-/// The permission of these numbers.
+/// The permission with these numbers.
 fn permission_of(made: &PermissionNumbers) -> Permission {
     let at = made.at;
     let by = match made.by {

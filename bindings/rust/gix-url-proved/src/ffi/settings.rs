@@ -5,7 +5,7 @@ use super::configuration::{Entries, GivenEntry, Stop};
 use super::Bytes;
 use crate::rules::{Abnormal, Configuration, Credentials, Error, Settings, SshProgram, SshVariables, SshVariant};
 
-/// How many bytes and entries a buffer takes at first, beside the text that is read.
+/// How many bytes and entries a buffer holds at first, in addition to the text that is read.
 const SHORT: usize = 256;
 const FEW: usize = 8;
 
@@ -84,7 +84,7 @@ pub(crate) fn ssh_program(configuration: &Configuration, variables: &SshVariable
     })
 }
 
-/// The entries of `http.*` of this name that count for a URL.
+/// The entries of `http.*` with this name that count for a URL.
 pub(crate) fn settings<'a>(configuration: &'a Configuration, name: &str, text: &[u8]) -> Result<Settings<'a>, Error> {
     let entries = GivenEntry::all(configuration);
     let (mut made, mut stop) = (SettingNumbers::default(), Stop::default());
@@ -110,7 +110,7 @@ pub(crate) fn settings<'a>(configuration: &'a Configuration, name: &str, text: &
     })
 }
 
-/// What Git's credential code uses for a URL, if it reads anything in that.
+/// The settings that Git's credential code uses for a URL, if it finds anything in it.
 pub(crate) fn credentials<'a>(configuration: &'a Configuration, text: &[u8]) -> Result<Option<Credentials<'a>>, Error> {
     let entries = GivenEntry::all(configuration);
     let (mut made, mut stop) = (CredentialNumbers::default(), Stop::default());

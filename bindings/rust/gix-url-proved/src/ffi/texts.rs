@@ -1,5 +1,5 @@
-//! The calls over a text: its transport, what Git reads in it, its dangers, its secrets, and the command and the
-//! submodule that it is of.
+//! The calls over a text: its transport, its readings by Git, its dangers and secrets, the command for its location and
+//! the URL of a submodule.
 
 use super::buffers::{filled, filled_bytes, Sizes};
 use super::configuration::Stop;
@@ -12,14 +12,15 @@ use crate::rules::{
 };
 use crate::Url;
 
-/// How many bytes a buffer takes at first, beside the text that is read, how many words, and how many numbers of pieces.
+/// How many bytes, in addition to the text that is read, how many words and how many numbers of pieces a buffer holds
+/// at first.
 const SHORT: usize = 64;
 const WORDS: usize = 7;
 const PIECES: usize = 16;
-/// How many dangers there are.
+/// The number of dangers.
 const DANGERS: usize = 10;
 
-/// What is asked of Secure Shell.
+/// A request for a command of Secure Shell.
 #[repr(C)]
 struct GivenRequest<'a> {
     program: Bytes<'a>,
@@ -109,12 +110,12 @@ pub(crate) fn transport(text: &[u8]) -> Result<String, NoTransport> {
     NoTransport::numbered(why).map_or_else(|| Ok(utf8(name)), Err)
 }
 
-/// A name of the library, as a text.
+/// A name from the library, as a text.
 fn utf8(name: Vec<u8>) -> String {
     String::from_utf8(name).expect("names and words are UTF-8")
 }
 
-/// What Git reads in a text.
+/// The place that Git finds in a text.
 pub(crate) fn git_reading(text: &[u8]) -> Result<GitPlace, Error> {
     let mut made = PlaceNumbers::default();
     let (code, parts) = filled_bytes(text.len() + SHORT, |buffer| {
@@ -128,7 +129,7 @@ pub(crate) fn git_reading(text: &[u8]) -> Result<GitPlace, Error> {
     })?
 }
 
-/// The place of these numbers, whose parts are one after the other.
+/// The place with these numbers, whose parts follow each other.
 fn place(made: &PlaceNumbers, mut parts: &[u8]) -> GitPlace {
     let mut part = |len| BString::from(next(&mut parts, len));
     let (user, host, path) = (part(made.user), part(made.host), part(made.path));
@@ -145,7 +146,7 @@ fn place(made: &PlaceNumbers, mut parts: &[u8]) -> GitPlace {
     }
 }
 
-/// What Git's credential code reads in a text, if it reads anything.
+/// The request that Git's credential code finds in a text, if it finds anything.
 pub(crate) fn credential_reading(text: &[u8]) -> Result<Option<CredentialRequest>, Error> {
     let mut made = RequestNumbers::default();
     let (code, parts) = filled_bytes(text.len() + SHORT, |buffer| {
@@ -162,7 +163,7 @@ pub(crate) fn credential_reading(text: &[u8]) -> Result<Option<CredentialRequest
     Stop::default().unless(code, || made.is_read.then(|| request(&made, &parts)))
 }
 
-/// The request of these numbers, whose parts are one after the other.
+/// The request with these numbers, whose parts follow each other.
 fn request(made: &RequestNumbers, mut parts: &[u8]) -> CredentialRequest {
     let mut part = |len| BString::from(next(&mut parts, len));
     let (protocol, user, password) = (part(made.protocol), part(made.user), part(made.password));
@@ -210,7 +211,7 @@ pub(crate) fn ssh_words(url: &Url, request: &SshRequest<'_>) -> Result<SshComman
     })?
 }
 
-/// The URL of a submodule after it is resolved. It is no longer than both texts and 2 bytes.
+/// Resolves the URL of a submodule. The result has at most 2 bytes more than both texts together.
 pub(crate) fn resolve(parent: &[u8], url: &[u8]) -> Resolved {
     let mut made = ResolvedNumbers::default();
     let (code, text) = filled_bytes(parent.len() + url.len() + 2, |buffer| {
@@ -246,17 +247,17 @@ pub(crate) fn dangers(text: &[u8], url: &Url) -> Result<Vec<Danger>, Error> {
     Stop::default().unless(code, || numbers.into_iter().filter_map(Danger::numbered).collect())
 }
 
-/// The name of the danger of this number.
+/// The name of the danger with this number.
 pub(crate) fn danger_name(danger: u8) -> String {
     said(|buffer, needed| call!(gix_url_c_danger_name, danger, buffer.as_mut_ptr(), buffer.len(), needed))
 }
 
-/// The danger of this number in a few words.
+/// The words of the danger with this number.
 pub(crate) fn danger_words(danger: u8) -> String {
     said(|buffer, needed| call!(gix_url_c_danger_words, danger, buffer.as_mut_ptr(), buffer.len(), needed))
 }
 
-/// What a call says of a danger.
+/// The text that a call returns for a danger.
 fn said(call: impl Fn(&mut [u8], &mut usize) -> u32) -> String {
     let (code, said) = filled_bytes(SHORT, |buffer| {
         let mut needed = 0;
