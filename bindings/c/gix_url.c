@@ -1,8 +1,8 @@
-/* The calls of gix_url.h over the exports of the static library crates/gix_url_c.
+/* The calls of gix_url.h, over the exports of the static library crates/gix_url_c.
  *
- * What is here is glue: null pointers become errors, parts become pointers and lengths, and what comes back as lengths
- * becomes pointers into the caller's buffer. Each export and its types are declared as crates/gix_url_c/src has them; a
- * slice of that library is a pointer that isn't null and a length. */
+ * Null pointers become errors, parts become pointers and lengths, and returned lengths become pointers into the
+ * caller's buffer. The declarations of exports and their types match crates/gix_url_c/src. A slice of that library is a
+ * pointer that isn't null and a length. */
 #include "parts.h"
 
 typedef struct made {
@@ -38,7 +38,7 @@ uint32_t gix_url_c_components(const given *, parted *, char *, size_t, size_t *,
 uint32_t gix_url_c_reason_name(uint8_t, char *, size_t, size_t *);
 uint32_t gix_url_c_reason_words(uint8_t, char *, size_t, size_t *);
 
-/* The location whose parts are in the buffer, in the order in which they are returned. */
+/* The location whose parts follow each other in the buffer, in the order in which they are returned. */
 static gix_url located(const made *made, const char *buffer) {
     gix_url url;
     memset(&url, 0, sizeof url);
@@ -69,13 +69,13 @@ static void tell(uint32_t error, const told *told, gix_url_problem *problem) {
     problem->len = told->len;
 }
 
-/* A pointer is null that may not be: an error without details. */
+/* The error for a null pointer that must not be null. It has no details. */
 static gix_url_error null_pointer(gix_url_problem *problem) {
     if (problem) memset(problem, 0, sizeof *problem);
     return GIX_URL_NULL;
 }
 
-/* Returns what was made in the buffer, or the error. */
+/* Returns the location that was made in the buffer, or the error. */
 static gix_url_error hand_out(uint32_t error, const made *made, const char *buffer, gix_url *url, size_t *needed,
                               const told *told, gix_url_problem *problem) {
     if (error == GIX_URL_OK) *url = located(made, buffer);
@@ -197,7 +197,7 @@ gix_url_error gix_url_path_query_fragment(const gix_url *url, char *buffer, size
 
 const char *gix_url_version(void) { return GIX_URL_VERSION; }
 
-/* The words that say something of a text that was taken for this form. */
+/* The words about a text that was taken for this form. */
 #define OF_FORM(form, words)                                  \
     ((form) == GIX_URL_KIND_URL     ? "the URL " words        \
      : (form) == GIX_URL_KIND_SCP   ? "the scp form " words   \
@@ -324,7 +324,7 @@ const char *gix_url_condition_name(gix_url_condition condition) {
     return "?";
 }
 
-/* What one of the two exports over the table of reasons puts. A number that isn't a byte becomes one of no reason. */
+/* Calls one of the two exports over the table of reasons. A number that isn't a byte becomes one that has no reason. */
 static gix_url_error put_reason(uint32_t (*put)(uint8_t, char *, size_t, size_t *), gix_url_reason reason, char *buffer,
                                 size_t buffer_len, size_t *needed) {
     if (!buffer) buffer = nowhere, buffer_len = 0;

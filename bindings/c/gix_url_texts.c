@@ -1,6 +1,6 @@
 /* The calls of gix_url_rules.h over texts and locations alone, over the exports of the static library crates/gix_url_c.
  *
- * gix_url_rules.c says what is here, and has the calls that use a configuration. */
+ * gix_url_rules.c has the calls that use a configuration, and describes the conventions of both files. */
 #include "gix_url_rules.h"
 #include "parts.h"
 
@@ -68,7 +68,7 @@ gix_url_error gix_url_dangers_of(const char *text, size_t len, const gix_url *ur
     return (gix_url_error)gix_url_c_dangers(text, len, &given, dangers, danger_capacity, count);
 }
 
-/* What one of the two exports over a danger puts. A number that isn't a byte becomes one of no danger. */
+/* Calls one of the two exports over a danger. A number that isn't a byte becomes one that has no danger. */
 static gix_url_error put_danger(uint32_t (*put)(uint8_t, char *, size_t, size_t *), gix_url_danger danger, char *buffer,
                                 size_t buffer_len, size_t *needed) {
     if (!buffer) buffer = nowhere, buffer_len = 0;
@@ -135,7 +135,7 @@ gix_url_error gix_url_credential_reading(const char *text, size_t len, char *buf
     return GIX_URL_OK;
 }
 
-/* A number as a byte; one that isn't a byte becomes one that stands for nothing. */
+/* A number as a byte. A number that isn't a byte becomes one without a meaning. */
 static uint8_t byte_of(unsigned number) { return number < UINT8_MAX ? (uint8_t)number : UINT8_MAX; }
 
 gix_url_error gix_url_ssh_words(const gix_url *url, const gix_url_ssh_request *request, char *buffer, size_t buffer_len,

@@ -1,4 +1,4 @@
-// The headers are C++ too: their types can be made, and their calls named.
+// The headers are valid in C++: their types can be constructed, and their calls named.
 #include <gix_url.h>
 #include <gix_url_rules.h>
 

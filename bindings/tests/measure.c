@@ -1,5 +1,5 @@
-/* Makes one call on each line of the standard input, over and over: `measure CALL PASSES`, so that valgrind can count the
- * instructions of a call. The calls are read, settled, git, write and look. */
+/* Makes one call on each line of the standard input, PASSES times: `measure CALL PASSES`, so that valgrind can count
+ * the instructions of a call. The calls are read, settled, git, write and look. */
 #include <gix_url.h>
 
 #include <stdio.h>

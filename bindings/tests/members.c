@@ -1,5 +1,6 @@
-/* Prints for each line of the standard input what the calls return, in words separated by a space: bytes in hexadecimal
- * digits behind a `.`, and `-` for what isn't there. tools/compare_bindings.py compares it with explain's. */
+/* Prints the results of the calls for each line of the standard input, in words separated by a space: bytes as
+ * hexadecimal digits after a `.`, and `-` for a missing value. tools/compare_bindings.py compares the output with
+ * explain's. */
 #define _GNU_SOURCE
 #include "told.h"
 

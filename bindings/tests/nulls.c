@@ -1,5 +1,6 @@
-/* What each call leaves behind: with each pointer null in turn, with structs that hold no location, with a location without a
- * text, and with buffer that is one too small. Each byte that a call may store into is compared with what was there. */
+/* Checks what each call stores: with each pointer null in turn, with structs that aren't a location, with a location
+ * without a text, and with a buffer that is one byte too short. Each byte that a call may store into is compared with
+ * its previous value. */
 #include "told.h"
 
 #include <string.h>
@@ -8,7 +9,7 @@
 
 static gix_url_text text(const char *word) { return (gix_url_text){word, strlen(word)}; }
 
-/* What the calls store into. */
+/* The memory that the calls store into. */
 typedef struct places {
     gix_url url;
     gix_url_seen seen;
@@ -21,7 +22,7 @@ typedef struct places {
     char buffer[64];
 } places;
 
-/* The pointers that a call takes: what it is about, and the places of its answer. */
+/* The pointers that a call takes: its subject, and the places of its results. */
 enum { SUBJECT = 1, ROOM = 2, PAIRS = 4, ANSWER = 8, LENGTH = 16, COUNT = 32, PROBLEM = 64, POINTERS = 128 };
 
 /* The calls, with one of these pointers null. */
@@ -78,7 +79,7 @@ static gix_url_error part(const gix_url *url, places *to, size_t buffer, int nul
                                        OR_NULL(ANSWER, &to->parts), OR_NULL(LENGTH, &to->len), OR_NULL(COUNT, &to->count));
 }
 
-/* Each call with the pointers that it takes, and those of them that may not be null. */
+/* The pointers that each call takes, and those that must not be null. */
 enum { OF_READ, OF_MAKE, OF_SETTLED, OF_AGREES, OF_JUDGED, OF_MET, OF_WRITE, OF_SHOW, OF_LOOK, OF_PARTS, CALLS };
 static const struct {
     caller *call;
@@ -96,14 +97,15 @@ static const struct {
     [OF_PARTS] = {part, SUBJECT | ROOM | PAIRS | ANSWER | LENGTH | COUNT, SUBJECT | ANSWER},
 };
 
-/* What a call is to answer: an error with its problem, or GIX_URL_OK with as many bytes, and for components so many pairs. */
+/* The expected result of a call: an error with its problem, or GIX_URL_OK with this many bytes, and for components this
+ * many pairs. */
 typedef struct answer {
     gix_url_error error;
     gix_url_problem problem;
     size_t len, count;
 } answer;
 
-/* The same with this pointer null, in buffer of this size. */
+/* The expected result with this pointer null, in a buffer of this size. */
 static answer answer_with(int call, answer wanted, size_t buffer, int null) {
     if (null & calls[call].wants) wanted = (answer){.error = GIX_URL_NULL};
     else if (null == SUBJECT) wanted = (answer){.error = GIX_URL_EMPTY_LOCAL, .problem.reason = GIX_URL_REASON_EMPTY};
@@ -112,7 +114,7 @@ static answer answer_with(int call, answer wanted, size_t buffer, int null) {
     return wanted;
 }
 
-/* Stores what is to be stored beside the answer itself. */
+/* Stores the expected problem, length and count. */
 static void store(int call, const answer *answer, int null, places *to) {
     int stored = calls[call].takes & ~null;
     if (stored & PROBLEM) memcpy(&to->problem, &answer->problem, sizeof to->problem);
@@ -121,7 +123,7 @@ static void store(int call, const answer *answer, int null, places *to) {
     if (stored & COUNT) to->count = answer->count;
 }
 
-/* Takes over what only GIX_URL_OK stores, which other tests look at. */
+/* Copies the values that only GIX_URL_OK stores, which other tests check. */
 static void take_over(const answer *answer, const places *got, places *to) {
     memcpy(to->buffer, got->buffer, answer->len);
     memcpy(to->pairs, got->pairs, answer->count * sizeof *to->pairs);
@@ -143,7 +145,8 @@ static void answers_so(int call, const gix_url *url, answer wanted, size_t buffe
     HOLDS(memcmp(&got, &kept, sizeof got) == 0);
 }
 
-/* The call answers so with no pointer null and with each in turn; and in buffer of just as many bytes, and of one less. */
+/* Checks the result of the call with no pointer null, and with each in turn; in a buffer that is just large enough, and
+ * in one that is one byte too short. */
 static void answers(int call, const gix_url *url, answer wanted) {
     about(url->path);
     for (int null = 0; null < POINTERS; null = null ? 2 * null : 1)
@@ -156,7 +159,7 @@ static void answers(int call, const gix_url *url, answer wanted) {
 #define REFUSED(error, wrong, why, before, length) \
     {(error), {.kind = GIX_URL_KIND_URL, .fault = (wrong), .reason = (why), .at = (before), .len = (length)}, 0, 0}
 
-/* Inputs, and what reading them answers. */
+/* Inputs, and the results of parsing them. */
 static const struct {
     gix_url_text input;
     answer read;
@@ -174,7 +177,8 @@ static const struct {
 #define NO_LOCATION {GIX_URL_NO_LOCATION, {0}, 0, 0}
 #define UNWRITABLE(why) {GIX_URL_UNWRITABLE, {.write_fault = (why)}, 0, 0}
 
-/* Locations, and what the calls answer that make, write, show and take apart; those that look at one answer as the last. */
+/* Locations, and the results of the calls that build, write, show and split them. The calls that inspect a location
+ * have the error of the last one. */
 static const struct {
     gix_url url;
     answer made, written, shown, parted;
@@ -222,7 +226,7 @@ static void of_tables(void) {
     }
 }
 
-/* Room for pairs whose size isn't a number counts as none. */
+/* Checks that an array of pairs whose size overflows counts as empty. */
 static void of_pair_capacity(void) {
     const gix_url url = {.scheme = GIX_URL_HTTP, .host = TEXT("h"), .path = TEXT("/?b=c")};
     static const size_t buffers[] = {SIZE_MAX, SIZE_MAX / 2 + 2, SIZE_MAX / sizeof(gix_url_pair) + 1};
@@ -238,7 +242,7 @@ static void of_pair_capacity(void) {
     }
 }
 
-/* Long parts aren't an error. */
+/* Checks that long parts aren't an error. */
 static void of_long_parts(void) {
     static char bytes[100000];
     memset(bytes, 'a', sizeof bytes);
@@ -253,7 +257,7 @@ static void of_long_parts(void) {
         }
 }
 
-/* A text is refused with this error, and the buffer is left as it was. */
+/* Checks that a text is refused with this error, and that the buffer is left unchanged. */
 static gix_url_problem refused(const char *input, size_t len, gix_url_error error) {
     static char buffer[8192], kept[sizeof buffer];
     gix_url url;
@@ -265,8 +269,8 @@ static gix_url_problem refused(const char *input, size_t len, gix_url_error erro
     return problem;
 }
 
-/* The error of a text that is too long has how much of it is shown, its length, and what of it is too long. Past 256 bytes a
- * text is read into memory. */
+/* Checks that the error of a text that is too long has the length that is shown, the length of the text, and the
+ * position of the part that is too long. A text of more than 256 bytes is parsed into allocated memory. */
 static void of_length(void) {
     static char input[2000], buffer[8192];
     gix_url url;
@@ -285,7 +289,7 @@ static void of_length(void) {
     }
 }
 
-/* The reasons by their numbers have the names of the header, and a sentence each; no other number has any. */
+/* Checks that the reasons have the names of the header, and a sentence each; no other number has any. */
 static void of_reasons(void) {
     static const struct {
         gix_url_reason reason;
@@ -326,7 +330,7 @@ static void of_reasons(void) {
     }
 }
 
-/* Of a null pointer no length counts; a struct without parts is the file URL of an empty path. */
+/* Checks that the length of a null pointer is ignored. A struct without parts is the file URL of an empty path. */
 static void of_nothing(void) {
     const gix_url_text no = {NULL, 9};
     gix_url url = {.name = no, .user = no, .password = no, .host = no, .path = no, .spelling = no}, read;
@@ -353,7 +357,7 @@ static void of_nothing(void) {
     HOLDS(gix_url_unmet_condition(&url, &unmet) == GIX_URL_OK && unmet == GIX_URL_CONDITION_GIT);
 }
 
-/* A spelling counts where it stands for the path, and one that is null doesn't. */
+/* Checks that a spelling is used if it decodes to the path, and that a null spelling isn't used. */
 static void of_spellings(void) {
     size_t len;
     char buffer[64];
@@ -379,7 +383,7 @@ static void of_names(void) {
     HOLDS(strcmp(gix_url_version(), "0.40.1") == 0 && strcmp(gix_url_version(), GIX_URL_VERSION) == 0);
 }
 
-/* Each error has a message, with no problem too, and no two have the same. */
+/* Checks that each error has a message, also without a problem, and that no two messages are equal. */
 static void of_words(void) {
     static const gix_url_error errors[] = {
         GIX_URL_OK, GIX_URL_MEMORY, GIX_URL_EMPTY_LOCAL, GIX_URL_MISSING_PATH, GIX_URL_NOT_UTF8, GIX_URL_TOO_LONG, GIX_URL_BAD_URL,

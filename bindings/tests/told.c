@@ -49,7 +49,7 @@ void put_number(line *out, size_t number) {
 }
 
 bool is_same(gix_url_text one, gix_url_text other) {
-    /* Of what isn't there no length counts. */
+    /* The length of a missing part is ignored. */
     if (!one.at || !other.at) return !one.at && !other.at;
     return one.len == other.len && memcmp(one.at, other.at, one.len) == 0;
 }
@@ -109,7 +109,7 @@ void tell_components(line *out, const gix_url *url) {
     free(pairs);
 }
 
-/* The location in a buffer of its own that is just large enough, whose bytes are those of the buffer. */
+/* A copy of the location in a buffer of its own that is just large enough, with the same bytes. */
 static gix_url moved(gix_url url, const char *from, size_t len, char *to) {
     gix_url_text *parts[] = {&url.name, &url.user, &url.password, &url.host, &url.path, &url.spelling};
     if (len) memcpy(to, from, len);
