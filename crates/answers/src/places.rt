@@ -16,7 +16,7 @@ use gix_url::UrlRef;
 use std::alloc::Global;
 
 /// A buffer for a normal form: its size is the number in the order, or else the size that a text of this length needs.
-/// The buffer isn't zeroed: the bytes that the library leaves in it aren't those of a place.
+/// The buffer is filled with `#`: bytes that the library doesn't write aren't part of a place.
 fn room_of(alloc: Global, order: Order<'_>, len: usize) -> Result<Vec<u8>, Halt> {
     let size = match order.number("room") {
         Some(size) => usize::try_from(size).unwrap_or(0),

@@ -113,8 +113,8 @@ fn is_over_refusal(name: &str) -> bool {
     name == "Refusal:fmt" || name == "Refusal::fault" || name.starts_with("Reason:")
 }
 
-/// Calls over a text and a buffer: its size is the number in the order, or else the length of the text. The buffer
-/// isn't zeroed: the bytes that the library leaves in it aren't those of a location.
+/// Calls over a text and a buffer: its size is the number in the order, or else the length of the text. The buffer is
+/// filled with `#`: bytes that the library doesn't write aren't part of a location.
 fn over_room(alloc: Global, order: Order<'_>, text: &[u8], out: &mut Out) -> Result<(), Halt> {
     let size = match order.number("room") {
         Some(size) => usize::try_from(size).unwrap_or(0),
