@@ -59,7 +59,7 @@ location_numbers v = record {
 -- the numbers of a location, and the lengths of its parts
 abbrev pub part_lengths : Location → PartLengths
 part_lengths v = record {
-  front = location_numbers v;
+  numbers = location_numbers v;
   name = length (scheme_name v.scheme);
   user = length (or_nothing v.user);
   password = length (or_nothing v.password);

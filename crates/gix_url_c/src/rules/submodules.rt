@@ -98,8 +98,7 @@ pub extern "C" fn gix_url_c_resolve(
 fn size_of(resolved: &Resolved<'_>) -> u128
     ensures { result ≡ length (resolved_text resolved.now) }
 {
-    resolved.numbers.len() as u128
-        + (resolved.separator.len() as u128 + resolved.rest.len() as u128)
+    resolved.front.len() as u128 + (resolved.separator.len() as u128 + resolved.rest.len() as u128)
 }
 
 /// Copies the resolved URL to the buffer, if it fits.
@@ -120,7 +119,7 @@ fn put_parts(resolved: &Resolved<'_>, buffer: &mut [u8])
     requires { length (resolved_text resolved.now) ≤ length buffer.old }
     ensures { let text = resolved_text resolved.now in buffer.new ≡ text ++ drop (length text) buffer.old }
 {
-    let at = put_at(buffer, 0, resolved.numbers);
+    let at = put_at(buffer, 0, resolved.front);
     let at = put_at(buffer, at, resolved.separator);
     let _ = put_at(buffer, at, resolved.rest);
 }

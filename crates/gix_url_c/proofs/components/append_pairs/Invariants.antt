@@ -2,7 +2,7 @@
 use Rattle.std.proofs.Common.{◌≡◌, ◌++◌, map, take}
 use Rattle.gix_url.specs.ComponentViews.{pair_bytes}
 use Rattle.gix_url_c.specs.ComponentNumbers.{joined_pairs}
-use Rattle.gix_url_c.proofs.components.append_pairs.PartBytes as goal
+use Rattle.gix_url_c.proofs.components.append_pairs.Given as goal
 
 abbrev pub invariant-loop-pair : goal.invariant-loop-pair
 invariant-loop-pair l = l.bytes.items ≡ l.fn.bytes.items ++ joined_pairs (map pair_bytes (take l.pair-index l.pairs))

@@ -1,7 +1,7 @@
 -- The parts are put one behind the other.
 use Rattle.std.proofs.Common.{[], refl, rules}
 use Rattle.gix_url_c.proofs.BufferLemmas.{BeginsWith, put_behind}
-use Rattle.gix_url_c.proofs.handed.put_parts.Goals as goal
+use Rattle.gix_url_c.proofs.output.put_parts.Goals as goal
 
 pub returns : goal.returns
 returns c =

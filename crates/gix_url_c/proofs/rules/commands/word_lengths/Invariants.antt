@@ -1,7 +1,7 @@
 -- What was appended are the lengths of the words so far.
 use Rattle.std.proofs.Common.{◌≡◌, length, map, take}
 use Rattle.bstr.specs.Owned.{bstring_bytes}
-use Rattle.gix_url_c.proofs.rules.commands.word_lengths.PartBytes as goal
+use Rattle.gix_url_c.proofs.rules.commands.word_lengths.Given as goal
 
 abbrev pub invariant-loop-word : goal.invariant-loop-word
 invariant-loop-word l = l.lengths.items ≡ map length (map bstring_bytes (take l.word-index l.words))

@@ -2,7 +2,7 @@
 use Rattle.std.proofs.Common.{◌≡◌, map, Ok}
 use Rattle.git_rules.specs.ConfigItems.{start}
 use Rattle.gix_url_c.specs.EntryNumbers.{ReadsUpTo}
-use Rattle.gix_url_c.proofs.rules.config.listed.PartBytes as goal
+use Rattle.gix_url_c.proofs.rules.config.listed.Given as goal
 
 abbrev pub invariant-loop-item : goal.invariant-loop-item
 invariant-loop-item l = record {

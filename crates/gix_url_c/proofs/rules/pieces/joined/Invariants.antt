@@ -1,7 +1,7 @@
 -- What was appended is the texts so far.
 use Rattle.std.proofs.Common.{◌≡◌, map, take}
 use Rattle.std.specs.List.{concat}
-use Rattle.gix_url_c.proofs.rules.pieces.joined.PartBytes as goal
+use Rattle.gix_url_c.proofs.rules.pieces.joined.Given as goal
 
 abbrev pub invariant-loop-text : goal.invariant-loop-text
 invariant-loop-text l = l.bytes.items ≡ concat (map (λ t. t.now) (take l.text-index l.texts))

@@ -1,6 +1,6 @@
 -- What was appended are the lengths of the texts so far.
 use Rattle.std.proofs.Common.{◌≡◌, length, map, take}
-use Rattle.gix_url_c.proofs.rules.pieces.lengths_of.PartBytes as goal
+use Rattle.gix_url_c.proofs.rules.pieces.lengths_of.Given as goal
 
 abbrev pub invariant-loop-text : goal.invariant-loop-text
 invariant-loop-text l = l.lengths.items ≡ map (λ t. length t.now) (take l.text-index l.texts)

@@ -2,7 +2,7 @@
 use Rattle.std.proofs.Common.{◌≡◌, ◌++◌, map, take}
 use Rattle.std.specs.List.{concat}
 use Rattle.git_rules.specs.Rewrites.{outcome_text}
-use Rattle.gix_url_c.proofs.rules.remotes.append_texts.PartBytes as goal
+use Rattle.gix_url_c.proofs.rules.remotes.append_texts.Given as goal
 
 abbrev pub invariant-loop-outcome : goal.invariant-loop-outcome
 invariant-loop-outcome l = l.bytes.items ≡ l.fn.bytes.items ++ concat (map outcome_text (take l.outcome-index l.outcomes))

@@ -2,7 +2,7 @@
 use Rattle.std.proofs.Common.{◌≡◌, ◌++◌, length, map}
 use Rattle.git_audit.specs.Secrets.{parts_of, piece_part}
 use Rattle.gix_url_c.specs.Answers.{reported_length}
-use Rattle.gix_url_c.proofs.rules.secrets.count_pieces.PartBytes as goal
+use Rattle.gix_url_c.proofs.rules.secrets.count_pieces.Given as goal
 
 abbrev pub invariant-loop-piece : goal.invariant-loop-piece
 invariant-loop-piece l = record {

@@ -4,7 +4,7 @@ use Rattle.std.specs.List.{flat_map}
 use Rattle.git_audit.specs.Secrets.{parts_of, piece_part}
 use Rattle.gix_url_c.specs.PieceNumbers.{part_numbers}
 use Rattle.gix_url_c.proofs.BufferLemmas.{BeginsWith}
-use Rattle.gix_url_c.proofs.rules.secrets.put_pieces.PartBytes as goal
+use Rattle.gix_url_c.proofs.rules.secrets.put_pieces.Given as goal
 
 abbrev pub invariant-loop-piece : goal.invariant-loop-piece
 invariant-loop-piece l = record {

@@ -1,7 +1,7 @@
 -- What was appended is the names so far.
 use Rattle.std.proofs.Common.{◌≡◌, take}
 use Rattle.gix_url_c.specs.SubmoduleNumbers.{submodule_names}
-use Rattle.gix_url_c.proofs.rules.submodules.names_of.PartBytes as goal
+use Rattle.gix_url_c.proofs.rules.submodules.names_of.Given as goal
 
 abbrev pub invariant-loop-submodule : goal.invariant-loop-submodule
 invariant-loop-submodule l = l.bytes.items ≡ submodule_names (take l.submodule-index l.found)

@@ -2,7 +2,7 @@
 use Rattle.std.proofs.Common.{◌≡◌, map, take}
 use Rattle.std.specs.List.{flat_map}
 use Rattle.gix_url_c.specs.EntryNumbers.{file_numbers, file_texts}
-use Rattle.gix_url_c.proofs.rules.written.written_file.PartBytes as goal
+use Rattle.gix_url_c.proofs.rules.written.written_file.Given as goal
 
 abbrev pub invariant-loop-found : goal.invariant-loop-found
 invariant-loop-found l = record {

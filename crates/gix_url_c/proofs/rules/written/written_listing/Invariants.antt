@@ -2,7 +2,7 @@
 use Rattle.std.proofs.Common.{◌≡◌, map, take}
 use Rattle.std.specs.List.{flat_map}
 use Rattle.gix_url_c.specs.EntryNumbers.{entry_numbers, entry_texts}
-use Rattle.gix_url_c.proofs.rules.written.written_listing.PartBytes as goal
+use Rattle.gix_url_c.proofs.rules.written.written_listing.Given as goal
 
 abbrev pub invariant-loop-entry : goal.invariant-loop-entry
 invariant-loop-entry l = record {
