@@ -1,4 +1,4 @@
-/* Each call is made over a configuration and a text. */
+/* Makes each call over a configuration and a text. */
 #include "fuzz_rules.h"
 
 #include <string.h>
@@ -15,7 +15,7 @@ static bool begins_with(gix_url_text text, gix_url_text front) {
     return text.len >= front.len && memcmp(text.at, front.at, front.len) == 0;
 }
 
-/* Whether a call may return this where Git may stop. */
+/* Whether the error is one at which Git stops. Checks that the stop is all 0 otherwise. */
 static bool stops(gix_url_error error, const gix_url_stop *stop) {
     static const gix_url_stop none;
     bool is_stop = error == GIX_URL_NO_VALUE || error == GIX_URL_NO_BOOLEAN || error == GIX_URL_NO_CONFIGURATION;
@@ -25,7 +25,7 @@ static bool stops(gix_url_error error, const gix_url_stop *stop) {
 
 typedef gix_url_error reader(const char *, size_t, char *, size_t, gix_url_entry *, size_t, size_t *, size_t *, gix_url_stop *);
 
-/* Reads a configuration, unless it has too many entries. */
+/* Parses a configuration, unless it has too many entries. */
 static bool read_config(reader *read, gix_url_text text, config *config) {
     size_t needed = 0;
     gix_url_stop stop;
@@ -42,7 +42,7 @@ static bool read_config(reader *read, gix_url_text text, config *config) {
     return error == GIX_URL_OK;
 }
 
-/* What is read of a listing that is written of the entries is the same. */
+/* Checks that a listing of the entries is parsed as the same entries. */
 static void comes_back(const config *read) {
     static config again;
     line listing = {0};
@@ -109,7 +109,7 @@ static void is_cut(gix_url_text text) {
     HOLDS(len == text.len);
 }
 
-/* What is asked for of credentials and settings is among the entries. */
+/* Checks that the entries for credentials and settings are among those of the configuration. */
 static void is_asked(const config *config, gix_url_text text) {
     char buffer[BYTES];
     size_t indices[MOST_ENTRIES];
@@ -126,7 +126,7 @@ static void is_asked(const config *config, gix_url_text text) {
         for (size_t i = 0; i < settings.setting_count; i++) HOLDS(indices[i] < config->count);
 }
 
-/* No word but an option begins with -, and Git has no words for what isn't read. */
+/* Checks that no word except an option begins with -, and that there are no words for a text that Git doesn't read. */
 static void has_words(gix_url_text text) {
     gix_url url;
     gix_url_error error;
@@ -135,7 +135,7 @@ static void has_words(gix_url_text text) {
     gix_url_ssh_command command;
     gix_url_text words[GIX_URL_SSH_WORDS];
     uint8_t dangers[GIX_URL_DANGERS];
-    char buffer[BYTES], *room = read_input(text, &url, &error, &problem);
+    char buffer[BYTES], *parts = read_input(text, &url, &error, &problem);
     size_t count = 0;
     if (error == GIX_URL_OK) {
         error = gix_url_ssh_words(&url, &usual, buffer, BYTES, words, GIX_URL_SSH_WORDS, &command, NULL, NULL);
@@ -144,7 +144,7 @@ static void has_words(gix_url_text text) {
         error = gix_url_dangers_of(text.at, text.len, &url, dangers, GIX_URL_DANGERS, &count);
         for (size_t i = 1; error == GIX_URL_OK && i < count; i++) HOLDS(dangers[i - 1] < dangers[i]);
     }
-    free(room);
+    free(parts);
 }
 
 static void is_resolved(gix_url_text parent, gix_url_text url) {

@@ -4,14 +4,14 @@
  * Link libgix_url, which scripts/bindings builds and installs, and nothing else except the C library.
  *
  * A location is a plain struct of parts, and each part is a pointer and a length in bytes. Parts may hold any bytes,
- * byte 0 among them, and don't end in one. Nothing here has to be freed: what a call returns goes into the room, a
+ * byte 0 among them, and don't end in one. Nothing here has to be freed: what a call returns goes into the buffer, a
  * buffer that the caller supplies, and a call allocates memory only for its own work. gix_url_is_settled,
  * gix_url_agrees_with_git, gix_url_is_unambiguous, gix_url_unmet_condition, gix_url_write, gix_url_look and
  * gix_url_scheme_text allocate none, and never return GIX_URL_MEMORY. gix_url_parse doesn't return it for an input of at
- * most 256 bytes. A location that was read points into the room, so the room has to stay as long as the location is used.
- * No call keeps a pointer past its return. Calls may run in several threads, as long as no room is shared.
+ * most 256 bytes. A location that was read points into the buffer, which has to stay as long as the location is used. No
+ * call keeps a pointer past its return. Calls may run in several threads, as long as no buffer is shared.
  *
- * Any pointer may be null: a null part is a part that isn't there, a null input or path is empty, null room has no bytes
+ * Any pointer may be null: a null part is a part that isn't there, a null input or path is empty, null buffer has no bytes
  * and null pairs no places, whatever the length beside them; where needed, needed_pairs or problem is null, it is not
  * stored. Any other null pointer is an error, GIX_URL_NULL. A pointer that isn't null points to as many bytes as its
  * length says. Room, and what an answer is stored in, must not overlap what the call reads.
@@ -23,8 +23,8 @@
  *   any other error  the problem, which for GIX_URL_NULL is all 0, and nothing else
  *
  * So a problem is set by each call that is given one, whatever it returns. All else keeps each byte that it held: the
- * room, pairs, url, settled, agrees, unambiguous, unmet, len, seen, components, needed and needed_pairs. So a call that
- * fails leaves no part of a location in the room, and no password. On GIX_URL_OK the bytes of the room behind the answer
+ * buffer, pairs, url, settled, agrees, unambiguous, unmet, len, seen, components, needed and needed_pairs. So a call that
+ * fails leaves no part of a location in the buffer, and no password. On GIX_URL_OK the bytes of the buffer behind the answer
  * are kept. */
 #ifndef GIX_URL_H
 #define GIX_URL_H
@@ -60,7 +60,7 @@ typedef enum gix_url_error {
     GIX_URL_NO_LOCATION = 101, /* the struct holds no location: its scheme is none of the eight, or its user, its password,
                                   its host or the name that its scheme takes is there and is not UTF-8. Each call that
                                   is given such a struct returns this, and with another struct none does */
-    GIX_URL_NO_ROOM = 102,     /* the answer doesn't fit into the room; the call stores how much is needed */
+    GIX_URL_NO_ROOM = 102,     /* the answer doesn't fit into the buffer; the call stores how much is needed */
     GIX_URL_NULL = 103,        /* a pointer that may not be null is */
     /* of gix_url_rules.h alone */
     GIX_URL_NO_VALUE = 104,        /* Git stops at an entry without a value */
@@ -177,23 +177,23 @@ typedef struct gix_url {
                               still stands for the path */
 } gix_url;
 
-/* Ample room for the parts of what is read of a text of this many bytes: no byte of it is in more than two parts. This is
- * tested, not proved. */
+/* A buffer of this length holds the parts of the location that is read from a text of len bytes: no byte of the text is in
+ * more than two parts. This is tested, not proved. */
 #define GIX_URL_ROOM(len) (2 * (size_t)(len) + 32)
 
 /* Reads the one location that the bytes spell.
  *
- * On GIX_URL_OK url points into the room. On GIX_URL_NO_ROOM there is a location, and needed is how many bytes of room
+ * On GIX_URL_OK url points into the buffer. On GIX_URL_NO_ROOM there is a location, and needed is how many bytes of buffer
  * it takes; needed is stored on GIX_URL_OK too, and may be null. Else the error says why the bytes spell no location,
  * and problem, which may be null, has the details. */
-gix_url_error gix_url_parse(const char *input, size_t len, char *room, size_t room_len, gix_url *url, size_t *needed,
+gix_url_error gix_url_parse(const char *input, size_t len, char *buffer, size_t buffer_len, gix_url *url, size_t *needed,
                             gix_url_problem *problem);
 
 /* Makes the location that the text of these parts means: they are written as one text, and that is read. What comes out
  * may have other parts than were given; settled parts come back as they are. HTTP keeps the given path unless it is
  * empty. The spelling of the parts is not looked at. Room, needed and problem are as of gix_url_parse; parts and url may
  * be the same struct. GIX_URL_HELPER_NAME and GIX_URL_UNWRITABLE may be returned too. */
-gix_url_error gix_url_from_parts(const gix_url *parts, char *room, size_t room_len, gix_url *url, size_t *needed,
+gix_url_error gix_url_from_parts(const gix_url *parts, char *buffer, size_t buffer_len, gix_url *url, size_t *needed,
                                  gix_url_problem *problem);
 
 /* True only if the location's text is read as the same parts, except for the spelling, and is written the same again.
@@ -250,13 +250,13 @@ gix_url_error gix_url_is_unambiguous(const gix_url *url, bool *unambiguous);
  * GIX_URL_CONDITION_NONE exactly where that answer is yes. */
 gix_url_error gix_url_unmet_condition(const gix_url *url, gix_url_condition *unmet);
 
-/* Puts the text of the location into the room, and stores its length, on GIX_URL_NO_ROOM too: SIZE_MAX where that is
+/* Puts the text of the location into the buffer, and stores its length, on GIX_URL_NO_ROOM too: SIZE_MAX where that is
  * not a size_t. No byte 0 is added. GIX_URL_UNWRITABLE says that there is none, and problem, which may be null, why. */
-gix_url_error gix_url_write(const gix_url *url, char *room, size_t room_len, size_t *len, gix_url_problem *problem);
+gix_url_error gix_url_write(const gix_url *url, char *buffer, size_t buffer_len, size_t *len, gix_url_problem *problem);
 
 /* The same with redacted in place of the part password, and U+FFFD in place of what isn't UTF-8. It is for display: a
  * secret in another part, as in a path or a query, is shown. */
-gix_url_error gix_url_display(const gix_url *url, char *room, size_t room_len, size_t *len, gix_url_problem *problem);
+gix_url_error gix_url_display(const gix_url *url, char *buffer, size_t buffer_len, size_t *len, gix_url_problem *problem);
 
 /* What a part is to a command line. */
 typedef enum gix_url_argument {
@@ -293,12 +293,12 @@ typedef struct gix_url_components {
     size_t pair_count;     /* how many names with their values there are, whose lengths are in the caller's pairs */
 } gix_url_components;
 
-/* Takes the path of a location apart. The components point into the room, and the lengths of names and values are stored
- * in pairs, which has pair_room places; a number of places past SIZE_MAX bytes counts as 0. On GIX_URL_NO_ROOM only
- * needed and needed_pairs are stored, how many bytes of room and how many places it takes; they are stored on
+/* Takes the path of a location apart. The components point into the buffer, and the lengths of names and values are stored
+ * in pairs, which has pair_capacity places; a number of places past SIZE_MAX bytes counts as 0. On GIX_URL_NO_ROOM only
+ * needed and needed_pairs are stored, how many bytes of buffer and how many places it takes; they are stored on
  * GIX_URL_OK too, and may be null. */
-gix_url_error gix_url_path_query_fragment(const gix_url *url, char *room, size_t room_len, gix_url_pair *pairs,
-                                          size_t pair_room, gix_url_components *components, size_t *needed,
+gix_url_error gix_url_path_query_fragment(const gix_url *url, char *buffer, size_t buffer_len, gix_url_pair *pairs,
+                                          size_t pair_capacity, gix_url_components *components, size_t *needed,
                                           size_t *needed_pairs);
 
 /* The message of an error, in the library's words: "the URL has an invalid port". The problem may be null, or have no
@@ -314,12 +314,12 @@ const char *gix_url_write_fault_name(gix_url_write_fault fault);
 const char *gix_url_kind_name(gix_url_kind kind);
 const char *gix_url_condition_name(gix_url_condition condition);
 
-/* Puts the name of a reason into the room, as PortZero, or the reason in one sentence, as "the port of HTTP must not be
+/* Puts the name of a reason into the buffer, as PortZero, or the reason in one sentence, as "the port of HTTP must not be
  * 0", which holds no byte of a text; neither has more than 128 bytes. No byte 0 is added. needed is the length, on
  * GIX_URL_NO_ROOM too. A number that stands for no reason, as GIX_URL_REASON_NONE, returns GIX_URL_NO_LOCATION, and
  * needed is 0 then. Neither call allocates. */
-gix_url_error gix_url_reason_name(gix_url_reason reason, char *room, size_t room_len, size_t *needed);
-gix_url_error gix_url_reason_words(gix_url_reason reason, char *room, size_t room_len, size_t *needed);
+gix_url_error gix_url_reason_name(gix_url_reason reason, char *buffer, size_t buffer_len, size_t *needed);
+gix_url_error gix_url_reason_words(gix_url_reason reason, char *buffer, size_t buffer_len, size_t *needed);
 
 /* The text of a scheme: file, git, ssh, http, https, ext, or the name of the location. */
 gix_url_text gix_url_scheme_text(const gix_url *url);
