@@ -156,11 +156,14 @@ def read_over_web(v):
         return
     it = told(v)
     asked, reads = it["credential"], it["curl"]
+    if asked is None:
+        raise KeyError("no line has words for helpers that are asked for nothing")
     named = v.host if v.port is None else b"%b:%d" % (v.host, v.port)
     if asked["host"].encode() != named:
         yield "helpers", f"are asked for the host {quoted(asked['host'].encode())}"
-    if (asked["path"] or "").encode() != v.path[1:]:
-        yield "helpers", f"are asked for the path {quoted(asked['path'].encode())}"
+    path = (asked["path"] or "").encode()
+    if path != v.path[1:]:
+        yield "helpers", f"are asked for the path {quoted(path)}"
     if reads is None:
         yield "curl", "refuses its text"
         return
@@ -228,8 +231,8 @@ def read_in_refused(it):
         return
     if found["why"] is not None:
         yield "git", {"Refused": "refuses it too"}[found["why"]]
-    elif found["protocol"] == "file":
-        raise KeyError("no line has words for a local path in a refused line")
+    elif found["host"] is None:
+        raise KeyError("no line has words for a place without a host")
     else:
         port = "" if found["port"] is None else f", port {found['port']}"
         yield "git", f"connects to {quoted(found['host'].encode())}{port}, all the same"
