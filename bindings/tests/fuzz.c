@@ -2,8 +2,8 @@
  * LLVMFuzzerTestOneInput is called by libFuzzer, or by bindings/tests/fuzz_driver.c. scripts/fuzz builds and runs it.
  *
  * The first byte determines what the others are: a text; or a location, whose parts are overlapping slices of the
- * bytes; or a configuration and a text. Buffers end at memory that can't be accessed. They are just large enough, one
- * byte too short, and empty. */
+ * bytes; or a configuration and a text. If FUZZ_PART in the environment names a part of the calls, they are its input.
+ * Buffers end at memory that can't be accessed. They are just large enough, one byte too short, and empty. */
 #include "fuzz_rules.h"
 
 #include <pthread.h>
@@ -49,6 +49,20 @@ static bool has_no_problem(const gix_url_problem *problem) {
     return memcmp(problem, &none, sizeof none) == 0;
 }
 
+/* Checks that a reason has a name and a sentence, and another number has none. */
+static void has_texts(gix_url_reason reason) {
+    size_t len = 0;
+    if (reason) {
+        free(text_of_reason(gix_url_reason_name, reason, &len));
+        HOLDS(len > 0);
+        free(text_of_reason(gix_url_reason_words, reason, &len));
+        HOLDS(len > 0);
+    } else {
+        HOLDS(gix_url_reason_name(reason, NULL, 0, &len) == GIX_URL_NO_LOCATION && len == 0);
+        HOLDS(gix_url_reason_words(reason, NULL, 0, &len) == GIX_URL_NO_LOCATION && len == 0);
+    }
+}
+
 /* Checks that a problem is that of its error, and all 0 without an error. */
 static void is_problem_of(gix_url_error error, const gix_url_problem *problem) {
     const char *words = gix_url_error_words(error, problem);
@@ -58,6 +72,7 @@ static void is_problem_of(gix_url_error error, const gix_url_problem *problem) {
     HOLDS((error == GIX_URL_BAD_URL) == (problem->fault != 0));
     HOLDS((error == GIX_URL_UNWRITABLE) == (problem->write_fault != 0));
     HOLDS(is_refusal(error) == (problem->reason != 0) && (problem->reason != 0 || (problem->at == 0 && problem->len == 0)));
+    has_texts(problem->reason);
     HOLDS((error == GIX_URL_TOO_LONG) == (problem->total != 0) && problem->shown <= problem->total);
     if (error == GIX_URL_OK || error == GIX_URL_NO_ROOM || error == GIX_URL_NO_LOCATION) HOLDS(has_no_problem(problem));
 }
@@ -165,6 +180,8 @@ static void is_seen(const gix_url *url) {
     HOLDS(!url->has_port || (seen.has_port && seen.port == url->port));
     HOLDS(is_same(seen.original_path, url->spelling) || is_same(seen.original_path, url->path));
     HOLDS(seen.original_path.at || seen.original_path.len == 0);
+    gix_url_text scheme = gix_url_scheme_text(url);
+    HOLDS(url->scheme < GIX_URL_HELPER ? scheme.len >= 3 : url->name.at ? is_same(scheme, url->name) : scheme.len == 0);
 }
 
 /* Checks that an unambiguous location agrees with Git, and that an unmet condition has a name. */
@@ -271,11 +288,19 @@ static void is_threaded(gix_url_text input) {
     for (size_t i = 0; i < THREADS; i++) free(works_of[i].buffer), free(works_of[i].text);
 }
 
+/* The kind of an input: that of its first byte, or of the named part. */
+static uint8_t kind_of(uint8_t first) {
+    bool reads = is_asked_for("text"), shares = is_asked_for("threads");
+    if (reads && shares) return first;
+    return reads ? 2 : shares ? 0 : is_asked_for("location") ? 1 : RULES;
+}
+
 int LLVMFuzzerTestOneInput(const uint8_t *data, size_t len);
 int LLVMFuzzerTestOneInput(const uint8_t *data, size_t len) {
     gix_url_text input = {(const char *)data, len};
     about(input);
-    uint8_t kind = next(&input);
+    uint8_t kind = kind_of(next(&input));
+    HOLDS(strcmp(gix_url_version(), GIX_URL_VERSION) == 0);
     if (kind & RULES) {
         by_rules(input);
     } else if (kind & 1) {
@@ -283,8 +308,8 @@ int LLVMFuzzerTestOneInput(const uint8_t *data, size_t len) {
         is_answered(&url);
         is_made(&url);
     } else {
-        is_read(input);
-        if (kind % THREADED == 0) is_threaded(input);
+        if (is_asked_for("text")) is_read(input);
+        if (kind % THREADED == 0 && is_asked_for("threads")) is_threaded(input);
     }
     return 0;
 }

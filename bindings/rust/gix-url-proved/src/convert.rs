@@ -4,6 +4,7 @@ use crate::bstr::{BStr, BString};
 use crate::parse::{parse, Error};
 use crate::Url;
 use std::borrow::Cow;
+use std::convert::Infallible;
 use std::ffi::OsStr;
 use std::os::unix::ffi::OsStrExt;
 use std::path::{Path, PathBuf};
@@ -40,6 +41,13 @@ impl<const COUNT: usize> TryFrom<&[u8; COUNT]> for Url {
 
     fn try_from(bytes: &[u8; COUNT]) -> Result<Url, Error> {
         parse(bytes)
+    }
+}
+
+impl From<Infallible> for Error {
+    /// For a bound `Error: From<E>` on what becomes a location, which a location meets too.
+    fn from(never: Infallible) -> Error {
+        match never {}
     }
 }
 
