@@ -15,7 +15,9 @@ Its modules, each of which uses only those above it:
   laws, worked_rows, short_inputs      laws that all this has to meet; rows in a file; the stored run of `locations`
   plain_paths                          paths of URLs and of home folders
   row_outcomes                         the outcomes of rows in `vectors/`
+  shown_text                           how bytes are shown on a terminal
   explain_lines, explain, readers, hints, explain_tables, stored_run    the stored run of `explain`, and the tables of the documents
+  text_answers                         what `explain` prints of a line as text
 
 `scripts/grammar` calls it.
 """

@@ -8,6 +8,7 @@ from git_classes import Case, Reading, is_careful
 from git_reads import git_reads, unread
 from second_reading import (
     errors, fault_places, git_class, grammar, hidden, laws, octets, plain_paths, records, settled_class, writing)
+from second_reading.shown_text import quoted
 from web_defined import credential_readings
 from web_plain import broken
 from web_reads import curl_reads
@@ -133,11 +134,6 @@ def field_texts(v):
     return scheme, lossy(v.user), password, lossy(v.host), str(v.flag).lower(), None if v.port is None else str(v.port), lossy(v.path)
 
 
-def quoted(t):
-    assert all(c.isalnum() or c in "[]%:/~ ." for c in t), t
-    return f'"{t}"'
-
-
 def reread(v):
     if settled_class.settled(v):
         return None
@@ -153,8 +149,8 @@ def reread(v):
         words = "its own text is read with the same fields, which isn't promised" + "".join(marked[:1])
         return {"difference": None, "refusal": None, "words": words}
     field, here, instead = pairs[0]
-    read = f"no {field}" if instead is None else f"the {field} {quoted(instead)}"
-    words = f"its own text is read with {read} in place of {'none' if here is None else quoted(here)}"
+    read = f"no {field}" if instead is None else f"the {field} {quoted(instead.encode())}"
+    words = f"its own text is read with {read} in place of {'none' if here is None else quoted(here.encode())}"
     return {"difference": {"field": field, "here": here, "instead": instead}, "refusal": None, "words": words}
 
 

@@ -22,15 +22,19 @@ def found(line, v):
     return [name for name, it in is_found.items() if it]
 
 
-def answer(number, line):
+def object_of(number, line):
     """The object of a line. For a location the reading of the line as it is shown is reported."""
     v, other = grammar.spells(line), seen(line)
     location = None if v is None or other is None else told(grammar.spells(other))
     refusal = refusal_of_line(line) if v is None else WITHHELD if other is None else None
-    it = {"line": number, "input": shown_line(line), "location": location, "refusal": refusal,
+    return {"line": number, "input": shown_line(line), "location": location, "refusal": refusal,
           "readers": None if other is None else readers(line, v), "dangers": [] if v is None else dangers(line, v), "findings": found(line, v),
           "hints": [] if other is None else hints_of(line, other), "rules": None}
-    return json.dumps(it, separators=(",", ":"), ensure_ascii=False)
+
+
+def answer(number, line):
+    """The line of JSON of a line."""
+    return json.dumps(object_of(number, line), separators=(",", ":"), ensure_ascii=False)
 
 
 def hints_of(line, other):

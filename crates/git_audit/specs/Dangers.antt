@@ -105,7 +105,7 @@ is_end b = b == newline || b == 13 || b == 0
 abbrev pub holds_end : List ℕ → Bool
 holds_end text = list_any is_end text
 
--- the user, the password, the host or the path contains such a byte
+-- the user, the password, the host or the path contains a byte that ends a line, or a C string
 abbrev pub has_end : Location → Bool
 has_end v = is_some_with holds_end v.user || is_some_with holds_end v.password || is_some_with holds_end v.host
     || holds_end v.path

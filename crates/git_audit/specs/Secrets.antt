@@ -49,12 +49,12 @@ mark_width mark.At text = if begins_with at_sign text then 1 else 3
 mark_width mark.Authority text = 3
 mark_width mark.Helper text = 2
 
--- the index of the first such mark
+-- the index of the first place at which the mark begins
 abbrev pub first_mark : Mark → List ℕ → Option ℕ
 first_mark m [] = None
 first_mark m (b ∷ bs) = if begins_as m (b ∷ bs) then Some 0 else option_map (λ n. n + 1) (first_mark m bs)
 
--- the index after the first such mark, which is at index `n`
+-- the index after the mark that begins at index `n`
 abbrev pub mark_end : Mark → List ℕ → ℕ → ℕ
 mark_end m text n = n + mark_width m (drop n text)
 
@@ -64,7 +64,7 @@ later_mark (Some n) begins = Some (n + 1)
 later_mark None true = Some 0
 later_mark None false = None
 
--- the index of the last such mark
+-- the index of the last place at which the mark begins
 abbrev pub last_mark : Mark → List ℕ → Option ℕ
 last_mark m [] = None
 last_mark m (b ∷ bs) = later_mark (last_mark m bs) (begins_as m (b ∷ bs))
@@ -163,15 +163,16 @@ wide_behind web text n = option_map (moved n) (wide_in (before_path web (drop n 
 abbrev pub wide_password : Bool → List ℕ → Option Secret
 wide_password web text = option_and_then (λ n. wide_behind web text (mark_end mark.Authority text n)) (first_mark mark.Authority text)
 
--- a run of such a password: a byte at which a path may start is shown
+-- a run of a password with a `/` in it: a byte at which a path may start is shown
 abbrev pub wide_part : Bool → List ℕ → Part
 wide_part web run = if begins_by (is_path_start web) run then shown run else hidden run
 
--- the pieces of such a password
+-- the pieces of a password with a `/` in it
 abbrev pub wide_parts : Bool → List ℕ → List Part
 wide_parts web text = map (wide_part web) (runs (class.Path web) text)
 
--- a text with such a password hidden, if there is one, and with the possible passwords before it hidden
+-- a text with a password with a `/` in it hidden, if there is one, and with the possible passwords before that
+-- hidden
 abbrev pub authority_parts : Bool → Option Secret → List ℕ → List Part
 authority_parts web None text = plain_parts web text
 authority_parts web (Some s) text = plain_parts web (take s.at text)

@@ -26,7 +26,7 @@ pub const GROUPS: [Group; 7] = [
 /// from it. It is a slice of the text, as [`Group::host_in`] returns it.
 ///
 /// Hosts are compared by `git_rules::rewrite::host::is_same_host`: ignoring letter case, and brackets around them.
-/// If the location has no host, as a local path, every host that a group finds is another one. For
+/// If the location has no host, like a local path, every host that a group finds is another one. For
 /// [`Group::DigitsArePort`] the port is part of the host.
 ///
 /// ```

@@ -46,8 +46,9 @@ impl<'a> Model for Pieces<'a> {
 ///
 /// - In each run between bytes at which a path may start (`/`, and in an HTTP URL also `?` and `#`): everything
 ///   between the first `:` and the last `@`.
-/// - If the authority after the first `://` has a `:` that begins neither a port nor a password that ends in the
-///   authority: everything from there to the last `@` of the text, except the bytes at which a path may start.
+/// - If the authority after the first `://` isn't in brackets, and its first `:` begins neither a port nor a
+///   password that ends in the authority: everything from there to the last `@` of the text, except the bytes at
+///   which a path may start.
 /// - Each word of letters, digits, `_` and `-` that begins as a token of GitHub, GitLab or Bitbucket and has at
 ///   least 24 bytes.
 ///

@@ -54,5 +54,6 @@ components_decide c d =
       λ e. reported.1 (ap (λ u. u.path) e, (ap (λ u. u.query) e, ap (λ u. u.fragment) e)),
     )
 
+-- equality of components is an equivalence
 pub components_equiv : IsEquivalence components_eq
 components_equiv = decided components_eq components_decide

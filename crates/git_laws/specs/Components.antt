@@ -90,6 +90,6 @@ ComponentsBy http v components = WebComponents v components
 ComponentsBy https v components = WebComponents v components
 ComponentsBy _ v components = components ≡ whole_path v.path
 
--- the components of a location
+-- these are the components of the location
 abbrev pub ComponentsOf : Location → Components → Type 0
 ComponentsOf v components = ComponentsBy v.scheme v components

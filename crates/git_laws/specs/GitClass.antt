@@ -48,6 +48,6 @@ pub record IsReadAlike (v : Location) : Type 0 where
   pub has_text : text v ≡ Ok written
   pub read : (t : List ℕ) → text v ≡ Ok t → ReadsOwn t v
 
--- this holds for each location of the class
+-- a location that `AgreesWithGit` has a text, and Git reads the location's own fields in it
 abbrev pub ReadAlike : Type 0
 ReadAlike = (v : Location) → IsValue v → AgreesWithGit v → IsReadAlike v

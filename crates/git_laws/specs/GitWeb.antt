@@ -54,7 +54,7 @@ pub data UriHost (named host behind : List ℕ) : Type 0 where
 abbrev pub is_host_byte : ℕ → Bool
 is_host_byte b = is_ascii_alphanumeric b || is_one_of (codes "-._~!$&'()*+,;=%") b
 
--- the text has only such bytes, and each `%` begins an escape
+-- each byte of the text passes the test, and each `%` begins an escape
 abbrev pub IsEscaped : (ℕ → Bool) → List ℕ → Type 0
 IsEscaped test t = (list_all test t ≡ true) × (is_sound t ≡ true)
 

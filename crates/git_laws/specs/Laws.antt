@@ -74,16 +74,17 @@ pub data IsException (v : Location) : Type 0 where
   -- a location of HTTP whose text is too long
   web_length : IsWeb v → ¬ HasFittingText v → IsException v
 
--- a spelled location is settled or an exception
+-- a spelled location of local files, HTTP, `ext` or a remote helper is settled or an exception
 abbrev pub Closed : Type 0
 Closed = (b : List ℕ) (v : Location) → Spells b v → is_closed v.scheme ≡ true
     → IsSettled v ⊎ IsException v
 
--- no exception is settled
+-- an exception, as `IsException` defines it, is not settled
 abbrev pub Apart : Type 0
 Apart = (v : Location) → IsException v → ¬ IsSettled v
 
--- with these schemes, a value whose spelling isn't its path is settled exactly if it comes back
+-- a value of local files, HTTP, `ext` or a remote helper whose spelling isn't its path is settled exactly if it
+-- comes back
 abbrev pub Exact : Type 0
 Exact = (v : Location) → IsValue v → is_closed v.scheme ≡ true → ¬ (v.spelling ≡ Some v.path)
     → IsSettled v ↔ ComesBack v
@@ -97,11 +98,11 @@ keeps_bytes ext flag = true
 keeps_bytes (helper name) flag = true
 keeps_bytes _ flag = false
 
--- the location is of such a kind
+-- the location is a remote helper or a local path, whose text has the path unchanged
 abbrev pub KeepsBytes : Location → Type 0
 KeepsBytes v = keeps_bytes v.scheme v.flag ≡ true
 
--- an unsettled location of such a kind has the fields of no spelled location
+-- no bytes spell a location with the fields of an unsettled remote helper, `ext` location or local path
 abbrev pub ExactByFields : Type 0
 ExactByFields = (v : Location) → KeepsBytes v → (b : List ℕ) (w : Location) → Spells b w
     → fields w ≡ fields v → IsSettled v
@@ -136,7 +137,8 @@ pub data SpellsBefore (b : List ℕ) (v : Location) : Type 0 where
   scp_form : SpellsScpBefore b v → SpellsBefore b v
   local_path : SpellsLocalBefore b v → SpellsBefore b v
 
--- bytes still spell what they spelled in the earlier grammar; bytes without that form spell nothing else
+-- bytes spell what they spelled in the grammar without `user@[address]:path`; bytes without that form spell nothing
+-- else
 abbrev pub KeepsEarlier : Type 0
 KeepsEarlier = (b : List ℕ) (v : Location)
     → (SpellsBefore b v → Spells b v) × (¬ IsAddressed b → Spells b v → SpellsBefore b v)
@@ -151,16 +153,16 @@ EqualIsSame {K} equal = (x y : K) → IsTrue (equal x y) ↔ (x ≡ y)
 abbrev pub TiedIsEqual : {K : Type 0} → (K → K → Bool) → (K → K → Ordering) → Type 0
 TiedIsEqual {K} equal order = (x y : K) → (order x y ≡ Equal) ↔ IsTrue (equal x y)
 
--- equal values are fed to a hasher alike
+-- equal values feed a hasher alike
 abbrev pub FedAlike : {K : Type 0} → (K → K → Bool) → (K → HashWrites) → Type 0
 FedAlike {K} equal fed = (x y : K) → IsTrue (equal x y) → fed x ≡ fed y
 
--- values that are fed to a hasher alike are one location
+-- locations that feed a hasher alike are one location
 abbrev pub LocationsFedApart : Type 0
 LocationsFedApart = (v w : Location) → IsValue v → IsValue w → fed_location v ≡ fed_location w
     → v ≡ w
 
--- values that are fed to a hasher alike are one scheme
+-- schemes that feed a hasher alike are one scheme
 abbrev pub SchemesFedApart : Type 0
 SchemesFedApart = (p q : Scheme) → fed_scheme p ≡ fed_scheme q → p ≡ q
 

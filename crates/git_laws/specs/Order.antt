@@ -79,20 +79,20 @@ as_byte b = cond b 1 0
 abbrev pub there : {K : Type 0} → Option K → ℕ
 there p = as_byte (is_some p)
 
--- for bytes a hasher is fed the length, and then all of them at once
+-- bytes feed a hasher their length, and then all bytes at once
 abbrev pub fed_bytes : List ℕ → HashWrites
 fed_bytes bs = fed.usize (length bs) ++ (bs ∷ [])
 
--- for an optional value it is fed the value, or nothing
+-- an optional value feeds a hasher like the value itself, or nothing
 abbrev pub fed_part : {K : Type 0} → (K → HashWrites) → Option K → HashWrites
 fed_part feed None = []
 fed_part feed (Some x) = feed x
 
--- for a text it is fed the bytes, and then 255, which is not in UTF-8
+-- an optional text feeds a hasher its bytes, and then 255, which is not in UTF-8
 abbrev pub fed_text : Option (List ℕ) → HashWrites
 fed_text = fed_part fed.str
 
--- for a scheme it is fed the kind, and the name if the kind has one
+-- a scheme feeds a hasher its kind, and its name if the kind has one
 abbrev pub fed_scheme : Scheme → HashWrites
 fed_scheme p = fed.u8 (rank p) ++ fed_text (held_name p)
 
@@ -103,7 +103,7 @@ outline v =
     rank v.scheme ∷ there v.user ∷ there v.password ∷ there v.host
     ∷ as_byte v.flag ∷ there v.port ∷ 1 ∷ there v.spelling ∷ []
 
--- for a location it is fed the outline, and then the contents of the fields, in declared order
+-- a location feeds a hasher its outline, and then the contents of its fields, in declared order
 abbrev pub fed_location : Location → HashWrites
 fed_location v =
     outline v ∷ (fed_text (held_name v.scheme) ++ (fed_text v.user ++ (fed_text v.password

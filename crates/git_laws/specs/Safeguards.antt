@@ -28,8 +28,8 @@ is_raw_url ssh flag = not flag
 is_raw_url (helper_url name) flag = true
 is_raw_url _ flag = false
 
--- a location of such a kind needs no spelling: its path has neither `%` nor white space, and without a host
--- the text of its public fields is short enough
+-- a location whose path is written unescaped without a spelling, and read as a URL, needs no spelling: its path
+-- has neither `%` nor white space, and without a host the text of its public fields is short enough
 pub record NeedsNoSpelling (v : Location) : Type 0 where
   pub raw : is_raw_url v.scheme v.flag ≡ true
       → (has_percent v.path ≡ false) × LacksWhiteSpace v.path

@@ -107,8 +107,8 @@ pub fn law_closed()
 /// - `tied`: the order returns `Equal` exactly for equal locations. So a sorted list and a `BTreeMap`
 ///   distinguish the same locations as `==`.
 /// - `total`: the order is total: one of two locations comes first, or they are equal.
-/// - `hashed`: equal locations are fed to a hasher alike. So a `HashMap` finds the same locations as `==`.
-/// - `hashed_apart`: no others are. No field is left out, so a good hasher distinguishes any two locations.
+/// - `hashed`: equal locations feed a hasher alike. So a `HashMap` finds the same locations as `==`.
+/// - `hashed_apart`: no others do. No field is left out, so a good hasher distinguishes any two locations.
 ///   (Each `Url` is such a value: `law_value`.)
 /// - `spelling_last`: the public fields decide the order, and the retained spelling decides only if they are
 ///   all equal. So locations with equal public fields are adjacent in a sorted list.
@@ -124,14 +124,8 @@ pub fn law_order()
     ensures spelling_last { SpellingLast }
 {}
 
-/// Equality, order and hash of schemes agree, like those of locations. A scheme is compared as the value that
-/// it represents.
-///
-/// - `same`: two schemes are equal exactly if they represent one value.
-/// - `tied`: the order returns `Equal` exactly for equal schemes.
-/// - `total`: the order is total.
-/// - `hashed`: equal schemes are fed to a hasher alike.
-/// - `hashed_apart`: no others are.
+/// Equality, order and hash of schemes agree: each clause states for schemes the fact that the clause of this name
+/// in [`law_order`] states for locations. A scheme is compared as the value that it represents.
 pub fn law_scheme_order()
     ensures same { EqualIsSame scheme_eq }
     ensures tied { TiedIsEqual scheme_eq scheme_cmp }
@@ -142,9 +136,9 @@ pub fn law_scheme_order()
 
 /// Each line has one line as its answer.
 ///
-/// - `one_line`: the answer to a line without byte 10 is a text without it, and byte 10. A settled location's
-///   text doesn't have it, though its path or its user may: if that is written unescaped it was in the line,
-///   and else it is escaped or the location isn't settled.
+/// - `one_line`: the answer to a line without byte 10 is a text without it, and byte 10. The text of a settled
+///   location doesn't have it either, though its path or its user may: a field that is written unescaped is from
+///   the line, and in another one the byte is escaped, or the location isn't settled.
 /// - `line_for_line`: so the output of [`run`](git_lines::lines::run) splits at byte 10 into as many lines as
 ///   its input, each the answer to the line at the same index. Answers can be matched to lines by position.
 /// - `one_split`: a text has only one split into lines, so every program that splits it gets these lines.
@@ -192,9 +186,11 @@ pub fn law_stripped()
 ///   slashes around it; and a reader of URIs, which opens the connection, reads components that decode to the
 ///   location's own fields, without a fragment, and finds nothing to normalize. So a helper is asked for the
 ///   host to which Git connects.
-/// - `one`: Git has at most one reading of any text, so it reads nothing else in that one.
-/// - `one_credential`: the same holds for its credential code.
-/// - `one_uri`: the same holds for a reader of URIs.
+/// - `one`: by the definition, Git has at most one reading of any text, so it reads nothing else in that one.
+/// - `one_credential`: Git's credential code has at most one reading of any text.
+/// - `one_uri`: a reader of URIs has at most one reading of any text.
+///
+/// The law is about the definitions of these readers. That Git and libcurl keep to them is tested.
 pub fn law_git()
     ensures alike { ReadAlike }
     ensures one { OneGitReading }

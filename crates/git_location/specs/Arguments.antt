@@ -12,12 +12,12 @@ pub data Judgement : Type 0 where
 abbrev pub judgement_of_text : List ℕ → Judgement
 judgement_of_text text = if is_option_like text then dangerous text else usable text
 
--- the judgement of a field that may be missing
+-- the judgement of a field: absent, dangerous if it begins with `-`, and else usable
 abbrev pub judgement_of : Option (List ℕ) → Judgement
 judgement_of None = absent
 judgement_of (Some text) = judgement_of_text text
 
--- the text of a usable argument
+-- the text of a usable argument, and `None` for any other judgement
 abbrev pub usable_text : Judgement → Option (List ℕ)
 usable_text absent = None
 usable_text (usable text) = Some text
@@ -28,11 +28,11 @@ abbrev pub is_path_argument : List ℕ → Bool
 is_path_argument [] = false
 is_path_argument (b ∷ bs) = (b == slash) && not (is_option_like bs)
 
--- the whole path, if it may be passed
+-- the whole path, if it begins with `/` and the next byte isn't `-`
 abbrev pub path_argument : List ℕ → Option (List ℕ)
 path_argument path = if is_path_argument path then Some path else None
 
--- a usable argument can't be read as an option
+-- the text of a usable argument doesn't begin with `-`
 abbrev pub IsNoOption : Judgement → Type 0
 IsNoOption absent = Unit {0}
 IsNoOption (usable text) = is_option_like text ≡ false

@@ -14,7 +14,7 @@ use Rattle.git_location.specs.WebClass.{AgreesOverWeb}
 abbrev pub is_contested : ℕ → Bool
 is_contested b = b == 0 || (b == left_bracket || b == right_bracket)
 
--- a user or a host without such a byte. Git decodes a URL before it cuts it, so in a URL no byte of it is
+-- a user or a host without a byte 0, `[` or `]`. Git decodes a URL before it cuts it, so in a URL no byte of it is
 -- written as an escape
 abbrev pub IsPlainPart : Bool → AsciiSet → List ℕ → Type 0
 IsPlainPart true set part = Lacks is_contested part
@@ -79,6 +79,6 @@ AgreesBy http v = AgreesOverWeb v
 AgreesBy https v = AgreesOverWeb v
 AgreesBy _ v = AgreesByTransport v
 
--- the location is of the class
+-- the location is in the class of locations in whose texts Git reads the same place as this library
 abbrev pub AgreesWithGit : Location → Type 0
 AgreesWithGit v = AgreesBy v.scheme v

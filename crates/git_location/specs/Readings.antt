@@ -21,13 +21,13 @@ RefusesIn b room (unread.Refused why) = ((v : Location) → ¬ Spells b v) × Re
 
 -- the result of reading the bytes with a buffer of this length
 pub record ReadsIn (b : List ℕ) (room : ℕ) (result : Result Location ParseError) : Type 0 where
-  -- a location that they spell
+  -- a location that is returned is one that the bytes spell
   pub found : IfOk result (Spells b)
-  -- or an error, if they spell none or the buffer is shorter than they are
+  -- an error is returned only if the bytes spell none, or the buffer is shorter than the bytes
   pub refused : IfErr result (RefusesIn b room)
   -- the empty text is refused as such
   pub empty : b ≡ [] → result ≡ Err (unread.Refused empty_refusal)
-  -- if the buffer is at least as long as the bytes, the result is a location exactly if they spell it
+  -- if the buffer is at least as long as the bytes, a location is returned exactly if the bytes spell it
   pub exact : length b ≤ room → (v : Location) → (result ≡ Ok v) ↔ Spells b v
 
 -- `again` has the public fields and the text of `v`, and is settled

@@ -297,6 +297,7 @@ IsSettledBy ext v = IsSettledHelper (codes "ext") v
 IsSettledBy (helper name) v = IsSettledHelper name v × (bytes_eq name (codes "ext") ≡ false)
 IsSettledBy (helper_url name) v = IsSettledHelperUrl name v
 
--- the location is settled
+-- the location meets the conditions of its scheme, so its text is read as its public fields and written the same
+-- again (`law_separation`)
 abbrev pub IsSettled : Location → Type 0
 IsSettled v = IsSettledBy v.scheme v

@@ -150,12 +150,12 @@ plain_path http path = percent_encode path_set path
 plain_path https path = percent_encode path_set path
 plain_path _ path = path
 
--- the spelling if it matches the path, and else `other`
+-- the spelling if it decodes to the path, and else `other`
 abbrev pub matching_or : Option (List ℕ) → List ℕ → List ℕ → List ℕ
 matching_or None path other = other
 matching_or (Some spelling) path other = if matches (Some spelling) path then spelling else other
 
--- the spelling of the path if it matches, and else the path
+-- the spelling of the path if it decodes to the path, and else the path
 abbrev pub original_path : Location → List ℕ
 original_path v = matching_or v.spelling v.path v.path
 

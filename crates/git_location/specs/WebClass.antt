@@ -31,7 +31,7 @@ abbrev pub IsLastLabel : List ℕ → List ℕ → Type 0
 IsLastLabel name label = (FreeOf dot name × (label ≡ name))
     ⊎ ((front : List ℕ) × FreeOf dot label × (name ≡ front ++ dot ∷ label))
 
--- a name of such bytes that no reader reads as a number, because its last label begins with a letter
+-- a name of plain host bytes that no reader reads as a number, because its last label begins with a letter
 pub record IsPlainName (name : List ℕ) : Type 0 where
   pub bytes : list_all is_plain_host_byte name ≡ true
   pub label : List ℕ
@@ -91,7 +91,8 @@ pub record HasUnambiguousPath (v : Location) : Type 0 where
 
 -- ---- locations
 
--- the location of HTTP is of the class
+-- the HTTP location is in the class of locations in whose texts this library, Git's credential code and a reader of
+-- URIs read the same
 pub record AgreesOverWeb (v : Location) : Type 0 where
   pub settled : IsSettled v
   pub host : HasUnambiguousHost v

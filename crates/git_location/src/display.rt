@@ -1,8 +1,8 @@
 //! `Display` of borrowed locations: the text, with the field `password` hidden.
 //!
-//! If formatting succeeds, the output is the location's text with another password in place of its own,
-//! whatever width, precision and flags the formatter has; two locations that differ only in their passwords
-//! have the same output. If the location has no text, formatting fails and writes nothing.
+//! If formatting succeeds, the output is the location's text with another password in place of its own, whatever
+//! width, precision and flags the formatter has, if it doesn't indent. Two locations that differ only in their
+//! passwords have the same output. If the location has no text, formatting fails and writes nothing.
 //!
 //! No contract says how much was written before a formatter failed: `fmt::Write` specifies a call only if it
 //! returns `Ok`. Tests check that the output is a front of the right text.
@@ -45,7 +45,7 @@ impl fmt::Display for UrlRef<'_> {
     }
 }
 
-/// The text that is written in place of a password.
+/// The text that is written in place of a password, or `None` if there is no password.
 pub fn hidden_password(password: Option<&str>) -> Option<&str>
     ensures { option_map (λ p. p.now) result
         ≡ hidden_password (option_map (λ p. p.now) password.entry) }

@@ -1,7 +1,8 @@
 //! The class of locations in whose texts Git reads the same place.
 //!
 //! In the text of each location of the class, Git reads the location's own scheme, user, host, port and path
-//! (`law_git`). The module `web` decides the class of HTTP.
+//! (`law_git`); of `git://` the host without brackets. Over HTTP its credential code reads the path without the
+//! slashes around it. The module `web` decides the class of HTTP.
 
 ghost use Rattle.std.specs.Prelude.{◌≡◌, ◌↔◌, IsTrue, IfSome, None, Some, false, option_map};
 ghost use Rattle.std.specs.List.{list_any};

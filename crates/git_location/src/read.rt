@@ -11,11 +11,12 @@ use git_syntax::find::find;
 
 impl<'a> UrlRef<'a> {
     /// Reads the one location that the bytes spell, like [`parse`]. Allocates nothing. The fields of the result
-    /// are slices of the text; those that differ from the text, as by an escape or a capital letter in a host,
-    /// are slices of the buffer `room`.
+    /// are slices of the text or of the buffer `room`; no clause says which. The code copies a field to the buffer
+    /// only if its bytes differ from the text, as with an escape or with a capital letter in a host.
     ///
     /// A buffer as long as the text always suffices; with a shorter one every text that spells a location gives
-    /// `NoRoom`. Errors need no buffer. Its contents afterwards are unspecified.
+    /// `NoRoom`. Errors need no buffer. The contents of the buffer after the call are unspecified; that it is
+    /// unchanged after an error is tested, not proved.
     ///
     /// # Errors
     ///

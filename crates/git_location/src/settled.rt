@@ -42,8 +42,8 @@ impl UrlRef<'_> {
         self.is_settled_as(None)
     }
 
-    /// Whether the location is of the settled class. If the caller has the pieces of its text, they aren't laid
-    /// out again.
+    /// Whether the location is of the settled class. `laid` is the pieces of its text, if the caller has them;
+    /// they aren't laid out again then.
     pub fn is_settled_as(&self, laid: Option<&Pieces<'_>>) -> bool
         requires { AreOwn laid self.now }
         ensures { IsTrue result ↔ IsSettled self.now }

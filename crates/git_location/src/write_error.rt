@@ -13,7 +13,7 @@ use thiserror::Error;
 /// ```
 #[derive(Clone, Copy, Debug, PartialEq, Eq)]
 pub enum WriteFault {
-    /// The name of the remote helper is not a valid one.
+    /// The name of the remote helper isn't valid.
     HelperName,
     /// A remote helper has a user, a password, a host or a port.
     HelperParts,

@@ -149,8 +149,8 @@ impl<'a> UrlRef<'a> {
         place(&self.canonical_pieces(self.password, &mut digits), room)
     }
 
-    /// The pieces of the text, or the fault if the location has none. `digits` is the buffer for the digits of
-    /// the port.
+    /// The pieces of the text, or the fault if the location has none. `digits` is the buffer for the digits of the
+    /// port.
     pub fn own_pieces<'b>(&'b self, digits: &'b mut Buffer) -> Result<Pieces<'b>, WriteFault>
         ensures { text_of_pieces result ≡ text self.now }
     {

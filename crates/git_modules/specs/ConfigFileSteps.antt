@@ -28,7 +28,8 @@ abbrev pub IsReadWithin : List ℕ → ℕ → StepRead → Type 0
 IsReadWithin text at (Ok p) = (at ≤ p.2) × (p.2 ≤ length text) × (length text ≤ p.2 + length p.1.now)
 IsReadWithin text at (Err w) = (at ≤ w.at) × (w.at ≤ length text)
 
--- likewise, and the offset is after the start of the item
+-- the offset that was reached is after the start of the item and within the text, and the buffer suffices for the
+-- rest of the text
 abbrev pub IsStepWithin : List ℕ → ℕ → StepRead → Type 0
 IsStepWithin text at (Ok p) = (at < p.2) × (p.2 ≤ length text) × (length text ≤ p.2 + length p.1.now)
 IsStepWithin text at (Err w) = (at ≤ w.at) × (w.at ≤ length text)

@@ -48,7 +48,7 @@ AreEntries text stem ((left, header next) ∷ ts) found = AreEntries text next t
 AreEntries text stem ((left, setting key value) ∷ ts) found = (e : FileEntry) × (others : List FileEntry)
     × (found ≡ e ∷ others) × IsEntry text stem left key value e × AreEntries text stem ts others
 
--- these are the entries of a text. Those before any header have no section
+-- these are the entries of the text; those before any header have no section
 abbrev pub HasFileEntries : List ℕ → List FileEntry → Type 0
 HasFileEntries text found = (first : List ℕ) × (items : List Turn) × (start_of (unix_text text) ≡ Ok first)
     × AreItems first items [] × AreEntries text [] items found
@@ -80,7 +80,8 @@ abbrev pub ReadsMark : List ℕ → Result ℕ FileError → Type 0
 ReadsMark text (Ok at) = (at ≤ length text) × (start_of (unix_text text) ≡ Ok (left_at text at))
 ReadsMark text (Err e) = IsErrorAt text (start_of (unix_text text)) e
 
--- the error is that of a text and of a buffer of this length
+-- the error of reading a text into a buffer of this length: the buffer is shorter than the text, an allocation
+-- failed, or the text is refused at this byte and line
 abbrev pub IsFileError : List ℕ → ℕ → FileError → Type 0
 IsFileError text buffer error.Memory = length text ≤ buffer
 IsFileError text buffer error.ShortBuffer = buffer < length text

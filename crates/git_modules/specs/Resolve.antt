@@ -35,7 +35,8 @@ abbrev pub against : List ℕ → List ℕ → Result Resolution ResolveError
 against [] url = Err EmptyParent
 against (b ∷ bs) url = joined (left_of (b ∷ bs) (ups url)) (behind_steps url)
 
--- a URL that isn't relative stays unchanged
+-- the URL that Git stores for a submodule with this parent and this URL, or why it stores none; a URL that isn't
+-- relative is unchanged
 abbrev pub resolution : List ℕ → List ℕ → Result Resolution ResolveError
 resolution parent url = if is_relative url then against parent url
     else Ok (record { front = []; separator = []; rest = url })

@@ -23,8 +23,9 @@ SamePlace = (parent url : List ℕ) (r : Resolution) (v w : Location)
     → is_relative url ≡ true → climbs parent url ≡ false → resolution parent url ≡ Ok r
     → Spells (resolved_text r) w → IsSamePlace v w
 
--- the same for a parent in the scp form without a `[` in its user and host, if the rest of the resolved URL begins
--- with neither `/` nor `:`
+-- for a parent in the scp form without a `[` in its user and host, and a relative URL that doesn't climb: if the
+-- resolved text spells a location, and the rest of the resolved URL begins with neither `/` nor `:`, the location is
+-- at the same place as the parent
 abbrev pub SamePlaceOfScp : Type 0
 SamePlaceOfScp = (parent url : List ℕ) (r : Resolution) (v w : Location)
     → (h : SpellsScpBefore parent v) → FreeOf left_bracket h.front

@@ -11,7 +11,7 @@ use Rattle.git_reads.specs.Credentials.{CredentialDecodes, CredentialReading, Re
 abbrev pub has_feed : List ℕ → Bool
 has_feed bs = list_any (λ b. b == newline) bs
 
--- the same for an optional part
+-- there is a part, and it contains a line feed
 abbrev pub part_has_feed : Option (List ℕ) → Bool
 part_has_feed None = false
 part_has_feed (Some bs) = has_feed bs

@@ -2,7 +2,8 @@
 //! entries that `git fsck` refuses, and the resolution of relative URLs.
 //!
 //! Entries are those of `config` of `git_rules`. No function here opens a file or runs a program. No public
-//! function allocates, except those that take a `Global`.
+//! function allocates, except those that take a `Global`. How often a function allocates, and how long it takes,
+//! is tested, not proved.
 #![tactic(auto)]
 
 pub mod config_file;

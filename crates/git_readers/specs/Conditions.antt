@@ -68,7 +68,7 @@ Meets condition.DotSegment v = LacksDots (form v) v.path
 Meets condition.ScpHost v = HasPlainScpHost (form v) v.user v.host
 Meets condition.ScpPath v = HasScpSlash (form v) v.path
 
--- nobody misreads the text of the location: it meets every condition
+-- the location meets every condition under which all readers find the same fields in its text
 abbrev pub IsUnambiguous : Location → Type 0
 IsUnambiguous v = (each : Condition) → Meets each v
 

@@ -90,7 +90,8 @@ abbrev pub KeepsPaths : (List ℕ → List ℕ) → Type 0
 KeepsPaths normal = (path : List ℕ) → list_all is_path_byte path ≡ true → ¬ HasDots path
     → normal path ≡ path
 
--- the reader of the URL Standard is of the family with any such normalizers
+-- `LeavesPlain` holds for the reader of the URL Standard with any normalizers that don't change plain hosts and
+-- plain paths
 abbrev pub WhatwgLeaves : Type 0
 WhatwgLeaves = (normal_host normal_path : List ℕ → List ℕ) → KeepsHosts normal_host
     → KeepsPaths normal_path → LeavesPlain (whatwg normal_host normal_path)

@@ -6,12 +6,13 @@ use Rattle.git_location.specs.Settled.{IsValue}
 use Rattle.git_readers.specs.Conditions.{IsUnambiguous}
 use Rattle.git_readers.specs.Readers.{LeavesPlain, Reader, UrlReader, own_parts, reads, reads_url}
 
--- in the text of a location of the class, every reader finds the location's own fields
+-- every reader for which `LeavesPlain` holds finds an unambiguous location's own fields in its text
 abbrev pub ReadByAll : Type 0
 ReadByAll = (v : Location) → IsValue v → IsUnambiguous v → (r : Reader) → LeavesPlain r.url
     → (t : List ℕ) → text v ≡ Ok t → reads r t ≡ own_parts v
 
--- in a text that is written as a URL, so does every reader of URLs
+-- if an unambiguous location is written as a URL, every reader of URLs for which `LeavesPlain` holds finds the
+-- location's own fields in its text
 abbrev pub UrlReadByAll : Type 0
 UrlReadByAll = (v : Location) → IsValue v → IsUnambiguous v → v.flag ≡ false → (r : UrlReader)
     → LeavesPlain r → (t : List ℕ) → text v ≡ Ok t → reads_url r t ≡ own_parts v

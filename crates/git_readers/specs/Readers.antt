@@ -197,7 +197,7 @@ pub data UrlTest : Type 0 where
   anywhere : UrlTest
   behind_scheme : UrlTest
 
--- the text is a URL to such a reader
+-- the text is a URL to a reader with this test
 abbrev pub is_url : UrlTest → List ℕ → Bool
 is_url anywhere t = holds_mark t
 is_url behind_scheme t = is_scheme_text (until is_colon t) && begins_mark (from is_colon t)
@@ -213,7 +213,7 @@ pub data ScpTest : Type 0 where
   before_slash : ScpTest
   slash_behind : ScpTest
 
--- the cut is one of the scp form to such a reader
+-- the cut is one of the scp form to a reader with this test
 abbrev pub is_scp_cut : ScpTest → Option (List ℕ × List ℕ) → Bool
 is_scp_cut test None = false
 is_scp_cut any_colon (Some (front, rest)) = true

@@ -30,7 +30,7 @@ pub record IsPlainLabel (label : List ℕ) : Type 0 where
   pub short : length label ≤ 63
   pub no_punycode : ¬ IsPunycode label
 
--- such labels joined by dots, of which the last begins with a letter: no reader reads the name as a number
+-- plain labels joined by dots, of which the last begins with a letter: no reader reads the name as a number
 pub data AreLabels : List ℕ → Type 0 where
   last : (label : List ℕ) → IsPlainLabel label → begins_by is_ascii_lowercase label ≡ true
       → AreLabels label
@@ -52,7 +52,7 @@ pub record IsPlainName (host : List ℕ) : Type 0 where
   pub short : length host ≤ 253
   pub no_numbers : ¬ BeginsWithNumbers host
 
--- such a name, or an IPv4 address
+-- a name that every reader reads as the same name, or an IPv4 address
 abbrev pub IsPlainHost : List ℕ → Type 0
 IsPlainHost host = IsPlainName host ⊎ IsIpv4Text host
 
@@ -62,12 +62,12 @@ IsPlainHost host = IsPlainName host ⊎ IsIpv4Text host
 abbrev pub is_unreserved : ℕ → Bool
 is_unreserved b = is_ascii_alphanumeric b || is_one_of (codes "-._~") b
 
--- a user or a password of such bytes
+-- a user or a password of unreserved bytes
 pub record IsPlainWord (word : List ℕ) : Type 0 where
   pub nonempty : begins_by is_unreserved word ≡ true
   pub bytes : list_all is_unreserved word ≡ true
 
--- a user of such bytes that isn't read as an option
+-- a user of unreserved bytes that isn't read as an option
 pub record IsPlainUser (user : List ℕ) : Type 0 where
   pub word : IsPlainWord user
   pub no_option : is_option_like user ≡ false
@@ -100,7 +100,7 @@ is_odd_start (b ∷ rest) = b == hyphen || begins_with colon rest
 abbrev pub IsDots : List ℕ → Type 0
 IsDots segment = (segment ≡ codes ".") ⊎ (segment ≡ codes "..")
 
--- such a segment is the whole path, its first, or a later one
+-- a segment `.` or `..` is the whole path, its first segment, or a later one
 pub data HasDots : List ℕ → Type 0 where
   whole : (path : List ℕ) → IsDots path → HasDots path
   first : (path segment rest : List ℕ) → IsDots segment → path ≡ segment ++ slash ∷ rest → HasDots path

@@ -58,7 +58,7 @@ pub record CredentialPath (behind : List ℕ) (path : Option (List ℕ)) : Type 
   pub decodes : CredentialDecodes rest decoded
   pub value : path ≡ trimmed_path decoded
 
--- the reading of an authority and the text after it, even if a field has several lines
+-- the decoded reading of an authority and the text after it, even if a field has several lines
 pub record ReadsPieces (authority behind : List ℕ) (r : CredentialReading) : Type 0 where
   pub named : List ℕ
   pub cut : CredentialCut authority r.user r.password named
@@ -77,7 +77,7 @@ pub record AreOneLine (r : CredentialReading) : Type 0 where
   pub host : IsOneLine r.host
   pub path : IfSome r.path IsOneLine
 
--- the reading of a text by Git's credential code
+-- Git's credential code reads this request in the text
 pub record CredentialReads (t : List ℕ) (r : CredentialReading) : Type 0 where
   pub authority : List ℕ
   pub behind : List ℕ

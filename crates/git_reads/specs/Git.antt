@@ -42,7 +42,7 @@ escaped_byte high low = 16 * digit_value high + digit_value low
 abbrev pub is_git_escape : ℕ → ℕ → ℕ → Bool
 is_git_escape b high low = is_escape b high low && not (escaped_byte high low == 0)
 
--- the text with each such escape replaced by its byte
+-- the text with each escape replaced by its byte, except for the escape of byte 0
 abbrev pub git_decode : List ℕ → List ℕ
 git_decode [] = []
 git_decode (b ∷ []) = b ∷ []
@@ -63,7 +63,7 @@ pub data OpensHost (t front rest : List ℕ) : Type 0 where
       → t ≡ user ++ (host_mark ++ rest) → OpensHost t front rest
   at_front : ¬ Holds host_mark t → front ≡ [] → t ≡ left_bracket ∷ rest → OpensHost t front rest
 
--- the next `]` closes such a bracket
+-- a bracket opens a host, and the next `]` closes it
 pub record InBrackets (t front inside behind : List ℕ) : Type 0 where
   pub opened : OpensHost t front (inside ++ right_bracket ∷ behind)
   pub next : FreeOf right_bracket inside
@@ -95,7 +95,7 @@ pub record CutsPlace (c : ℕ) (t place rest : List ℕ) : Type 0 where
 abbrev pub is_c_space : ℕ → Bool
 is_c_space b = b == space || (nat_le tab b && nat_le b 13)
 
--- the port that the digits spell
+-- the port that the digits spell, if it is at most 65,535
 abbrev pub digits_port : List ℕ → Option ℕ
 digits_port [] = None
 digits_port (b ∷ bs) =
@@ -248,8 +248,7 @@ pub data ReadsGiven (t : List ℕ) (reading : GitReading) : Type 0 where
       → reading ≡ on_this_machine path
       → ReadsGiven t reading
 
--- the reading of a text by Git: byte 0 ends the text that it receives, and a text that begins with `-` is an
--- option
+-- Git reads this place in the text, which has no byte 0 and doesn't begin with `-`
 pub record GitReads (t : List ℕ) (reading : GitReading) : Type 0 where
   pub whole : FreeOf 0 t
   pub no_option : is_option_like t ≡ false

@@ -8,7 +8,7 @@ use Rattle.git_reads.specs.declared.transport.Unread.{Unread}
 use Rattle.git_reads.specs.declared.transport.Unread.TheVariants as why
 use Rattle.git_reads.specs.Git.{GitReading, GitReads, OwnUrl, IsNoUrl, IsRemote, IsLocal, HostEnd, CutsPlace, HostAndPort, SecurePort, from_tilde}
 
--- Git reads no place in the text
+-- Git reads no place in the text: it has no reading by `GitReads`
 abbrev pub LacksReading : List ℕ → Type 0
 LacksReading t = (r : GitReading) → ¬ GitReads t r
 
@@ -53,15 +53,15 @@ pub record GetsUrl (place path : List ℕ) : Type 0 where
   pub word : SecurePort named found (codes "ssh://" ++ behind) port
   pub path_safe : is_option_like path ≡ false
 
--- Git passes such a word to Secure Shell
+-- Git passes Secure Shell a word that begins with `ssh://`
 pub record GivesUrl (t : List ℕ) : Type 0 where
   pub place : List ℕ
   pub path : List ℕ
   pub secure : IsForSecureShell t place path
   pub gets : GetsUrl place path
 
--- the fact about a text that has no reading for this reason. A text that Git refuses is not for a helper, not
--- of two places, and passes no URL to Secure Shell
+-- the reason is true of the text. A text with the reason `Refused` is not for a remote helper, doesn't name two
+-- places, and passes no URL to Secure Shell
 abbrev pub Unreads : List ℕ → Unread → Type 0
 Unreads t why.Memory = Unit {0}
 Unreads t why.ByteZero = ¬ FreeOf 0 t

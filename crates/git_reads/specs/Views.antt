@@ -15,7 +15,7 @@ scheme_of_protocol protocol.Ssh = ssh
 scheme_of_protocol protocol.Git = git
 scheme_of_protocol protocol.File = file
 
--- the place that Git reads
+-- the view of a `GitPlace`
 abbrev pub git_reading : GitPlace → GitReading
 git_reading r = record {
   protocol = scheme_of_protocol r.protocol;
@@ -25,7 +25,7 @@ git_reading r = record {
   path = r.path.now;
 }
 
--- the request to helpers
+-- the view of a `Request`
 abbrev pub credential_reading : Request → CredentialReading
 credential_reading r = record {
   protocol = r.protocol.now;

@@ -57,8 +57,8 @@ pub enum Unread {
     Option,
     /// Git passes the text to a remote helper.
     RemoteHelper,
-    /// A local path begins with `~`: `git clone` uses it unchanged, while `git fetch` and `git push` look below
-    /// a home folder.
+    /// A local path begins with `~`: `git clone` uses it unchanged, while `git fetch` and `git push` expand the
+    /// home folder.
     HomeOrHere,
     /// OpenSSH reads the word that Git passes to it as a URL.
     SecureShellUrl,

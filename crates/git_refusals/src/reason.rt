@@ -90,7 +90,7 @@ pub enum RefusalKind {
     NotUtf8,
     /// The scheme or the authority is too long.
     TooLong,
-    /// The text isn't a URL, or the host of the scp form isn't one.
+    /// The text isn't a URL, or the host of the scp form isn't valid.
     BadUrl(UrlFault),
 }
 

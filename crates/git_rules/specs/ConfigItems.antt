@@ -87,6 +87,6 @@ HasKeys text = (items : List Item) × ReadsItems (start text) items × All HasKe
 abbrev pub IsEnded : List ℕ → Type 0
 IsEnded text = (text ≡ []) ⊎ ¬ FreeOf 0 text
 
--- the text may be the output of `git config --list -z`
+-- the text is empty or contains a byte 0, and each line that a byte 0 ends has a key with a section and a name
 abbrev pub IsListing : List ℕ → Type 0
 IsListing text = IsEnded text × HasKeys text

@@ -70,7 +70,7 @@ pub record AreCredentials (r : CredentialReading) (entries : List ConfigEntry)
   pub through : UserThrough r entries r.user used.user
   pub path : IsTrue used.use_http_path ↔ UsesPath r entries
 
--- the error; `Memory` says nothing about the entries
+-- Git stops at an entry for this reason, and at no entry before it; `Memory` says nothing about the entries
 abbrev pub RefusesCredentials : CredentialReading → List ConfigEntry → CredentialsError → Type 0
 RefusesCredentials r entries Memory = Unit {0}
 RefusesCredentials r entries error = StopsFirst r entries error

@@ -10,8 +10,8 @@ use Rattle.git_syntax.specs.Grammar.{or_root}
 use Rattle.git_syntax.specs.Hosts.{Number}
 use Rattle.git_syntax.specs.Hosts.HostSyntax.{http_hosts}
 
--- a URL in its normal form, as far as Git compares it: the port is missing if it is the scheme's default port, and
--- the path includes the query and the fragment
+-- a URL in its normal form, as far as Git compares it: a missing port means the scheme's default port, and the path
+-- includes the query and the fragment
 pub record NormalPlace : Type 0 where
   pub scheme : List ℕ
   pub user : Option (List ℕ)

@@ -29,7 +29,8 @@ pub record IsOwnPlace (v : Location) (n : NormalPlace) : Type 0 where
   pub host : v.host ≡ Some n.host
   pub port : n.port ≡ own_port (scheme_text v.scheme) v.port
 
--- if all readers agree on the text of an HTTP location, its normal form is the location's own place
+-- if an HTTP location `AgreesOverWeb`, the normal form of its text has the location's own scheme, user and host, and
+-- its port unless that is the scheme's default port
 abbrev pub KeepsPlace : Type 0
 KeepsPlace = (globs : Bool) (v : Location) (t : List ℕ) (n : NormalPlace) → IsWeb v → IsValue v → AgreesOverWeb v
     → text v ≡ Ok t → IsNormalOf globs t n → IsOwnPlace v n

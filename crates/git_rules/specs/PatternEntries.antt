@@ -32,13 +32,14 @@ HasRoomFor section name None room e = Unit {0}
 HasRoomFor section name (Some place) room e = (sets section name e ≡ true)
     → IfSome e.subsection (λ url. 3 * length url + 1 ≤ room)
 
--- the rank of an entry, or an error if the buffer is too short for it
+-- the result is the rank of an entry, `None` if it has none, or an error if the buffer is too short for it
 abbrev pub RanksIn : List ℕ → List ℕ → Option NormalPlace → ℕ → ConfigEntry
     → Result (Option Rank) NormalError → Type 0
 RanksIn section name place room e (Ok rank) = HasRank (RanksEntry section name place) e rank
 RanksIn section name place room e (Err error) = (error ≡ NoRoom) × ¬ HasRoomFor section name place room e
 
--- the index of the best entry, or an error if the buffer is too short for one of them
+-- the result is the index of the best entry, `None` if no entry has a rank, or an error if the buffer is too short
+-- for one of them
 abbrev pub IsBestIn : List ℕ → List ℕ → Option NormalPlace → ℕ → List ConfigEntry
     → Result (Option ℕ) NormalError → Type 0
 IsBestIn section name place room entries (Ok best) = IsBest (RanksEntry section name place) entries best

@@ -45,8 +45,8 @@ pub record ReachesOwn (t : List ℕ) (pattern : NormalPlace) : Type 0 where
   pub asked : (r : CredentialReading) → CredentialReads t r → AsksForOwn pattern r
   pub reached : (r : UriReading) → UriReads t r → ConnectsToOwn pattern r
 
--- this holds for the text of each HTTP location that agrees with Git, and each pattern without `*` in its host that
--- matches it
+-- if a pattern without `*` in its host matches an HTTP location that `AgreesWithGit`, Git's credential code and a
+-- URI reader find the pattern's scheme, host and port in the location's text
 abbrev pub PickedGoesToOwn : Type 0
 PickedGoesToOwn = (v : Location) (t : List ℕ) (place pattern : NormalPlace)
     → IsValue v → IsWeb v → AgreesWithGit v → text v ≡ Ok t

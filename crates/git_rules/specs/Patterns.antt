@@ -108,12 +108,12 @@ pub record IsBestAt {T : Type 0} (Ranks : T → Rank → Type 0) (items : List T
   pub not_higher : All (RanksNoHigher Ranks rank) before
   pub lower : All (RanksLower Ranks rank) behind
 
--- the index of the best item, or that no item has a rank
+-- the result is the index of the best item, or `None` if no item has a rank
 abbrev pub IsBest : {T : Type 0} → (T → Rank → Type 0) → List T → Option ℕ → Type 0
 IsBest Ranks items None = All (HasNoRank Ranks) items
 IsBest Ranks items (Some i) = IsBestAt Ranks items i
 
--- a pattern that matches the place has its rank
+-- the pattern matches the place and has this rank
 abbrev pub RanksFor : NormalPlace → NormalPlace → Rank → Type 0
 RanksFor place pattern rank = Matches pattern place × (rank ≡ rank_of pattern)
 

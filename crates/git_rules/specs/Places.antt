@@ -16,7 +16,8 @@ FrontPlacesIn t room (Err (Normal NoRoom)) = room < 4 * length t + 1
 FrontPlacesIn t room (Err (Normal flaw)) = (4 * length t + 1 ≤ room) × HasFlaw false t flaw
     × ((n : NormalPlace) → ¬ IsNormalOf false t n)
 
--- the same for the text of a location, if it has one
+-- the normal form of a location's text, in a buffer of this length; or the error of the text or the buffer, or the
+-- fault for which the location has no text
 abbrev pub PlacesIn : Result (List ℕ) WriteFault → ℕ → Result NormalPlace PlaceError → Type 0
 PlacesIn (Ok t) room result = FrontPlacesIn t room result
 PlacesIn (Err fault) room result = result ≡ Err (Fault fault)

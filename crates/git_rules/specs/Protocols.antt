@@ -92,7 +92,7 @@ DecidesBy None policy name r = (chosen : Option ConfigEntry)
 abbrev pub Decides : Policy → List ℕ → Permission → Type 0
 Decides policy name r = DecidesBy policy.allow_list policy name r
 
--- the transport may be used
+-- the decision is that Git uses the transport
 abbrev pub IsAllowed : Permission → Type 0
 IsAllowed r = (by : Reason) × (r ≡ permission.Allowed by)
 
@@ -100,7 +100,7 @@ IsAllowed r = (by : Reason) × (r ≡ permission.Allowed by)
 abbrev pub of_protocol : Policy → Policy
 of_protocol policy = record policy { entries = of_section (codes "protocol") policy.entries }
 
--- Git's decision about a transport is the same with these entries as with all
+-- Git's decision about a transport is the same with the entries of the section `protocol` alone as with all entries
 abbrev pub SectionDecides : Type 0
 SectionDecides = (policy : Policy) (name : List ℕ) (r : Permission)
     → (Decides policy name r ↔ Decides (of_protocol policy) name r)

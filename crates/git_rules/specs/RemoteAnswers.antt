@@ -5,7 +5,8 @@ use Rattle.git_rules.specs.Remotes.{HaveValues, LacksFirst}
 use Rattle.git_rules.specs.declared.remote.RemoteError.{RemoteError}
 use Rattle.git_rules.specs.declared.remote.RemoteError.TheVariants.{Memory, NoValue}
 
--- the first entry that lacks a value is reported; `Memory` only if no entry lacks one
+-- the error of a remote: `NoValue` has the byte offset of the first entry that lacks a value; `Memory` is returned
+-- only if no entry lacks one
 abbrev pub RefusesRemote : List ConfigEntry → RemoteError → Type 0
 RefusesRemote entries Memory = HaveValues entries
 RefusesRemote entries (NoValue at) = LacksFirst entries at

@@ -19,7 +19,7 @@ abbrev pub HasOneUrl : List ℕ → List ConfigEntry → List ℕ → Type 0
 HasOneUrl remote entries url = (values_of remote url_key entries ≡ url ∷ [])
     × (values_of remote pushurl_key entries ≡ [])
 
--- for a remote with one URL and no push URL, Git pushes to the outcome for that URL
+-- if a remote has one URL and no push URL, Git pushes to that URL, rewritten
 abbrev pub OneUrlIsPushed : Type 0
 OneUrlIsPushed = (rules : Rules) (remote : List ℕ) (entries : List ConfigEntry) (url : List ℕ) (o : Outcome)
     → HasOneUrl remote entries url → IsRewrittenToPush rules false url o → ArePushUrls rules remote entries (o ∷ [])
@@ -29,7 +29,7 @@ abbrev pub HasOnePushUrl : List ℕ → List ConfigEntry → List ℕ → Type 0
 HasOnePushUrl remote entries url = (is_its_own_url remote entries ≡ false)
     × (values_of remote pushurl_key entries ≡ url ∷ [])
 
--- for a remote with one push URL, Git pushes to the outcome for the push URL
+-- if a remote has one push URL, Git pushes to that URL, rewritten
 abbrev pub OnePushUrlIsPushed : Type 0
 OnePushUrlIsPushed = (rules : Rules) (remote : List ℕ) (entries : List ConfigEntry) (url : List ℕ) (o : Outcome)
     → HasOnePushUrl remote entries url → IsRewrittenToPush rules true url o

@@ -52,7 +52,7 @@ abbrev pub is_subsection_of : List ℕ → List ℕ → List ℕ → Bool
 is_subsection_of remote key [] = bytes_eq remote (dot ∷ key)
 is_subsection_of remote key (b ∷ bs) = not (b == slash) && bytes_eq (b ∷ bs) remote
 
--- the same for an optional subsection; a missing one denotes no remote
+-- the optional subsection of an entry with this name denotes the remote; a missing one denotes none
 abbrev pub names_remote : List ℕ → List ℕ → Option (List ℕ) → Bool
 names_remote remote key None = false
 names_remote remote key (Some subsection) = is_subsection_of remote key subsection
@@ -125,7 +125,7 @@ pub record HasPushUrls (rules : Rules) (remote : List ℕ) (entries : List Confi
   pub tried : AreRuled rules.pushing (tried_urls remote entries) ruled
   pub joined : found ≡ given ++ ruled
 
--- Git pushes to these: the push URLs, or if there are none all URLs that it would fetch from
+-- these are the URLs that Git pushes to: the push URLs, or if there are none all URLs that it would fetch from
 abbrev pub ArePushUrls : Rules → List ℕ → List ConfigEntry → List Outcome → Type 0
 ArePushUrls rules remote entries found = (HasPushUrls rules remote entries found × (¬ (found ≡ [])))
     ⊎ (HasPushUrls rules remote entries [] × AreUrls rules remote entries found)
@@ -147,11 +147,11 @@ has_read_name e = has_name url_key e || (has_name pushurl_key e || (has_name vcs
 abbrev pub lacks_value : ConfigEntry → Bool
 lacks_value e = is_none e.value && (is_remote e.subsection && (is_of_section remote_section e && has_read_name e))
 
--- no entry lacks a value
+-- no entry that sets one of a remote's six names lacks a value
 abbrev pub HaveValues : List ConfigEntry → Type 0
 HaveValues entries = All (λ e. lacks_value e ≡ false) entries
 
--- the first entry that lacks a value begins at this byte
+-- the first entry that sets one of a remote's six names without a value begins at this byte
 pub record LacksFirst (entries : List ConfigEntry) (at : ℕ) : Type 0 where
   pub before : List ConfigEntry
   pub entry : ConfigEntry

@@ -12,13 +12,13 @@ abbrev pub HasFront : ConfigEntry → Result (Bor (List ℕ)) RewriteError → T
 HasFront e (Ok front) = e.value ≡ Some front.now
 HasFront e (Err error) = (e.value ≡ None) × (error ≡ NoValue e.at)
 
--- an entry is added, or lacks a value and changes nothing; a failed allocation changes nothing either
+-- the rule of the entry, if it is a rule, is appended; if it lacks a value or an allocation failed, nothing changes
 abbrev pub AddsEntry : ConfigEntry → Rules → Rules → Result (Unit {0}) RewriteError → Type 0
 AddsEntry e old new (Ok _) = (¬ LacksValue e) × (new ≡ with_entry old e)
 AddsEntry e old new (Err (NoValue at)) = LacksValue e × (at ≡ e.at) × (new ≡ old)
 AddsEntry e old new (Err Memory) = new ≡ old
 
--- the rules of the entries, none of which lacks a value; or the first entry that does
+-- the rules of the entries, if each entry of a rule has a value; otherwise the byte offset of the first one without
 abbrev pub IsFilled : List ConfigEntry → Result Rules RewriteError → Type 0
 IsFilled entries (Ok rules) = AllHaveValues entries × (rules ≡ rules_of entries)
 IsFilled entries (Err (NoValue at)) = FirstLacks entries at

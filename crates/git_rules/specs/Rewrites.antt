@@ -71,8 +71,8 @@ abbrev pub IsRewritten : List Rule → List ℕ → Outcome → Type 0
 IsRewritten rules text o = ((o.base ≡ None) × (o.rest ≡ text) × NoneApplies rules text)
     ⊎ ((r : Rule) × Wins rules text r × (o.base ≡ Some r.base) × (text ≡ r.front ++ o.rest))
 
--- the outcome for a location to push to: the push URL of a remote is rewritten as for fetching; its URL is
--- rewritten by the rules for pushing if one applies, otherwise as for fetching
+-- the outcome for a text that Git pushes to. A push URL is rewritten as for fetching; a URL is rewritten by the
+-- rules for pushing if one applies, otherwise as for fetching
 abbrev pub IsRewrittenToPush : Rules → Bool → List ℕ → Outcome → Type 0
 IsRewrittenToPush rules true text o = IsRewritten rules.fetching text o
 IsRewrittenToPush rules false text o = ((¬ NoneApplies rules.pushing text) × IsRewritten rules.pushing text o)

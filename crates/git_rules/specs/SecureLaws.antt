@@ -27,6 +27,7 @@ pub record HasOwnWords (v : Location) : Type 0 where
   pub made : (r : Request) → request_refusal r v.port ≡ None → ssh_refusal r v ≡ None
   pub words : (t : List ℕ) → text v ≡ Ok t → GivesSecure t (destination v.user host) v.port v.path
 
--- this holds for each Secure Shell location that agrees with Git
+-- for each Secure Shell location that `AgreesWithGit` there is a command, unless the request is refused, and its
+-- destination, port and path are those that Git passes to Secure Shell for the location's text
 abbrev pub GivesOwnWords : Type 0
 GivesOwnWords = (v : Location) → IsValue v → AgreesWithGit v → v.scheme ≡ ssh → HasOwnWords v

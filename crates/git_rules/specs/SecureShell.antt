@@ -28,7 +28,7 @@ pub record Request : Type 0 where
   pub version : ProtocolVersion
   pub family : AddressFamily
 
--- a request for a service alone: its own program, and any address family
+-- a request for a service alone: with the service's own program, and any address family
 abbrev pub service_alone : Service → SshVariant → ProtocolVersion → Request
 service_alone asked client spoken =
     record { service = asked; program = None; variant = client; version = spoken; family = Any }
@@ -138,7 +138,7 @@ host_refusal (Some (b ∷ bs)) =
     else (if is_option_like (b ∷ bs) then Some refusal.OptionLikeHost
     else (if list_any (λ c. c == at_sign) (b ∷ bs) then Some refusal.AtSignInHost else None))
 
--- OpenSSH reads such a word as a URL
+-- the text begins with `ssh://`, so OpenSSH reads it as a URL
 abbrev pub is_url_like : List ℕ → Bool
 is_url_like text = starts_with (λ a b. a == b) text (codes "ssh://")
 
@@ -222,8 +222,8 @@ pub record Command : Type 0 where
   pub port : Option ℕ
   pub path : List ℕ
 
--- its user and host form a destination, its program and its path a remote command, and its variant has options for
--- its address family and its port
+-- the command's user and host form a destination, its program and its path a remote command, and its variant has
+-- options for its address family and its port
 abbrev pub IsSafe : Command → Type 0
 IsSafe c = is_none (parts_refusal c.request c.user (Some c.host) c.port c.path) ≡ true
 
@@ -272,13 +272,15 @@ pub record IsReadThere (c : Command) : Type 0 where
   pub program : (words : List (List ℕ)) → shell_words (program_text c.request) ≡ Some words
       → shell_words (run_there c) ≡ Some (words ++ c.path ∷ [])
 
--- the properties of each command
+-- no word of the command except its options begins with `-`, OpenSSH finds the command's user and host in the
+-- destination, and a shell reads its path as one word
 pub record IsSafeCommand (c : Command) : Type 0 where
   pub no_options : HasNoOptions c
   pub cut : IsCutAlike c
   pub words : IsReadThere c
 
--- these are the words of a command for the location and the request
+-- these are the words of a command for the location and the request: its user, host, port and path are the
+-- location's, and `IsSafeCommand` holds of it
 pub record AreWordsFor (v : Location) (r : Request) (said : List (List ℕ)) : Type 0 where
   pub command : Command
   pub made : ssh_refusal r v ≡ None

@@ -83,7 +83,8 @@ pub record FirstTakenLacks (name : List ℕ) (place : Option NormalPlace) (entri
   pub begins : at ≡ entry.at
   pub first : (j : ℕ) (e : ConfigEntry) → j < index → IsTakenAt name place entries j e → ¬ (e.value ≡ None)
 
--- the buffer is too short for the URL of an entry, or an entry of a list has no value; `Memory` says nothing about them
+-- the buffer is too short for the URL of an entry, or an entry of a list has no value; `Memory` says nothing about
+-- the entries
 abbrev pub RefusesSettings : List ℕ → Option NormalPlace → ℕ → List ConfigEntry → SettingsError → Type 0
 RefusesSettings name place room entries Memory = Unit {0}
 RefusesSettings name place room entries NoRoom = ¬ All (HasRoomFor (codes "http") name place room) entries

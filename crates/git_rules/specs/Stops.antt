@@ -93,7 +93,7 @@ remote_kind e = kind_for_remote e.subsection e.name
 abbrev pub protocol_kind : List ℕ → Option ValueKind
 protocol_kind name = if is_word name (codes "allow") then Some kind.Allowance else None
 
--- the kind of value that an entry needs
+-- the kind of value that an entry needs, if Git stops at other values
 abbrev pub kind_of : ConfigEntry → Option ValueKind
 kind_of e = if is_of_section (codes "http") e then http_kind e.name
     else (if is_of_section (codes "credential") e then Some (credential_kind e.name)
@@ -140,6 +140,6 @@ abbrev pub stop_by : ValueKind → Option (List ℕ) → Option Stop
 stop_by kind None = stop_without kind
 stop_by kind (Some value) = stop_with kind value
 
--- the reason why Git stops at an entry
+-- the reason why Git stops at an entry, if it does
 abbrev pub stop_at : ConfigEntry → Option Stop
 stop_at e = option_and_then (λ kind. stop_by kind e.value) (kind_of e)

@@ -34,7 +34,8 @@ pub data UsesTransport (t name : List ℕ) : Type 0 where
   scp_form : IsNoUrl t → IsRemote t → name ≡ codes "ssh" → UsesTransport t name
   local_path : IsNoUrl t → IsLocal t → name ≡ codes "file" → UsesTransport t name
 
--- Git gets the whole text, it is no option, and its transport has this name
+-- Git uses the transport of this name for the text: the text has no byte 0 and doesn't begin with `-`, and its form
+-- has this transport
 pub record HasTransport (t name : List ℕ) : Type 0 where
   pub given : IsGiven t
   pub uses : UsesTransport t name
@@ -82,12 +83,11 @@ abbrev pub EachDecided : Type 0
 EachDecided = (t : List ℕ)
     → ((name : List ℕ) × HasTransport t name) ⊎ ((w : NoTransport) × LacksTransport t w)
 
--- if Git reads a place in a text, the transport of the text is that of the place
+-- a text in which Git reads a place has the transport of the place's protocol
 abbrev pub TransportOfReading : Type 0
 TransportOfReading = (t : List ℕ) (r : GitReading) → GitReads t r → HasTransport t (scheme_text r.protocol)
 
--- if Git agrees with this library on the text of a location, the transport of the text is that of the location's
--- scheme
+-- the text of a location that `AgreesWithGit` has the transport of the location's scheme
 abbrev pub TransportOfLocation : Type 0
 TransportOfLocation = (v : Location) (t : List ℕ) → IsValue v → AgreesWithGit v → text v ≡ Ok t
     → HasTransport t (scheme_text v.scheme)

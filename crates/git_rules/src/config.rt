@@ -54,16 +54,14 @@ impl<'a> Model for Entry<'a> {
 }
 
 impl Entry<'_> {
-    /// Whether the entry is in the section, ignoring letter case (ASCII), as Git compares sections. [`Entry`] has
-    /// an example.
+    /// Whether the entry is in the section, ignoring letter case (ASCII), as Git compares sections.
     pub fn is_section(&self, section: &str) -> bool
         ensures { result ≡ is_of_section section.now self.now }
     {
         is_word(self.section, section)
     }
 
-    /// Whether the entry has the name, ignoring letter case (ASCII), as Git compares names. [`Entry`] has an
-    /// example.
+    /// Whether the entry has the name, ignoring letter case (ASCII), as Git compares names.
     pub fn is_name(&self, name: &str) -> bool
         ensures { result ≡ has_name name.now self.now }
     {
@@ -86,7 +84,7 @@ impl Entry<'_> {
     }
 }
 
-/// An error in the text, with the byte offset of the faulty entry. [`Reader`] has an example.
+/// An error in the text, with the byte offset of the faulty entry, as a [`Reader`] returns it.
 #[derive(Clone, Copy, Debug, Drop, PartialEq, Eq, Error)]
 pub enum EntryError {
     /// The key has no section or no name: it has no dot, begins with a dot or ends in one. The reader goes on with
@@ -142,7 +140,7 @@ impl<'a> Model for Reader<'a> {
 }
 
 impl<'a> Reader<'a> {
-    /// Returns a reader of the text that `git config --list -z` writes. [`Reader`] has an example.
+    /// Returns a reader of the text that `git config --list -z` writes.
     pub fn new(text: &'a [u8]) -> Reader<'a>
         ensures { result ≡ start text.now }
     {

@@ -135,8 +135,8 @@ impl Protocols<'_> {
     /// 1. If `GIT_ALLOW_PROTOCOL` is set, it allows the names in it and refuses all others.
     /// 2. Otherwise the last entry of `protocol.<name>.allow` decides, or else the last one of `protocol.allow`, by
     ///    its value: `always`, `never` or `user`, ignoring letter case (ASCII).
-    /// 3. Otherwise `http`, `https`, `git` and `ssh` are as with `always`, `ext` as with `never`, and all others,
-    ///    including `file`, as with `user`.
+    /// 3. Otherwise `http`, `https`, `git` and `ssh` are treated as with `always`, `ext` as with `never`, and all
+    ///    others, including `file`, as with `user`.
     ///
     /// With `user`, the transport is allowed if `GIT_PROTOCOL_FROM_USER` is true or not set. Names are
     /// case-sensitive. A value that Git can't read is reported only if Git stops for it because it needs it: the

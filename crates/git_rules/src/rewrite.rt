@@ -89,9 +89,9 @@ impl<'a> Rewrites<'a> {
         }
     }
 
-    /// Returns the rules of a configuration: `url.<base>.insteadOf` for fetching and `url.<base>.pushInsteadOf` for
-    /// pushing, in the order of the entries. As in Git, an entry without a subsection isn't a rule. Allocates as
-    /// the tables grow. [`Rewrites`] has an example.
+    /// Returns the rules of a configuration: `url.<base>.insteadOf` for fetching and `url.<base>.pushInsteadOf`
+    /// for pushing, in the order of the entries. As in Git, an entry without a subsection isn't a rule. Allocates
+    /// as the tables grow.
     ///
     /// # Errors
     ///
@@ -186,7 +186,7 @@ impl<'a> Rewrites<'a> {
         self.push.add(base, front)
     }
 
-    /// Rewrites a text that Git fetches from. [`Rewrites`] has an example.
+    /// Rewrites a text that Git fetches from.
     ///
     /// Allocates nothing, and doesn't go through the rules: the text is looked up once for each length of a front
     /// that is at most its own. That takes at most the sum of these lengths, in bytes, times the logarithm of the

@@ -17,7 +17,7 @@ use crate::word::is_word;
 use git_syntax::bytes::starts_with_byte;
 use thiserror::Error;
 
-/// The kind of value that an entry needs. [`stop_at`] has an example.
+/// The kind of value that an entry needs, as [`kind_of`] returns it.
 #[derive(Clone, Copy, Debug, PartialEq, Eq)]
 pub enum ValueKind {
     /// A text, which may be empty.
@@ -38,7 +38,7 @@ pub enum ValueKind {
     Allowance,
 }
 
-/// The reason why Git stops at an entry. [`stop_at`] has an example.
+/// The reason why Git stops at an entry, as [`stop_at`] returns it.
 #[derive(Clone, Copy, Debug, PartialEq, Eq, Error)]
 pub enum Stop {
     /// The value is missing, and Git needs one.
@@ -66,8 +66,6 @@ pub enum Stop {
 /// - `url.<base>.insteadOf`, `url.<base>.pushInsteadOf`, `remote.<name>.*` and `remote.pushDefault`
 ///   (`handle_config` in `remote.c`);
 /// - `protocol.allow` and `protocol.<name>.allow` (`transport.c`).
-///
-/// [`stop_at`] has an example.
 pub fn kind_of(entry: &Entry<'_>) -> Option<ValueKind>
     ensures { result ≡ kind_of entry.now }
 {

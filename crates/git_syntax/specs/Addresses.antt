@@ -14,7 +14,7 @@ IsGroup g = (0 < length g) × (length g ≤ 4) × (list_all is_hexadecimal g ≡
 abbrev pub IsOctet : List ℕ → Type 0
 IsOctet t = (n : ℕ) × (n ≤ 255) × (t ≡ decimal n)
 
--- an IPv4 text: four such numbers joined by `.`
+-- an IPv4 text: four decimal numbers up to 255 without leading zeros, joined by `.`
 pub record IsIpv4Text (t : List ℕ) : Type 0 where
   pub first : List ℕ
   pub second : List ℕ
@@ -47,7 +47,7 @@ pub record IsShortAddress (t : List ℕ) : Type 0 where
   pub short : front_count + back_count ≤ 7
   pub joined : t ≡ join_with_byte colon front ++ colon ∷ (colon ∷ join_with_byte colon back)
 
--- an IPv6 text
+-- an IPv6 text: eight groups, or fewer around one `::`; an IPv4 text may replace the last two
 abbrev pub IsIpv6Text : List ℕ → Type 0
 IsIpv6Text t = IsFullAddress t ⊎ IsShortAddress t
 

@@ -111,11 +111,11 @@ begins_by test (b ∷ bs) = test b
 abbrev pub begins_with : ℕ → List ℕ → Bool
 begins_with c bs = begins_by (λ b. b == c) bs
 
--- a text that begins with `-` may be read as an option
+-- the text begins with `-`, so a program may take it for an option
 abbrev pub is_option_like : List ℕ → Bool
 is_option_like text = begins_with hyphen text
 
--- the mark occurs in the text
+-- the first text occurs in the second
 abbrev pub Holds : List ℕ → List ℕ → Type 0
 Holds mark bs = (front : List ℕ) × (rest : List ℕ) × (bs ≡ front ++ (mark ++ rest))
 

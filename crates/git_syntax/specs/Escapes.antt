@@ -40,7 +40,7 @@ has_percent bs = list_any (λ b. b == percent_sign) bs
 abbrev pub is_printable_byte : ℕ → Bool
 is_printable_byte b = nat_lt space b && nat_lt b delete
 
--- each byte is printable ASCII
+-- each byte of the text is printable ASCII
 abbrev pub is_printable : List ℕ → Bool
 is_printable bs = list_all is_printable_byte bs
 
@@ -48,7 +48,7 @@ is_printable bs = list_all is_printable_byte bs
 abbrev pub is_plain_byte : ℕ → Bool
 is_plain_byte b = nat_lt space b && (nat_lt b delete && not (b == percent_sign))
 
--- each byte is printable ASCII other than `%`
+-- each byte of the text is printable ASCII other than `%`
 abbrev pub is_plain : List ℕ → Bool
 is_plain bs = list_all is_plain_byte bs
 

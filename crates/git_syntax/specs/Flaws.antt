@@ -57,7 +57,7 @@ pub data HasBadHost (syntax : HostSyntax) (piece : List ℕ) : Type 0 where
   -- HTTP refuses colons that don't begin a port
   colons_on_the_web : syntax ≡ http_hosts → begins_with left_bracket piece ≡ false → IsManyColoned piece
       → HasBadHost syntax piece
-  -- a text with such colons denotes no host
+  -- a text with colons that don't begin a port denotes no host
   colons : ¬ (syntax ≡ http_hosts) → ¬ ReadsAddress syntax piece → begins_with left_bracket piece ≡ false
       → IsManyColoned piece → IsNoHost syntax piece → HasBadHost syntax piece
   -- a bracket is not closed

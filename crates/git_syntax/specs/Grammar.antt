@@ -101,7 +101,7 @@ from_home [] = []
 from_home (a ∷ []) = a ∷ []
 from_home (a ∷ b ∷ rest) = if a == slash && b == tilde then b ∷ rest else a ∷ b ∷ rest
 
--- the path, or the root if it is empty
+-- the path, or `/` if it is empty
 abbrev pub or_root : List ℕ → List ℕ
 or_root [] = slash ∷ []
 or_root (b ∷ bs) = b ∷ bs

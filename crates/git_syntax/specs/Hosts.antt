@@ -72,7 +72,7 @@ abbrev pub IsAddressPiece : List ℕ → Type 0
 IsAddressPiece piece = IsIpv6Text piece
     ⊎ ((address : List ℕ) × IsIpv6Text address × (piece ≡ address ++ colon ∷ []))
 
--- such a text, in a syntax in which an address needs no brackets
+-- an IPv6 text without brackets, or one that a colon follows, in a syntax in which an address needs no brackets
 abbrev pub ReadsAddress : HostSyntax → List ℕ → Type 0
 ReadsAddress syntax piece = (syntax ≡ git_hosts) × IsAddressPiece piece
 

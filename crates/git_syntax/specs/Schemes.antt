@@ -62,12 +62,12 @@ requires_path ssh = true
 requires_path git = true
 requires_path _ = false
 
--- the scheme is a known one
+-- the text is the name of a known scheme
 abbrev pub is_known_scheme : List ℕ → Bool
 is_known_scheme s = is_ssh_scheme s
     || (is_web_scheme s ||
     (bytes_eq s (codes "file") || (bytes_eq s (codes "git") || bytes_eq s (codes "ext"))))
 
--- the name is one of FTP, whose URLs need a host
+-- the name is `ftp` or `ftps`, whose URLs need a host
 abbrev pub is_ftp : List ℕ → Bool
 is_ftp name = bytes_eq name (codes "ftp") || bytes_eq name (codes "ftps")

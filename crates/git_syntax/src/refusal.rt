@@ -67,7 +67,7 @@ pub enum Refusal {
     },
     /// The scheme or the authority is too long.
     TooLong,
-    /// The text isn't a URL, or the host of the scp form isn't one.
+    /// The text isn't a URL, or the host of the scp form isn't valid.
     BadUrl {
         /// The form that the text was read as.
         kind: UrlKind,

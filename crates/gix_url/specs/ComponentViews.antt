@@ -33,7 +33,7 @@ pair_lent pair = (is_borrowed pair.0, is_borrowed pair.1)
 abbrev pub what_is_lent : PathComponents → Option (List (Bool × Bool))
 what_is_lent parts = option_map (λ pairs. map pair_lent pairs.items) parts.query
 
--- the components that were returned
+-- the components that a `PathComponents` represents
 abbrev pub components : PathComponents → Components
 components parts = record {
   path = bstr_bytes parts.path;
@@ -67,7 +67,8 @@ pub record LentFields (v : Location) (pairs : List (QueryText × QueryText)) : T
   pub split : CutsFields query fields
   pub lent : LentPairs v fields pairs
 
--- the names and values that were returned, if any were
+-- the names and values of the query, if there is a query, are those of the location's original path; each is
+-- borrowed unless its piece has a raw `+`
 abbrev pub LentQuery : Location → Option (List (QueryText × QueryText)) → Type 0
 LentQuery v None = Unit {0}
 LentQuery v (Some pairs) = LentFields v pairs

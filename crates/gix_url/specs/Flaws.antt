@@ -30,7 +30,7 @@ abbrev pub Flaw : List ℕ → Error → Type 0
 Flaw b error.Memory = Unit {0}
 Flaw b e = (r : Refusal) × Refused b r × IsErrorOf b r e
 
--- the error is not a parse error
+-- the error is not one with which a text is refused when it is read
 abbrev pub IsNotOfReading : Error → Type 0
 IsNotOfReading error.EmptyLocal = ⊥
 IsNotOfReading (error.MissingPath form input) = ⊥

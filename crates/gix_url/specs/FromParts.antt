@@ -12,7 +12,7 @@ use Rattle.git_location.specs.Text.{text}
 use Rattle.git_location.specs.Settled.{IsSettled}
 use Rattle.gix_url.specs.Readings.{Reads}
 
--- the location with these fields, and no spelling
+-- the location with these seven fields, and no spelling
 abbrev pub of_parts : Scheme → Option (List ℕ) → Option (List ℕ) → Option (List ℕ) → Option ℕ
     → List ℕ → Bool → Location
 of_parts named user password host port path flag = record {
@@ -66,10 +66,10 @@ pub record MadeOf (given : Location) (result : Result Location Error) : Type 0 w
   -- a name of a remote helper that isn't valid is refused, and reported
   pub helper_name : (name : List ℕ) → invalid_name given.scheme ≡ Some name
       → (e : Error) × (result ≡ Err e) × ReportsName name e
-  -- otherwise a fault of their text is returned
+  -- otherwise, if the fields have no text, the fault is returned
   pub fault : invalid_name given.scheme ≡ None → (f : WriteFault) → text given ≡ Err f
       → result ≡ Err (error.Unwritable f)
-  -- otherwise their text is read
+  -- otherwise the text of the fields is read
   pub read : (t : List ℕ) → text given ≡ Ok t → ReadsKept given t result
   -- settled fields come back unchanged
   pub settled : IsSettled given → GivesBack given result

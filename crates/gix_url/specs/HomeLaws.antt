@@ -12,7 +12,7 @@ abbrev pub OneSplit : Type 0
 OneSplit = (path : List ℕ)
     → ExactlyOne {A = Option HomeUser × List ℕ} (λ split. SplitsHome path split.0 split.1)
 
--- a path has exactly one reading for a shell
+-- there is exactly one text as which a shell takes a path
 abbrev pub OneReading : Type 0
 OneReading = (path : List ℕ) → ExactlyOne (ForShell path)
 

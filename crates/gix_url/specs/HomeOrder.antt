@@ -26,7 +26,7 @@ user_eq u v = text_eq (user_name u) (user_name v)
 abbrev pub user_cmp : HomeUser → HomeUser → Ordering
 user_cmp = on user_name text_cmp
 
--- for a user a hasher is fed whether there is a name, and the name
+-- a user feeds a hasher whether there is a name, and the name
 abbrev pub fed_user : HomeUser → HashWrites
 fed_user u = fed.u8 (there (user_name u)) ++ fed_part fed_bytes (user_name u)
 
@@ -51,10 +51,11 @@ user_decides u v = (
       (text_decides (user_name u) (user_name v)).1 (ap user_name e),
 )
 
+-- equality of users is an equivalence
 pub user_equiv : IsEquivalence user_eq
 user_equiv = decided user_eq user_decides
 
--- the order is total
+-- the order of users is total
 pub user_total : IsTotalOrder user_cmp
 user_total = on_total user_name text_total
 
@@ -62,9 +63,10 @@ user_total = on_total user_name text_total
 pub user_ties : (u v : HomeUser) → user_eq u v ≡ eq_by_cmp user_cmp u v
 user_ties u v = text_ties (user_name u) (user_name v)
 
+-- the order of users is a partial order that agrees with equality
 pub user_po : IsPartialOrder user_eq (λ u v. Some (user_cmp u v))
 user_po = po user_total user_ties
 
--- equal users are fed to a hasher alike
+-- equal users feed a hasher alike
 pub users_alike : (u v : HomeUser) → user_eq u v ≡ true → fed_user u ≡ fed_user v
 users_alike u v e = ap fed_user ((user_decides u v).0 e)

@@ -20,14 +20,15 @@ AnswerAlike b room (Err e) (Ok w) = e ≡ error.Memory
 AnswerAlike b room (Err e) (Err unread.NoRoom) = (e ≡ error.Memory) × (room < length b)
 AnswerAlike b room (Err e) (Err (unread.Refused refusal)) = Unit {0}
 
--- the results of reading with allocation and of reading into a buffer agree
+-- reading the same bytes with allocation and into a buffer has the same result: one location or a refusal each,
+-- unless an allocation failed or the buffer is shorter than the bytes
 abbrev pub ReadersAgree : Type 0
 ReadersAgree = (b : List ℕ) (room : ℕ) (owned : Result Location Error)
     (lent : Result Location ParseError) → Reads b owned → ReadsIn b room lent
     → AnswerAlike b room owned lent
 
--- with a buffer as long as the bytes, the one returns a location exactly if the other does, unless an
--- allocation failed
+-- if the buffer is at least as long as the bytes, reading into it returns a location exactly if reading with
+-- allocation returns it, unless an allocation failed
 abbrev pub SameWithRoom : Type 0
 SameWithRoom = (b : List ℕ) (room : ℕ) (owned : Result Location Error)
     (lent : Result Location ParseError) → length b ≤ room → Reads b owned → ReadsIn b room lent

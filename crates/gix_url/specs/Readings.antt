@@ -20,15 +20,15 @@ Refuses b e = NoneBut (Spells b) e
 
 -- the result of reading the bytes
 pub record Reads (b : List ℕ) (result : Result Location Error) : Type 0 where
-  -- a location that they spell
+  -- a location that is returned is one that the bytes spell
   pub found : IfOk result (Spells b)
-  -- or an error, if they spell none or an allocation failed
+  -- an error is returned only if the bytes spell none, or an allocation failed
   pub refused : IfErr result (Refuses b)
-  -- the flaw that the error names is in them
+  -- the flaw that the error names is in the bytes
   pub flaw : IfErr result (Flaw b)
   -- the empty text is refused as such
   pub empty : b ≡ [] → result ≡ Err error.EmptyLocal
-  -- if they spell a location, it is returned, unless an allocation failed
+  -- if the bytes spell a location, it is returned, unless an allocation failed
   pub answered : (v : Location) → Spells b v → (result ≡ Ok v) ⊎ (result ≡ Err error.Memory)
 
 -- the result of writing a settled location into an owned text: its text, or a failed allocation

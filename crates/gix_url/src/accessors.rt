@@ -59,8 +59,8 @@ impl Url {
 
     /// The password, decoded, if there is one. Allocates nothing.
     ///
-    /// Neither `Display` nor `Debug` shows this field. The text of the location contains it, unless there is no
-    /// user.
+    /// Neither `Display` nor `Debug` shows this field, as [`Url`] describes. The text of the location contains it,
+    /// unless there is no user.
     ///
     /// ```
     /// fn asks_for_password(url: &Url) -> bool {
@@ -75,8 +75,8 @@ impl Url {
 
     /// The host, if there is one. Allocates nothing.
     ///
-    /// For Secure Shell an IPv6 text has no brackets, for other schemes it has them if the text had them. A
-    /// host may begin with `-`: pass it to a command by [`Url::host_as_argument`].
+    /// An IPv6 text has brackets as the field `host` of [`Url`] describes. A host may begin with `-`: pass it to a
+    /// command by [`Url::host_as_argument`].
     ///
     /// ```
     /// fn is_here(url: &Url) -> bool {

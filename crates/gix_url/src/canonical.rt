@@ -69,9 +69,9 @@ impl Url {
         }
     }
 
-    /// A copy of the location whose path is replaced by the result of `resolve` for it, if the location is a
-    /// local one: [`Url::clone`], and then [`Url::canonicalize`] of the copy. All other fields are those of the
-    /// location.
+    /// A copy of a local location with the result of `resolve` as its path; a copy of any other location. The
+    /// result is that of [`Url::clone`], and then [`Url::canonicalize`] of the copy. All other fields are those of
+    /// the location.
     ///
     /// # Errors
     ///

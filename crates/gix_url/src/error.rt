@@ -19,8 +19,8 @@ use thiserror::Error;
 /// Why a text or a value was refused.
 ///
 /// `Display` says it in words, `Debug` by its fields. Neither shows bytes of a text that was refused, which may
-/// have a password: `Debug` shows their number, but the user of `NoHome` unchanged. The bytes are in the
-/// fields.
+/// have a password; this is tested, no clause says it. `Debug` shows the number of these bytes, but the user of
+/// `NoHome` unchanged. The bytes are in the fields.
 ///
 /// [`Error::refusal`] returns the place and the reason of the flaw in the text of a parse error.
 ///
@@ -63,7 +63,7 @@ pub enum Error {
         /// The length of the text, in bytes.
         total: usize,
     },
-    /// The text isn't a URL, or the host of the scp form isn't one.
+    /// The text isn't a URL, or the host of the scp form isn't valid.
     #[error("the {kind} has {fault}")]
     BadUrl {
         /// The form that the text was read as.
@@ -73,7 +73,7 @@ pub enum Error {
         /// The text.
         input: BString,
     },
-    /// The name of a remote helper is not a valid one.
+    /// The name of the remote helper isn't valid.
     #[error("the remote helper has no valid name")]
     HelperName {
         /// The name.

@@ -38,8 +38,8 @@ impl Url {
     ///
     /// # Errors
     ///
-    /// - [`Error::HelperName`] exactly for a remote helper whose name is not a valid one, with that name.
-    ///   Allocates nothing.
+    /// - [`Error::HelperName`] exactly for a remote helper whose name isn't valid, with that name. Allocates
+    ///   nothing.
     /// - [`Error::Unwritable`] otherwise, exactly if the fields have no text. Allocates nothing.
     /// - The error of [`crate::parse::parse`] for the text, if that spells no location.
     /// - [`Error::Memory`] if an allocation fails. For settled fields this is the only error.

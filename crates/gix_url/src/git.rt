@@ -15,32 +15,22 @@ use git_readers::unambiguous::{Condition, is_unambiguous, unmet_condition};
 
 impl Url {
     /// Whether Git reads this very place in the text of the location: the same scheme, user, host, port and
-    /// path. The brackets around an IPv6 address don't count: the host of `git://[::1]/p` is `[::1]` here, and
-    /// Git connects to `::1`. Allocates nothing.
-    ///
-    /// Pass Git the text that [`Url::to_bstring`] writes, and not another one that was read as the location:
-    /// for `ssh://@h/p`, which is written as `ssh://h/p`, the result is `true`, but Git would pass Secure Shell
-    /// the word `@h`, which it refuses. The definition `GitReads` is a model of Git. It is not proved of Git: a
-    /// second reading of it was compared with git 2.39.5 on Linux, text by text. `docs/GIT.md` has the cases.
+    /// path; of `git://` the host without the brackets around it. The host of `git://[::1]/p` is `[::1]` here,
+    /// and Git connects to `::1`. Allocates nothing.
     ///
     /// Git passes a text of HTTP to curl, and asks its credential code for a password. For such a location,
     /// `true` means that this code reads in the text the location's own scheme, user, password, host with port,
-    /// and path, and that the text is a URI of RFC 3986 in the normal form, whose components are the location's
-    /// own (`ReadsOwnOverWeb`). Such a location is settled, and
+    /// and path, the path without the slashes around it, and that the text is a URI of RFC 3986 in the normal
+    /// form, whose components are the location's own (`ReadsOwnOverWeb`).
     ///
-    /// - its host is a name of lower-case letters, digits, `-`, `.` and `_` whose last label begins with a
-    ///   letter, an IPv4 address, or an IPv6 address in brackets;
-    /// - neither user, password nor path has a control character, and the user has no `:`;
-    /// - the path begins with one `/`, and has no `#`, no `?` at its end and no segment `.` or `..`, not in the
-    ///   query either; it is written in the bytes that a path and a query of a URI may have;
-    /// - neither the written password nor the written path has both a `:` and an escape.
+    /// Pass Git the text that [`Url::to_bstring`] writes, and not another one that was read as the location:
+    /// for `ssh://@h/p`, which is written as `ssh://h/p`, the result is `true`, but Git would pass Secure Shell
+    /// the word `@h`, which it refuses.
     ///
-    /// The result is `false` for a location that Git passes to another remote helper, for an empty user of
-    /// Secure Shell (`@h:p`), for a local path that begins with `~`, where `git fetch` and `git push` open a
-    /// path below a home folder and `git clone` opens this one, and for an unsettled location. It is also
-    /// `false` for some texts that Git reads alike: except for HTTP, with an escape before the path, or with
-    /// brackets that aren't around an address; with a host that begins with `-`, of `git://` or after a user
-    /// (`u@-h:p`); and with a `~` after the one that begins the path (`ssh://h/~~a`).
+    /// `docs/GIT.md` lists the conditions, and Git's readings of texts that don't meet them. The result is `false`
+    /// for an unsettled location, for one that Git passes to another remote helper than that of HTTP, and for some
+    /// that Git reads alike. The definitions, such as `GitReads`, are a model of Git: that Git 2.39.5 on Linux
+    /// follows them is tested, not proved.
     ///
     /// ```
     /// /// The text for Git, if Git reads the same place in it.

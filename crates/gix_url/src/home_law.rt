@@ -8,7 +8,7 @@ ghost use Rattle.git_laws.specs.Laws.{EqualIsSame, FedAlike, TiedIsEqual};
 /// Each definition of home folders and of paths as text has only one result for each text.
 ///
 /// - `split`: a path has one home split, so the result of `expand_path::parse` is determined.
-/// - `shell`: it has one reading for a shell, which `expand_path::for_shell` returns.
+/// - `shell`: there is one text as which a shell takes a path, and `expand_path::for_shell` returns it.
 /// - `rest`, `joined`, `parent`: the same holds for a path without its first component, for a path joined to a
 ///   folder, and for the parent of a path.
 /// - `folder`: a user has one home folder, or none is known. So `NoHome` is returned only if there is none.
@@ -23,12 +23,8 @@ pub fn law_homes()
     ensures expansion { OneExpansion }
 {}
 
-/// Equality, order and hash of the users of home folders agree, like those of locations.
-///
-/// - `same`: two users are equal exactly if they are one user.
-/// - `tied`: the order returns `Equal` exactly for equal users.
-/// - `total`: the order is total.
-/// - `hashed`: equal users are fed to a hasher alike.
+/// Equality, order and hash of the users of home folders agree: each clause states for users the fact that the
+/// clause of this name in [`law_order`](git_laws::laws::law_order) states for locations.
 pub fn law_user_order()
     ensures same { EqualIsSame user_eq }
     ensures tied { TiedIsEqual user_eq user_cmp }

@@ -34,7 +34,7 @@ pub fn law_readers()
     ensures same { SameWithRoom }
 {}
 
-/// A refusal is final: the flaw that an error names excludes every reading.
+/// A refused text spells no location.
 ///
 /// - `exclusive`: bytes with the flaw of an error spell no location, whichever error it is except a failed
 ///   allocation. So no reader that implements these definitions accepts bytes that

@@ -6,6 +6,7 @@
 //!
 //! This crate has the types that own bytes. Everything that only reads a location is defined on [`UrlRef`], in
 //! the crate `git_location`, and the reader of texts in `git_syntax`; this crate re-exports all that is public.
+//! How often a function allocates, and how long it takes, is tested, not proved.
 //!
 //! ```
 //! /// The host that a text names, if the location can be written and read again.

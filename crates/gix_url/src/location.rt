@@ -14,9 +14,10 @@ use std::marker::Model;
 ///
 /// Contracts see all eight fields of it as one value, including the retained spelling of its path.
 ///
-/// A program may change the fields. Afterwards a location may have no text, or one that is read as something
-/// else: [`Url::is_settled`] reports this. `Debug` and `Display` show `redacted` in place of the field
-/// `password`, and hide nothing else: a secret in a path or a query, or in the user's place, is shown.
+/// A program may change the fields. Afterwards a location may have no text, or one that is read as something else:
+/// [`Url::is_settled`] reports this. `Display` shows `redacted` in place of the field `password`
+/// ([`law_hidden_password`](crate::laws::law_hidden_password), for a formatter that doesn't indent), and so does
+/// `Debug` (tested). They hide nothing else: a secret in a path or a query, or in the user's place, is shown.
 ///
 /// ```
 /// /// Whether a command of Secure Shell needs the option for a port.
@@ -28,14 +29,14 @@ use std::marker::Model;
 pub struct Url {
     /// The scheme.
     pub scheme: Scheme,
-    /// The user, decoded. It may be empty, and may begin with `-`: pass it to a command by
-    /// [`Url::user_as_argument`]. A location with a user and without a host has no text.
+    /// The user, decoded. It may be empty, and may begin with `-` ([`Url::user_as_argument`]). A location with a
+    /// user and without a host has no text.
     pub user: Option<String>,
     /// The password, decoded. It is not written without a user.
     pub password: Option<String>,
-    /// The host. It may be empty, and may begin with `-`: pass it to a command by [`Url::host_as_argument`].
-    /// For Secure Shell an IPv6 text has no brackets, for other schemes it has them if the text had them. A `:`
-    /// can be at its end, if the text had one without a port.
+    /// The host. It may be empty, and may begin with `-` ([`Url::host_as_argument`]). For Secure Shell an IPv6
+    /// text has no brackets, for other schemes it has them if the text had them. A `:` can be at its end, if the
+    /// text had one without a port.
     pub host: Option<String>,
     /// Whether to write the alternative form, which is not a URL: `host:path` for Secure Shell, or a path for
     /// local files. With a password or a port the text is a URL anyway, a relative path of Secure Shell is

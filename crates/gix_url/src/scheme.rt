@@ -40,8 +40,8 @@ pub enum Scheme {
 }
 
 impl Scheme {
-    /// The scheme with exactly this text: a known one, or any other by its text. Letter case matters. Allocates
-    /// nothing for a known scheme, and else once for the text.
+    /// The scheme of this text; letter case matters. `ssh+git` and `git+ssh` are `Ssh`; a text that isn't a known
+    /// scheme is a `HelperUrl`. Allocates nothing for a known scheme, and else once for the text.
     ///
     /// # Errors
     ///

@@ -33,8 +33,8 @@ use std::fmt;
 /// of another name is skipped. The reader of the format refuses a record that lacks the scheme, the form or the
 /// path, that has a field twice, or one of another type; its error names the field or its place.
 ///
-/// The password is stored in the clear. `Debug` shows `redacted` in its place, and hides no other field. All
-/// fields are public and are not checked: a program may make a record itself.
+/// The password is stored in the clear. `Debug` shows `redacted` in its place (tested), and hides no other field.
+/// All fields are public and are not checked: a program may make a record itself.
 #[derive(Drop, Serialize, Deserialize)]
 pub struct StoredUrl {
     /// The scheme.

@@ -116,9 +116,7 @@ impl Url {
     ///
     /// # Errors
     ///
-    /// - [`Error::Unwritable`] exactly if the location has no text.
-    /// - [`Error::Memory`] if the allocation fails, or if the text is longer than any memory. For a settled
-    ///   location this is the only error.
+    /// Those of [`Url::to_bstring`].
     pub fn text_of(alloc: Global, url: &UrlRef<'_>) -> Result<BString, Error>
         ensures text { IfOk result (λ s. text url.now ≡ Ok (bstring_bytes s)) }
         ensures fault { (f : WriteFault) → text url.now ≡ Err f → result

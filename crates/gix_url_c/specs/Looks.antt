@@ -1,4 +1,4 @@
--- What C gets of a location without any memory.
+-- What C gets about a location without an allocation.
 use Rattle.std.specs.Prelude.{◌≡◌, ℕ, Bool, true, false, Option, Some, None, IsTrue, ◌↔◌, [], ◌∷◌, if◌then◌else◌}
 use Rattle.std.specs.Option.{option_or}
 use Rattle.gix_url.specs.Location.{Location}
@@ -8,8 +8,8 @@ use Rattle.gix_url.specs.Arguments.Judgement.{absent, usable, dangerous}
 use Rattle.gix_url.specs.Text.{original_path}
 use Rattle.gix_url.specs.Schemes.{default_port_of}
 use Rattle.gix_url_c.specs.declared.looking.Seen.{Seen}
-use Rattle.gix_url_c.specs.Given.{present}
-use Rattle.gix_url_c.specs.Handed.{or_nothing}
+use Rattle.gix_url_c.specs.Input.{present}
+use Rattle.gix_url_c.specs.Output.{or_nothing}
 
 -- the number of a judgement
 abbrev pub judgement_number : Judgement → ℕ
@@ -17,22 +17,22 @@ judgement_number absent = 0
 judgement_number (usable text) = 1
 judgement_number (dangerous text) = 2
 
--- a truth as a number
+-- 1 for true, 0 for false
 abbrev pub truth : Bool → ℕ
 truth false = 0
 truth true = 1
 
--- a port as a number, and past all ports where there is none
+-- a port as a number, and 65,536 if there is none
 abbrev pub port_number : Option ℕ → ℕ
 port_number None = 65536
 port_number (Some port) = port
 
--- what was seen of a location
+-- the results for a location
 pub record Looks (v : Location) (seen : Seen) : Type 0 where
   -- what its user and its host are to a command line
   pub user : seen.user ≡ judgement_number (judgement_of v.user)
   pub host : seen.host ≡ judgement_number (judgement_of v.host)
-  -- whether its path may be given to a command
+  -- whether its path may be passed to a command
   pub path : seen.path ≡ is_path_argument v.path
   -- whether its path is `/`
   pub root : IsTrue seen.is_root ↔ (v.path ≡ slash ∷ [])

@@ -1,7 +1,7 @@
--- Quick tests for bytes that are written unescaped. Some such bytes don't pass.
+-- Quick tests for bytes that are written unescaped. Some bytes that are written so don't pass.
 use Rattle.std.specs.Prelude.{ℕ, Bool, ◌&&◌, ◌||◌, nat_le}
 
--- the byte is one of these two or between them
+-- the byte is the first, the last or one between these two
 abbrev pub is_between : ℕ → ℕ → ℕ → Bool
 is_between first last b = nat_le first b && nat_le b last
 

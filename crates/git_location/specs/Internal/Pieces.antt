@@ -73,7 +73,7 @@ form_of code.Path = path_form
 form_of code.Scp = scp_form
 form_of code.Canonical = canonical_form
 
--- the choice of the definitions for that of the code
+-- the form of the definitions that the code's form represents, or the fault
 abbrev pub form_chosen : Result Code WriteFault → Result Form WriteFault
 form_chosen (Ok form) = Ok (form_of form)
 form_chosen (Err fault) = Err fault
@@ -89,7 +89,7 @@ abbrev pub text_of_pieces : Result Pieces WriteFault → Result (List ℕ) Write
 text_of_pieces (Ok p) = Ok (pieces_text p)
 text_of_pieces (Err fault) = Err fault
 
--- these pieces, if there are any, make up the location's text
+-- the pieces, if there are any, make up the location's text
 abbrev pub AreOwn : Option (Bor Pieces) → Location → Type 0
 AreOwn laid v = IfSome laid (λ p. text v ≡ Ok (pieces_text p.now))
 

@@ -14,7 +14,7 @@ use Rattle.git_location.specs.Settled.{HasCredentials, HasFittingText, HasUrlPat
 abbrev pub IsNormalLiteral : List ℕ → Type 0
 IsNormalLiteral text = Literal text text
 
--- such a literal in brackets
+-- a literal that is read unchanged, in brackets
 abbrev pub IsBracketedLiteral : List ℕ → Type 0
 IsBracketedLiteral host = (n : List ℕ) × Literal n n
     × (host ≡ left_bracket ∷ (n ++ right_bracket ∷ []))

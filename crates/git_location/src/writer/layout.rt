@@ -195,7 +195,7 @@ impl<'a> UrlRef<'a> {
         }
     }
 
-    /// The retained spelling of the path, if it matches.
+    /// The retained spelling of the path, if it decodes to the path.
     #[inline(always)]
     pub fn matching_spelling(&self) -> Option<&'a [u8]>
         ensures { (other : List ℕ) → unwrap_or (option_map (λ s. s.now) result) other

@@ -17,7 +17,7 @@ pub enum Flaw {
     /// The text begins with an incomplete byte order mark.
     #[error("a part of a byte order mark")]
     PartialMark,
-    /// A byte begins neither a header nor a name, a comment or white space.
+    /// A byte begins neither a header, a name, a comment nor white space.
     #[error("a byte that begins neither a header nor a name")]
     NoStart,
     /// The header has neither a section nor a subsection.

@@ -20,7 +20,7 @@ pub record FrontCut (b front path : List ℕ) : Type 0 where
   pub joined : b ≡ front ++ colon ∷ path
   pub form : ScpFront b front
 
--- the text has such a colon
+-- the text has the colon of the scp form
 abbrev pub HasFrontCut : List ℕ → Type 0
 HasFrontCut b = (front : List ℕ) × (path : List ℕ) × FrontCut b front path
 
@@ -28,12 +28,12 @@ HasFrontCut b = (front : List ℕ) × (path : List ℕ) × FrontCut b front path
 abbrev pub LacksBrackets : List ℕ → Type 0
 LacksBrackets b = (begins_with left_bracket b ≡ false) ⊎ FreeOf right_bracket b
 
--- the pieces around such a colon, with no `/` before it
+-- the pieces around the colon of the scp form, with no `/` before it
 pub record ScpCut (b front path : List ℕ) : Type 0 where
   pub around : FrontCut b front path
   pub no_slash : FreeOf slash front
 
--- the text has such a colon before any `/`
+-- the text has the colon of the scp form before any `/`
 abbrev pub HasScpCut : List ℕ → Type 0
 HasScpCut b = (front : List ℕ) × (path : List ℕ) × ScpCut b front path
 
@@ -46,7 +46,7 @@ HasAddressedCut b = (user : List ℕ) × (address : List ℕ) × (path : List �
 abbrev pub addressed_text : List ℕ → List ℕ → List ℕ
 addressed_text user behind = user ++ at_sign ∷ (left_bracket ∷ behind)
 
--- the only user that such a text can have, and the text after its `@[`
+-- the only user that a text `user@[address]:path` can have, and the text after its `@[`
 pub record AddressedFront (b user behind : List ℕ) : Type 0 where
   pub joined : b ≡ user ++ at_sign ∷ (left_bracket ∷ behind)
   pub no_colon : FreeOf colon user

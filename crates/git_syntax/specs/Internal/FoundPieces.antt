@@ -74,13 +74,13 @@ scp_slice (host.Literal text) = text.now
 scp_slice (host.Name text) = text.now
 scp_slice (host.Kept text) = text.now
 
--- the host that such a slice denotes
+-- the host that the slice of an scp form denotes
 abbrev pub scp_host_of : ScpHost → List ℕ
 scp_host_of (host.Literal text) = lowercase_address text.now
 scp_host_of (host.Name text) = normal_host text.now
 scp_host_of (host.Kept text) = text.now
 
--- the location that the slices mean
+-- the location that the slices of a text mean
 abbrev pub meant : Found → Location
 meant (found.Helper name address) = path_alone (helper_scheme name.now) true address.now
 meant (found.Local path) = path_alone file true path.now

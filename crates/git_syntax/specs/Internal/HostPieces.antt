@@ -90,7 +90,7 @@ is_bracketed (Literal text) = true
 is_bracketed (DecodedLiteral text) = true
 is_bracketed (Bracketed text) = true
 
--- the host, with the colon that stays with it
+-- the text of a host: the host that its piece denotes, and the colon after it if the host keeps one
 abbrev pub named_text : HostPort → List ℕ
 named_text named = if named.keeps_colon then meant_host named.piece ++ colon ∷ []
     else meant_host named.piece
@@ -99,7 +99,7 @@ named_text named = if named.keeps_colon then meant_host named.piece ++ colon ∷
 abbrev pub host_of : Option HostPort → Option (List ℕ)
 host_of named = option_map named_text named
 
--- the port that was read
+-- the port of a host and port that were read, if there is one
 abbrev pub port_of : Option HostPort → Option ℕ
 port_of None = None
 port_of (Some named) = named.port

@@ -33,7 +33,8 @@ is_in_time web (Fixed in_time) bs = in_time
 abbrev pub is_rest_short : Bool → List ℕ → Bool
 is_rest_short web rest = nat_le (length rest) 1024 || is_in_time web Slashes rest
 
--- at this state of a check over a text, a path starts in time; the rest of the scheme and its mark is skipped
+-- at this state of a check over a text, a path starts in time; the remaining bytes of the scheme and its `://` don't
+-- count
 abbrev pub is_text_in_time : LengthCheck → List ℕ → Bool
 is_text_in_time text bs = is_in_time text.web text.stage (drop text.left bs)
 

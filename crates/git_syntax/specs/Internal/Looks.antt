@@ -9,7 +9,7 @@ use Rattle.git_syntax.specs.Escapes.{is_plain, is_printable, is_sound}
 abbrev pub begins_high : List ℕ → Bool
 begins_high text = begins_by (λ b. nat_le 56 b) text
 
--- such a byte follows some `%`
+-- `8` or a greater byte follows some `%`
 abbrev pub has_high_escape : List ℕ → Bool
 has_high_escape [] = false
 has_high_escape (b ∷ bs) = (b == percent_sign && begins_high bs) || has_high_escape bs
@@ -19,7 +19,7 @@ pub record HasEscapes (text : List ℕ) : Type 0 where
   pub printable : is_printable text ≡ true
   pub sound : is_sound text ≡ true
 
--- and each escape decodes to ASCII
+-- each byte is printable ASCII, and each `%` begins an escape that decodes to ASCII
 pub record HasAsciiEscapes (text : List ℕ) : Type 0 where
   pub printable : is_printable text ≡ true
   pub sound : is_sound text ≡ true

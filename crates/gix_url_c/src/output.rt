@@ -1,27 +1,26 @@
-//! The location that C gets: numbers, and the bytes of all parts one behind the other in the caller's room.
+//! The location that C gets: numbers, and the bytes of all parts one after the other in the caller's buffer.
 //!
-//! It uses the library's borrowed locations, `codes` and `room`. Its contract: all parts are returned, or
-//! none, and then their lengths are reported all the same. It takes no memory.
+//! If the parts don't fit, none is copied, and their lengths are reported.
 
 ghost use Rattle.std.specs.Prelude.{◌≡◌, ◌≤◌, ◌⊎◌, ◌++◌, drop, length, option_map};
 ghost use Rattle.std.specs.Option.{option_copied};
 ghost use Rattle.gix_url.specs.Views.{lent_scheme};
 ghost use Rattle.gix_url_c.specs.Codes.{no_room, ok};
-ghost use Rattle.gix_url_c.specs.Handed.{Returns, bytes_of, front_of, is_there, made_of, or_nothing, or_zero, scheme_name, scheme_number};
-ghost use Rattle.gix_url_c.specs.Left.{LeavesLengths, LeavesRoom};
+ghost use Rattle.gix_url_c.specs.Output.{Returns, bytes_of, location_numbers, is_there, part_lengths, or_nothing, or_zero, scheme_name, scheme_number};
+ghost use Rattle.gix_url_c.specs.Left.{LeavesLengths, LeavesBuffer};
 
+use crate::buffer::put_at;
 use crate::codes::{NO_ROOM, OK};
-use crate::given::Front;
-use crate::room::put_at;
+use crate::input::LocationNumbers;
 use gix_url::{SchemeRef, UrlRef};
 
-/// A location: its numbers, and the lengths of its parts, whose bytes are in this order in the caller's room.
+/// A location: its numbers, and the lengths of its parts in bytes. The caller's buffer has the parts in this order.
 #[repr(C)]
 #[derive(Clone, Copy)]
-pub struct Made {
-    /// What is a number.
-    pub front: Front,
-    /// The length of the name of a remote helper or of another scheme, in bytes.
+pub struct PartLengths {
+    /// The numbers.
+    pub numbers: LocationNumbers,
+    /// The length of the name of a remote helper or of another scheme.
     pub name: usize,
     /// The length of the user.
     pub user: usize,
@@ -35,21 +34,21 @@ pub struct Made {
     pub spelling: usize,
 }
 
-/// Hands the location out, if its parts fit into the room.
-pub(crate) fn put_location(url: &UrlRef<'_>, made: &mut Made, room: &mut [u8]) -> u32
-    ensures reported { Returns url.now made.new room.old room.new result }
-    ensures room { LeavesRoom result room.old room.new }
+/// Reports the location, and copies its parts to the buffer if they fit.
+pub(crate) fn put_location(url: &UrlRef<'_>, built: &mut PartLengths, buffer: &mut [u8]) -> u32
+    ensures reported { Returns url.now built.new buffer.old buffer.new result }
+    ensures buffer { LeavesBuffer result buffer.old buffer.new }
     ensures code { (result ≡ ok) ⊎ (result ≡ no_room) }
 {
-    *made = made_of(url);
-    if (room.len() as u128) < size(url) {
+    *built = part_lengths(url);
+    if (buffer.len() as u128) < size(url) {
         return NO_ROOM;
     }
-    put_parts(url, room);
+    put_parts(url, buffer);
     OK
 }
 
-/// How many bytes all parts have.
+/// The length of all parts.
 fn size(url: &UrlRef<'_>) -> u128
     ensures { result ≡ length (bytes_of url.now) }
 {
@@ -61,25 +60,25 @@ fn size(url: &UrlRef<'_>) -> u128
         + part(url.spelling).len() as u128
 }
 
-/// Puts the bytes of all parts, one behind the other, at the front of the room, which has room for them.
-fn put_parts(url: &UrlRef<'_>, room: &mut [u8])
-    requires { length (bytes_of url.now) ≤ length room.old }
-    ensures { room.new ≡ bytes_of url.now ++ drop (length (bytes_of url.now)) room.old }
+/// Copies all parts, one after the other, to the front of the buffer, which is long enough.
+fn put_parts(url: &UrlRef<'_>, buffer: &mut [u8])
+    requires { length (bytes_of url.now) ≤ length buffer.old }
+    ensures { buffer.new ≡ bytes_of url.now ++ drop (length (bytes_of url.now)) buffer.old }
 {
-    let at = put_at(room, 0, name(url.scheme));
-    let at = put_at(room, at, text(url.user));
-    let at = put_at(room, at, text(url.password));
-    let at = put_at(room, at, text(url.host));
-    let at = put_at(room, at, url.path);
-    let _ = put_at(room, at, part(url.spelling));
+    let at = put_at(buffer, 0, name(url.scheme));
+    let at = put_at(buffer, at, text(url.user));
+    let at = put_at(buffer, at, text(url.password));
+    let at = put_at(buffer, at, text(url.host));
+    let at = put_at(buffer, at, url.path);
+    let _ = put_at(buffer, at, part(url.spelling));
 }
 
 /// The numbers, and the lengths of the parts.
-fn made_of(url: &UrlRef<'_>) -> Made
-    ensures { result ≡ made_of url.now }
+fn part_lengths(url: &UrlRef<'_>) -> PartLengths
+    ensures { result ≡ part_lengths url.now }
 {
-    Made {
-        front: numbers(url),
+    PartLengths {
+        numbers: numbers(url),
         name: name(url.scheme).len(),
         user: text(url.user).len(),
         password: text(url.password).len(),
@@ -90,10 +89,10 @@ fn made_of(url: &UrlRef<'_>) -> Made
 }
 
 /// The numbers.
-pub(crate) fn numbers(url: &UrlRef<'_>) -> Front
-    ensures { result ≡ front_of url.now }
+pub(crate) fn numbers(url: &UrlRef<'_>) -> LocationNumbers
+    ensures { result ≡ location_numbers url.now }
 {
-    Front {
+    LocationNumbers {
         scheme: number(url.scheme),
         alternative: url.serialize_alternative_form,
         has_user: url.user.is_some(),
@@ -121,7 +120,7 @@ fn number(scheme: SchemeRef<'_>) -> u8
     }
 }
 
-/// The name that a scheme holds, or nothing.
+/// The name that a scheme has, or an empty one.
 pub(crate) fn name(scheme: SchemeRef<'_>) -> &[u8]
     ensures { result.now ≡ scheme_name (lent_scheme scheme.entry) }
 {
@@ -132,7 +131,7 @@ pub(crate) fn name(scheme: SchemeRef<'_>) -> &[u8]
     }
 }
 
-/// The bytes of a text, or nothing.
+/// The bytes of a text, or an empty slice.
 pub(crate) fn text(text: Option<&str>) -> &[u8]
     ensures { result.now ≡ or_nothing (option_map (λ t. t.now) text.entry) }
 {
@@ -142,7 +141,7 @@ pub(crate) fn text(text: Option<&str>) -> &[u8]
     }
 }
 
-/// Bytes, or nothing.
+/// The bytes, or an empty slice.
 pub(crate) fn part(bytes: Option<&[u8]>) -> &[u8]
     ensures { result.now ≡ or_nothing (option_copied bytes.entry) }
 {

@@ -1,22 +1,19 @@
-//! The location that C gives: numbers, and the bytes of each part.
-//!
-//! It uses the library's borrowed locations. Its contract: what comes out is the location with just these
-//! parts, lent as long as they are. It takes no memory.
+//! The location that C passes: numbers, and the bytes of each part.
 
 ghost use Rattle.std.specs.Prelude.{◌≡◌, IfSome, None, option_map};
 ghost use Rattle.gix_url.specs.Views.{lent_scheme};
-ghost use Rattle.gix_url_c.specs.Given.{IsNoScheme, IsNoText, IsNone, location_of, present, scheme_numbered};
+ghost use Rattle.gix_url_c.specs.Input.{IsNoScheme, IsNoText, IsNone, location_of, present, scheme_numbered};
 
 use gix_url::{SchemeRef, UrlRef};
 
-/// What of a location is a number. Where a part isn't there, its bytes are not looked at.
+/// The numbers of a location. The bytes of a missing part are ignored.
 #[repr(C)]
 #[derive(Clone, Copy)]
-pub struct Front {
+pub struct LocationNumbers {
     /// The scheme: 0 `file`, 1 `git`, 2 `ssh`, 3 `http`, 4 `https`, 5 `ext`, 6 a remote helper by its name, 7
     /// another URL by its scheme.
     pub scheme: u8,
-    /// Whether the location is written in the form that is no URL, where it has one.
+    /// Whether the location is written in its form that is not a URL, if it has one.
     pub alternative: bool,
     /// Whether there is a user.
     pub has_user: bool,
@@ -32,12 +29,12 @@ pub struct Front {
     pub port: u16,
 }
 
-/// A location as C gives it: numbers, and the bytes of each part.
+/// A location in C's form: numbers, and the bytes of each part.
 #[repr(C)]
 #[derive(Clone, Copy)]
-pub struct Given<'a> {
-    /// What is a number.
-    pub front: Front,
+pub struct PartBytes<'a> {
+    /// The numbers.
+    pub numbers: LocationNumbers,
     /// The name of a remote helper or of another scheme.
     pub name: &'a [u8],
     /// The user, decoded.
@@ -52,30 +49,30 @@ pub struct Given<'a> {
     pub spelling: &'a [u8],
 }
 
-/// The location with the parts that are given, all of them lent. There is none where the number of the scheme
-/// is none of the eight, or where a name, a user, a password or a host isn't UTF-8.
+/// The location with these parts, all of them borrowed. There is none if the scheme's number is not one of the eight,
+/// or if the name, the user, the password or the host isn't UTF-8.
 #[inline(always)]
-pub(crate) fn location_of<'a>(given: &Given<'a>) -> Option<UrlRef<'a>>
-    ensures made { IfSome result (λ url. url ≡ location_of given.now) }
-    ensures whole { IfSome result (λ _. ¬ IsNone given.now) }
-    ensures refused { result ≡ None → IsNone given.now }
+pub(crate) fn location_of<'a>(passed: &PartBytes<'a>) -> Option<UrlRef<'a>>
+    ensures built { IfSome result (λ url. url ≡ location_of passed.now) }
+    ensures whole { IfSome result (λ _. ¬ IsNone passed.now) }
+    ensures refused { result ≡ None → IsNone passed.now }
 {
     Some(UrlRef {
-        scheme: scheme(given.front.scheme, given.name)?,
-        user: text(given.front.has_user, given.user)?,
-        password: text(given.front.has_password, given.password)?,
-        host: text(given.front.has_host, given.host)?,
-        serialize_alternative_form: given.front.alternative,
-        port: present(given.front.has_port, given.front.port),
-        path: reload(given.path),
-        spelling: present(given.front.has_spelling, given.spelling),
+        scheme: scheme(passed.numbers.scheme, passed.name)?,
+        user: text(passed.numbers.has_user, passed.user)?,
+        password: text(passed.numbers.has_password, passed.password)?,
+        host: text(passed.numbers.has_host, passed.host)?,
+        serialize_alternative_form: passed.numbers.alternative,
+        port: present(passed.numbers.has_port, passed.numbers.port),
+        path: reload(passed.path),
+        spelling: present(passed.numbers.has_spelling, passed.spelling),
     })
 }
 
-/// The scheme of this number, and of this name where it holds one.
+/// The scheme with this number, and with this name if it has one.
 #[inline(always)]
 fn scheme(number: u8, name: &[u8]) -> Option<SchemeRef<'_>>
-    ensures made { IfSome result (λ scheme. lent_scheme scheme ≡ scheme_numbered number name.now) }
+    ensures built { IfSome result (λ scheme. lent_scheme scheme ≡ scheme_numbered number name.now) }
     ensures known { IfSome result (λ _. ¬ IsNoScheme number name.now) }
     ensures refused { result ≡ None → IsNoScheme number name.now }
 {
@@ -92,10 +89,10 @@ fn scheme(number: u8, name: &[u8]) -> Option<SchemeRef<'_>>
     }
 }
 
-/// A text that may be missing; none at all where it is there and isn't UTF-8.
+/// A text that may be missing; `None` if it is there and isn't UTF-8.
 #[inline(always)]
 fn text(is_there: bool, bytes: &[u8]) -> Option<Option<&str>>
-    ensures made { IfSome result (λ text. option_map (λ t. t.now) text ≡ present is_there bytes.now) }
+    ensures built { IfSome result (λ text. option_map (λ t. t.now) text ≡ present is_there bytes.now) }
     ensures known { IfSome result (λ _. ¬ IsNoText is_there bytes.now) }
     ensures refused { result ≡ None → IsNoText is_there bytes.now }
 {
@@ -108,8 +105,8 @@ fn text(is_there: bool, bytes: &[u8]) -> Option<Option<&str>>
     }
 }
 
-/// The slice itself. What a call takes moves as two numbers. A field that is copied moves as one wide value,
-/// for which the processor waits until both numbers, which were written just before, are in the cache.
+/// Returns the slice. An argument is copied as two numbers. A field is copied as one wide value, and the processor
+/// waits for it until both numbers, which were written just before, are in the cache.
 #[inline(always)]
 pub(crate) fn reload<T: Copy>(slice: T) -> T
     ensures { result ≡ slice }
@@ -117,7 +114,7 @@ pub(crate) fn reload<T: Copy>(slice: T) -> T
     slice
 }
 
-/// What is given, where it is there.
+/// The part, if it is there.
 #[inline(always)]
 pub(crate) fn present<T: Copy>(is_there: bool, part: T) -> Option<T>
     ensures { result ≡ present is_there part }

@@ -1,9 +1,9 @@
--- A location as C gets it: numbers, and the bytes of all parts one behind the other.
+-- A location as C gets it: numbers, and the bytes of all parts one after the other.
 use Rattle.std.specs.Prelude.{◌≡◌, ℕ, Bool, true, false, MatchBool, nat_lt, ◌||◌, List, [], ◌++◌, length, drop, Option, Some, None}
 use Rattle.gix_url.specs.Location.{Scheme, Location}
 use Rattle.gix_url.specs.Location.Scheme.{file, git, ssh, http, https, ext, helper, helper_url}
-use Rattle.gix_url_c.specs.declared.given.Front.{Front}
-use Rattle.gix_url_c.specs.declared.handed.Made.{Made}
+use Rattle.gix_url_c.specs.declared.input.LocationNumbers.{LocationNumbers}
+use Rattle.gix_url_c.specs.declared.output.PartLengths.{PartLengths}
 use Rattle.gix_url_c.specs.Codes.{ok, no_room}
 
 -- the number of a scheme
@@ -17,7 +17,7 @@ scheme_number ext = 5
 scheme_number (helper name) = 6
 scheme_number (helper_url name) = 7
 
--- the name that a scheme holds, or nothing
+-- the name that a scheme has, or an empty one
 abbrev pub scheme_name : Scheme → List ℕ
 scheme_name file = []
 scheme_name git = []
@@ -28,7 +28,7 @@ scheme_name ext = []
 scheme_name (helper name) = name
 scheme_name (helper_url name) = name
 
--- a part, or nothing
+-- a part, or an empty one
 abbrev pub or_nothing : Option (List ℕ) → List ℕ
 or_nothing None = []
 or_nothing (Some part) = part
@@ -44,8 +44,8 @@ is_there None = false
 is_there (Some a) = true
 
 -- the numbers of a location
-abbrev pub front_of : Location → Front
-front_of v = record {
+abbrev pub location_numbers : Location → LocationNumbers
+location_numbers v = record {
   scheme = scheme_number v.scheme;
   alternative = v.flag;
   has_user = is_there v.user;
@@ -57,9 +57,9 @@ front_of v = record {
 }
 
 -- the numbers of a location, and the lengths of its parts
-abbrev pub made_of : Location → Made
-made_of v = record {
-  front = front_of v;
+abbrev pub part_lengths : Location → PartLengths
+part_lengths v = record {
+  numbers = location_numbers v;
   name = length (scheme_name v.scheme);
   user = length (or_nothing v.user);
   password = length (or_nothing v.password);
@@ -68,24 +68,24 @@ made_of v = record {
   spelling = length (or_nothing v.spelling);
 }
 
--- the bytes of its parts, one behind the other
+-- the bytes of its parts, one after the other
 abbrev pub bytes_of : Location → List ℕ
 bytes_of v = ((((scheme_name v.scheme ++ or_nothing v.user) ++ or_nothing v.password) ++ or_nothing v.host) ++ v.path) ++ or_nothing v.spelling
 
--- the bytes are at the front of the room and the rest of it is as it was; or they don't fit, and all of it is
+-- the bytes are at the front of the buffer, and the rest is unchanged; or they don't fit, and the buffer is unchanged
 abbrev pub Puts : {A : Type 0} → List A → List A → List A → ℕ → Type 0
 Puts bytes old new code =
     MatchBool (nat_lt (length old) (length bytes))
     ((code ≡ no_room) × (new ≡ old))
     ((code ≡ ok) × (new ≡ bytes ++ drop (length bytes) old))
 
--- both lists are at the fronts of their rooms, or one of them doesn't fit and both rooms are as they were
+-- both lists are at the fronts of their buffers; or one doesn't fit, and both buffers are unchanged
 abbrev pub PutsBoth : List ℕ → List ℕ → List ℕ → List ℕ → List ℕ → List ℕ → ℕ → Type 0
-PutsBoth bytes lengths old_room new_room old_lengths new_lengths code =
-    MatchBool (nat_lt (length old_room) (length bytes) || nat_lt (length old_lengths) (length lengths))
-    ((code ≡ no_room) × (new_room ≡ old_room) × (new_lengths ≡ old_lengths))
-    ((code ≡ ok) × (new_room ≡ bytes ++ drop (length bytes) old_room) × (new_lengths ≡ lengths ++ drop (length lengths) old_lengths))
+PutsBoth bytes lengths old_buffer new_buffer old_lengths new_lengths code =
+    MatchBool (nat_lt (length old_buffer) (length bytes) || nat_lt (length old_lengths) (length lengths))
+    ((code ≡ no_room) × (new_buffer ≡ old_buffer) × (new_lengths ≡ old_lengths))
+    ((code ≡ ok) × (new_buffer ≡ bytes ++ drop (length bytes) old_buffer) × (new_lengths ≡ lengths ++ drop (length lengths) old_lengths))
 
 -- the location is returned
-abbrev pub Returns : Location → Made → List ℕ → List ℕ → ℕ → Type 0
-Returns v made old new code = (made ≡ made_of v) × Puts (bytes_of v) old new code
+abbrev pub Returns : Location → PartLengths → List ℕ → List ℕ → ℕ → Type 0
+Returns v built old new code = (built ≡ part_lengths v) × Puts (bytes_of v) old new code
