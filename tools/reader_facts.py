@@ -213,11 +213,12 @@ def confusion_table():
 
 
 def group_table():
-    """Each group with the programs that represent it."""
+    """Each group with the programs that represent it: how often each takes the group's host, and where it takes another one."""
     named = {}
     for it in lines("groups"):
-        named.setdefault((it["group"], it["words"].rstrip(".")), []).append(it["program"])
-    rows = [f"| `{group}` | {words} | {', '.join(programs)} |\n" for (group, words), programs in named.items()]
+        programs = named.setdefault((it["group"], it["words"].rstrip(".")), [])
+        programs.append(" ".join([f"{it['program']}: {it['takes']:,} of {it['differs']:,}.", *it["shapes"]]))
+    rows = [f"| `{group}` | {words} | {'<br>'.join(programs)} |\n" for (group, words), programs in named.items()]
     return "".join(["| Group | The host that it finds | Programs |\n", "|---|---|---|\n", *rows])
 
 
