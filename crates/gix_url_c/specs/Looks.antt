@@ -1,5 +1,5 @@
 -- What C gets about a location without an allocation.
-use Rattle.std.specs.Prelude.{◌≡◌, ℕ, Bool, true, false, Option, Some, None, IsTrue, ◌↔◌, [], ◌∷◌, if◌then◌else◌}
+use Rattle.std.specs.Prelude.{◌≡◌, ℕ, Bool, true, false, Option, Some, None, IsTrue, MatchOption, ◌↔◌, [], ◌∷◌, bytes_eq, if◌then◌else◌}
 use Rattle.std.specs.Option.{option_or}
 use Rattle.gix_url.specs.Location.{Location}
 use Rattle.gix_url.specs.Bytes.{slash}
@@ -27,16 +27,24 @@ abbrev pub port_number : Option ℕ → ℕ
 port_number None = 65536
 port_number (Some port) = port
 
+-- whether the original path is the retained spelling: false if none is retained
+abbrev pub ReportsSpelling : Location → Bool → Type 0
+ReportsSpelling v is_spelled = MatchOption v.spelling (is_spelled ≡ false)
+    (λ spelling. is_spelled ≡ bytes_eq (original_path v) spelling)
+
 -- the results for a location
 pub record Looks (v : Location) (seen : Seen) : Type 0 where
-  -- what its user and its host are to a command line
+  -- whether its user and its host are safe as arguments
   pub user : seen.user ≡ judgement_number (judgement_of v.user)
   pub host : seen.host ≡ judgement_number (judgement_of v.host)
-  -- whether its path may be passed to a command
+  -- whether its path is safe as an argument
   pub path : seen.path ≡ is_path_argument v.path
   -- whether its path is `/`
   pub root : IsTrue seen.is_root ↔ (v.path ≡ slash ∷ [])
   -- its original path is the retained spelling, or the path
   pub original : original_path v ≡ (if seen.is_spelled then or_nothing v.spelling else v.path)
+  pub spelled : ReportsSpelling v seen.is_spelled
   -- its port, or that of its scheme
   pub port : present seen.has_port seen.port ≡ option_or v.port (default_port_of v.scheme)
+  -- without a port its number is 0
+  pub no_port : seen.has_port ≡ false → seen.port ≡ 0

@@ -7,7 +7,7 @@ ghost use Rattle.gix_url_c.specs.Codes.{UnlessNone, memory, ok};
 ghost use Rattle.gix_url_c.specs.Input.{IsNone, location_of};
 ghost use Rattle.gix_url_c.specs.Output.{or_nothing};
 ghost use Rattle.gix_url_c.specs.Left.{LeavesBuffer};
-ghost use Rattle.gix_url_c.specs.Looks.{Looks, judgement_number};
+ghost use Rattle.gix_url_c.specs.Looks.{Looks, ReportsSpelling, judgement_number};
 
 use crate::codes::{NO_LOCATION, OK};
 use crate::input::{PartBytes, location_of};
@@ -72,7 +72,9 @@ fn look(url: &UrlRef<'_>) -> Seen
 
 /// Whether the original path is the retained spelling.
 fn shows_spelling(url: &UrlRef<'_>) -> bool
-    ensures { original_path url.now ≡ (if result then or_nothing url.now.spelling else url.now.path) }
+    ensures original { original_path url.now
+        ≡ (if result then or_nothing url.now.spelling else url.now.path) }
+    ensures spelled { ReportsSpelling url.now result }
 {
     match url.spelling {
         None => false,

@@ -51,8 +51,10 @@ pub extern "C" fn gix_url_c_path_is_root(path: &[u8]) -> u32
 /// 1 if the original path is the spelling, 0 if it is the path: [`gix_url::UrlRef::original_path`].
 #[unsafe(no_mangle)]
 pub extern "C" fn gix_url_c_is_spelled(path: &[u8], spelling: &[u8]) -> u32
-    ensures { matching_or (Some spelling.now) path.now path.now
+    ensures original { matching_or (Some spelling.now) path.now path.now
         ≡ (if result == 1 then spelling.now else path.now) }
+    ensures spelled { result
+        ≡ truth (bytes_eq (matching_or (Some spelling.now) path.now path.now) spelling.now) }
 {
     truth(with_path(path, Some(spelling)).original_path().as_bytes() == spelling)
 }
