@@ -1,0 +1,2 @@
+-- What a user reads.
+pub mod Masks
