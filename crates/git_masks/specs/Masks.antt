@@ -15,7 +15,7 @@ mask_of test text = mask_l (map test text)
 abbrev pub HasBit : (ℕ → Bool) → List ℕ → ℕ → Type 0
 HasBit test text i = (bit_at (mask_of test text) i ≡ 1) ↔ ((i < length text) × (test (slice_index text i) ≡ true))
 
--- the byte begins what follows the path of a URL
+-- the byte is `?` or `#`, at which a path may start on the web
 abbrev pub is_query : ℕ → Bool
 is_query b = b == question_mark || b == number_sign
 

@@ -1,9 +1,12 @@
 //! Cuts of a text by its masks, and tests of its bytes.
+//!
+//! It may use `places`. Its contract: each cut and each test promises of a text what the one of `git_syntax`
+//! promises that has no masks. The text of a test is for its contract alone.
 
-ghost use Rattle.std.specs.Prelude.{◌≡◌, ◌++◌, ◌∷◌, ℕ, List, MatchOption};
+ghost use Rattle.std.specs.Prelude.{◌≡◌, ◌↔◌, ◌++◌, ◌∷◌, ℕ, IsTrue, List, MatchOption};
 ghost use Rattle.std.specs.List.{list_all};
 ghost use Rattle.memchr.specs.Find.{FindsNeedle};
-ghost use Rattle.git_syntax.specs.Bytes.{Lacks, StartsPath, at_sign, colon, is_path_start, slash};
+ghost use Rattle.git_syntax.specs.Bytes.{FreeOf, Lacks, StartsPath, at_sign, colon, is_path_start, slash};
 ghost use Rattle.git_syntax.specs.Escapes as spec;
 ghost use Rattle.git_syntax.specs.Internal.Cuts.{CutsAt, CutsAtLast, CutsAtMark, url_mark};
 ghost use Rattle.git_syntax.specs.Internal.HostPieces.{is_simple_byte};
@@ -12,7 +15,7 @@ ghost use Rattle.git_masks.specs.Masks.{AreMasksOf, mask_of};
 use crate::masks::Masks;
 use crate::places::{all, first, last, none};
 
-/// What is before and behind the first `:`.
+/// What is before and behind the first `:`: of `h:22:p` these are `h` and `22:p`.
 #[inline(always)]
 pub fn cut_at_colon(text: &[u8], masks: Masks<u128>) -> Option<(&[u8], &[u8])>
     requires { AreMasksOf text.now masks }
@@ -22,7 +25,7 @@ pub fn cut_at_colon(text: &[u8], masks: Masks<u128>) -> Option<(&[u8], &[u8])>
     Some((text.split_at(at).0, text.split_at(at + 1).1))
 }
 
-/// What is before and behind the last `@`.
+/// What is before and behind the last `@`: of `a@b@h` these are `a@b` and `h`.
 #[inline(always)]
 pub fn cut_at_last_at(text: &[u8], masks: Masks<u128>) -> Option<(&[u8], &[u8])>
     requires { AreMasksOf text.now masks }
@@ -32,7 +35,7 @@ pub fn cut_at_last_at(text: &[u8], masks: Masks<u128>) -> Option<(&[u8], &[u8])>
     Some((text.split_at(at).0, text.split_at(at + 1).1))
 }
 
-/// What is before and behind the first `://`.
+/// What is before and behind the first `://`: of `c:d://h` these are `c:d` and `h`.
 #[inline(always)]
 pub fn cut_at_mark(text: &[u8], masks: Masks<u128>) -> Option<(&[u8], &[u8])>
     requires { AreMasksOf text.now masks }
@@ -55,7 +58,7 @@ fn first_mark(text: &[u8], masks: Masks<u128>) -> Option<usize>
     Some(marks.trailing_zeros() as usize)
 }
 
-/// What follows two slashes at the front.
+/// What follows two slashes at the front: of `//h/p` this is `h/p`, and `/h` has none.
 #[inline(always)]
 pub fn after_slashes(text: &[u8], masks: Masks<u128>) -> Option<&[u8]>
     requires { AreMasksOf text.now masks }
@@ -69,7 +72,8 @@ pub fn after_slashes(text: &[u8], masks: Masks<u128>) -> Option<&[u8]>
     }
 }
 
-/// The front up to where a path may first start, and the rest.
+/// The front up to where a path may first start, and the rest: of `h?a/p` these are `h` and `?a/p` on the web,
+/// and `h?a` and `/p` elsewhere.
 #[inline(always)]
 pub fn cut_before_path(text: &[u8], masks: Masks<u128>, web: bool) -> (&[u8], &[u8])
     requires { AreMasksOf text.now masks }
@@ -96,7 +100,7 @@ fn path_starts(text: &[u8], masks: Masks<u128>, web: bool) -> u128
     }
 }
 
-/// Whether each byte is printable ASCII and none is `%`.
+/// Whether each byte is printable ASCII and none is `%`, as in `h/p`, and not in `h/%20`.
 #[inline(always)]
 pub fn is_plain(text: &[u8], masks: Masks<u128>) -> bool
     requires { AreMasksOf text.now masks }
@@ -114,7 +118,16 @@ pub fn has_percent(text: &[u8], masks: Masks<u128>) -> bool
     !none(masks.percent)
 }
 
-/// Whether each byte is a lower-case letter, a digit, `-` or `.`.
+/// Whether no byte is `:`.
+#[inline(always)]
+pub fn lacks_colons(text: &[u8], masks: Masks<u128>) -> bool
+    requires { AreMasksOf text.now masks }
+    ensures { IsTrue result ↔ FreeOf colon text.now }
+{
+    none(masks.colon)
+}
+
+/// Whether each byte is a lower-case letter, a digit, `-` or `.`, as in `a-1.b`, and not in `a_b`.
 #[inline(always)]
 pub fn are_simple_bytes(text: &[u8], masks: Masks<u128>) -> bool
     requires { AreMasksOf text.now masks }

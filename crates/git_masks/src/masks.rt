@@ -1,4 +1,8 @@
-//! The masks of a text.
+//! The masks of a text of at most 128 bytes, by blocks of 16.
+//!
+//! It may use `block` and `parts`. Its contract: each mask has a bit for each byte of the text, and none behind
+//! it. A text of 16 bytes and more is read where it is: its last block ends where it ends, and may overlap the
+//! one before. A shorter one is copied.
 
 ghost use Rattle.std.specs.Prelude.{◌≡◌, ◌+◌, ◌-◌, ◌<◌, ◌≤◌, ℕ, Bool, List, MatchOption, drop, length, take};
 ghost use Rattle.git_masks.specs.Masks.{AreMasksOf, mask_of};
@@ -7,7 +11,7 @@ use crate::block::block;
 use std::simd::prelude::*;
 
 /// The masks of a text, one for each class of bytes: a number has a bit for each byte, the lowest for the
-/// first, which is set where the byte is of the class.
+/// first, which is set where the byte is of the class. Of `h:22:` that of `:` is 2 + 16.
 #[derive(Clone, Copy)]
 pub struct Masks<T> {
     /// `:`.
@@ -26,7 +30,7 @@ pub struct Masks<T> {
     pub host: T,
 }
 
-/// The masks of a text of at most 128 bytes.
+/// The masks of a text, or none where it has more than 128 bytes.
 pub fn masks_of(text: &[u8]) -> Option<Masks<u128>>
     ensures { MatchOption result (128 < length text.now) (λ masks. AreMasksOf text.now masks) }
 {
@@ -76,33 +80,36 @@ fn widen(masks: Masks<u64>) -> Masks<u128>
     }
 }
 
-/// The masks of a text of 65 to 128 bytes, by those of its first and last 64 bytes, which may overlap.
+/// The masks of a text of 65 to 128 bytes, by those of its first 64 bytes and of at least 16 last ones, which may
+/// overlap them.
 fn by_halves(text: &[u8]) -> Masks<u128>
     requires { (64 < length text.now) × (length text.now ≤ 128) }
     ensures { AreMasksOf text.now result }
 {
+    let place = if text.len() < 80 { text.len() - 16 } else { 64 };
     let low = by_blocks(text.split_at(64).0);
-    let high = by_blocks(text.split_at(text.len() - 64).1);
+    let high = by_blocks(text.split_at(place).1);
     Masks {
-        colon: stack(text, low.colon, high.colon),
-        slash: stack(text, low.slash, high.slash),
-        at: stack(text, low.at, high.at),
-        query: stack(text, low.query, high.query),
-        percent: stack(text, low.percent, high.percent),
-        odd: stack(text, low.odd, high.odd),
-        host: stack(text, low.host, high.host),
+        colon: stack(text, low.colon, place, high.colon),
+        slash: stack(text, low.slash, place, high.slash),
+        at: stack(text, low.at, place, high.at),
+        query: stack(text, low.query, place, high.query),
+        percent: stack(text, low.percent, place, high.percent),
+        odd: stack(text, low.odd, place, high.odd),
+        host: stack(text, low.host, place, high.host),
     }
 }
 
-/// One mask of the text, by those of its first and its last 64 bytes.
+/// One mask of the text, by those of its first 64 bytes and of its rest from the place on. The text is for the
+/// contract alone.
 #[inline(always)]
-fn stack(text: &[u8], low: u64, high: u64) -> u128
-    requires { (64 < length text.now) × (length text.now ≤ 128) }
+fn stack(text: &[u8], low: u64, place: usize, high: u64) -> u128
+    requires { (0 < place) × (place ≤ 64) × (64 < length text.now) × (length text.now ≤ 128) }
     ensures { (test : ℕ → Bool) → low ≡ mask_of test (take 64 text.now)
-        → high ≡ mask_of test (drop (length text.now - 64) text.now)
+        → high ≡ mask_of test (drop place text.now)
         → result ≡ mask_of test text.now }
 {
-    let behind = high >> (128 - text.len());
+    let behind = high >> (64 - place);
     low as u128 | ((behind as u128) << 64)
 }
 

@@ -1,4 +1,6 @@
 //! The masks of the front of a text and of its rest, by those of the text.
+//!
+//! It may use `masks`. Its contract: whatever text the masks are of, the answer is of its front or its rest.
 
 ghost use Rattle.std.specs.Prelude.{◌≡◌, ◌≤◌, ℕ, Bool, List, drop, length, take};
 ghost use Rattle.git_masks.specs.Masks.{AreMasksOf, mask_of};

@@ -1,4 +1,7 @@
-//! Where a class of bytes is first and last in a text, by the mask of the class.
+//! Where a class of bytes is first and last in a text, and whether all bytes or none are of it, by its mask.
+//!
+//! It uses nothing of this crate. Its contract: whatever text and class the mask is of, the answer is right for
+//! them.
 
 ghost use Rattle.std.specs.Prelude.{◌≡◌, ◌↔◌, ◌-◌, ◌^◌, ◌≤◌, ℕ, Bool, List, IsTrue, length, true};
 ghost use Rattle.std.specs.List.{list_all};

@@ -19,6 +19,7 @@ use mir.Syntax.{w128}
 pub mask-lt : (test : ℕ → Bool) (text : List ℕ) → mask_of test text < 2 ^ length text
 mask-lt test text = subst (λ n. mask_of test text < 2 ^ n) (length-map text test) (mask_l-lt (map test text))
 
+-- a mask of a short text has at most 128 bits
 pub mask_fits : (test : ℕ → Bool) (text : List ℕ) → length text ≤ 128 → mask_of test text < 2 ^ 128
 mask_fits test text short = lt_of_lt_of_le (mask-lt test text) (pow_mono short)
 
@@ -110,6 +111,7 @@ lacking : (b : Bool) (m : ℕ) (rest : Bool) → cond b 1 0 + 2 * m ≡ 0 → (m
 lacking true m rest e h = absurd (omega arith)
 lacking false m rest e h = h (omega arith)
 
+-- no bit is set: no byte is of the class
 pub empty_lacks : (test : ℕ → Bool) (text : List ℕ) → mask_of test text ≡ 0 → Lacks test text
 empty_lacks test [] e = refl
 empty_lacks test (b ∷ text) e = lacking (test b) (mask_of test text) _ e (empty_lacks test text)
@@ -117,6 +119,7 @@ empty_lacks test (b ∷ text) e = lacking (test b) (mask_of test text) _ e (empt
 unset_first : (b : Bool) (m : ℕ) → b ≡ false → m ≡ 0 → cond b 1 0 + 2 * m ≡ 0
 unset_first b m e h = ap (λ t. cond t 1 0 + 2 * m) e ∙ omega arith
 
+-- no byte is of the class: no bit is set
 pub lacks_empty : (test : ℕ → Bool) (text : List ℕ) → Lacks test text → mask_of test text ≡ 0
 lacks_empty test [] e = refl
 lacks_empty test (b ∷ text) e = let parts = or_parts (test b) (list_any test text) e in unset_first (test b) _ parts.0 (lacks_empty test text parts.1)
@@ -133,6 +136,7 @@ full_all test (b ∷ text) e = full_step (test b) (mask_of test text) (2 ^ lengt
 set_first : (b : Bool) (m p : ℕ) → b ≡ true → 0 < p → m ≡ p - 1 → cond b 1 0 + 2 * m ≡ p * 2 - 1
 set_first b m p e some h = ap (λ t. cond t 1 0 + 2 * m) e ∙ omega arith
 
+-- each byte is of the class: all bits are set
 pub all_full : (test : ℕ → Bool) (text : List ℕ) → list_all test text ≡ true → mask_of test text ≡ 2 ^ length text - 1
 all_full test [] e = refl
 all_full test (b ∷ text) e =

@@ -103,17 +103,16 @@ joined test text done at behind near room short =
     ∙ ap (λ b. bit_or (mask_of test (xs ++ ys)) b) (fits ∙ ap (λ n. block * 2 ^ n) (sym long))
     ∙ overlap test xs ys zs ∙ ap (mask_of test) (sym whole)
 
--- the first and the last 64 bytes of a text
-pub stacked : (test : ℕ → Bool) (text : List ℕ) → 64 < length text → length text ≤ 128
-    → bit_or (mask_of test (take 64 text)) (mask_of test (drop (length text - 64) text) / 2 ^ (128 - length text) * 2 ^ 64 % 2 ^ 128) ≡ mask_of test text
-stacked test text long short =
+-- the first 64 bytes of a text, and its rest from a place in them
+pub stacked : (test : ℕ → Bool) (text : List ℕ) (place : ℕ) → place ≤ 64 → 64 < length text → length text ≤ 128
+    → bit_or (mask_of test (take 64 text)) (mask_of test (drop place text) / 2 ^ (64 - place) * 2 ^ 64 % 2 ^ 128) ≡ mask_of test text
+stacked test text place within long short =
     let front = mask_of test (take 64 text) in
     let back = mask_of test (drop 64 text) in
     let size : length (take 64 text) ≡ 64 = length-take-le 64 text (omega arith) in
-    let place : (length text - 64) + (128 - length text) ≡ 64 = omega arith in
-    let behind : mask_of test (drop (length text - 64) text) / 2 ^ (128 - length text) ≡ back =
-    sym (mask-drop test (128 - length text) (drop (length text - 64) text))
-    ∙ ap (mask_of test) (drop-drop (128 - length text) (length text - 64) text ∙ ap (λ n. drop n text) place) in
+    let to_end : place + (64 - place) ≡ 64 = omega arith in
+    let behind : mask_of test (drop place text) / 2 ^ (64 - place) ≡ back =
+    sym (mask-drop test (64 - place) (drop place text)) ∙ ap (mask_of test) (drop-drop (64 - place) place text ∙ ap (λ n. drop n text) to_end) in
     let low : front < 2 ^ 64 = subst (λ n. front < 2 ^ n) size (mask-lt test (take 64 text)) in
     let rest : length (drop 64 text) ≤ 64 = omega (arith, length-drop 64 text) in
     let high : back < 2 ^ 64 = lt_of_lt_of_le (mask-lt test (drop 64 text)) (pow_mono rest) in
@@ -122,6 +121,7 @@ stacked test text long short =
 
 -- ---- a place
 
+-- a number with one bit
 pub one_shifted : (n : ℕ) → n < 128 → 1 * 2 ^ n % 2 ^ 128 ≡ 2 ^ n
 one_shifted n lt = shl_exact 1 n 128 (omega arith) (omega arith) ∙ omega arith
 
@@ -144,8 +144,3 @@ mask-or t u (b ∷ text) = or_step (mask_of t (b ∷ text)) (mask_of u (b ∷ te
 
     parts : (x y : Bool) (m n k : ℕ) → bit_or m n ≡ k → bit_or ((cond x 1 0 + 2 * m) / 2) ((cond y 1 0 + 2 * n) / 2) * 2 + max ((cond x 1 0 + 2 * m) % 2) ((cond y 1 0 + 2 * n) % 2) ≡ cond (x || y) 1 0 + 2 * k
     parts x y m n k is = ap₂ (λ i j. i * 2 + j) (ap₂ bit_or (half x m) (half y n) ∙ is) (ap₂ max (odd x m) (odd y n)) ∙ either x y k
-
--- one class, tested in two ways
-pub mask-same : (t u : ℕ → Bool) → ((b : ℕ) → t b ≡ u b) → (text : List ℕ) → mask_of t text ≡ mask_of u text
-mask-same t u same [] = refl
-mask-same t u same (b ∷ text) = ap₂ (λ x m. cond x 1 0 + 2 * m) (same b) (mask-same t u same text)

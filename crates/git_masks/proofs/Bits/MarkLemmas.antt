@@ -68,9 +68,11 @@ mark_is_set text k e =
     read x y z (suc (suc zero)) lt = z
     read x y z (suc (suc (suc j))) lt = absurd (omega arith)
 
+-- no bit is set: the mark is nowhere
 pub no_mark : (text : List ℕ) → mark_mask text ≡ 0 → FindsNeedle text url_mark 0 None
 no_mark text e = nowhere_set (OccursAt text url_mark) (mark_mask text) (length text + 1) (mark_sets text) e
 
+-- the lowest bit is that of the first mark
 pub first_mark : (text : List ℕ) → length text ≤ 128 → 0 < mark_mask text → FindsNeedle text url_mark 0 (Some (count_trailing_zeros 128 (mark_mask text)))
 first_mark text short some =
     let fits = lt_of_le_of_lt (and_le_l (bit_and (mask_of_byte colon text) (mask_of_byte slash text / 2)) (mask_of_byte slash text / 4)) (lt_of_le_of_lt (and_le_l (mask_of_byte colon text) (mask_of_byte slash text / 2)) (mask_fits (λ b. b == colon) text short)) in
@@ -88,15 +90,10 @@ two_of_one : (x : Bool) → (cond x 1 0 + 2 * 0) % 4 ≢ 3
 two_of_one true e = omega arith
 two_of_one false e = omega arith
 
+-- the two lowest bits are set: the text begins with two slashes
 pub slashes_set : (text : List ℕ) → bit_and (mask_of_byte slash text) 3 ≡ 3 → text ≡ slash ∷ (slash ∷ drop 2 text)
 slashes_set [] e = absurd (omega (arith, and_mask 0 2))
 slashes_set (a ∷ []) e = absurd (two_of_one (a == slash) (sym (and_mask (mask_of_byte slash (a ∷ [])) 2) ∙ e))
 slashes_set (a ∷ b ∷ text) e =
     let both = low_bits (a == slash) (b == slash) _ (sym (and_mask (mask_of_byte slash (a ∷ b ∷ text)) 2) ∙ e) in
     ap₂ (λ x y. x ∷ y ∷ text) (eqb-true a slash both.0) (eqb-true b slash both.1)
-
-set_low : (m : ℕ) → (1 + 2 * (1 + 2 * m)) % 4 ≡ 3
-set_low m = omega arith
-
-pub set_slashes : (text behind : List ℕ) → text ≡ slash ∷ (slash ∷ behind) → bit_and (mask_of_byte slash text) 3 ≡ 3
-set_slashes text behind e = and_mask (mask_of_byte slash text) 2 ∙ ap (λ t. mask_of_byte slash t % 4) e ∙ set_low (mask_of_byte slash behind)

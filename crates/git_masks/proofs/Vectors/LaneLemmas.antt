@@ -18,6 +18,7 @@ less a b = (a + (256 - b)) % 256
 abbrev pub in_range : ℕ → ℕ → ℕ → ℕ
 in_range first span b = compared leb (less b first) span
 
+-- which lanes of a vector are in the range
 pub in_range_lanes : (first span n : ℕ) (v : List ℕ) → length v ≡ n
     → zip2 (compared leb) (zip2 less v (replicate n first)) (replicate n span) ≡ map (in_range first span) v
 in_range_lanes first span n v long =
