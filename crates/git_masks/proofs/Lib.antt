@@ -1,3 +1,3 @@
 -- Lemmas by topic, lowest first.
 pub mod Vectors
-pub mod Bits
+pub mod Numbers

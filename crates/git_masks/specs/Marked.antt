@@ -5,9 +5,9 @@ use Rattle.git_masks.specs.declared.marked.Marked.{Marked}
 use Rattle.git_masks.specs.Masks.{AreMasksOf}
 
 -- the masks are those of the text
-abbrev pub IsMarked : Marked → Type 0
-IsMarked it = AreMasksOf it.text.now it.masks
+abbrev pub IsMarked : {B : Type 0} → (B → ℕ) → ℕ → Marked B → Type 0
+IsMarked number size it = AreMasksOf number size it.text.now it.masks
 
 -- the pieces without their masks
-abbrev pub texts_of : Marked × Marked → Bor (List ℕ) × Bor (List ℕ)
+abbrev pub texts_of : {B : Type 0} → Marked B × Marked B → Bor (List ℕ) × Bor (List ℕ)
 texts_of pieces = (pieces.0.text, pieces.1.text)

@@ -23,13 +23,21 @@ is_query b = b == question_mark || b == number_sign
 abbrev pub is_odd : ℕ → Bool
 is_odd b = not (is_plain_byte b)
 
--- these are the masks of the text
-pub record AreMasksOf (text : List ℕ) (masks : Masks ℕ) : Type 0 where
-  pub short : length text ≤ 128
-  pub colon : masks.colon ≡ mask_of (λ b. b == colon) text
-  pub slash : masks.slash ≡ mask_of (λ b. b == slash) text
-  pub at : masks.at ≡ mask_of (λ b. b == at_sign) text
-  pub query : masks.query ≡ mask_of is_query text
-  pub percent : masks.percent ≡ mask_of (λ b. b == percent_sign) text
-  pub odd : masks.odd ≡ mask_of is_odd text
-  pub host : masks.host ≡ mask_of is_simple_byte text
+-- these are the masks of the text, which has no more bytes than they have bits
+pub record AreMasksOf {B : Type 0} (number : B → ℕ) (size : ℕ) (text : List ℕ) (masks : Masks B) : Type 0 where
+  pub short : length text ≤ size
+  pub colon : number masks.colon ≡ mask_of (λ b. b == colon) text
+  pub slash : number masks.slash ≡ mask_of (λ b. b == slash) text
+  pub at : number masks.at ≡ mask_of (λ b. b == at_sign) text
+  pub query : number masks.query ≡ mask_of is_query text
+  pub percent : number masks.percent ≡ mask_of (λ b. b == percent_sign) text
+  pub odd : number masks.odd ≡ mask_of is_odd text
+  pub host : number masks.host ≡ mask_of is_simple_byte text
+
+-- the same of masks that are numbers of 64 bits
+abbrev pub AreShortMasksOf : List ℕ → Masks ℕ → Type 0
+AreShortMasksOf text masks = AreMasksOf (λ m. m) 64 text masks
+
+-- the same of masks that are numbers of 128 bits
+abbrev pub AreLongMasksOf : List ℕ → Masks ℕ → Type 0
+AreLongMasksOf text masks = AreMasksOf (λ m. m) 128 text masks

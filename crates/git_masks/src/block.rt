@@ -6,7 +6,7 @@
 ghost use Rattle.std.specs.Prelude.{◌≡◌, ◌==◌};
 ghost use Rattle.git_syntax.specs.Escapes.{is_plain_byte};
 ghost use Rattle.git_syntax.specs.Internal.HostPieces.{is_simple_byte};
-ghost use Rattle.git_masks.specs.Masks.{AreMasksOf, is_odd, is_query, mask_of};
+ghost use Rattle.git_masks.specs.Masks.{AreShortMasksOf, is_odd, is_query, mask_of};
 
 use crate::masks::Masks;
 use std::simd::prelude::*;
@@ -23,7 +23,7 @@ const DIGIT_SPAN: u8 = 12;
 /// The masks of 16 bytes.
 #[inline(always)]
 pub(crate) fn block(bytes: u8x16) -> Masks<u64>
-    ensures { AreMasksOf bytes result }
+    ensures { AreShortMasksOf bytes result }
 {
     Masks {
         colon: equal_to(bytes, b':'),

@@ -5,7 +5,7 @@
 //! one before. A shorter one is copied.
 
 ghost use Rattle.std.specs.Prelude.{◌≡◌, ◌+◌, ◌-◌, ◌<◌, ◌≤◌, ℕ, Bool, List, MatchOption, drop, length, take};
-ghost use Rattle.git_masks.specs.Masks.{AreMasksOf, mask_of};
+ghost use Rattle.git_masks.specs.Masks.{AreLongMasksOf, AreShortMasksOf, mask_of};
 
 use crate::block::block;
 use std::simd::prelude::*;
@@ -30,9 +30,24 @@ pub struct Masks<T> {
     pub host: T,
 }
 
+/// The masks of a text, or none where it has more than 64 bytes.
+pub fn short_masks(text: &[u8]) -> Option<Masks<u64>>
+    ensures { MatchOption result (64 < length text.now)
+        (λ masks. AreShortMasksOf text.now masks) }
+{
+    if text.len() > 64 {
+        return None;
+    }
+    if text.len() >= 16 {
+        return Some(by_blocks(text));
+    }
+    Some(by_copy(text))
+}
+
 /// The masks of a text, or none where it has more than 128 bytes.
-pub fn masks_of(text: &[u8]) -> Option<Masks<u128>>
-    ensures { MatchOption result (128 < length text.now) (λ masks. AreMasksOf text.now masks) }
+pub fn long_masks(text: &[u8]) -> Option<Masks<u128>>
+    ensures { MatchOption result (128 < length text.now)
+        (λ masks. AreLongMasksOf text.now masks) }
 {
     if text.len() > 128 {
         return None;
@@ -40,18 +55,16 @@ pub fn masks_of(text: &[u8]) -> Option<Masks<u128>>
     if text.len() > 64 {
         return Some(by_halves(text));
     }
-    if text.len() >= 16 {
-        return Some(widen(by_blocks(text)));
-    }
-    Some(by_copy(text))
+    let masks = short_masks(text)?;
+    Some(widen(masks))
 }
 
 /// The masks of a text of less than 16 bytes, by a copy with zeros behind it.
-fn by_copy(text: &[u8]) -> Masks<u128>
+fn by_copy(text: &[u8]) -> Masks<u64>
     requires { length text.now < 16 }
-    ensures { AreMasksOf text.now result }
+    ensures { AreShortMasksOf text.now result }
 {
-    widen(block(u8x16::from_array(pad(text)))).front(text.len())
+    block(u8x16::from_array(pad(text))).front(text.len())
 }
 
 /// The text with zeros behind it.
@@ -67,7 +80,7 @@ fn pad(text: &[u8]) -> [u8; 16]
 /// The same masks with 128 bits each.
 #[inline(always)]
 fn widen(masks: Masks<u64>) -> Masks<u128>
-    ensures { (text : List ℕ) → AreMasksOf text masks → AreMasksOf text result }
+    ensures { (text : List ℕ) → AreShortMasksOf text masks → AreLongMasksOf text result }
 {
     Masks {
         colon: masks.colon as u128,
@@ -84,7 +97,7 @@ fn widen(masks: Masks<u64>) -> Masks<u128>
 /// overlap them.
 fn by_halves(text: &[u8]) -> Masks<u128>
     requires { (64 < length text.now) × (length text.now ≤ 128) }
-    ensures { AreMasksOf text.now result }
+    ensures { AreLongMasksOf text.now result }
 {
     let place = if text.len() < 80 { text.len() - 16 } else { 64 };
     let low = by_blocks(text.split_at(64).0);
@@ -116,7 +129,7 @@ fn stack(text: &[u8], low: u64, place: usize, high: u64) -> u128
 /// The masks of a text of 16 to 64 bytes, by blocks of which the last may overlap the one before.
 fn by_blocks(text: &[u8]) -> Masks<u64>
     requires { (16 ≤ length text.now) × (length text.now ≤ 64) }
-    ensures { AreMasksOf text.now result }
+    ensures { AreShortMasksOf text.now result }
 {
     let mut masks = block_at(text, 0);
     let mut done = 16;
@@ -136,7 +149,7 @@ fn by_blocks(text: &[u8]) -> Masks<u64>
 #[inline(always)]
 fn block_at(text: &[u8], at: usize) -> Masks<u64>
     requires { at + 16 ≤ length text.now }
-    ensures { AreMasksOf (take 16 (drop at text.now)) result }
+    ensures { AreShortMasksOf (take 16 (drop at text.now)) result }
 {
     block(u8x16::from_slice(&text[at..]))
 }
@@ -147,9 +160,9 @@ fn block_at(text: &[u8], at: usize) -> Masks<u64>
 fn join(text: &[u8], done: usize, front: Masks<u64>, at: usize, block: Masks<u64>) -> Masks<u64>
     requires places { (at ≤ done) × (done ≤ at + 16) × (at + 16 ≤ length text.now) }
     requires short { length text.now ≤ 64 }
-    requires front { AreMasksOf (take done text.now) front }
-    requires block { AreMasksOf (take 16 (drop at text.now)) block }
-    ensures { AreMasksOf (take (at + 16) text.now) result }
+    requires front { AreShortMasksOf (take done text.now) front }
+    requires block { AreShortMasksOf (take 16 (drop at text.now)) block }
+    ensures { AreShortMasksOf (take (at + 16) text.now) result }
 {
     Masks {
         colon: join_mask(text, done, front.colon, at, block.colon),

@@ -5,7 +5,7 @@ use Rattle.git_syntax.proofs.Texts.CutLemmas.{cut_at_place, cut_at_end}
 use Rattle.git_masks.proofs.cuts.cut_before_path.Goals as goal
 
 pub returns-in-Some : goal.returns-in-Some
-returns-in-Some c =
+returns-in-Some g c =
     let text = c.args.text.now in
     let is_start = is_path_start c.args.web in
     let pieces = cut_at_place is_start text c.in-Some.at (c.in-Some.ensures is_start text c.requires.short c.path_starts.ensures) in
@@ -16,7 +16,7 @@ returns-in-Some c =
     }
 
 pub returns-in-None : goal.returns-in-None
-returns-in-None c =
+returns-in-None g c =
     let text = c.args.text.now in
     let is_start = is_path_start c.args.web in
     let pieces = cut_at_end is_start text _ refl (c.in-None.ensures is_start text c.requires.short c.path_starts.ensures) in

@@ -1,4 +1,4 @@
-use Rattle.git_masks.proofs.Bits.BitLemmas.{has_bit}
+use Rattle.git_masks.proofs.Numbers.BitLemmas.{has_bit}
 use Rattle.git_masks.proofs.mask_law.law_masks.Goals as goal
 
 pub returns : goal.returns

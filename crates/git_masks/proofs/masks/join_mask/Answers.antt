@@ -1,6 +1,6 @@
 -- A front of the text, and a block that may overlap it.
 use Rattle.std.proofs.Common.{◌%◌, ◌*◌, ◌^◌, bit_or, ap₂, ◌∙◌}
-use Rattle.git_masks.proofs.Bits.JoinLemmas.{joined}
+use Rattle.git_masks.proofs.Numbers.JoinLemmas.{joined}
 use Rattle.git_masks.proofs.masks.join_mask.Goals as goal
 
 pub returns : goal.returns

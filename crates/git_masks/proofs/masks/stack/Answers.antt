@@ -1,6 +1,6 @@
 -- The first 64 bytes, and what the rest has behind them.
 use Rattle.std.proofs.Common.{◌-◌, ◌/◌, ◌%◌, ◌*◌, ◌^◌, bit_or, ap₂, ◌∙◌}
-use Rattle.git_masks.proofs.Bits.JoinLemmas.{stacked}
+use Rattle.git_masks.proofs.Numbers.JoinLemmas.{stacked}
 use Rattle.git_masks.proofs.masks.stack.Goals as goal
 
 pub returns : goal.returns

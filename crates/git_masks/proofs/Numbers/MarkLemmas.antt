@@ -1,5 +1,5 @@
 -- Where `://` is in a text, by the masks of `:` and `/`.
-use Rattle.std.proofs.Common.{◌≡◌, ◌≢◌, ℕ, zero, suc, ◌+◌, ◌*◌, ◌/◌, ◌%◌, ◌<◌, ◌≤◌, min, Bool, true, false, cond, ◌==◌, List, [], ◌∷◌, drop, length, get_or, Some, None, refl, sym, ap, ap₂, ◌∙◌, arith, bit_and, lt_of_le_of_lt}
+use Rattle.std.proofs.Common.{◌≡◌, ℕ, zero, suc, ◌+◌, ◌/◌, ◌<◌, ◌≤◌, min, ◌==◌, List, length, get_or, Some, None, sym, ap, ap₂, ◌∙◌, arith, bit_and, lt_of_le_of_lt}
 use Rattle.std.specs.Int.{bit_at}
 use Rattle.std.proofs.lemmas.Bool.{eqb-true, eq-eqb}
 use Rattle.std.proofs.lemmas.Nat.Bits.{bit_at-suc, bit_at_and, bit_at-lt}
@@ -7,9 +7,11 @@ use Rattle.memchr.specs.Find.{FindsNeedle, OccursAt}
 use Rattle.git_syntax.specs.Bytes.{colon, slash}
 use Rattle.git_syntax.specs.Internal.Cuts.{url_mark}
 use Rattle.git_masks.specs.Masks.{mask_of}
-use Rattle.git_masks.proofs.Bits.BitLemmas.{has_bit, mask_fits, nowhere_set, lowest_first}
-use lib.Bits.{and_le_l, and_mask}
+use Rattle.git_masks.proofs.Numbers.BitLemmas.{has_bit, mask_fits, nowhere_set, lowest_first}
+use lib.Bits.{and_le_l}
 use lib.Count.{count_trailing_zeros}
+use mir.Syntax.{Width}
+use mir.Val.{bits}
 
 -- the mask of the byte
 abbrev pub mask_of_byte : ℕ → List ℕ → ℕ
@@ -73,27 +75,7 @@ pub no_mark : (text : List ℕ) → mark_mask text ≡ 0 → FindsNeedle text ur
 no_mark text e = nowhere_set (OccursAt text url_mark) (mark_mask text) (length text + 1) (mark_sets text) e
 
 -- the lowest bit is that of the first mark
-pub first_mark : (text : List ℕ) → length text ≤ 128 → 0 < mark_mask text → FindsNeedle text url_mark 0 (Some (count_trailing_zeros 128 (mark_mask text)))
-first_mark text short some =
-    let fits = lt_of_le_of_lt (and_le_l (bit_and (mask_of_byte colon text) (mask_of_byte slash text / 2)) (mask_of_byte slash text / 4)) (lt_of_le_of_lt (and_le_l (mask_of_byte colon text) (mask_of_byte slash text / 2)) (mask_fits (λ b. b == colon) text short)) in
-    lowest_first (OccursAt text url_mark) (mark_mask text) (length text + 1) (mark_sets text) (mark_is_set text) fits some
-
--- ---- two slashes at the front
-
-low_bits : (x y : Bool) (m : ℕ) → (cond x 1 0 + 2 * (cond y 1 0 + 2 * m)) % 4 ≡ 3 → (x ≡ true) × (y ≡ true)
-low_bits true true m e = (refl, refl)
-low_bits true false m e = absurd (omega arith)
-low_bits false true m e = absurd (omega arith)
-low_bits false false m e = absurd (omega arith)
-
-two_of_one : (x : Bool) → (cond x 1 0 + 2 * 0) % 4 ≢ 3
-two_of_one true e = omega arith
-two_of_one false e = omega arith
-
--- the two lowest bits are set: the text begins with two slashes
-pub slashes_set : (text : List ℕ) → bit_and (mask_of_byte slash text) 3 ≡ 3 → text ≡ slash ∷ (slash ∷ drop 2 text)
-slashes_set [] e = absurd (omega (arith, and_mask 0 2))
-slashes_set (a ∷ []) e = absurd (two_of_one (a == slash) (sym (and_mask (mask_of_byte slash (a ∷ [])) 2) ∙ e))
-slashes_set (a ∷ b ∷ text) e =
-    let both = low_bits (a == slash) (b == slash) _ (sym (and_mask (mask_of_byte slash (a ∷ b ∷ text)) 2) ∙ e) in
-    ap₂ (λ x y. x ∷ y ∷ text) (eqb-true a slash both.0) (eqb-true b slash both.1)
+pub first_mark : (w : Width) (text : List ℕ) → length text ≤ bits w → 0 < mark_mask text → FindsNeedle text url_mark 0 (Some (count_trailing_zeros (bits w) (mark_mask text)))
+first_mark w text short some =
+    let fits = lt_of_le_of_lt (and_le_l (bit_and (mask_of_byte colon text) (mask_of_byte slash text / 2)) (mask_of_byte slash text / 4)) (lt_of_le_of_lt (and_le_l (mask_of_byte colon text) (mask_of_byte slash text / 2)) (mask_fits (bits w) (λ b. b == colon) text short)) in
+    lowest_first w (OccursAt text url_mark) (mark_mask text) (length text + 1) (mark_sets text) (mark_is_set text) fits some

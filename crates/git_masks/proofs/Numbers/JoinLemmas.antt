@@ -1,7 +1,7 @@
 -- Masks of a text by those of its parts, and the other way round.
 use Rattle.std.proofs.Common.{◌≡◌, ℕ, zero, suc, ◌+◌, ◌-◌, ◌*◌, ◌/◌, ◌%◌, ◌^◌, ◌<◌, ◌≤◌, max, ◌||◌, Bool, true, false, cond, List, [], ◌∷◌, ◌++◌, length, take, drop, refl, sym, ap, ap₂, ◌∙◌, subst, arith, bit_and, bit_or, lt_of_lt_of_le, pow_mono, pow_pos, pow-suc, mul_assoc, take-append-drop, length-drop, length-take-le, take-add, drop-drop, shl_exact, div-one}
 use Rattle.git_masks.specs.Masks.{mask_of}
-use Rattle.git_masks.proofs.Bits.BitLemmas.{mask-lt}
+use Rattle.git_masks.proofs.Numbers.BitLemmas.{mask-lt}
 use lib.Bits.{and_mask, or_step, or_block, or_shifted_r, or_self, or_zero_l, or_zero_r}
 use lib.Pow.{shr-shr, mod-pow-add}
 use native.Mathlib.Nat.{zero-div, zero-mod, mod-one}
@@ -122,12 +122,12 @@ stacked test text place within long short =
 -- ---- a place
 
 -- a number with one bit
-pub one_shifted : (n : ℕ) → n < 128 → 1 * 2 ^ n % 2 ^ 128 ≡ 2 ^ n
-one_shifted n lt = shl_exact 1 n 128 (omega arith) (omega arith) ∙ omega arith
+pub one_shifted : (size n : ℕ) → n < size → 1 * 2 ^ n % 2 ^ size ≡ 2 ^ n
+one_shifted size n lt = shl_exact 1 n size (omega arith) (omega arith) ∙ omega arith
 
 -- the bits before a place
-pub front_bits : (test : ℕ → Bool) (text : List ℕ) (n : ℕ) → n < 128 → bit_and (mask_of test text) (1 * 2 ^ n % 2 ^ 128 - 1) ≡ mask_of test (take n text)
-front_bits test text n lt = ap (λ p. bit_and (mask_of test text) (p - 1)) (one_shifted n lt) ∙ and_mask (mask_of test text) n ∙ sym (mask-take test n text)
+pub front_bits : (size : ℕ) (test : ℕ → Bool) (text : List ℕ) (n : ℕ) → n < size → bit_and (mask_of test text) (1 * 2 ^ n % 2 ^ size - 1) ≡ mask_of test (take n text)
+front_bits size test text n lt = ap (λ p. bit_and (mask_of test text) (p - 1)) (one_shifted size n lt) ∙ and_mask (mask_of test text) n ∙ sym (mask-take test n text)
 
 -- ---- two classes
 

@@ -13,15 +13,16 @@ use Rattle.git_syntax.specs.Bytes.{Lacks}
 use Rattle.git_masks.specs.Masks.{mask_of, HasBit}
 use lib.Count.{count_trailing_zeros, count_leading_zeros}
 use lib.Pow.{shr_lt, shr_mono, shl-shr}
-use mir.Syntax.{w128}
+use mir.Syntax.{Width}
+use mir.Val.{bits}
 
 -- a mask has no bit behind the text
 pub mask-lt : (test : ℕ → Bool) (text : List ℕ) → mask_of test text < 2 ^ length text
 mask-lt test text = subst (λ n. mask_of test text < 2 ^ n) (length-map text test) (mask_l-lt (map test text))
 
--- a mask of a short text has at most 128 bits
-pub mask_fits : (test : ℕ → Bool) (text : List ℕ) → length text ≤ 128 → mask_of test text < 2 ^ 128
-mask_fits test text short = lt_of_lt_of_le (mask-lt test text) (pow_mono short)
+-- a mask of a short text has few bits
+pub mask_fits : (size : ℕ) (test : ℕ → Bool) (text : List ℕ) → length text ≤ size → mask_of test text < 2 ^ size
+mask_fits size test text short = lt_of_lt_of_le (mask-lt test text) (pow_mono short)
 
 -- ---- bits
 
@@ -56,10 +57,10 @@ nowhere_set P m high sets e k low lt holds =
     omega arith
 
 -- the lowest bit is that of the first place
-pub lowest_first : (P : ℕ → Type 0) (m high : ℕ) → ((k : ℕ) → P k → bit_at m k ≡ 1) → ((k : ℕ) → bit_at m k ≡ 1 → (k < high) × P k) → m < 2 ^ 128 → 0 < m → IsFirst P 0 high (Some (count_trailing_zeros 128 m))
-lowest_first P m high sets is_set fits some =
-    let lowest = bit_at-trailing_zeros w128 m some fits in
-    let found = is_set (count_trailing_zeros 128 m) lowest.1 in (
+pub lowest_first : (w : Width) (P : ℕ → Type 0) (m high : ℕ) → ((k : ℕ) → P k → bit_at m k ≡ 1) → ((k : ℕ) → bit_at m k ≡ 1 → (k < high) × P k) → m < 2 ^ bits w → 0 < m → IsFirst P 0 high (Some (count_trailing_zeros (bits w) m))
+lowest_first w P m high sets is_set fits some =
+    let lowest = bit_at-trailing_zeros w m some fits in
+    let found = is_set (count_trailing_zeros (bits w) m) lowest.1 in (
       record {
         low = omega arith;
         high = found.0;
@@ -73,9 +74,9 @@ pub none_set : (test : ℕ → Bool) (text : List ℕ) → mask_of test text ≡
 none_set test text e k low lt passes = nowhere_set (λ i. (i < length text) × Passes test text i) (mask_of test text) (length text) (λ i p. (has_bit test text i).1 p) e k low lt (lt, passes)
 
 -- the lowest bit is that of the first
-pub first_set : (test : ℕ → Bool) (text : List ℕ) → length text ≤ 128 → 0 < mask_of test text → IsFirstByte test text (Some (count_trailing_zeros 128 (mask_of test text)))
-first_set test text short some =
-    let first = lowest_first (λ i. (i < length text) × Passes test text i) (mask_of test text) (length text) (λ i p. (has_bit test text i).1 p) (λ i e. let p = (has_bit test text i).0 e in (p.0, p)) (mask_fits test text short) some in (
+pub first_set : (w : Width) (test : ℕ → Bool) (text : List ℕ) → length text ≤ bits w → 0 < mask_of test text → IsFirstByte test text (Some (count_trailing_zeros (bits w) (mask_of test text)))
+first_set w test text short some =
+    let first = lowest_first w (λ i. (i < length text) × Passes test text i) (mask_of test text) (length text) (λ i p. (has_bit test text i).1 p) (λ i e. let p = (has_bit test text i).0 e in (p.0, p)) (mask_fits (bits w) test text short) some in (
       record {
         low = first.0.low;
         high = first.0.high;
@@ -91,10 +92,10 @@ one_at_top m j low high =
     omega arith
 
 -- the highest bit is that of the last
-pub last_set : (test : ℕ → Bool) (text : List ℕ) (n : ℕ) → length text ≤ 128 → 0 < mask_of test text → n ≡ 127 - count_leading_zeros 128 (mask_of test text) → IsLastByte test text (Some n)
-last_set test text n short some is =
+pub last_set : (w : Width) (test : ℕ → Bool) (text : List ℕ) (n : ℕ) → length text ≤ bits w → 0 < mask_of test text → n ≡ bits w - 1 - count_leading_zeros (bits w) (mask_of test text) → IsLastByte test text (Some n)
+last_set w test text n short some is =
     let m = mask_of test text in
-    let highest = leading_top 128 m some (mask_fits test text short) in
+    let highest = leading_top (bits w) m some (mask_fits (bits w) test text short) in
     let at : highest.0 ≡ n = omega (arith, highest.1) in
     let found = (has_bit test text n).0 (subst (λ j. bit_at m j ≡ 1) at (one_at_top m highest.0 highest.2 highest.3)) in (
       record {
