@@ -7,11 +7,11 @@ use Rattle.git_syntax.specs.Escapes.{is_plain_byte}
 use Rattle.git_syntax.specs.Internal.HostPieces.{is_simple_byte}
 use Rattle.git_masks.specs.declared.masks.Masks.{Masks}
 
--- the mask of a class in a text: bit i is set exactly where byte i passes the test, and bits behind the text are not
+-- the mask of a class in a text: bit i is set exactly if byte i passes the test, and bits after the text are not
 abbrev pub mask_of : (ℕ → Bool) → List ℕ → ℕ
 mask_of test text = mask_l (map test text)
 
--- bit i of the mask is set exactly where byte i of the text passes the test
+-- bit i of the mask is set exactly if byte i of the text passes the test
 abbrev pub HasBit : (ℕ → Bool) → List ℕ → ℕ → Type 0
 HasBit test text i = (bit_at (mask_of test text) i ≡ 1) ↔ ((i < length text) × (test (slice_index text i) ≡ true))
 

@@ -1,9 +1,7 @@
-//! Numbers that hold a mask, and what is known of a text by a mask of it: where a class of bytes is first and
-//! last, whether all bytes or none are of it, and the masks of a front and of a rest.
+//! Numbers with a bit for each byte of a text, and what follows from such a mask: the first and the last byte of its
+//! class, whether all bytes or none are of it, and the masks of a front and of the rest.
 //!
-//! It uses nothing of this crate. Its contract: whatever short text and class the mask is of, the answer is right
-//! for them. Texts of up to 64 bytes have masks in `u64`, for which there are fewer instructions, and those of up
-//! to 128 bytes in `u128`.
+//! Masks of texts of at most 64 bytes are `u64`, which takes fewer instructions, and those of at most 128 bytes `u128`.
 
 ghost use Rattle.std.specs.Prelude.{◌≡◌, ◌↔◌, ◌-◌, ◌^◌, ◌≤◌, ◌==◌, ◌||◌, ◌∷◌, ℕ, Bool, List, IsTrue, drop, length, take, true};
 ghost use Rattle.std.specs.List.{list_all};

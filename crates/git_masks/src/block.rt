@@ -1,7 +1,4 @@
 //! The masks of 16 bytes, by operations on vectors.
-//!
-//! It may use the type of `masks`. Its contract: a bit is set exactly where the byte passes the test of
-//! `git_syntax` that the class is named after.
 
 ghost use Rattle.std.specs.Prelude.{◌≡◌, ◌==◌};
 ghost use Rattle.git_syntax.specs.Escapes.{is_plain_byte};

@@ -1,7 +1,5 @@
-//! Cuts of a text by its masks, and tests of its bytes.
-//!
-//! It may use `bits` and `masks`. Its contract: each cut and each test promises of a text what the one of
-//! `git_syntax` promises that has no masks. The text of a test is for its contract alone.
+//! Cuts of a text by its masks, and tests of its bytes. Each has the clauses of the function of `git_syntax` that does
+//! the same without masks. A test takes the text only for its contract.
 
 ghost use Rattle.std.specs.Prelude.{◌≡◌, ◌↔◌, ◌++◌, ◌∷◌, ℕ, IsTrue, List, MatchOption};
 ghost use Rattle.std.specs.List.{list_all};
@@ -14,7 +12,7 @@ ghost use Rattle.git_masks.specs.Masks.{AreMasksOf, mask_of};
 use crate::bits::Bits;
 use crate::masks::Masks;
 
-/// What is before and behind the first `:`: of `h:22:p` these are `h` and `22:p`.
+/// The texts before and after the first `:`: of `h:22:p` `h` and `22:p`.
 #[inline(always)]
 pub fn cut_at_colon<'a, B: Bits>(text: &'a [u8], masks: &Masks<B>) -> Option<(&'a [u8], &'a [u8])>
     requires { AreMasksOf B.number B.size text.now masks.now }
@@ -24,7 +22,7 @@ pub fn cut_at_colon<'a, B: Bits>(text: &'a [u8], masks: &Masks<B>) -> Option<(&'
     Some((text.split_at(at).0, text.split_at(at + 1).1))
 }
 
-/// What is before and behind the last `@`: of `a@b@h` these are `a@b` and `h`.
+/// The texts before and after the last `@`: of `a@b@h` `a@b` and `h`.
 #[inline(always)]
 pub fn cut_at_last_at<'a, B: Bits>(text: &'a [u8], masks: &Masks<B>) -> Option<(&'a [u8], &'a [u8])>
     requires { AreMasksOf B.number B.size text.now masks.now }
@@ -34,7 +32,7 @@ pub fn cut_at_last_at<'a, B: Bits>(text: &'a [u8], masks: &Masks<B>) -> Option<(
     Some((text.split_at(at).0, text.split_at(at + 1).1))
 }
 
-/// What is before and behind the first `://`: of `c:d://h` these are `c:d` and `h`.
+/// The texts before and after the first `://`: of `c:d://h` `c:d` and `h`.
 #[inline(always)]
 pub fn cut_at_mark<'a, B: Bits>(text: &'a [u8], masks: &Masks<B>) -> Option<(&'a [u8], &'a [u8])>
     requires { AreMasksOf B.number B.size text.now masks.now }
@@ -58,7 +56,7 @@ pub fn after_slashes<'a, B: Bits>(text: &'a [u8], masks: &Masks<B>) -> Option<&'
     }
 }
 
-/// The front up to where a path may first start, and the rest: of `h?a/p` these are `h` and `?a/p` on the web,
+/// The front up to where a path may first start, and the rest: of `h?a/p` `h` and `?a/p` on the web,
 /// and `h?a` and `/p` elsewhere.
 #[inline(always)]
 pub fn cut_before_path<'a, B: Bits>(

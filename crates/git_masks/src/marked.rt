@@ -1,8 +1,6 @@
-//! Texts with their masks: the pieces that such a text is cut into have theirs.
+//! Texts with their masks, whose pieces have masks again.
 //!
-//! It may use `cuts`, `parts`, `masks` and `bits`. Its contract: each cut is that of `cuts`, and the masks of a
-//! piece are those of its bytes. The masks of a piece that nobody asks for cost nothing, since the functions are
-//! inlined.
+//! The functions are inlined, so the masks of a piece that nobody uses cost nothing.
 
 ghost use Rattle.std.specs.Prelude.{◌≡◌, ◌↔◌, ◌<◌, ◌++◌, ◌∷◌, ℕ, IfSome, IsTrue, List, MatchOption, length, option_map};
 ghost use Rattle.std.specs.List.{list_all};
@@ -28,7 +26,7 @@ pub struct Marked<'a, B> {
     pub masks: Masks<B>,
 }
 
-/// The text with its masks, or none where it has more than 64 bytes.
+/// The text with its masks, or `None` if it has more than 64 bytes.
 #[inline(always)]
 pub fn mark_short(text: &[u8]) -> Option<Marked<'_, u64>>
     ensures { MatchOption result (64 < length text.now)
@@ -38,7 +36,7 @@ pub fn mark_short(text: &[u8]) -> Option<Marked<'_, u64>>
     Some(Marked { text, masks })
 }
 
-/// The text with its masks, or none where it has more than 128 bytes.
+/// The text with its masks, or `None` if it has more than 128 bytes.
 #[inline(always)]
 pub fn mark_long(text: &[u8]) -> Option<Marked<'_, u128>>
     ensures { MatchOption result (128 < length text.now)
@@ -49,7 +47,7 @@ pub fn mark_long(text: &[u8]) -> Option<Marked<'_, u128>>
 }
 
 impl<'a, B: Bits> Marked<'a, B> {
-    /// What is before and behind the first `:`: of `h:22:p` these are `h` and `22:p`.
+    /// The texts before and after the first `:`: of `h:22:p` `h` and `22:p`.
     #[inline(always)]
     pub fn cut_at_colon(&self) -> Option<(Marked<'a, B>, Marked<'a, B>)>
         requires { IsMarked B.number B.size self.now }
@@ -60,7 +58,7 @@ impl<'a, B: Bits> Marked<'a, B> {
         Some((self.front(front), self.rest(rest)))
     }
 
-    /// What is before and behind the last `@`: of `a@b@h` these are `a@b` and `h`.
+    /// The texts before and after the last `@`: of `a@b@h` `a@b` and `h`.
     #[inline(always)]
     pub fn cut_at_last_at(&self) -> Option<(Marked<'a, B>, Marked<'a, B>)>
         requires { IsMarked B.number B.size self.now }
@@ -71,7 +69,7 @@ impl<'a, B: Bits> Marked<'a, B> {
         Some((self.front(front), self.rest(rest)))
     }
 
-    /// What is before and behind the first `://`: of `c:d://h` these are `c:d` and `h`.
+    /// The texts before and after the first `://`: of `c:d://h` `c:d` and `h`.
     #[inline(always)]
     pub fn cut_at_mark(&self) -> Option<(Marked<'a, B>, Marked<'a, B>)>
         requires { IsMarked B.number B.size self.now }
@@ -95,7 +93,7 @@ impl<'a, B: Bits> Marked<'a, B> {
         Some(self.rest(behind))
     }
 
-    /// The front up to where a path may first start, and the rest: of `h?a/p` these are `h` and `?a/p` on the web,
+    /// The front up to where a path may first start, and the rest: of `h?a/p` `h` and `?a/p` on the web,
     /// and `h?a` and `/p` elsewhere.
     #[inline(always)]
     pub fn cut_before_path(&self, web: bool) -> (Marked<'a, B>, Marked<'a, B>)

@@ -1,8 +1,7 @@
-//! The masks of a text of at most 128 bytes, by blocks of 16.
+//! The masks of a text of at most 128 bytes, in blocks of 16.
 //!
-//! It may use `block` and `parts`. Its contract: each mask has a bit for each byte of the text, and none behind
-//! it. A text of 16 bytes and more is read where it is: its last block ends where it ends, and may overlap the
-//! one before. A shorter one is copied.
+//! A text of 16 bytes or more is read in place: its last block ends where the text ends, and may overlap the block
+//! before. A shorter text is copied.
 
 ghost use Rattle.std.specs.Prelude.{◌≡◌, ◌+◌, ◌-◌, ◌<◌, ◌≤◌, ℕ, Bool, List, MatchOption, drop, length, take};
 ghost use Rattle.git_masks.specs.Masks.{AreLongMasksOf, AreShortMasksOf, mask_of};
@@ -11,7 +10,7 @@ use crate::block::block;
 use std::simd::prelude::*;
 
 /// The masks of a text, one for each class of bytes: a number has a bit for each byte, the lowest for the
-/// first, which is set where the byte is of the class. Of `h:22:` that of `:` is 2 + 16.
+/// first, which is set if the byte is of the class. The mask of `:` in `h:22:` is 2 + 16.
 #[derive(Clone, Copy)]
 pub struct Masks<T> {
     /// `:`.
@@ -30,7 +29,7 @@ pub struct Masks<T> {
     pub host: T,
 }
 
-/// The masks of a text, or none where it has more than 64 bytes.
+/// The masks of a text, or `None` if it has more than 64 bytes.
 pub fn short_masks(text: &[u8]) -> Option<Masks<u64>>
     ensures { MatchOption result (64 < length text.now)
         (λ masks. AreShortMasksOf text.now masks) }
@@ -44,7 +43,7 @@ pub fn short_masks(text: &[u8]) -> Option<Masks<u64>>
     Some(by_copy(text))
 }
 
-/// The masks of a text, or none where it has more than 128 bytes.
+/// The masks of a text, or `None` if it has more than 128 bytes.
 pub fn long_masks(text: &[u8]) -> Option<Masks<u128>>
     ensures { MatchOption result (128 < length text.now)
         (λ masks. AreLongMasksOf text.now masks) }
@@ -59,7 +58,7 @@ pub fn long_masks(text: &[u8]) -> Option<Masks<u128>>
     Some(widen(masks))
 }
 
-/// The masks of a text of less than 16 bytes, by a copy with zeros behind it.
+/// The masks of a text of less than 16 bytes, by a copy with zeros after it.
 fn by_copy(text: &[u8]) -> Masks<u64>
     requires { length text.now < 16 }
     ensures { AreShortMasksOf text.now result }
@@ -67,7 +66,7 @@ fn by_copy(text: &[u8]) -> Masks<u64>
     block(u8x16::from_array(pad(text))).front(text.len())
 }
 
-/// The text with zeros behind it.
+/// The text with zeros after it.
 fn pad(text: &[u8]) -> [u8; 16]
     requires { length text.now < 16 }
     ensures { take (length text.now) result ≡ text.now }

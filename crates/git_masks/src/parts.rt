@@ -1,7 +1,4 @@
-//! The masks of the front of a text and of its rest, by those of the text.
-//!
-//! It may use `bits` and `masks`. Its contract: whatever text the masks are of, the answer is of its front or its
-//! rest.
+//! The masks of the front of a text and of the rest, computed from those of the text.
 
 ghost use Rattle.std.specs.Prelude.{ℕ, List, drop, take};
 ghost use Rattle.git_masks.specs.Masks.{AreMasksOf};
