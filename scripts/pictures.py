@@ -1,12 +1,12 @@
 #!/usr/bin/env python3
-"""Draws the pictures of the documents: a railroad diagram for each row of the grammar in docs/GRAMMAR.md, locations cut into
+"""Draws the pictures of the documents: a railroad diagram for each row of the grammar in docs/GRAMMAR.md, locations split into
 their fields, and `explain` on a terminal.
 
 usage: scripts/pictures.py                 writes docs/pictures/*.svg and docs/explain.svg
-       scripts/pictures.py --terminal      the same, after it has stored what `explain` prints now (`scripts/built`, or EXPLAIN)
+       scripts/pictures.py --terminal      the same, after it has stored the output of `explain` (`scripts/built`, or EXPLAIN)
 
-A row is `name = terms`: a quoted text is itself, a word is another row or a set of bytes, `[x]` may be missing, `{x}` occurs
-any number of times, `(x | y)` is one of them. `scripts/documents` asks for `faults()`: pictures that are not current.
+A row is `name = terms`: a quoted text is literal, a word is another row or a set of bytes, `[x]` may be missing, `{x}` occurs
+any number of times, `(x | y)` is one of them. `scripts/documents` calls `faults()`: the pictures that are not current.
 """
 import os
 import re
@@ -21,7 +21,7 @@ from rt_api import ROOT
 FOLDER = f"{ROOT}/docs/pictures"
 TERMINAL = "../explain"
 TOKEN = re.compile(r'\s*("[^"]*"|[\w-]+|[\[\](){}|])')
-# Columns of a character, the height of a row, the space around a box, and the radius of a curve.
+# The columns of a character, the height of a row, the space around a box, and the radius of a curve.
 COLUMN, HEIGHT, GAP, CURVE = 8, 22, 10, 8
 STYLE = (
     "svg{font:14px monospace;color-scheme:light dark}"
@@ -33,7 +33,7 @@ STYLE = (
 
 
 class Box:
-    """A text in a box. Like each part of a diagram it has a width, and how far it reaches above and below its line."""
+    """A text in a box. Like each part of a diagram it has a width, and an extent above and below its line."""
 
     def __init__(self, word):
         self.is_text, self.word = word.startswith('"'), word.strip('"')
@@ -46,7 +46,7 @@ class Box:
 
 
 class Line:
-    """Nothing: the line alone."""
+    """An empty part: only the line."""
 
     width = up = down = 0
 
@@ -107,7 +107,7 @@ class Repeat:
 
 
 def parsed(tokens, closing=None):
-    """The terms up to a closing bracket, taken off the front of the tokens."""
+    """The terms up to a closing bracket, removed from the front of the tokens."""
     choices, terms = [], []
     while tokens and tokens[0] != closing:
         token = tokens.pop(0)
@@ -141,7 +141,7 @@ def rows():
     return dict(re.findall(r"(?m)^([\w-]+) += (.*)$", block))
 
 
-# Locations, each text with the name of its field, or none for what separates fields.
+# Locations, each text with the name of its field, or None for a separator.
 LOCATIONS = (
     (("ssh", "scheme"), ("://", ""), ("git", "user"), ("@", ""), ("example.com", "host"), (":", ""), ("2222", "port"), ("/group/repo.git", "path")),
     (("https", "scheme"), ("://", ""), ("user", "user"), (":", ""), ("secret", "password"), ("@", ""), ("example.com", "host"),
@@ -153,7 +153,7 @@ WIDE = 12
 
 
 def fields(location, y):
-    """A location cut into its coloured fields, with their names below, and over a path with a query the names of its components."""
+    """A location split into its coloured fields, with their names below, and above a path with a query the names of its components."""
     x = 2 * GAP
     for text, name in location:
         width, colour = WIDE * len(text), COLOURS.get(name, "")
@@ -180,7 +180,7 @@ def pictures():
 
 
 def faults():
-    """Which pictures aren't what this script draws, and which nothing shows."""
+    """The pictures that differ from the output of this script, and those that no document shows."""
     wanted = {f"{name}.svg": text for name, text in pictures().items()}
     for name in sorted({*wanted, *(os.listdir(FOLDER) if os.path.isdir(FOLDER) else [])}):
         path = f"{FOLDER}/{name}"

@@ -22,7 +22,7 @@ def recipes():
 
 
 class Place:
-    """A folder with the program on the PATH, in which commands are run without a user's configuration."""
+    """A folder with the program on the PATH, in which commands run without a user's configuration."""
 
     def __init__(self, room):
         self.room = room
@@ -64,7 +64,7 @@ def hook_faults(place, hook):
     place.write("server.git/hooks/pre-receive", hook, 0o755)
     place.git("init", "-q", "-b", "main", "work", folder=".")
     push = ("git", "push", "-q", f"{place.room}/server.git", "HEAD:main")
-    # Commits one after the other, and whether a push with all that aren't there yet is accepted.
+    # Consecutive commits, and whether a push with all that are new is accepted.
     for texts, accepted in (((GOOD,), True), ((BAD,), False), ((BAD, GOOD), False), ((BAD, None), False),
                             (("no configuration",), False), ((None,), True), ((GOOD, GOOD + "# a"), True)):
         before = place.git("rev-parse", "-q", "--verify", "HEAD").strip() if os.path.exists(f"{place.room}/work/.gitmodules") else None
@@ -93,7 +93,7 @@ def step_faults(place, step):
 
 
 def clone_faults(place, script):
-    """Whether the files are named in which something is found, and no others."""
+    """Whether exactly the files with a finding are named."""
     files = {
         "clones/a/.git/config": (REMOTE.format("https://github.com/a/b.git"), False), "clones/a/.gitmodules": (GOOD, False),
         "clones/b c/.git/config": (REMOTE.format("ext::sh -c x"), True), "clones/b c/.gitmodules": (BAD, True),
@@ -109,7 +109,7 @@ def clone_faults(place, script):
 
 
 def check(room):
-    """The faults, and what was run."""
+    """The faults, and a summary of the runs."""
     hook, step, clones = recipes()
     place = Place(room)
     faults = [*hook_faults(place, hook), *step_faults(place, step), *clone_faults(place, clones)]

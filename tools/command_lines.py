@@ -1,4 +1,4 @@
-"""The command lines of `locations` and `explain`: what each prints, and its status. The expectations are written by hand."""
+"""The command lines of `locations` and `explain`: the output and the status of each. The expectations are written by hand."""
 import collections
 import itertools
 import json
@@ -9,7 +9,7 @@ import subprocess
 
 from rt_api import ROOT, program
 
-# A call: the program, its arguments, its input; its status, what it prints, and a part of what it reports as wrong.
+# A call: the program, its arguments, its input; its status, its output, and a part of its error message.
 Call = collections.namedtuple("Call", "program words input status shown reported", defaults=(b"", 0, b"", b""))
 LINES = b"h:p\n\nhttp://h:0/\n"
 ANSWERS = b"settled\th:p\nrefused\tEmptyLocal\nrefused\tBadUrl BadPort\n"
@@ -131,19 +131,19 @@ CALLS = [
     Call("explain", ["--color=always", "http://h:0/"], status=1,
          shown=b"line 1: refused: the port of HTTP must not be 0\n    http://h:0/\n             \x1b[1;31m^\x1b[0m\n"),
 ]
-# Each option and TEXT as it is given, so that a run ends at once and is right.
+# Each option and TEXT with a value, so that a run ends at once and succeeds.
 GIVEN = {
     "TEXT": "h:p", "--file": "--file=/dev/null", "--null": "--null", "--crlf": "--crlf", "--config": "--config=/dev/null", "--remotes": "--remotes",
     "--gitmodules": "--gitmodules=/dev/null", "--parent": "--parent=https://h/p", "--json": "--json", "--sarif": "--sarif",
     "--html": "--html=x", "--only": "--only=host", "--ssh": "--ssh", "--summary": "--summary", "--quiet": "--quiet", "--fail-on": "--fail-on=policy", "--color": "--color=never"}
-# What an option is given with.
+# The option that an option requires.
 NEEDED = {"--parent": "--gitmodules"}
-# The options by which `explain` prints what it is, and the files of its crate that hold the same.
+# The options by which `explain` prints a text about itself, and the files of its crate with the same text.
 OF_ITSELF = {"--help": "help", "-h": "help", "--version": "version", "-V": "version"}
 
 
 def fault_of(call):
-    """What is wrong with a call, if anything is."""
+    """The fault of a call, if it has one."""
     ran = subprocess.run([program(call.program), *call.words], input=call.input, stdout=subprocess.PIPE, stderr=subprocess.PIPE, timeout=60)
     reports = call.reported in ran.stderr if call.reported else not ran.stderr
     is_right = ran.returncode == call.status and ran.stdout == call.shown and reports
@@ -156,7 +156,7 @@ def stored(file):
 
 
 def terminal_faults():
-    """Where `explain` reads a terminal it says so, in one line."""
+    """If `explain` reads a terminal, it reports that in one line."""
     terminal, streams = pty.openpty()
     started = subprocess.Popen([program("explain")], stdin=streams, stdout=subprocess.DEVNULL, stderr=subprocess.PIPE)
     os.write(terminal, b"\x04")
@@ -188,7 +188,7 @@ def colour_faults():
 
 
 def version_faults():
-    """The version is that of the last changes, with that of the Rust crate; and a log in SARIF has it too."""
+    """The version is that of the last changes, with that of the Rust crate; a log in SARIF also has it."""
     with open(f"{ROOT}/CHANGELOG.md", encoding="utf-8") as it:
         version = re.search(r"(?m)^## ([\d.]+\+\d+), ", it.read())[1]
     if stored("version").decode().splitlines()[0] != f"explain {version} (gix-url {version.partition('+')[0]})":
@@ -199,7 +199,7 @@ def version_faults():
 
 
 def excluded():
-    """The pairs that can't be given together, as the help says."""
+    """The pairs that can't be combined, as the help lists them."""
     text = stored("help").decode().partition("These can't be given together:\n")[2].partition("\n\n")[0]
     for line in text.splitlines():
         first, rest = (re.findall(r"TEXT|--[\w-]+", it) for it in line.partition(" with ")[::2])
@@ -207,7 +207,7 @@ def excluded():
 
 
 def pair_faults():
-    """The pairs of which the help says otherwise than the program does, and the options that no pair is tried with."""
+    """The pairs for which the help differs from the program, and the options that are tried with no pair."""
     listed = {*re.findall(r"(?m)^ +(?:-\w, )?(--[\w-]+)", stored("help").decode())}
     yield from (f"no pair with {it} is tried" for it in sorted(listed - {*GIVEN, *OF_ITSELF}))
     refused = collections.Counter(excluded())

@@ -1,10 +1,10 @@
-"""Fails where a binding answers a line otherwise than `explain`: `compare_bindings.py LINES ANSWERS EXPLAINED`.
+"""Fails if a binding answers a line differently from `explain`: `compare_bindings.py LINES ANSWERS EXPLAINED`.
 
-ANSWERS are those of `bindings/tests/members.c` or of the example `members` of the Rust crate, EXPLAINED those of
-`explain --json`. Bytes that aren't UTF-8 are U+FFFD in JSON, and are compared so. Whether Git reads the same is
-compared with the rule by hand of `docs/GIT.md`, asked of what a second reading of the grammar finds in the line; whether
-all readers do, with the class by the bytes of the text that is written for it (`docs/READERS.md`). Lines are left out in
-which `explain` hides anything but a password: it reports what it reads in the line as it is shown.
+ANSWERS are those of `bindings/tests/members.c` or of the example `members` of the Rust crate, EXPLAINED those of `explain
+--json`. Bytes that aren't UTF-8 are U+FFFD in JSON, and are compared so. Whether Git reads the same is compared with the rule
+by hand of `docs/GIT.md`, applied to the second reading of the line; whether all readers do, with the class by the bytes of the
+text that is written for it (`docs/READERS.md`). Lines are left out in which `explain` hides anything but a password: it reports
+its reading of the line as it is shown.
 """
 import json
 import sys
@@ -27,14 +27,14 @@ def components(parts):
 
 
 def agreement(line):
-    """What the rules by hand say of the text that is written for what the line is read as."""
+    """The results of the rules by hand for the text that is written for the line's reading."""
     v = grammar.spells(line)
     is_same = v is not None and settled_class.settled(v) and unambiguous.is_unambiguous(writing.text(v))
     return ["alike" if v is not None and agrees_with_git(v) else "unsure", "unambiguous" if is_same else "doubtful"]
 
 
 def of_explain(said, line):
-    """What explain and the rule by hand say of a line, as the bindings' words."""
+    """The results of explain and of the rule by hand for a line, in the bindings' words."""
     it, refusal = said["location"], said["refusal"]
     if refusal:
         return ["refused", *(refusal[it] for it in ("error", "fault", "kind", "at", "len", "reason"))]
@@ -46,11 +46,11 @@ def of_explain(said, line):
 
 
 def of_binding(line):
-    """What a binding says of a line, in the same form."""
+    """The results of a binding for a line, in the same form."""
     outcome, *words = line.split(" ")
     if outcome == "refused":
         error, fault, kind, *place, reason = (None if it == "-" else it for it in words)
-        # explain leaves a form out that the error can only have been of.
+        # explain leaves a form out if the error can only have that one.
         return [outcome, error, fault, kind and kind.lower(), *(it and int(it) for it in place), reason]
     scheme, user, password, host, port, default, path, original, *judged, settled, agrees, unambiguous_too, shown, parts = words
     numbers = [None if it == "-" else int(it) for it in (port, default)]

@@ -1,14 +1,22 @@
-"""The text output of `explain` over the lines of `crates/explain/golden`, whose answers were written by hand.
+"""The text output of `explain` over the lines of `crates/explain/golden`, whose answers aren't its own output.
 
 The crate's one stored run is JSON. Among the lines are some with control characters in each part that is shown, which must
-not reach a terminal. Each line of the file `alarms` raises an alarm, and no plain remote of 10,000 does. A hint is one.
+not reach a terminal. By the second reading (`second_reading.text_answers`) are the answers to the lines 70, 77, 86, 95 to 101
+and from 111 on; those behind 117 were derived before the program had read them. All others are by hand: the second reading has
+its layout and words from them, and derives them too. Two sentences are in none of them, and were only read: the row of Git in
+line 98, and the heading of line 101. The answers in colours and by a configuration are by hand alone.
+
+Each line of the file `alarms` raises an alarm, and none of 10,000 plain remotes and 423 realistic ones does. A hint is one, except
+that the path of some begins in a home folder.
 """
+import json
 import re
 import subprocess
 
 import make_remotes
 import terminal
 from rt_api import ROOT, program
+from second_reading import text_answers
 
 STORED = f"{ROOT}/crates/explain/golden"
 # A remote of HTTP, of Secure Shell or in the scp form, of which nothing has to be said.
@@ -32,10 +40,27 @@ def shown(lines):
     return ran.returncode, re.split(rb"(?m)^(?=line \d+: )", ran.stdout)[1:]
 
 
-def written_by_hand():
-    """Where answers differ from those that were written by hand."""
+def lines():
+    return stored("stdin").split(b"\n")[:-1]
+
+
+def derived():
+    """The lines whose stored answers aren't what the second reading derives."""
     wanted = stored("stdout")
-    status, answers = shown(stored("stdin").split(b"\n")[:-1])
+    for number, line in enumerate(lines(), 1):
+        answer = text_answers.answer(number, line).encode()
+        if not wanted.startswith(answer):
+            yield f"line {number}, {line!r}: the second reading has {answer.decode()}"
+            return
+        wanted = wanted[len(answer):]
+    if wanted:
+        yield f"{wanted!r} is an answer to no line"
+
+
+def expected():
+    """Where answers differ from those that are expected."""
+    wanted = stored("stdout")
+    status, answers = shown(lines())
     found = b"".join(answers)
     yield from (f"explain prints {it!r}" for it in set(found.split(b"\n")) - set(wanted.split(b"\n")))
     if re.search(r"[^\n\x20-\x7e\xa0-\U0010ffff]", found.decode("utf-8", "replace")):
@@ -61,17 +86,33 @@ def in_the_picture():
         yield "docs/explain.svg is older than what explain prints: scripts/pictures.py --terminal draws it"
 
 
-def false_alarms(lines):
+def alarming(lines):
     """The lines that raise an alarm."""
     return [line for line, answer in zip(lines, shown(lines)[1]) if ALARM.search(answer)]
 
 
+def told(lines):
+    """What `explain --json` answers to lines."""
+    ran = subprocess.run([program("explain"), "--json"], input=b"".join(it + b"\n" for it in lines), stdout=subprocess.PIPE, timeout=60)
+    return [json.loads(it) for it in ran.stdout.split(b"\n")[:-1]]
+
+
+def false_alarms(lines):
+    """What is found in plain remotes, or hinted at. Of a path that begins in a home folder only that is said."""
+    for line, it in zip(lines, told(lines), strict=True):
+        others = it["readers"] and it["readers"]["others"]
+        hints = ["home_there"] if re.search(rb"[:/]~", line) else []
+        if it["dangers"] or it["findings"] or others or it["hints"] != hints:
+            yield f"a false alarm about {line!r}: {it['dangers']}, {it['findings']}, {others}, {it['hints']}"
+
+
 def check(_room):
-    plain = [it for it in make_remotes.remotes() if PLAIN.fullmatch(it) and not OPTION.search(it) and not DOTS.match(it)]
+    realistic = [it for it in make_remotes.remotes() if PLAIN.fullmatch(it) and not OPTION.search(it) and not DOTS.match(it)]
+    plain = make_remotes.plain()
     bad = stored("alarms").splitlines()
-    faults = [*written_by_hand(), *in_colours(), *in_the_picture(), *(f"a false alarm about {it!r}" for it in false_alarms(plain))]
-    faults += [f"no alarm about {it!r}" for it in sorted({*bad} - {*false_alarms(bad)})]
-    if len(plain) < 400:
-        faults.append(f"only {len(plain)} of the remotes are plain")
-    told = [f"{stored('stdin').count(10)} lines, shown as they were written by hand"]
-    return faults, [*told, f"an alarm about each of {len(bad)} remotes, and about none of {len(plain)} plain ones"]
+    faults = [*derived(), *expected(), *in_colours(), *in_the_picture(), *(f"a false alarm about {it!r}" for it in alarming(realistic))]
+    faults += [*false_alarms(plain), *(f"no alarm about {it!r}" for it in sorted({*bad} - {*alarming(bad)}))]
+    if len(realistic) < 400:
+        faults.append(f"only {len(realistic)} of the remotes are plain")
+    counts = [f"{len(lines())} lines, shown as the second reading derives"]
+    return faults, [*counts, f"an alarm about each of {len(bad)} remotes, and about none of {len(plain)} plain ones and {len(realistic)} realistic ones"]

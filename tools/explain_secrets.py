@@ -1,11 +1,11 @@
-"""The program `explain` over lines with a marked secret, in each layout: what is shown of them.
+"""The program `explain` over lines with a marked secret, in each layout: the parts that it shows.
 
-The lines are short inputs, realistic remotes, and changes by chance of lines with a secret. No layout shows the secret of a
-line that hides it by the second reading. The member `input` is that of the second reading; in the text layout each piece is
-the field that the second reading has of the line as it is shown. No answer holds a control character. No layout shows the
-secret of lines in forty shapes, or that of a configuration.
+The lines are short inputs, realistic remotes, and random changes of lines with a secret. No layout shows the secret of a line
+that hides it by the second reading. The member `input` is that of the second reading; in the text layout each piece is the
+field of the second reading for the line as it is shown. No answer contains a control character. No layout shows the secret of
+lines in forty shapes, or that of a configuration.
 
-usage: tools/explain_secrets.py COUNT      that many changed lines in place of those of the gate, in each layout
+usage: tools/explain_secrets.py COUNT      that many changed lines instead of those of the gate, in each layout
 """
 import collections
 import json
@@ -55,7 +55,7 @@ CONTROL = re.compile(r"[^\n\x20-\x7e\xa1-\U0010ffff]")
 
 
 def changed(line, chance):
-    """The line with up to three bytes put in, taken out or replaced, and the secret left whole."""
+    """The line with up to three bytes inserted, removed or replaced, and the secret unchanged."""
     for _ in range(chance.choice((0, 1, 1, 2, 3))):
         at, size = chance.randrange(len(line) + 1), chance.choice((0, 0, 1))
         new = line[:at] + chance.choice((*PUT, b"" if size else b"a")) + line[at + size:]
@@ -64,7 +64,7 @@ def changed(line, chance):
 
 
 def changes(count, seed=1):
-    """So many changes of lines with the secret."""
+    """This many changes of lines with the secret."""
     chance = random.Random(seed)
     secrets = (SECRET, SECRET, SECRET + b"%40x", b"%41" + SECRET, b"\xc3\xbc" + SECRET)
     for _ in range(count):
@@ -82,12 +82,12 @@ def answers(given, *words):
 
 
 def is_secret(line):
-    """Whether the secret is hidden wherever it is."""
+    """Whether the secret is hidden in all its places."""
     return not any(SECRET in it for it in hidden.shown_parts(line))
 
 
 def unescaped(text):
-    """The bytes that are shown so."""
+    """The bytes that are displayed so."""
     out, end = [], 0
     for found in ESCAPE.finditer(text):
         it = found[1]
@@ -98,12 +98,12 @@ def unescaped(text):
 
 
 def columns(text):
-    """The characters by their columns: behind a wide one a control character, which no line is shown with."""
+    """The characters by their columns: after a wide one a control character, with which no line is shown."""
     return "".join(it + "\x00" if unicodedata.east_asian_width(it) in "WF" else it for it in text)
 
 
 def runs(row, places):
-    """Where the lines under pieces begin and end: two that touch, the second of one column, differ by their names."""
+    """The starts and ends of the lines under pieces: two that touch, the second of one column, differ by their names."""
     for run in re.finditer("-+", row):
         cuts = [run.start(), *(it for it in sorted(places) if run.start() < it < run.end()), run.end()]
         yield from zip(cuts, cuts[1:])
@@ -125,9 +125,10 @@ def named(answer):
 
 
 def is_host(piece, decoded, host):
-    """Whether the piece is the host, case aside, as it is or decoded: brackets and a colon that are escapes go too.
+    """Whether the piece is the host, ignoring case, unchanged or decoded: escaped brackets and an escaped colon are removed
+    too.
 
-    The colon behind a bracket that is an escape stays, but is not in the piece.
+    The colon after an escaped bracket stays, but is not in the piece.
     """
     colonless = decoded.removesuffix(b":")
     inner = colonless[1:-1] if colonless.startswith(b"[") and colonless.endswith(b"]") else colonless
@@ -136,7 +137,7 @@ def is_host(piece, decoded, host):
 
 
 def is_of_fields(v, found, line):
-    """Whether the pieces stand for what is read. Behind a path of HTTP they are the library's components."""
+    """Whether the pieces match the reading. After an HTTP path they are the library's components."""
     form = explain.form(v)
     if form == "remote_helper":
         return found.get("address", b"") == v.path and found.get("helper", grammar.as_str(v.scheme)) == grammar.as_str(v.scheme)
@@ -161,7 +162,7 @@ def kind_of(v, line, other, found):
 
 
 def faults_of(line, told, answer):
-    """What is wrong with the answers to a line, and how it was shown."""
+    """The faults of the answers to a line, and how it was shown."""
     v, other, found = grammar.spells(line), seen(line), {}
     faults = ["a control character is shown"] if CONTROL.search(answer) else []
     if is_secret(line) and SECRET.decode() in told + answer:

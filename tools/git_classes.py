@@ -1,7 +1,7 @@
 """The classes of texts in which Git and this library read different things.
 
-Those by which another machine or another user is meant come first, then those of another path, of the same place spelled
-otherwise, and of texts that one side alone refuses.
+The classes that mean another machine or another user come first, then those of another path, of the same place spelled
+differently, and of texts that only one side refuses.
 """
 import re
 from collections import namedtuple
@@ -9,38 +9,38 @@ from functools import cached_property
 
 from witness import class_of, of, told  # rules_ssh.py has class_of from here.
 
-# What a side reads: the protocol, `helper NAME` for what Git passes to another program, and the parts that are there.
+# The reading of a side: the protocol, `helper NAME` if Git passes it to another program, and the parts that are present.
 Reading = namedtuple("Reading", "protocol user password host port path")
-# What replaces the protocol where Git's reading isn't one place: a local path that begins with `~`, of which
-# `git fetch`, `git push` and `git ls-remote` look below a home folder and `git clone` takes the path as it is; and a word
-# that OpenSSH reads as a URL.
+# The values that replace the protocol if Git's reading isn't one place: a local path that begins with `~`, for which `git
+# fetch`, `git push` and `git ls-remote` look below a home folder and `git clone` takes the path literally; and a word that
+# OpenSSH reads as a URL.
 HOME, SECURE_URL = "home", "url of ssh"
 ESCAPE = re.compile(rb"%([0-9A-Fa-f]{2})")
-# What Git takes for a URL.
+# The form of a URL for Git.
 URL = re.compile(rb"[0-9A-Za-z][0-9A-Za-z+.-]*://(.*)", re.S)
 WHERE, ALL = "user host port", "user host port path"
 
 
 class Case:
-    """A text, and what Git and this library read in it: readings, or words for why it is refused; whether what is read here is
-    settled, what is written for it, and whether `agrees_with_git` is true of it."""
+    """A text, and the readings of Git and of this library in it: readings, or words for the reason of a refusal; whether this
+    library's reading is settled, the text that is written for it, and whether `agrees_with_git` is true for it."""
 
     def __init__(self, text, git, ours, is_settled=False, written=None, agrees=False):
         self.text, self.git, self.ours = text, git, ours
         self.is_settled, self.agrees, self.written = is_settled, agrees, written
         self.is_same = is_settled and written == text
         self.readings, self.said = {"Git": git, "here": ours}, (told(git), ours)
-        # The protocols that Git and this library read, None where there is no reading.
+        # The protocols that Git and this library read, None if there is no reading.
         self.git_protocol, self.protocol = (it.protocol if isinstance(it, Reading) else None for it in (git, ours))
         url = URL.fullmatch(text)
-        # What follows the scheme of a URL, and what comes before its path, escapes as they are.
+        # The text after the scheme of a URL, and the part before its path, with their escapes.
         self.rest, self.authority = url and url[1], url and url[1].partition(b"/")[0]
-        # The bytes that Git cuts: the rest of a URL with its escapes decoded, or any other text as it is.
+        # The bytes that Git splits: the rest of a URL with its escapes decoded, or any other text unchanged.
         self.cut = ESCAPE.sub(lambda it: bytes([int(it[1], 16)]), url[1]) if url else text
 
     @cached_property
     def differing(self):
-        """The parts in which the readings differ; of a text that one side alone refuses the word for that."""
+        """The parts in which the readings differ; for a text that only one side refuses, the word for that."""
         refused = [it.replace(" ", "-") for it in (self.git, self.ours) if not isinstance(it, Reading)]
         if refused:
             return frozenset(refused if len(refused) == 1 else ())
@@ -50,7 +50,7 @@ class Case:
 
 
 def spelled(reading):
-    """User, password, host and port one behind the other: without case, brackets, colons at an end, zeros of a port."""
+    """User, password, host and port concatenated: ignoring case, brackets, colons at an end, zeros of a port."""
     user = b"" if reading.user is None else reading.user + b"@"
     if reading.password is not None:
         user = user[:-1] + b":" + reading.password + b"@"
@@ -90,12 +90,12 @@ def is_same_place(case):
 
 
 def is_cut(is_there):
-    """Whether both sides read the same user, password, host and port one behind the other, cut at other places, of such a case."""
+    """Whether both sides read the same user, password, host and port concatenated, split at other places, for such a case."""
     return lambda case: is_there(case) and spelled(case.git) == spelled(case.ours)
 
 
 CLASSES = {
-    # Another machine or another user. `no-path`: Git misses the path for the brackets that it looks at.
+    # Another machine or another user. `no-path`: Git misses the path because of the brackets that it looks at.
     "escaped-delimiter": of(ALL, has(rb"%(2[fF]|3[aA]|40|5[bBdD])", "ssh git", "authority")),
     "user-in-brackets": of(ALL, has(rb"\[[^\]/]*@[^\]/]*\]", "ssh git")),
     "bracket-behind-at": of(ALL + " protocol no-path", bracket_behind_at),
@@ -113,7 +113,7 @@ CLASSES = {
     "brackets-in-local": of("path no-path", lambda it: not it.text.startswith(b"file://") and has(rb"(\A|@)\[.*\]", "file", "text")(it)),
     "home-of-local": of("protocol", lambda it: it.git_protocol == HOME),
     "escape-of-zero": escape_of_zero,
-    # The same place, spelled otherwise.
+    # The same place, spelled differently.
     "brackets-of-git": of("host", is_cut(lambda it: it.protocol == "git" and (it.ours.host or b"").startswith(b"["))),
     "colon-of-host": of("host", is_cut(lambda it: (it.ours.host or b"").endswith(b":"))),
     "case-of-host": of("host", lambda it: (it.ours.host or b"").lower() == (it.git.host or b"").lower() != it.git.host),
@@ -126,10 +126,10 @@ CLASSES = {
 
 
 def is_careful(case, is_same):
-    """The rule by hand of `docs/GIT.md`: what to ask of a text before Git gets it for the place that is read here.
+    """The rule by hand of `docs/GIT.md`: the conditions on a text before Git gets it for the place of this library's reading.
 
-    It is what `Url::agrees_with_git` asks of a text that is written as it was read. `is_same` says that the text is settled
-    and is what `to_bstring` writes.
+    `Url::agrees_with_git` checks them for a text that is written as it was read. `is_same` is whether the text is settled and
+    `to_bstring` writes it.
     """
     if not is_same or case.text.startswith(b"rsync:") or case.ours.protocol.startswith("helper "):
         return False
@@ -137,7 +137,7 @@ def is_careful(case, is_same):
     named, authority = host or b"", case.authority or b""
     address = re.fullmatch(rb"\[(.*)\]", named, re.S) if case.ours.protocol == "git" else None
     if address:
-        # Git decodes the brackets and the colons, which are written as escapes, and takes the brackets off.
+        # Git decodes the brackets and the colons, which are written as escapes, and removes the brackets.
         named, authority = address[1], re.sub(rb"\A%5B([^/]*)%5D", lambda it: it[1].replace(b"%3A", b":"), authority)
     if b"%" in authority or re.search(rb"[\[\]\0]", b"".join([user or b"", named, path])):
         return False

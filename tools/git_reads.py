@@ -1,8 +1,8 @@
-"""A second reading of `GitReads`, the definition of what Git reads in a text (`crates/git_reads/specs/Git.antt`).
+"""A second reading of `GitReads`, the definition of Git's reading of a text (`crates/git_reads/specs/Git.antt`).
 
-Each function is a relation of the definition, and returns all that it relates to what is given: every cut of the text
-is tried, and what each case asks is asked of it. It asks Git nothing: `scripts/git_witness` compares it with what
-Git reads. `unread` says why a text has no reading, by the names that `explain` has for it.
+Each function is a relation of the definition, and returns everything that it relates to its arguments: it tries every split of
+the text, and checks the condition of each case. It doesn't call Git: `scripts/git_witness` compares it with Git. `unread`
+returns the reason why a text has no reading, by its name in `explain`.
 """
 import re
 
@@ -25,38 +25,38 @@ def first_cuts(text, mark):
 
 
 def opens_host(text):
-    """The front before a bracket that opens a host, and what follows the bracket."""
+    """The front before a bracket that opens a host, and the text after the bracket."""
     at_front = [(b"", text[1:])] if text[:1] == b"[" and b"@[" not in text else []
     return at_front + [(user + b"@", rest) for user, rest in first_cuts(text, b"@[")]
 
 
 def in_brackets(text):
-    """The front, what is in the brackets of a host, and what follows them: nothing of a text that lacks them."""
+    """The front, the content of the brackets of a host, and the text after them: nothing if there are none."""
     return [(front, inside, behind) for front, rest in opens_host(text) for inside, behind in first_cuts(rest, b"]")]
 
 
 def host_ends(text):
-    """What is passed over, and what is left."""
+    """The skipped bytes, and the rest."""
     return [(front + b"[" + inside, b"]" + behind) for front, inside, behind in in_brackets(text)] or [(b"", text)]
 
 
 def places(mark, text):
-    """The place before a mark that isn't passed over, and what follows the mark."""
+    """The place before a mark that isn't skipped, and the text after the mark."""
     return [(passed + between, rest) for passed, end in host_ends(text) for between, rest in first_cuts(end, mark)]
 
 
 def git_port(text):
-    """The port that a text writes for C's `strtol`, None where it writes none."""
+    """The port that a text spells for C's `strtol`, None if it spells none."""
     is_number = re.fullmatch(rb"[\t-\r ]*[+-]?[0-9]+", text)
     return int(text) if is_number and 0 <= int(text) < 65536 else None
 
 
 def before_ports(text):
-    """What comes before a port, and the port."""
+    """The text before a port, and the port."""
     found = [] if b":" in text else [(text, None)]
     for front, digits in first_cuts(text, b":"):
         port = git_port(digits)
-        # A port, or a colon alone, or no mark of a port.
+        # A port, or a lone colon, or no mark of a port.
         found.append((text, None) if digits and port is None else (front, port))
     return found
 
@@ -75,7 +75,7 @@ def secure_ports(named, found):
 
 
 def user_cuts(word):
-    """User and host of a word: it is cut at its last `@`. OpenSSH reads a word that begins with `ssh://` as a URL."""
+    """User and host of a word: it is split at its last `@`. OpenSSH reads a word that begins with `ssh://` as a URL."""
     if word.startswith(b"ssh://"):
         return []
     alone = [] if b"@" in word else [(None, word)]
@@ -83,7 +83,7 @@ def user_cuts(word):
 
 
 def secure_words(place, path):
-    """What Secure Shell is given for user and host, and for a port."""
+    """The words for user and host, and for a port, that Secure Shell gets."""
     words = [it for named, found in hosts_and_ports(place) for it in secure_ports(named, found)]
     return [(word, port) for word, port in words if word[:1] != b"-" and path[:1] != b"-"]
 
@@ -103,7 +103,7 @@ def from_tilde(path):
 
 
 def reads_url(protocol, place, path):
-    """What is read in a URL of a transport with this place and this path, which begins with its `/`."""
+    """The readings of a URL of a transport with this place and this path, which begins with its `/`."""
     if protocol == "file":
         return [ON_THIS_MACHINE._replace(path=path)]
     return (reaches_secure if protocol == "ssh" else reaches_git)(place, from_tilde(path))
@@ -120,7 +120,7 @@ def is_other(text):
 
 
 def reads_other(text):
-    """What is read in a text that isn't a URL: the scp form and local paths."""
+    """The readings of a text that isn't a URL: the scp form and local paths."""
     if not is_other(text):
         return []
     is_local = b":" not in text or any(b":" not in front for front, _ in cuts(text, b"/"))
@@ -131,7 +131,7 @@ def reads_other(text):
 
 
 def own_urls(text):
-    """The protocol, and what follows the `://`, decoded, of a URL of a transport."""
+    """The protocol of a URL of a transport, and the text after the `://`, decoded."""
     return [(PROTOCOLS[scheme], decoded(rest)) for scheme, rest in cuts(text, b"://") if scheme in PROTOCOLS]
 
 
@@ -159,7 +159,7 @@ def secure_places(text):
 
 
 def unread(text):
-    """Why a text has no reading."""
+    """The reason why a text has no reading."""
     words = [it for place, path in secure_places(text) for it, _ in secure_words(place, from_tilde(path))]
     reasons = {
         "ByteZero": b"\0" in text,

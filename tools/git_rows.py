@@ -1,11 +1,11 @@
-"""The texts that are written out with what others read in them, as Git and libcurl are asked for them: the rows that are proved
+"""The texts that are written out with the readings of others, of Git and libcurl: the rows that are proved
 of the definition (`crates/git_laws/specs/Examples/GitRows.antt`), and the examples of `vectors/git.jsonl`.
 
 An example is a row there that reads a text. Its member `class` is the class in which the others and this library read different
-things, or `alike`. For a text of HTTP, whose classes are in `web_classes.py`, `credential` is what Git's credential code reads
-and `curl` what libcurl reads, or `refused`. For another, whose classes are in `git_classes.py`, `git` is what Git reads, or the
-word for why it is refused. Of a text that is read here other rows say whether it is settled, what is written, and whether Git
-is said to agree.
+things, or `alike`. For an HTTP text, whose classes are in `web_classes.py`, `credential` is the reading of Git's credential
+code and `curl` that of libcurl, or `refused`. For any other text, whose classes are in `git_classes.py`, `git` is Git's
+reading, or the word for the reason of its refusal. Other rows record for a text that this library reads whether it is settled,
+the text that is written, and whether the library reports that Git agrees.
 """
 import re
 from collections import namedtuple
@@ -21,20 +21,21 @@ ROW = re.compile(r"GitReads \((codes .*?)\) (?:\((by_ssh|by_git|on_this_machine)
 NAMED = {"tab": 9, "newline": 10}
 # The calls over a text that is read.
 CALLS = ("Url::is_settled", "Url::to_bstring", "Url::agrees_with_git")
-# The classes of texts of HTTP that may be let by: another spelling of the same address, and slashes behind a path.
+# The classes of HTTP texts for which the call may still be true: another spelling of the same address, and trailing slashes of
+# a path.
 LET_BY = ("alike", "slashes-of-path", "long-address")
-# The place of an example, its class, its text, and what is read in it: by Git and here, or by the credential code and libcurl.
+# The place of an example, its class, its text, and its readings: by Git and here, or by the credential code and libcurl.
 Example = namedtuple("Example", "place class_name text said")
 
 
 def text_of_term(term):
-    """The bytes of a term: texts and bytes one behind the other."""
+    """The bytes of a term: texts and bytes concatenated."""
     pieces = re.findall(rf"{TEXT}|\b(\w+) ∷", term)
     return b"".join(bytes([NAMED[byte] if byte in NAMED else int(byte)]) if byte else text.encode() for text, byte in pieces)
 
 
 def reading_of(kind, parts):
-    """The reading that a row names, by the words of the rows."""
+    """The reading that a row names, in the words of the rows."""
     found = [text.encode() if text else int(number) if number else None for text, number in re.findall(rf"{TEXT}|Some (\d+)|None", parts)]
     protocol, count = {"by_ssh": ("ssh", 4), "by_git": ("git", 3), "on_this_machine": ("file", 1)}[kind]
     user, host, port, path = [None] * (4 - count) + found
@@ -42,7 +43,7 @@ def reading_of(kind, parts):
 
 
 def git_rows():
-    """The texts of the rows, and of each its reading, or none. A text with byte 0 can't be given to a command."""
+    """The texts of the rows, and for each its reading, or None. A text with byte 0 can't be passed to a command."""
     with open(ROWS, encoding="utf-8") as it:
         rows = [ROW.search(line) for line in it if re.search(r"GitReads \(codes ", line)]
     found = {text_of_term(row[1]): reading_of(row[2], row[3]) if row[2] else None for row in rows}
@@ -50,7 +51,7 @@ def git_rows():
 
 
 def read_here(outcome):
-    """What this library reads, by the outcome of the call: a reading, or the name of the error."""
+    """The reading of this library, by the outcome of the call: a reading, or the name of the error."""
     if "error" in outcome:
         name, *more = outcome["error"].split()
         return more[0] if name == "BadUrl" else name
@@ -72,10 +73,10 @@ def web_examples(table):
 
 
 def example_faults(table):
-    """What is wrong with the examples among rows.
+    """The faults of the examples among rows.
 
-    Where the rows expect the same reading as Git's, and nowhere else, they have the text let by: Git is said to agree,
-    and it is the text that is written. Such an example is in no class but `alike`. A text of HTTP that is let by is in one of few.
+    Exactly if the rows expect the same reading as Git's, they expect that the library reports that Git agrees and writes the
+    same text. Such an example is only in the class `alike`. An HTTP text with this result is in one of few.
     """
     expected = {(it.members.get("call"), str(it.members.get("url"))): it.expected for it in table}
     said = {it: [expected.get((call, text_of(it.text))) for call in CALLS] for it in (*git_examples(table), *web_examples(table))}

@@ -1,9 +1,9 @@
-"""What Git's transports come to: the words that Git gives their programs, what OpenSSH makes of them, and the repositories
+"""The effects of Git's transports: the words that Git passes to their programs, the way OpenSSH reads them, and the repositories
 that Git's commands open on this machine.
 
-Scripts that show what they get and end replace Secure Shell, the connection of `git://` and `git-upload-pack`, so Git
-runs to its end and connects to nothing. OpenSSH is asked what it makes of a word by `ssh -G`, which connects to nothing
-either. The repositories are made each time in a folder of their own, which holds the home folder too.
+Scripts that show their arguments and exit replace Secure Shell, the connection of `git://` and `git-upload-pack`, so Git runs
+to its end and connects to nothing. `ssh -G` reports how OpenSSH reads a word; it doesn't connect either. The repositories are
+made each time in a folder of their own, which also has the home folder.
 """
 import os
 import re
@@ -15,19 +15,19 @@ from concurrent.futures import ThreadPoolExecutor
 from git_classes import HOME, SECURE_URL, Reading
 
 OWN = ("ssh", "git", "file")
-# What Git reads, and to which program it passes a text: no transport but `ssh` is allowed.
+# Git's reading, and the program to which it passes a text: only the transport `ssh` is allowed.
 ASK_GIT = r"""
 for text; do
   git ls-remote -- "$text" 2>&1; printf '\0'
   git fetch-pack --diag-url "$text" 2>&1; printf '\0'
 done
 """
-# It shows its words, each with byte 1 behind it, between byte 1 and byte 2.
+# It shows its words, each followed by byte 1, between byte 1 and byte 2.
 SHOW = r"""#!/bin/sh
 { printf '\001'; printf '%s\001' "$@"; printf '\002'; } >&2
 exit 1
 """
-# It shows the request that Git sends behind them, whose first four digits are its length, with byte 3 for each byte 0.
+# It shows the request that Git sends after them, whose first four digits are its length, with byte 3 for each byte 0.
 SHOW_REQUEST = r"""#!/bin/sh
 length=$(dd bs=1 count=4 2>/dev/null)
 {
@@ -43,14 +43,14 @@ for text; do git ls-remote --upload-pack="$SHOW" -- "$text" 2>&1; printf '\0'; d
 ASK_SECURE_SHELL = r"""
 while [ $# -gt 0 ]; do ssh -F "$SETTINGS" -G ${2:+-p "$2"} "$1" x 2>&1; printf '\0'; shift 2; done
 """
-# OpenSSH names this user where the word names none.
+# OpenSSH uses this user if the word names none.
 NO_USER = b"not-named"
 PLAIN_WORD = re.compile(rb"([A-Za-z0-9_-]+@)?[A-Za-z0-9.-]+")
 GIT_PORT, SECURE_PORT = 9418, 22
 
 
 def alone(room, **more):
-    """An environment with a home folder of its own, which sees no settings but these."""
+    """An environment with a home folder of its own, which has only these settings."""
     return {"HOME": f"{room}/home", "PATH": os.environ["PATH"], "LC_ALL": "C", "GIT_CONFIG_NOSYSTEM": "1",
             "GIT_CONFIG_GLOBAL": os.devnull, **more}
 
@@ -67,7 +67,7 @@ def put(path, text, mode=0o600):
 
 
 def answers_of(ask, room, environment, words, each=1, answers=1):
-    """What a loop of the shell answers to words, asked side by side: to each so many words it gives so many answers."""
+    """The answers of a shell loop to words, run in parallel: this many answers for each group of this many words."""
     def said(some):
         found = run(room, environment, "sh", "-c", ask, "sh", *some).stdout.split(b"\0")
         if len(found) != len(some) * answers // each + 1:
@@ -81,8 +81,8 @@ def answers_of(ask, room, environment, words, each=1, answers=1):
 
 
 def ask_loop(ask, words, programs, each=1, answers=1, **more):
-    """What a loop of the shell answers to words, in a repository of its own: files with these texts, which may be scripts that
-    replace programs, are named by variables."""
+    """The answers of a shell loop to words, in a repository of its own: variables name files with these texts, which may be
+    scripts that replace programs."""
     with tempfile.TemporaryDirectory(prefix="witness-") as room:
         environment = alone(room, **{name: put(f"{room}/{name}", text, 0o700) for name, text in programs.items()}, **more)
         run(room, environment, "git", "init", "--quiet")
@@ -90,7 +90,7 @@ def ask_loop(ask, words, programs, each=1, answers=1, **more):
 
 
 def shown(answer):
-    """The words that a program has shown in an answer; None where none was started."""
+    """The words that a program has shown in an answer; None if no program was started."""
     found = re.search(rb"\x01(.*)\x01\x02", answer, re.S)
     return found and found[1].split(b"\x01")
 
@@ -98,7 +98,7 @@ def shown(answer):
 # ---- the words for the programs
 
 def ask_git(texts):
-    """What Git says of texts: of each the transport with the words for Secure Shell, and the reading."""
+    """Git's results for texts: for each the transport with the words for Secure Shell, and the reading."""
     said = ask_loop(ASK_GIT, texts, {"GIT_SSH": SHOW}, answers=2, GIT_ALLOW_PROTOCOL="ssh", GIT_SSH_VARIANT="ssh")
     return list(zip(said[::2], said[1::2]))
 
@@ -109,7 +109,7 @@ def quoted(text):
 
 
 def words_got(protocol, words):
-    """What the program of a transport gets: a word for a host, a port and a path, or a path alone."""
+    """The words that the program of a transport gets: a word for a host, a port and a path, or only a path."""
     if protocol == "ssh":
         return words[-2], int(words[words.index(b"-p") + 1]) if b"-p" in words[:-2] else None, words[-1]
     if protocol == "git":
@@ -120,7 +120,7 @@ def words_got(protocol, words):
 
 
 def words_wanted(reading):
-    """What the program of a transport must get for a reading."""
+    """The words that the program of a transport must get for a reading."""
     host, port, path = reading.host or b"", reading.port, reading.path
     if reading.protocol == "ssh":
         return host if reading.user is None else reading.user + b"@" + host, port, b"git-upload-pack " + quoted(path)
@@ -128,16 +128,16 @@ def words_wanted(reading):
 
 
 def is_blocked(text, answer):
-    """Whether Git refuses a text of `git://` by a rule of its own: for an end of a line, or, before such a program, for a
-    host or a port that begins with `-`."""
+    """Whether Git refuses a text of `git://` by a rule of its own: for an end of a line, or, before such a program, for a host
+    or a port that begins with `-`."""
     if b"%0a" in text.lower():
         return answer.startswith(b"fatal: newline is forbidden")
     return re.match(rb"fatal: strange (hostname|port) '-", answer) is not None
 
 
 def program_fault(text, answer, reading):
-    """What is wrong with the words that a program got for a reading, if anything is. Behind an empty path Git looks at the
-    byte past the text's end, where it may find a `~`, so there the path isn't compared."""
+    """The fault of the words that a program got for a reading, if there is one. After an empty path Git looks at the byte past
+    the text's end, in which it may find a `~`, so there the path isn't compared."""
     words = shown(answer)
     if reading.protocol == "git" and (b"%0a" in text.lower() or words is None):
         return None if words is None and is_blocked(text, answer) else f"Git answers {answer!r}"
@@ -149,8 +149,8 @@ def program_fault(text, answer, reading):
 
 
 def program_faults(readings, answers):
-    """The texts for whose readings a program gets other words, each with what is wrong. For Secure Shell the answers have
-    the words; those of `git://` and of this machine are asked again, where both are allowed."""
+    """The texts for whose readings a program gets other words, each with the fault. For Secure Shell the answers have the
+    words; those of `git://` and of this machine are run again, with both allowed."""
     own = {text: it for text, it in readings.items() if isinstance(it, Reading) and it.protocol in (*OWN, HOME)}
     others = [text for text, it in own.items() if it.protocol != "ssh"]
     said = ask_loop(ASK_PROGRAMS, others, {"SHOW": SHOW, "GIT_PROXY_COMMAND": SHOW_REQUEST}, GIT_ALLOW_PROTOCOL="git:file")
@@ -161,8 +161,8 @@ def program_faults(readings, answers):
 # ---- OpenSSH
 
 def is_heard(answer, reading):
-    """Whether OpenSSH makes the reading of a word. Its host is the one that it gives itself, not the host that it would look
-    for, which is in lower case."""
+    """Whether OpenSSH reads a word as the reading. Its host is the one that it shows itself, not the host that it would look
+    up, which is in lower case."""
     found = re.search(rb"(?:\A|\n)host (.*?)\nuser (.*?)\nhostname .*?\nport ([0-9]+)\n", answer, re.S)
     user, port = NO_USER if reading.user is None else reading.user, SECURE_PORT if reading.port is None else reading.port
     return found is not None and (found[1], found[2], int(found[3])) == (reading.host or b"", user, port)
@@ -174,8 +174,8 @@ def is_refused(answer):
 
 
 def heard_fault(answer, reading):
-    """What is wrong with what OpenSSH makes of the word for what Git reads, if anything is. It must refuse a word with an
-    empty user, and read a word that is a URL as another user and host; it may refuse others, as with port 0."""
+    """The fault of OpenSSH's reading of the word for Git's reading, if there is one. It must refuse a word with an empty user,
+    and read a word that is a URL as another user and host; it may refuse others, as with port 0."""
     if reading == "empty user":
         return None if is_refused(answer) else "OpenSSH doesn't refuse it"
     if reading.protocol == SECURE_URL:
@@ -184,13 +184,13 @@ def heard_fault(answer, reading):
 
 
 def chosen(pairs):
-    """The words of which OpenSSH is asked: those with anything but a plain user and a plain host, and of others every tenth."""
+    """The words for OpenSSH: those with anything but a plain user and a plain host, and every tenth of the others."""
     plain = [it for it in pairs if PLAIN_WORD.fullmatch(it[0])]
     return [*{*pairs}.difference(plain), *plain[::10]]
 
 
 def secure_faults(readings, answers):
-    """The texts of whose word OpenSSH makes something else, each with what is wrong."""
+    """The texts whose word OpenSSH reads differently, each with the fault."""
     if not shutil.which("ssh"):
         print("OpenSSH isn't installed, and isn't asked")
         return []
@@ -208,8 +208,8 @@ def secure_faults(readings, answers):
 
 # The repositories, below the folder.
 REPOSITORIES = ("home/x", "here/x", "here/~/x", "here/~no-such-user/x", "here/a:b", "here/]/c", "here/a@[b]/c")
-# A text, with the folder's path for `{}`; the repository that `git ls-remote`, `git fetch` and `git push` open, and
-# the one that `git clone` takes: none where it is refused.
+# A text, with the folder's path for `{}`; the repository that `git ls-remote`, `git fetch` and `git push` open, and the one
+# that `git clone` opens: None if it is refused.
 OPENED = (
     ("~/x", "home/x", "here/~/x"),
     ("~no-such-user/x", None, "here/~no-such-user/x"),
@@ -226,7 +226,7 @@ OPENED = (
 
 
 class Room:
-    """Repositories in a folder, each with a commit of its own, by which it is known."""
+    """Repositories in a folder, each identified by a commit of its own."""
 
     def __init__(self, room):
         self.room, self.here = room, f"{room}/here"
@@ -242,12 +242,12 @@ class Room:
         return run(self.here, self.environment, "git", *words).stdout.decode().strip()
 
     def name(self, path):
-        """The repository at a path; None where none is there."""
+        """The repository at a path; None if there is none."""
         found = os.path.relpath(os.path.realpath(os.path.join(self.here, path.decode())), self.room)
         return found if found in REPOSITORIES else None
 
     def made(self, name):
-        """The commit of a repository, which is made."""
+        """Makes a repository and returns its commit."""
         path = f"{self.room}/{name}"
         commit = self.said("commit-tree", "-m", name, self.tree)
         self.said("init", "--quiet", "--bare", "--initial-branch=main", path)
@@ -255,13 +255,13 @@ class Room:
         return commit
 
     def pushed(self, text):
-        """The repository into which Git pushes: a branch is taken out of it again, which Git reports."""
+        """The repository into which Git pushes: the branch is removed from it again, which Git reports."""
         self.said("push", "--quiet", text, f"{self.commit}:refs/heads/pushed")
         found = [it for it in REPOSITORIES if self.said("--git-dir", f"{self.room}/{it}", "branch", "-D", "pushed")]
         return found[0] if len(found) == 1 else None
 
     def opened(self, text):
-        """The repositories that the commands open, each with the command's name: none where it opens none."""
+        """The repositories that the commands open, each with the command's name: None if it opens none."""
         listed = self.said("ls-remote", text, "HEAD").partition("\t")[0]
         self.said("update-ref", "-d", "FETCH_HEAD")
         self.said("fetch", "--quiet", text)
@@ -274,9 +274,9 @@ class Room:
 
 
 def opened_faults(agreeing):
-    """What is wrong with the repositories that Git opens: each text must open those of the table; and of a text of which
-    `agreeing` gives a path, as `agrees_with_git` says yes to it, all commands must open the repository at that path, and
-    where none is there no other."""
+    """The faults of the repositories that Git opens: each text must open those of the table; and for a text for which
+    `agreeing` returns a path, since `agrees_with_git` is true for it, all commands must open the repository at that path, and
+    no other if there is none."""
     with tempfile.TemporaryDirectory(prefix="opened-") as folder:
         room = Room(os.path.realpath(folder))
         texts = {it[0].format(room.room): it for it in OPENED}

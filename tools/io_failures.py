@@ -1,4 +1,4 @@
-"""Real streams: the programs with streams that fail, or give and take little at a time, and `explain` on a terminal."""
+"""Real streams: the programs with streams that fail, or transfer little at a time, and `explain` on a terminal."""
 import os
 import pty
 import subprocess
@@ -8,8 +8,8 @@ from rt_api import program
 LINES = b"a::b://c\n/srv/repo.git\nhttp://h:0/\n"
 ANSWER = b"settled\ta::b://c\nsettled\t/srv/repo.git\nrefused\tBadUrl BadPort\n"
 CANNOT_READ, CANNOT_WRITE = b"locations: cannot read\n", b"locations: cannot write\n"
-# What bash runs with a program as $0, and its status, output and words then. Where a fault can't be printed, the status still
-# reports it. Behind `head` the rest is lost, of which `explain` says nothing.
+# The command for bash with a program as $0, and its status, output and words. If a fault can't be printed, the status still
+# reports it. After `head` the rest is lost, which `explain` doesn't report.
 ENDS = [
     ("locations", '"$0" >/dev/full', 2, b"", CANNOT_WRITE),
     ("locations", '"$0" >&-', 2, b"", CANNOT_WRITE),
@@ -26,7 +26,7 @@ ENDS = [
 
 
 def end_of_a_terminal(path):
-    """The end of input on a terminal, typed behind an unended line, ends the run: what is typed then is left to the shell."""
+    """The end of input on a terminal, typed after an unended line, ends the run: the shell gets everything typed later."""
     terminal, other = pty.openpty()
     started = subprocess.Popen([path], stdin=other, stdout=subprocess.PIPE, stderr=subprocess.DEVNULL)
     os.write(terminal, b"h:p\x04\x04next\n")

@@ -1,10 +1,10 @@
-"""Size: lines of 100 MB and millions of lines, answered rightly, in linear time, with few reads and with little memory; calls
+"""Size: lines of 100 MB and millions of lines, answered correctly, in linear time, with few reads and with little memory; calls
 over texts of some MB, by the program `answers`, the page of `explain --html` over 100,000 lines, a configuration with
 100,000 rules and entries, and a file of 20,000 submodules, in linear time; and a summary of 2,000,000 lines, whose memory doesn't
 grow with them.
 
-Time is that of the processor. What looks at each byte again for each byte takes ten times as long for each byte of a
-text that is ten times as long; four times is let pass, for a machine that does other work as well.
+Time is processor time. A quadratic algorithm takes ten times as long for each byte of a text that is ten times as long; four
+times is accepted, for a machine with other load.
 """
 import contextlib
 import filecmp
@@ -19,11 +19,11 @@ from rt_api import program
 
 LARGE = 100_000_000
 SMALL = LARGE // 10
-# For each byte that is read, beside what the program itself takes.
+# For each byte that is read, in addition to the program's own memory.
 MOST_BYTES = 6
 OWN_BYTES = 2_000_000
 MOST_GROWTH = 4
-# Bytes that a call of the system reads, at the least, and how many such calls the program makes beside.
+# The minimum of bytes that a system call reads, and the number of other such calls of the program.
 LEAST_READ = 1024
 OWN_READS = 1000
 # A program that takes longer is stopped.
@@ -31,7 +31,7 @@ MOST_SECONDS = 120
 SETTLED, REFUSED = b"settled\t", b"refused\t"
 TOO_LONG, NO_HOST = REFUSED + b"TooLong\n", REFUSED + b"BadUrl HostRequired\n"
 
-# What a line begins with, what it repeats, what it ends with, and its answer: a refusal, or the front of the line again.
+# The start of a line, the repeated text, its end, and its answer: a refusal, or the front of the line again.
 SHAPES = [
     (b"", b"a", b"", SETTLED),
     (b"", b":", b"", NO_HOST),
@@ -52,22 +52,22 @@ SHAPES = [
 # A line of a byte, and its answer.
 LINE, LINE_ANSWER = b"a\n", b"settled\ta\n"
 LINES = 5_000_000
-# A page, which has many bytes for each byte of the remotes, and the memory for that.
+# A page, which has many bytes for each byte of the remotes, and its memory.
 REMOTES = 100_000
 MOST_PAGE_BYTES = 40
-# A configuration with so many rules, each with a base of its own, so many helpers and so many names of `http.*`.
+# A configuration with this many rules, each with a base of its own, this many helpers and this many names of `http.*`.
 RULES = 100_000
 MOST_RULES_SECONDS = 10
-# A file with so many submodules, each with a path and a host of its own.
+# A file with this many submodules, each with a path and a host of its own.
 MODULES = 20_000
 MOST_MODULES_SECONDS = 2
-# Lines with one host, of which a summary is asked for, and the memory for each byte that a tenth of them lacks.
+# Lines with one host, for a summary, and the memory for each byte that a tenth of them lacks.
 SUMMED = 2_000_000
 MOST_SUMMARY_BYTES = 0.1
 CHUNK = 1 << 20
 
-# Calls over texts of some MB: what is repeated in what the call is over, the order by that text, and the outcome by how
-# often it is repeated.
+# Calls over texts of some MB: the repeated text in the call's input, the order by that text, and the outcome by the number of
+# repetitions.
 LARGE_ORDER = 4_000_000
 SMALL_ORDER = LARGE_ORDER // 10
 CALLS = [
@@ -89,12 +89,12 @@ CALLS = [
 
 
 def record(path, spelling):
-    """The parts of a location of HTTP."""
+    """The fields of an HTTP location."""
     return {"scheme": "Http", "host": "h", "path": path, "spelling": spelling}
 
 
 def chunks(begin, repeated, count, end):
-    """The pieces of a text, so that it is never whole in the memory of this process."""
+    """The pieces of a text, so that the memory of this process never holds all of it."""
     at_once = max(1, CHUNK // len(repeated))
     yield begin
     for _ in range(count // at_once):
@@ -108,8 +108,8 @@ def put(path, pieces):
 
 
 class Ran:
-    """A run of a program over a text: its seconds, its bytes of memory, its calls of the system that read, and whether it
-    answers rightly, where an answer is given."""
+    """A run of a program over a text: its seconds, its bytes of memory, its system calls that read, and whether its answer is
+    correct, if an answer is given."""
 
     def __init__(self, words, folder, text, answer=None):
         given, right, out = (f"{folder}/{it}" for it in ("given", "right", "out"))
@@ -127,9 +127,9 @@ class Ran:
             return
         put(right, answer)
         with open(right, "rb") as it:
-            # Each line is answered alike, so the front of the answer says what the status has to be.
+            # Each line has the same answer, so the front of the answer determines the status.
             wanted = 1 if it.read(len(REFUSED)) == REFUSED else 0
-        # It takes files of one name, size and time for the same ones.
+        # It takes files with equal names, sizes and times for the same ones.
         filecmp.clear_cache()
         self.is_right = self.status == wanted and filecmp.cmp(out, right, shallow=False)
 
@@ -151,52 +151,52 @@ def order_of(call, size):
 
 
 def remotes_of(size):
-    """So many remotes, each with another number, of which each tenth has a host of its own."""
+    """This many remotes, each with another number, each tenth of which has a host of its own."""
     remotes = make_remotes.remotes()
     named = (remotes[n % len(remotes)] if n % 10 else b"https://host%d.example/p" % n for n in range(size))
     return [b"%b%d\n" % (it, n // len(remotes)) for n, it in enumerate(named)], None
 
 
 def rules_of(size):
-    """So many rules, each with another base and another front."""
+    """This many rules, each with another base and another front."""
     return "".join(f"url.https://h{n}/.insteadof\na{n}:\0" for n in range(size))
 
 
 def order_of_rules(size):
-    """The pieces of an order over so many rules, of which the last one applies, and of its outcome."""
+    """The pieces of an order over this many rules, the last of which applies, and of its outcome."""
     order = {"call": "Rewrites::rewrite_fetch", "config": rules_of(size), "text": f"a{size - 1}:p"}
     return tuple([json.dumps(it, separators=(",", ":")).encode() + b"\n"] for it in (order, f"https://h{size - 1}/p"))
 
 
 def configuration_of(size):
-    """So many rules, helpers and names of `http.*`; the answer to a line of HTTP shows all but the rules."""
+    """This many rules, helpers and names of `http.*`; the answer to an HTTP line shows all but the rules."""
     settings = "".join(f"credential.helper\ns{n}\0http.n{n}\nv\0" for n in range(size))
     return [f"{rules_of(size)}{settings}".encode()], None
 
 
 def modules_of(size):
-    """A file with so many submodules, in which nothing is found."""
+    """A file with this many submodules, without findings."""
     return [b'[submodule "m%d"]\n\tpath = p/%d\n\turl = https://h%d.example/m.git\n' % (n, n, n) for n in range(size)], None
 
 
 def summed(size):
-    """So many lines with one host, and their summary."""
+    """This many lines with one host, and their summary."""
     shown = command_lines.SUMMARY % (size, 0, size, 0, 0, size, 0, 0, 0) + b'host\n%8d  "example.com"\n' % size
     return chunks(b"", b"git@example.com:group/repo.git\n", size, b""), [shown]
 
 
 class Compared:
-    """The runs over two sizes of what is made, the smaller one twice; the memory for each byte and the seconds may be limited."""
+    """The runs over two sizes, the smaller one twice; the memory for each byte and the seconds may be limited."""
 
     def __init__(self, name, words, folder, make, small, large, most_bytes=None, most_seconds=MOST_SECONDS, most_more=None):
         tenths, whole = [Ran(words, folder, *make(small)) for _ in range(2)], Ran(words, folder, *make(large))
         self.name, self.is_right = name, all(it.is_right for it in (*tenths, whole))
         self.most_bytes, self.most_seconds, self.most_more = most_bytes, most_seconds, most_more
         self.seconds, self.reads, self.most_reads = whole.seconds, whole.reads, OWN_READS + whole.size // LEAST_READ
-        # How much longer a byte takes in the larger size, and how much memory it takes there.
+        # The ratio of the times for each byte in the larger and the smaller size, and of the memory.
         least = max(0.001, min(it.seconds for it in tenths))
         self.growth, self.bytes = whole.seconds / least / (whole.size / tenths[0].size), (whole.bytes - OWN_BYTES) / whole.size
-        # How much more memory each byte takes that the smaller size lacks.
+        # The memory for each byte that only the larger size has.
         self.more = (whole.bytes - tenths[-1].bytes) / (whole.size - tenths[-1].size)
 
     def faults(self):
@@ -216,7 +216,7 @@ class Compared:
 
 @contextlib.contextmanager
 def limited(seconds):
-    """Gives each program that is started here, and this process, so many seconds of the processor."""
+    """Limits each program that is started here, and this process, to this many seconds of the processor."""
     before = resource.getrlimit(resource.RLIMIT_CPU)
     resource.setrlimit(resource.RLIMIT_CPU, (seconds, before[1]))
     try:
@@ -263,7 +263,7 @@ def compared_summary(folder):
 
 
 def check(folder):
-    """The faults, and what was measured."""
+    """The faults, and the measurements."""
     parts = {f"{len(SHAPES)} shapes of a line of {LARGE // 10**6} MB, {LINES // 10**6} million lines": compared_lines,
              f"{len(CALLS)} calls over {LARGE_ORDER // 10**6} MB": compared_calls, f"a page of {REMOTES} remotes": compared_page,
              f"a configuration with {RULES} rules": compared_rules, f"a file of {MODULES} submodules": compared_modules,

@@ -1,4 +1,4 @@
-"""How `./locations` and `./explain` begin: over a small tree of their own, with a toolchain's command that only notes its calls."""
+"""How `./locations` and `./explain` begin: over a small tree of their own, with a toolchain's command that only records its calls."""
 import os
 import pty
 import shutil
@@ -9,7 +9,7 @@ from collections import namedtuple
 
 from rt_api import ROOT
 
-# A command `rt` that notes its calls, sleeps where SLOW is set, counts functions, and makes a program that prints its arguments.
+# A command `rt` that records its calls, sleeps if SLOW is set, counts functions, and makes a program that prints its arguments.
 RT = """#!/bin/sh
 echo "$*" >>"$CALLS"
 [ "$1" = version ] && exit ${BROKEN:-0}
@@ -19,7 +19,7 @@ mkdir -p out
 [ "$1" = run ] || exit 0
 printf '#!/bin/sh\\necho "$0" "$@"\\n' >"out/$(basename "$PWD")" && chmod +x "out/$(basename "$PWD")"
 """
-# How often the first call of `locations` has the command check and build.
+# The number of calls of the command, to check and build, at the first call of `locations`.
 STEPS = 4
 # `locations` uses two of these crates, and not the library.
 LINES = "git_syntax: bstr\ngit_lines: git_syntax\ngix_url: bstr git_syntax\nlocations: git_lines\nexplain: gix_url\n"
@@ -37,19 +37,19 @@ def planted(root):
         with open(f"{root}/{file}", "w", encoding="utf-8") as it:
             it.write(text)
     os.chmod(f"{root}/bin/rt", 0o755)
-    # The user `nobody` notes the calls of the command too.
+    # The user `nobody` records the calls of the command too.
     os.chmod(f"{root}/calls", 0o666)
     return Tree(root, f"{root}/calls", {"PATH": f"{root}/bin:{os.environ['PATH']}", "CALLS": f"{root}/calls"})
 
 
 def run(tree, *words, **more):
-    """Runs a launcher. Returns its status and what it printed on both streams."""
+    """Runs a launcher. Returns its status and its output on both streams."""
     ran = subprocess.run(words, env={**tree.environment, **more}, stdout=subprocess.PIPE, stderr=subprocess.STDOUT, text=True, timeout=60)
     return ran.returncode, ran.stdout
 
 
 def proofs(tree):
-    """How often the command was called to check or to build."""
+    """The number of calls of the command to check or to build."""
     with open(tree.calls, encoding="utf-8") as it:
         return sum(line.split()[0] != "version" for line in it)
 
@@ -69,7 +69,7 @@ def by_a_link(tree):
 
 
 def another_crate(tree):
-    """Where only a crate that the program does not use is younger, nothing is proved again."""
+    """If only a crate that the program does not use is younger, nothing is proved again."""
     younger(tree, "gix_url")
     return (run(tree, f"{tree.root}/locations")[0], proofs(tree)), (0, STEPS)
 
@@ -80,7 +80,7 @@ def changed_source(tree):
 
 
 def interrupted(tree):
-    """Nothing runs on after a launcher that is ended while it proves."""
+    """No process runs on after a launcher that is ended while it proves."""
     before, ends = proofs(tree), []
     for sent in (signal.SIGTERM, signal.SIGINT):
         started = subprocess.Popen([f"{tree.root}/explain"], env={**tree.environment, "SLOW": "1"}, stderr=subprocess.DEVNULL, start_new_session=True)
@@ -128,7 +128,7 @@ def little_disk(tree):
 
 
 def on_a_terminal(tree):
-    """The phases and the counts are shown in one line, which is removed in the end."""
+    """The phases and the counts are shown in one line, which is removed at the end."""
     made, (terminal, streams) = planted(f"{tree.root}-terminal"), pty.openpty()
     started = subprocess.Popen([f"{made.root}/locations"], env=made.environment, stdout=subprocess.DEVNULL, stderr=streams)
     os.close(streams)

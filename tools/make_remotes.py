@@ -17,14 +17,14 @@ def remotes():
     return [f"{it}{n}".encode() for n, it in enumerate(made)]
 
 
-# Of remotes in which nothing is found.
+# Hosts of remotes without findings.
 PLAIN_HOSTS = ["github.com", "gitlab.example.org", "git.sr.ht", "host-1.example", "codeberg.org", "salsa.debian.org", "localhost"]
 PLAIN_PATHS = ["group/repo.git", "group/subgroup/repo", "a/b", "~bob/redis.git", "x/y-z_1.git"]
 PLAIN_FORMS = ["https://{h}/{p}", "ssh://git@{h}/{p}", "git@{h}:{p}", "https://{h}:8443/{p}", "ssh://alice@{h}:2222/{p}", "git://{h}/{p}", "/srv/{p}"]
 
 
 def plain():
-    """10,000 remotes in which nothing is found, as bytes."""
+    """10,000 remotes without findings, as bytes."""
     return [f"{PLAIN_FORMS[n % 7].format(h=PLAIN_HOSTS[n // 7 % 7], p=PLAIN_PATHS[n // 49 % 5])}{n}".encode() for n in range(10_000)]
 
 

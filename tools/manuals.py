@@ -1,6 +1,6 @@
 #!/usr/bin/env python3
 """Writes the manual pages: gix_url(3) and gix_url_rules(3) from the comments of the headers in bindings/c/include, explain(1)
-from what the program prints for --help, and locations(1) from docs/locations.txt, which has the same layout.
+from the output of the program for --help, and locations(1) from docs/locations.txt, which has the same layout.
 
 usage: tools/manuals.py FOLDER     below FOLDER, man1 and man3 get the pages; each call has one that leads to its header's
 """
@@ -12,9 +12,9 @@ sys.dont_write_bytecode = True
 from rt_api import ROOT
 
 PROGRAMS = {"locations": "docs/locations.txt", "explain": "crates/explain/help"}
-# The pages that each page names, with its own left out.
+# The pages that each page names, except itself.
 PAGES = ("locations(1)", "explain(1)", "gix_url(3)", "gix_url_rules(3)")
-# The headers, each with what it is for.
+# The headers, each with its purpose.
 LIBRARIES = {
     "gix_url": "parses, writes and compares Git remote locations, by proved code",
     "gix_url_rules": "what Git does with a remote by its configuration, by proved code",
@@ -27,18 +27,18 @@ def read(name):
 
 
 def plain(line):
-    """A line of text as roff shows it as it is."""
+    """A line of text escaped for roff."""
     line = line.replace("\\", "\\e").replace("-", "\\-")
     return f"\\&{line}" if line.startswith((".", "'")) else line
 
 
 def verbatim(lines):
-    """Lines that stay as they are."""
+    """Lines that stay unchanged."""
     return [".PP", ".in +2n", ".nf", *map(plain, lines), ".fi", ".in"]
 
 
 def prose(lines):
-    """Paragraphs, separated by empty lines; one whose lines are all indented stays as it is."""
+    """Paragraphs, separated by empty lines; a paragraph whose lines are all indented stays unchanged."""
     for paragraph in re.split(r"\n[ ]*\n", "\n".join(lines)):
         rows = [it for it in paragraph.split("\n") if it.strip()]
         if rows and all(it.startswith("  ") for it in rows):
@@ -57,12 +57,12 @@ def also(own):
 
 
 def comment(text):
-    """The lines of a comment, without what makes it one."""
+    """The lines of a comment, without its marks."""
     return [re.sub(r"^ \* ?", "", it) for it in text.strip().removeprefix("/* ").removesuffix("*/").split("\n")]
 
 
 def declarations(header):
-    """Each comment of the header with what follows it, which ends at an empty line."""
+    """Each comment of the header with the declaration after it, which ends at an empty line."""
     body = header.partition('extern "C" {\n#endif\n')[2].rpartition("#ifdef __cplusplus")[0]
     for block in re.split(r"\n\n+", body.strip()):
         said, _, declared = block.partition("*/\n")
@@ -74,7 +74,7 @@ def is_call(declared):
 
 
 def title(declared):
-    """What a declaration declares."""
+    """The declared name."""
     found = re.findall(r"\b(gix_url_\w+)\(|^#define (\w+)|^} (\w+);", declared, re.M)
     return ", ".join("".join(it) for it in found)
 
@@ -95,14 +95,14 @@ def library_page(name, header):
 
 
 def rows_of(lines):
-    """Arguments and options: each with what it does."""
+    """Arguments and options, each with its description."""
     for line in lines:
         option, _, does = line.strip().partition("  ")
         yield from [".TP", f".B {plain(option)}", plain(does.strip())]
 
 
 def section(text):
-    """A part of a program's help: a list or a section by its first line, or prose with what is indented as it is."""
+    """A part of a program's help: a list or a section by its first line, or prose with its indented parts unchanged."""
     head, *lines = text.split("\n")
     if text.startswith("Exit status: "):
         yield from [".SH EXIT STATUS", *prose([text.removeprefix("Exit status: ")])]

@@ -1,4 +1,4 @@
-"""Texts that are in the file of a PNG picture beside what it shows (`tEXt` of the standard)."""
+"""Texts in the file of a PNG picture in addition to its image (`tEXt` of the standard)."""
 import struct
 import zlib
 from collections.abc import Iterator

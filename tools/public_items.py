@@ -1,4 +1,4 @@
-"""The public items of a crate with their contracts, read from its sources as `rt fmt` lays them out: an item begins a line of
+"""The public items of a crate with their contracts, read from its sources in the layout of `rt fmt`: an item begins a line of
 its indentation, and its other lines are indented further, except brackets and `where`."""
 import functools
 import glob
@@ -7,8 +7,10 @@ import re
 
 from rt_api import ROOT
 
-# Comments, and attributes that promise nothing.
-SILENT = re.compile(r"(?m)^\s*(?://|#!|#\[(?:allow|inline|tactic)\b).*\n|^\n")
+# Comments that aren't documentation, and attributes without a contract; doc comments; the doc comment of a module.
+SILENT = re.compile(r"(?m)^\s*(?://(?!/)|#!|#\[(?:allow|inline|tactic)\b).*\n|^\n")
+DOC = re.compile(r"(?m)^ *///.*\n")
+HEAD_COMMENT = re.compile(r"(?m)^//! ?(.*\n)")
 # The kind of an item and its name, and the kinds that have no path.
 ITEM = re.compile(r' *(?:pub(?:\(\w+\))? )?(?:const (?=fn)|unsafe |extern "C" )*(\w+)(?: (\w+))?')
 OTHER = ("ghost", "impl", "mod", "use")
@@ -20,19 +22,32 @@ def files_of(crate):
 
 
 def items(text, depth=4):
-    """The items of an indentation: the attributes and the text of each."""
+    """The items of an indentation: the doc comment, the attributes and the text of each."""
     more = rf"(?: {{{depth + 1},}}\S.*\n| {{{depth}}}(?:[)\]}}{{]|where\b).*\n)*"
-    return re.findall(rf"(?m)^((?: {{{depth}}}#\[.*\n{more})*)( {{{depth}}}(?!where\b)[a-z].*\n{more})", text)
+    return re.findall(rf"(?m)^((?: {{{depth}}}(?:#\[|///).*\n{more})*)( {{{depth}}}(?!where\b)[a-z].*\n{more})", text)
 
 
-def modules_of(crate):
-    """The items of each module, by its path."""
+@functools.cache
+def sources_of(crate):
+    """The text of each module, by its path."""
     found = {}
     for file in files_of(crate):
         path = tuple(os.path.relpath(file, f"{ROOT}/crates/{crate}/src").removesuffix(".rt").split("/"))
         with open(file, encoding="utf-8") as it:
-            found[() if path == ("lib",) else path] = items(SILENT.sub("", it.read()), 0)
+            found[() if path == ("lib",) else path] = it.read()
     return found
+
+
+@functools.cache
+def modules_of(crate):
+    """The items of each module, by its path."""
+    return {path: items(SILENT.sub("", text), 0) for path, text in sources_of(crate).items()}
+
+
+def opened(modules):
+    """The modules that other crates may name."""
+    declared = {at: {text for _, text in inside} for at, inside in modules.items()}
+    return [it for it in modules if all(f"pub mod {it[at]};\n" in declared.get(it[:at], ()) for at in range(len(it)))]
 
 
 def names(inside, front=""):
@@ -47,7 +62,7 @@ def uses(inside, front):
 
 
 def definition(modules, module, name):
-    """The module that defines what a module calls by a name, and its name there; None where that is of another crate."""
+    """The module that defines a name used in a module, and its name there; None if it is of another crate."""
     inside = modules.get(module, [])
     if name in names(inside):
         return module, name
@@ -59,11 +74,10 @@ def definition(modules, module, name):
 
 
 def public_paths(modules):
-    """The path of each public item, by its module and its name there; and what is passed on, by its path."""
-    opened = [it for it in modules if all(("", f"pub mod {it[at]};\n") in modules.get(it[:at], []) for at in range(len(it)))]
-    found = {(module, name): "::".join((*module, name)) for module in opened for name in names(modules[module], "pub ")}
+    """The path of each public item, by its module and its name there; and the re-exports, by their paths."""
+    found = {(module, name): "::".join((*module, name)) for module in opened(modules) for name in names(modules[module], "pub ")}
     passed = {}
-    for module in opened:
+    for module in opened(modules):
         for path in uses(modules[module], "pub "):
             at, here = definition(modules, module, path[-1]), "::".join((*module, path[-1]))
             if at and at not in found:
@@ -74,13 +88,13 @@ def public_paths(modules):
 
 
 def head(text):
-    """What is before a body, which opens on a line of its own or on one of the item's indentation."""
+    """The text before a body, which opens on a line of its own or on one of the item's indentation."""
     margin = re.match(" *", text)[0]
     return re.sub(rf"(?ms)^({margin}(?:\S[^\n]*?(?= \{{))?)[ ]?\{{.*", r"\1", text).rstrip() + "\n"
 
 
 def promised(attributes, text):
-    """The text of an item without bodies and private fields: of a call its clauses, of a trait or an `impl` its members."""
+    """The text of an item without bodies and private fields: for a call its clauses, for a trait or an `impl` its members."""
     kind = ITEM.match(text)[1]
     if kind in ("impl", "trait"):
         text = head(text) + "".join(promised(*it) for it in items(text) if not it[1].startswith("    ghost use "))
@@ -93,7 +107,7 @@ def promised(attributes, text):
 
 
 def of_block(modules, paths, module, text):
-    """What an `impl` adds, by its path: itself if it is of a trait, else its public members."""
+    """The additions of an `impl`, by its path: itself if it is of a trait, otherwise its public members."""
     trait, of, name = IMPL.match(text).groups()
     owner = paths.get(definition(modules, module, name))
     local = {definition(modules, module, it) for it in re.findall(r"\w+", f"{trait} {of}")} - {None}
@@ -106,15 +120,22 @@ def of_block(modules, paths, module, text):
 
 
 @functools.cache
-def public_items(crate):
-    """The text of each public item, by its path and in the order of paths."""
+def documented_items(crate):
+    """The module of each public item, and its text with doc comments, by its path and in the order of paths."""
     modules = modules_of(crate)
-    paths, found = public_paths(modules)
+    paths, passed = public_paths(modules)
+    found = {path: ((), text) for path, text in passed.items()}
     for module, inside in modules.items():
         for attributes, text in inside:
             kind, name = ITEM.match(text).groups()
             if kind == "impl":
-                found.update(of_block(modules, paths, module, text))
+                found.update((path, (module, it)) for path, it in of_block(modules, paths, module, text))
             elif kind not in OTHER and (module, name) in paths:
-                found[paths[module, name]] = promised(attributes, text)
+                found[paths[module, name]] = module, promised(attributes, text)
     return {path: found[path] for path in sorted(found)}
+
+
+@functools.cache
+def public_items(crate):
+    """The text of each public item, by its path and in the order of paths."""
+    return {path: DOC.sub("", text) for path, (_, text) in documented_items(crate).items()}

@@ -1,11 +1,11 @@
-"""The tables of `vectors/readers/`: what `scripts/readers_witness` found, and what `docs/READERS.md` has of it.
+"""The tables of `vectors/readers/`: the findings of `scripts/readers_witness`, and their part in `docs/READERS.md`.
 
-`conditions.jsonl` has a line for each condition of the class: its name and words, an example, the host that Git connects to in it, and
-which readers take which other host, or read which other part; and which readers read another host, or another part, or refuse, in
-texts that break this condition alone, or differ in those that break it beside others. `confusions.jsonl` has the same of single texts,
-and the conditions that each breaks. `readers.jsonl` has each reader with its version and Debian's packages. `groups.jsonl` has the
-programs of each group of readers, with the counts of `reader_groups.py` and the shapes in which a program takes another host than its
-group. A text is spelled as in rows (`row_text.py`). A local path has no host.
+`conditions.jsonl` has a line for each condition of the class: its name and words, an example, the host that Git connects to in
+it, and the readers that find another host or read another part; and the readers that read another host, or another part, or
+refuse, in texts that break only this condition, or differ in those that also break others. `confusions.jsonl` has the same for
+single texts, and the conditions that each breaks. `readers.jsonl` has each reader with its version and Debian's packages.
+`groups.jsonl` has the programs of each group of readers, with the counts of `reader_groups.py` and the shapes in which a
+program finds another host than its group. A text is spelled as in rows (`row_text.py`). A local path has no host.
 """
 import json
 import re
@@ -23,9 +23,9 @@ OWN = {"Git": "git", "Git credential": "git", "libcurl": "git", "OpenSSH": "open
 GROUPS = {
     "Git": ("Git", "Git credential", "libcurl", "OpenSSH"), "Git libraries": ("libgit2", "dulwich", "JGit", "go-git"),
     "tools": ("gh", "hosted-git-info", "pip"), "WHATWG": ("WHATWG (Node)", "Rust url")}
-# The letters of the table, by what a reader does in some text that breaks a condition alone: the strongest is shown.
+# The letters of the table, by the behaviour of a reader in some text that breaks only this condition: the strongest is shown.
 KINDS = {"host": "**h**", "other": "o", "refused": "r"}
-# More readers are counted, and not named, in a table of the document.
+# More readers than this are counted, and not named, in a table of the document.
 MANY = 8
 SHORT = {
     "Git credential": "cred", "OpenSSH": "ssh", "libgit2": "lg2", "dulwich": "dul", "JGit": "jgit", "go-git": "gog", "gh": "gh",
@@ -69,7 +69,7 @@ def has_readers(condition):
     return any(condition.get(kind) for kind in KINDS)
 
 
-# ---- what was found
+# ---- findings
 
 def shown(host):
     return None if host is None else text_of(host)
@@ -80,7 +80,7 @@ def in_order(found):
 
 
 def others(text, readers):
-    """What readers take for the host of a text in place of Git's, and what else they read otherwise; each with these readers."""
+    """The hosts that readers find in a text instead of Git's, and their other differences; each with these readers."""
     found, parts = {}, {}
     for reader in readers:
         case, it = reader.differing.get(text, (None, REFUSED))
@@ -94,7 +94,7 @@ def others(text, readers):
 
 
 def unlike(wanted, it):
-    """The parts that are read otherwise, as `port 22, path a/b`."""
+    """The parts that are read differently, as `port 22, path a/b`."""
     named = {name: (getattr(wanted, name), getattr(it, name)) for name in ("scheme", "user", "password", "port", "path")}
     values = {name: part if isinstance(part, bytes) else str(part).encode() for name, (first, part) in named.items() if first != part}
     return ", ".join(f"{name} {text_of(part)}" for name, part in values.items())
@@ -109,7 +109,7 @@ def strongest(found):
 
 
 def place_of(text, cases, readers):
-    """What a line has of its text: whether Git connects, the host, and the hosts of readers."""
+    """The part of a line about its text: whether Git connects, the host, and the hosts of readers."""
     wanted = next((it.wanted for it in cases if it.text == text), None)
     return {"git": None if wanted is None else shown(wanted.host) or "a local path", **others(text, readers)}
 
@@ -134,7 +134,7 @@ def group_lines(readers):
 
 
 def count_faults(readers):
-    """Where the counts of a program are others by now than the table has."""
+    """The counts of a program that differ from the table."""
     named = {(it["group"], it["program"]): it for it in lines("groups")}
     for it in group_lines(readers):
         listed = named.get((it["group"], it["program"]))
@@ -163,7 +163,7 @@ def record(cases, readers, found, beside):
 
 
 def confusion_faults(cases, readers):
-    """Where readers read other places by now than the tables have, and where a text breaks other conditions."""
+    """The texts for which readers read other places than the tables have, or which break other conditions."""
     names, known = {it.name for it in readers}, {case.text for case in cases}
     for topic, member in (("conditions", "example"), ("confusions", "text")):
         for line in lines(topic):
@@ -187,17 +187,17 @@ def cell(text):
 
 def condition_table():
     names = [*SHORT]
-    out = ["| Condition | Broken by | Example | " + " | ".join(SHORT.values()) + " |\n", "|---" * (len(names) + 3) + "|\n"]
+    out = ["| Condition | Broken by | Example |" + "|".join(SHORT.values()) + "|\n", "|---" * (len(names) + 3) + "|\n"]
     for it in lines("conditions"):
         marks = [next((letter for kind, letter in KINDS.items() if name in it[kind]), "") for name in names]
         example = cell(it["example"]) if len(it["example"]) < 60 else ""
         words = it["words"].rstrip(".").replace("|", "\\|")
-        out.append(f"| `{it['name']}` | {words} | {example} | " + " | ".join(marks) + " |\n")
+        out.append(f"| `{it['name']}` | {words} | {example} |" + "|".join(marks) + "|\n")
     return "".join(out)
 
 
 def named(readers):
-    """Readers by their names, or how many they are."""
+    """Readers by their names, or their number."""
     return ", ".join(readers) if len(readers) <= MANY else f"{len(readers)} readers"
 
 
@@ -213,23 +213,13 @@ def confusion_table():
 
 
 def group_table():
-    """Each group with the programs by which it is named."""
+    """Each group with the programs that represent it: how often each takes the group's host, and where it takes another one."""
     named = {}
     for it in lines("groups"):
-        named.setdefault((it["group"], it["words"].rstrip(".")), []).append(it["program"])
-    rows = [f"| `{group}` | {words} | {', '.join(programs)} |\n" for (group, words), programs in named.items()]
+        programs = named.setdefault((it["group"], it["words"].rstrip(".")), [])
+        programs.append(" ".join([f"{it['program']}: {it['takes']:,} of {it['differs']:,}.", *it["shapes"]]))
+    rows = [f"| `{group}` | {words} | {'<br>'.join(programs)} |\n" for (group, words), programs in named.items()]
     return "".join(["| Group | The host that it finds | Programs |\n", "|---|---|---|\n", *rows])
-
-
-def count_table():
-    """What each program does in the texts of its groups."""
-    heads = ["Group", "Program", "Of other hosts than Git's", "Of misread texts", "No host", "Git's", "Another", "Where it takes another host than the group"]
-    out = [f"| {' | '.join(heads)} |\n", "|---|---" + "|--:" * 5 + "|---|\n"]
-    for it in lines("groups"):
-        pairs = [f"{it[some]:,} of {it[all]:,}" for some, all in (("takes", "differs"), ("same", "misread"))]
-        cells = [f"`{it['group']}`", it["program"], *pairs, *(f"{it[member]:,}" for member in ("none", "gits", "another")), " ".join(it["shapes"])]
-        out.append(f"| {' | '.join(cells)} |\n")
-    return "".join(out)
 
 
 def reader_table():
@@ -238,8 +228,7 @@ def reader_table():
 
 
 def tables():
-    return {"readers": reader_table(), "confusions": confusion_table(), "conditions": condition_table(), "groups": group_table(),
-            "counts": count_table()}
+    return {"readers": reader_table(), "confusions": confusion_table(), "conditions": condition_table(), "groups": group_table()}
 
 
 def read_document():

@@ -1,8 +1,8 @@
-"""The programs that groups of readers are named by, and whether each takes the host that its group finds (`second_reading/groups.py`).
+"""The programs that represent groups of readers, and whether each finds the host of its group (`second_reading/groups.py`).
 
-Git connects with each text that counts, and takes another host than the program, or than the group: what the group finds isn't the
-host of the location either. Texts of `file` don't count, since Git takes no host from them. Of `digits_are_port` the port is compared
-too. Where a program takes a host that isn't the group's, the text has a shape of those that are listed for this program.
+A text counts if Git connects with it, and finds another host than the program or the group; the group's host isn't the host of
+the location either. `file` texts don't count, since Git finds no host in them. For `digits_are_port` the port is compared too.
+If a program finds a host that isn't the group's, the text has a shape that is listed for this program.
 """
 import re
 from collections import Counter
@@ -11,12 +11,12 @@ from reader_places import REFUSED, SILENT, plain_host
 from second_reading import grammar
 from second_reading.groups import GROUPS, host_by, is_own
 
-# What is counted: texts in which the program takes another host than Git, and of these those in which it takes the group's; texts that the
-# group misreads, and what the program takes there: the group's host, none, Git's, or another one.
+# The counts: texts in which the program finds another host than Git, and those of them in which it finds the group's; texts
+# that the group misreads, and the program's host in them: the group's, none, Git's, or another one.
 MEMBERS = ("differs", "takes", "misread", "same", "none", "gits", "another")
 
 
-# ---- shapes of texts in which a program takes another host than its group: of each what it does
+# ---- shapes of texts in which a program finds another host than its group: the behaviour in each
 
 def tab(text, host):
     """It drops a tab."""
@@ -109,15 +109,15 @@ PROGRAMS = {
 }
 
 
-# ---- what groups and programs take
+# ---- the hosts of groups and programs
 
 def taken(group, it):
-    """What is compared of a place: its host, and of `digits_are_port` the port too."""
+    """The compared part of a place: its host, and for `digits_are_port` the port too."""
     return (it.host, it.port) if group == "digits_are_port" else it.host
 
 
 def found(group, host):
-    """The same of the host that a group finds."""
+    """The same for the host that a group finds."""
     if group != "digits_are_port":
         return plain_host(host)
     named, _, digits = host.rpartition(b":")
@@ -125,7 +125,7 @@ def found(group, host):
 
 
 def hosts_of(case):
-    """By groups, the host that each finds in a case, as it is written there; no group finds one where it doesn't count."""
+    """By groups, the host that each finds in a case, as it is written there; None for each group if the case doesn't count."""
     if case.wanted is None or case.form == "file":
         return {}
     return {group: it for group in GROUPS if (it := host_by(group, case.text)) is not None}
@@ -140,7 +140,7 @@ def is_misread(case, group):
 
 
 class Seen:
-    """What a program of a group does in a case: whether the group misreads it, and what the program takes."""
+    """The behaviour of a program of a group in a case: whether the group misreads it, and the program's host."""
 
     def __init__(self, group, case, it):
         self.group, self.case, self.is_misread = group, case, group in case.misread
@@ -158,7 +158,7 @@ class Seen:
         return shape(self.case.text, self.case.hosts[self.group])
 
     def members(self):
-        """What it counts for."""
+        """The counts that it belongs to."""
         if self.differs:
             yield from ("differs", "takes") if self.is_same else ("differs",)
         if self.is_misread:
@@ -167,7 +167,7 @@ class Seen:
 
 
 def seen(name, cases, places):
-    """What the program does in each case of its groups that counts."""
+    """The behaviour of the program in each case of its groups that counts."""
     for group in (it for it in PROGRAMS if name in PROGRAMS[it]):
         for case, it in zip(cases, places):
             if group in case.hosts and (one := Seen(group, case, it)) and (one.differs or one.is_misread):
@@ -175,7 +175,7 @@ def seen(name, cases, places):
 
 
 def counts(readers):
-    """By groups and programs, how many texts there are of each member."""
+    """By groups and programs, the number of texts of each member."""
     asked = {it.name: it for it in readers}
     out = {}
     for group, program in ((group, it) for group, named in PROGRAMS.items() for it in named if it in asked):
@@ -187,7 +187,7 @@ def counts(readers):
 # ---- faults
 
 def group_faults(readers):
-    """Texts in which a program takes another host than its group, and that have no shape that is listed for it."""
+    """Texts in which a program finds another host than its group, and that have no shape that is listed for it."""
     for reader in readers:
         for it in reader.seen:
             if it.is_wrong and not it.is_listed(reader.name):

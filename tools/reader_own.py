@@ -1,4 +1,4 @@
-"""How Git's transports, Git's credential code, Git's libcurl and OpenSSH are asked what they read in texts."""
+"""The calls of Git's transports, Git's credential code, Git's libcurl and OpenSSH for their readings of texts."""
 import re
 import shutil
 import subprocess
@@ -49,7 +49,7 @@ def curl_places(texts):
 
 
 def secure_place(text, said):
-    """OpenSSH reads no path, so that is the text's."""
+    """OpenSSH reads no path, so the path is the text's."""
     found = {name: re.search(rb"^%s (.*)$" % name, said, re.M) for name in (b"user", b"hostname", b"port")}
     if None in found.values():
         return REFUSED
@@ -58,14 +58,14 @@ def secure_place(text, said):
 
 
 def secure_places(texts):
-    """OpenSSH is given the URL without its path, which it refuses."""
+    """OpenSSH gets the URL without its path, which it refuses."""
     fronts = [b"ssh://" + it.removeprefix(b"ssh://").partition(b"/")[0] for it in texts]
     said = ask_loop(ASK_SECURE_SHELL, fronts, {"SETTINGS": f"User {NO_USER.decode()}\n"})
     return [*map(secure_place, texts, said)]
 
 
 def first_line(*command):
-    """The first line that a command prints, None where it is missing."""
+    """The first line of a command's output, None if it is missing."""
     if not shutil.which(command[0]):
         return None
     ran = subprocess.run(command, stdout=subprocess.PIPE, stderr=subprocess.STDOUT, text=True)
@@ -73,12 +73,12 @@ def first_line(*command):
 
 
 def can_ask_git(text, form):
-    """Whether Git's transports are asked: behind the end of an empty path of the scp form Git looks for a `~`, in other bytes."""
+    """Whether Git's transports are run: after the end of an empty path of the scp form Git looks for a `~`, in other bytes."""
     return form not in ("http", "other") and pieces(text).path != b""
 
 
 def own_readers():
-    """Of each reader its name, its version, which texts of a form it is asked, and how."""
+    """For each reader its name, its version, the texts of a form that it is run on, and how."""
     git, secure = first_line("git", "--version"), first_line("ssh", "-V")
     if git and library_of_git():
         yield "Git", git.split()[-1], can_ask_git, git_places

@@ -1,5 +1,5 @@
-"""The place that a reader reads in a text, in a form that can be compared: the host in lower case without brackets, an address in its
-shortest form, the scheme's own port filled in, user and password decoded, and the path as a program of Git would send it.
+"""The place that a reader reads in a text, in a comparable form: the host in lower case without brackets, an address in its
+shortest form, the scheme's default port filled in, user and password decoded, and the path as a program of Git would send it.
 """
 import ipaddress
 import re
@@ -8,12 +8,12 @@ from collections import namedtuple
 from git_reads import decoded, git_reads
 from web_reads import curl_reads, Web
 
-# What is read; a part that is empty is None. `REFUSED` isn't a place, nor is `SILENT`: the reader takes no host from a text.
+# A reading; a part that is empty is None. `REFUSED` isn't a place, nor is `SILENT`: the reader finds no host in a text.
 Place = namedtuple("Place", "scheme user password host port path")
 REFUSED, SILENT = "refused", "silent"
 PORTS = {b"http": 80, b"https": 443, b"ssh": 22, b"git": 9418}
 ALIASES = {b"git+ssh": b"ssh", b"ssh+git": b"ssh", b"git+https": b"https", b"git+http": b"http"}
-# Other schemes by which a reader takes a host from a text that isn't a URL to Git.
+# Other schemes by which a reader finds a host in a text that isn't a URL to Git.
 OTHER_SCHEMES = (b"ftp", b"ftps", b"ws", b"wss")
 ADDRESS = re.compile(rb"[0-9.]+|[0-9a-f:.]+")
 
@@ -41,7 +41,7 @@ def place(scheme, user, password, host, port, path):
     scheme = ALIASES.get(scheme, scheme)
     if scheme in (b"ssh", b"git") and path.startswith(b"/~"):
         path = path[1:]
-    # Git puts `/info/refs` behind a path of HTTP, whatever slashes it ends with.
+    # Git appends `/info/refs` to an HTTP path, whatever slashes it ends with.
     if scheme in (b"http", b"https"):
         path = b"/" + path.rstrip(b"/") if not path.startswith(b"/") else path.rstrip(b"/") or b"/"
     if scheme == b"file":
@@ -50,7 +50,7 @@ def place(scheme, user, password, host, port, path):
 
 
 def said_place(reader, form, said):
-    """What a reader reads in a text of a form, by what it says."""
+    """The place that a reader reads in a text of a form, by its answer."""
     if form == "file" and reader.name == "hosted-git-info":
         return SILENT
     is_elsewhere = form in ("scp", "local") and reader.kind != "git"
@@ -72,7 +72,7 @@ def said_place(reader, form, said):
 
 
 def git_place(text, form):
-    """The place that Git connects to; None where it connects to none."""
+    """The place that Git connects to; None if it connects to none."""
     if form == "http":
         found = curl_reads(text)
         return place(*found) if isinstance(found, Web) else None
@@ -84,12 +84,12 @@ def git_place(text, form):
 
 
 def with_decoded_path(it):
-    """What is compared with a reader that shows the path of HTTP decoded alone."""
+    """The place that is compared with a reader that only shows the decoded path of HTTP."""
     return it._replace(path=decoded(it.path)) if it.scheme in (b"http", b"https") else it
 
 
 def is_same(reader, form, wanted, found):
-    """Whether what is read is the same place. A program that makes a URL of an scp form puts a slash before its path."""
+    """Whether the reading is the same place. A program that converts the scp form to a URL puts a slash before its path."""
     if found == SILENT or found == wanted:
         return True
     if found == REFUSED or wanted is None:

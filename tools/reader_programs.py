@@ -1,6 +1,6 @@
-"""The readers of `scripts/readers_witness`: programs in `tools/readers`, how each is built and asked, and which version it has.
+"""The readers of `scripts/readers_witness`: programs in `tools/readers`, how each is built and run, and its version.
 
-A reader that lacks something on this machine is left out. What is compiled is kept in `out/readers`.
+A reader that lacks something on this machine is left out. Compiled programs are kept in `out/readers`.
 """
 import json
 import os
@@ -16,8 +16,9 @@ JGIT = "/usr/share/java/org.eclipse.jgit.jar:/usr/share/java/slf4j-api.jar:/usr/
 GO = {"GO111MODULE": "off", "GOPATH": "/usr/share/gocode", "GOCACHE": f"{OUT}/go", "GOFLAGS": "-p=2"}
 GH = "/usr/share/gocode/src/github.com/cli/go-gh/internal/git/url.go"
 DEBIAN = {**os.environ, "NODE_PATH": "/usr/share/nodejs", "PYTHONDONTWRITEBYTECODE": "1"}
-# What a reader is: `git` for a program of Git, which reads all of its forms, `forge` for one that makes a URL of an scp form, and
-# `url` for a reader of URLs, which is asked of other texts whether it takes a host from them. `decoded` are the parts that it decodes.
+# The kind of a reader: `git` for a program of Git, which reads all of its forms, `forge` for one that converts the scp form to
+# a URL, and `url` for a reader of URLs, which is only asked whether it finds a host in other texts. `decoded` are the parts
+# that it decodes.
 Reader = namedtuple("Reader", "name kind packages version build command decoded")
 BOTH, ALL = ("user", "password"), ("user", "password", "path")
 GIT_LIBRARY = "libgit2-dev libmbedtls-dev libssh2-1-dev libhttp-parser-dev libpcre2-dev zlib1g-dev"
@@ -93,7 +94,7 @@ READERS = [
 
 
 def version(reader):
-    """The version of a reader, None where this machine lacks it, or what starts its program."""
+    """The version of a reader, None if this machine lacks it, or the program that starts it."""
     if not (reader.build or shutil.which(reader.command[0])) or reader.command[0] == "java" and not shutil.which("java"):
         return None
     try:
@@ -104,7 +105,7 @@ def version(reader):
 
 
 def build(reader):
-    """Whether the program of a reader is there; it is built where its sources are newer."""
+    """Whether the program of a reader exists; it is built if its sources are newer."""
     if not reader.build:
         return True
     os.makedirs(OUT, exist_ok=True)
@@ -127,7 +128,7 @@ def said_of(line):
 
 
 def ask(reader, texts):
-    """What a reader says of each text."""
+    """A reader's answer for each text."""
     given = b"".join(it + b"\n" for it in texts)
     ran = subprocess.run(reader.command, input=given, env=DEBIAN, stdout=subprocess.PIPE, stderr=subprocess.PIPE)
     lines = ran.stdout.split(b"\n")[:-1]

@@ -1,5 +1,5 @@
-"""Texts for readers of locations: remotes, the texts of rows, and texts made near the class that no reader reads otherwise, most of them
-with one piece by which they are outside of it.
+"""Texts for readers of locations: remotes, the texts of rows, and texts made near the class that no reader reads differently, most of them
+with one piece outside of it.
 """
 from git_texts import Maker, listed
 from row_text import bytes_of, joined
@@ -8,7 +8,7 @@ from web_texts import WebMaker
 
 LONGEST = 4096
 FORMS = ("https", "https", "http", "ssh", "ssh", "ssh", "git", "file", "scp", "scp", "scp", "scp", "local", "local")
-# What a text of the class is made of, by its pieces, and what it isn't.
+# The pieces of texts of the class, and pieces outside of it.
 USERS = listed("git¦u¦Jane.Doe¦a_b¦org-8823¦x~y¦a-¦1¦%s" % ("u" * 70))
 BAD_USERS = listed("¦-u¦-oProxyCommand=x¦u%40v¦u%2Fv¦%75¦u%20v¦u%3Av¦u+v¦u!v¦u$v¦u&v¦u'v¦u(v¦u*v¦u,v¦u;v¦u=v¦a@b¦h@¦[u¦u]¦[::1]¦u\\v¦u^v¦u|v¦é¦"
                    "%F0%9F%98%80¦u`v¦u{v¦u\"v¦u<v¦github.com?¦github.com#¦github.com/¦github.com\\¦github.com%2F¦github.com:22¦x/y¦[github.com]¦u:¦:")
@@ -45,14 +45,14 @@ LOCALS = listed("/srv/repo.git¦a¦/a/b¦./a¦../a/b¦a/b¦/a b¦a b/c¦é¦/srv
 BAD_LOCALS = listed("-a¦--upload-pack=x¦~¦~/x¦~u/x¦//h/x¦//¦///a¦//h.com/a/b¦/a:b¦./a:b¦a/b:c¦/srv/a:b¦/a:22/b¦/u@h:x¦/h:p@q¦a/b:c@d:e¦/a\\b¦\\a¦\\\\h\\p¦"
                     "a\\b¦C:\\a¦[a]¦/a[b]¦a]¦[::1]¦[h]/x¦/@[x]y¦u@[h]/x¦/a/[b]/c¦./[x]")
 SCHEMES = listed("ext¦ftp¦ftps¦SSH¦HTTPS¦Http¦git+ssh¦ssh+git¦x¦1a¦git+https¦git+http¦rsync¦svn+ssh¦ws¦wss¦a_b¦javascript¦data")
-# The bytes of the class, of which the ones that matter to readers occur more often.
+# The bytes of the class; the ones that matter to readers occur more often.
 WORD, LABEL = "aAzZ09._~-", "abchxn0129-"
 PATH, SCP_PATH, LOCAL = "aZ09._~!$&()*+,=:@/-/:@~-", "aZ09._~+,=/-/~-/", "aZ09._~!$&'()*+,=@/- /?#%;\"<>^`{|}é/"
 HELPERS = listed("ext::sh -c x¦a::b¦ext::https://h/p¦https::h/p¦file::/a¦git::h¦a::/b:c¦::a¦ssh::git@h:p¦a+b::c")
 
 
 class NearMaker(Maker):
-    """Makes texts of the class, most of them with one piece that isn't."""
+    """Makes texts of the class, most of them with one piece outside of it."""
 
     def part(self, name, good, bad, given):
         return self.one_of(bad if name == given else good)
@@ -83,7 +83,7 @@ class NearMaker(Maker):
         return "".join(self.one_of(alphabet) for _ in range(1 + self.below(most)))
 
     def free(self):
-        """A text of the bytes of the class, most of which are in it."""
+        """A text of the bytes of the class, mostly inside it."""
         form = self.one_of(FORMS)
         if form == "local":
             return self.one_of(("/", "./", "../", "")) + self.some(LOCAL, 9)
@@ -129,7 +129,7 @@ PUT = [*BYTES, b"//", b"/../", b"@h:", b":1/", b":@", b"/@", b"..", b"::", b"-/"
 
 
 def changed_texts():
-    """Each text of `CHANGED` with something put in, with another byte in place of one, and without one, at each place."""
+    """Each text of `CHANGED` with something inserted, with a byte replaced, and with a byte removed, at each place."""
     for text in CHANGED:
         for at in range(len(text) + 1):
             yield from (text[:at] + it + text[at:] for it in PUT)
@@ -137,7 +137,8 @@ def changed_texts():
 
 
 def reader_texts(number, count, given):
-    """The given texts, those of rows and so many others, each once: two thirds in or near the class, the rest by the makers of other witnesses."""
+    """The given texts, those of rows and this many others, each once: two thirds in or near the class, the rest by the makers
+    of other witnesses."""
     makers = [NearMaker(number), NearMaker(number + 1), WebMaker(number), NearMaker(number + 2), Maker(number), NearMaker(number + 3)]
     found = dict.fromkeys(filter(can_be_asked, [*given, *row_texts()]))
     wanted, at = len(found) + count, 0

@@ -1,9 +1,9 @@
-"""Refused memory: counts the requests of each call and the bytes that they ask for, and refuses each of them in turn. After each
-run, with or without a refused request, as many bytes are held as after one without the call: all that it asked for is given back.
+"""Refused memory: counts the requests of each call and their bytes, and refuses each of them in turn. After each
+run, with or without a refused request, as many bytes are held as after one without the call: everything that it requested is freed.
 
-The rows are those of all tables in `vectors/`, and the program `answers` makes the calls, an order a run: one run ends
-before the call and one makes it, so what the call asks for is the difference. Each request goes through
-`refuse_memory.c`, built by the toolchain's compiler: `rt try --fail-alloc N` counts the same, but builds for each N.
+The rows are those of all tables in `vectors/`, and the program `answers` makes the calls, an order in each run: one run ends
+before the call and one makes it, so the difference is the call's requests. Each request goes through `refuse_memory.c`, built
+by the toolchain's compiler: `rt try --fail-alloc N` counts the same, but builds for each N.
 """
 import collections
 import concurrent.futures
@@ -16,9 +16,9 @@ import subprocess
 import rows
 from rt_api import KIT, ROOT, program
 
-# At most so many of the rows that a line stands for are taken.
+# At most this many of the rows of one line are taken.
 OF_A_LINE = 20
-# A longer order comes through the pipe in pieces, and then how often memory is asked for to read it is another thing each time.
+# A longer order comes through the pipe in pieces, and then the number of requests to read it varies.
 LONGEST = 60_000
 LINES = b"/a\nhttp://u%41:p@h/a%20b\nhttp://h:0/\nssh+git:///p\nh%41:p\nuser@[::1]:p\na::b\n\n"
 ANSWER = (
@@ -27,7 +27,7 @@ ANSWER = (
 )
 
 
-# Calls that collect into a list, which asks for less where more is refused: then they may return what they have to.
+# Calls that collect into a list, which requests less if a larger request is refused: then they may return the correct result.
 COLLECTING = {"danger::dangers"}
 
 
@@ -41,7 +41,7 @@ class Ran:
             told.seek(0)
             self.told = told.read()
         self.status, self.out, self.err = ran.returncode, ran.stdout, ran.stderr
-        # How many bytes each request asks for, and how many are held in the end.
+        # The bytes of each request, and the bytes held at the end.
         self.requests = [*map(int, re.findall(rb"(\d+)[+-]", self.told))]
         self.held = int((re.findall(rb"(\d+)=", self.told) or [0])[-1])
 
@@ -58,7 +58,7 @@ def build_shim(room):
 
 
 def sampled(table):
-    """The rows, of those that one line stands for only the first ones, and none with a very long order."""
+    """The rows, only the first ones of those of one line, and none with a very long order."""
     seen = collections.Counter()
     for row in table:
         seen[row.place] += 1
@@ -67,7 +67,7 @@ def sampled(table):
 
 
 def refused_outcome(row):
-    """What the call of a row has to return where its memory is refused: that, and else what the row expects."""
+    """The required result of the call of a row if its memory is refused: that error, otherwise the row's expectation."""
     call = row.members["call"]
     if call == "expand_path::with":
         return [rows.MEMORY, row.expected[1]]
@@ -79,7 +79,7 @@ def refused_outcome(row):
 
 
 def tells_memory(row, ran):
-    """Whether a run reported that memory was refused to the call of a row, and nothing else."""
+    """Whether a run only reported that memory was refused to the call of a row."""
     try:
         return ran.status == 0 and json.loads(ran.out) == refused_outcome(row)
     except ValueError:
@@ -87,7 +87,7 @@ def tells_memory(row, ran):
 
 
 def asked_faults(row, asked):
-    """What is wrong with the requests of the call of a row, of which the bytes are given that each asks for."""
+    """The faults of the requests of the call of a row, whose bytes are given."""
     if row.requests is not None and len(asked) > row.requests:
         yield f"{row.place}: makes {len(asked)} requests for memory, and may make {row.requests}: {row.order()}"
     if row.bytes is not None and sum(asked) > row.bytes:
@@ -95,7 +95,7 @@ def asked_faults(row, asked):
 
 
 def ample_fault(row, prepared, ample):
-    """What is wrong with the runs without and with the call of a row, where memory is ample."""
+    """The faults of the runs without and with the call of a row, with ample memory."""
     if (prepared.status, prepared.out) != (0, b"\n"):
         return f"{row.place}: what the call is over is not prepared: {prepared.out!r}: {row.order()}"
     if ample.status:
@@ -104,7 +104,7 @@ def ample_fault(row, prepared, ample):
 
 
 def kept_fault(row, prepared, ran):
-    """What is wrong with the memory that a run holds in the end, beside a run without the call."""
+    """The fault of the memory that a run holds at the end, compared with a run without the call."""
     if ran.held != prepared.held:
         return f"{row.place}: {ran.held} bytes are held in the end, and {prepared.held} without the call: {row.order()}"
     return None
@@ -122,7 +122,7 @@ class Calls:
         return Ran([self.path], self.shim, f"{order}\n".encode(), refused)
 
     def faults(self, row):
-        """What is wrong with the call of a row, and how many requests it makes."""
+        """The faults of the call of a row, and the number of its requests."""
         prepared, ample = self.run(row, False), self.run(row, True)
         fault = ample_fault(row, prepared, ample)
         if fault:
@@ -134,7 +134,7 @@ class Calls:
         return found, len(asked)
 
     def refuse(self, row, prepared, number):
-        """What is wrong where a request of the call is refused, which comes behind those that were made before it."""
+        """The faults if a request of the call is refused, which comes after those that were made before it."""
         ran = self.run(row, True, len(prepared.requests) + number)
         if kept_fault(row, prepared, ran):
             yield f"with request {number} refused: {kept_fault(row, prepared, ran)}"
@@ -145,7 +145,7 @@ class Calls:
 
 
 def starved_program(shim):
-    """What is wrong where the program `locations` is refused each of its requests, and how many were."""
+    """The faults if the program `locations` is refused each of its requests, and their number."""
     path, faults = program("locations"), []
     for number in itertools.count(1):
         ran = Ran([path], shim, LINES, number)
@@ -157,14 +157,14 @@ def starved_program(shim):
 
 
 def lower(row, faults, made):
-    """Reports that a call makes fewer requests than its row says."""
+    """Reports that a call makes fewer requests than its row expects."""
     if faults or row.requests is None or made >= row.requests:
         return []
     return [f"{row.place}: makes {made} requests, and the row says {row.requests}"]
 
 
 def check(room):
-    """Counts and refuses, and says what is wrong and what was done."""
+    """Counts and refuses; returns the faults and a summary."""
     table, shim = [*sampled(rows.rows())], build_shim(room)
     with concurrent.futures.ThreadPoolExecutor(2 * os.cpu_count()) as lanes:
         found = list(lanes.map(Calls(shim).faults, table))

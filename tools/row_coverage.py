@@ -1,11 +1,11 @@
-"""The calls that have no row: public functions of the library, and calls that the program `answers` makes."""
+"""The calls without a row: public functions of the library, and calls that the program `answers` makes."""
 import re
 
 from public_items import files_of, public_items
 from rt_api import LAYERS, LIBRARIES
 
 PROGRAM = "answers"
-# What layers below pass to those above: public by a type or a module that the library passes on, and for no user.
+# The items of lower layers for upper ones: public by a type or a module that the library re-exports, and not for users.
 OF_LAYERS = {
     "SchemeRef::of_known_scheme", "UrlRef::canonical_pieces", "UrlRef::form", "UrlRef::helper_pieces", "UrlRef::is_settled_as",
     "UrlRef::matching_spelling", "UrlRef::own_form", "UrlRef::own_pieces", "UrlRef::path_pieces", "UrlRef::pieces", "UrlRef::scp_pieces",
@@ -13,7 +13,7 @@ OF_LAYERS = {
 
 
 def calls(found):
-    """The contracts of the calls among items, by the last two words of their paths; all laws are named as of the module `laws`."""
+    """The contracts of the calls among items, by the last two words of their paths; all laws are named as if in the module `laws`."""
     named = {}
     for path, text in found.items():
         if re.search(r"(?m)^ *pub fn ", text):
@@ -23,7 +23,7 @@ def calls(found):
 
 
 def passed_by(library):
-    """The public items that a library passes on of the layers below it, by the paths that they have in it."""
+    """The public items of lower layers that a library re-exports, by their paths in it."""
     for path, text in public_items(library).items():
         below = re.fullmatch(r"pub use (\w+)::(\S+);\n", text)
         if below and below[1] in LAYERS:
@@ -32,12 +32,12 @@ def passed_by(library):
 
 
 def passed_calls():
-    """The contracts of the calls that come with what the libraries pass on of the layers below them."""
+    """The contracts of the calls that come with the re-exports of lower layers."""
     return calls({path: it for library in LIBRARIES for path, it in passed_by(library)})
 
 
 def contracts():
-    """The contract of each public call of the libraries, by its name: of their own, and of those that are passed on."""
+    """The contract of each public call of the libraries, by its name: their own, and the re-exported ones."""
     found = {name: it for name, it in passed_calls().items() if name not in OF_LAYERS}
     return {**found, **{name: it for library in LIBRARIES for name, it in calls(public_items(library)).items()}}
 
@@ -52,8 +52,8 @@ def program_calls():
 
 
 def missing_calls(table):
-    """The calls of both libraries that have no row, or ask for memory and have none with a large text; and the calls that rows
-    name and the program doesn't make."""
+    """The calls of both libraries that have no row, or request memory and have no row with a large text; and the calls that
+    rows name and the program doesn't make."""
     named, made = {it.members.get("call") for it in table}, program_calls()
     allocating = {it.members.get("call") for it in table if it.requests}
     large = {it.members.get("call") for it in table if it.place.partition(".")[0].endswith("large")}

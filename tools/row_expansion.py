@@ -1,16 +1,16 @@
-"""Lines of tables that stand for many rows, by the member that says so.
+"""Lines of tables that represent many rows, by the member that marks them.
 
-  in_order   a list of values for a call that compares two: all pairs of them. Each is less than those behind it, equal to
-             itself alone, and has a hash of its own
+  in_order   a list of values for a call that compares two: all pairs of them. Each is less than those after it, equal only
+             to itself, and has a hash of its own
   over       all choices of a value for each member that it names, as in `{"style": ["{:#}", null], "url.password": ["x", ""]}`;
-             null is none
-  fronts     the name of a text, which is cut short at each length but its own
+             null means that it is absent
+  fronts     the name of a text, which is truncated at each length but its own
   each       the first and the last of some characters, or `"bytes"` for all bytes: every `*` in the texts of the line is each
-             of them in turn. The outcomes are what the second reading gives, and `settled` says in how many rows `url` is
+             of them in turn. The outcomes are those of the second reading, and `settled` is the number of rows in which `url` is
              settled
-  texts_of   the name of a table: the call is over each text that this table reads by `parse::parse`, with what the second
-             reading gives
-  random     how many random paths the call is over, the same each time, with the outcomes that `plain_paths.py` reads
+  texts_of   the name of a table: the call is over each text that this table reads by `parse::parse`, with the outcome of the
+             second reading
+  random     the number of random paths for the call, the same each time, with the outcomes that `plain_paths.py` computes
 """
 import itertools
 import json
@@ -34,7 +34,7 @@ def pairs(members, values):
 
 
 def put(members, name, value):
-    """Members with a value under this name, where `url.password` is a member of a member."""
+    """Sets a value under this name in members; `url.password` is a member of a member."""
     first, _, rest = name.partition(".")
     return {**members, first: put(members.get(first, {}), rest, value) if rest else value}
 
@@ -49,7 +49,7 @@ def choices(members, over):
 
 
 def fronts(members, name):
-    """The rows of a text that is cut short."""
+    """The rows of a truncated text."""
     whole = joined(members[name])
     return ({**members, name: whole[:size]} for size in range(len(whole)))
 
@@ -99,7 +99,7 @@ def in_texts(value):
 
 
 def random_rows(members, number):
-    """The rows over random paths, with what is read of them plainly."""
+    """The rows over random paths, with their plain readings."""
     for given, outcome in plain_paths.cases(members["call"], number):
         yield {**members, **in_texts(given), "is": in_texts(outcome)}
 
@@ -108,7 +108,7 @@ WAYS = {"in_order": pairs, "over": choices, "fronts": fronts, "each": each, "tex
 
 
 def expanded(members):
-    """The rows that a line stands for: itself, if no member says that it stands for many."""
+    """The rows that a line represents: itself, unless a member marks it as several."""
     for name, way in WAYS.items():
         if name in members:
             return way({it: value for it, value in members.items() if it != name}, members[name])

@@ -2,14 +2,14 @@
 by a small program in that language, `bindings/tests/vectors.c`, `bindings/tests/vectors.py` or the example `vectors` of
 the crate.
 
-A binding takes an order as one line of members `name=value`, separated by tabs, so that its program needs no reader of
-JSON. A location made of parts is flat, as `url.host=h`. `\\x` with two digits is a control character, a backslash or a
-byte that isn't part of UTF-8. The outcome is JSON as by `answers`, except for bytes past ASCII, each of which is U+EF00
-with the byte added; so outcomes are compared by the bytes that their texts stand for.
+A binding gets an order as one line of members `name=value`, separated by tabs, so that its program needs no reader of JSON. A
+location built from fields is flat, as `url.host=h`. `\\x` with two digits is a control character, a backslash or a byte that
+isn't part of UTF-8. The outcome is JSON as from `answers`, except that each byte outside ASCII is U+EF00 plus the byte; so
+outcomes are compared by the bytes that their texts represent.
 
-No binding reports whether a name or a value of a query is owned: `{"owned": text}` is compared as the text. An error of
-C keeps no bytes, so `kept` is left out, except for a text that is too long, of which it reports how much is to be
-shown; so it is in Python, which uses C.
+No binding reports whether a name or a value of a query is owned: `{"owned": text}` is compared as the text. An error of C keeps
+no bytes, so `kept` is left out, except for a text that is too long, for which it reports how much of it to show; the same holds
+for Python, which uses C.
 """
 import os
 import re
@@ -51,19 +51,19 @@ MEMBERS = {
 MEMBERS_RULES = {
     "allow_list", "config", "danger", "family", "file", "from_user", "git_ssh", "git_ssh_command", "git_ssh_variant",
     "has_push_url", "name", "parent", "program", "section", "service", "variant", "version"}
-# More of them, which only Rust has: calls over a rule, and over the names and the words of errors.
+# More calls, which only Rust has: over a rule, and over the names and the words of errors.
 RULES_RUST = {
     "CredentialsError:fmt", "EntryError:fmt", "NoTransport:fmt", "NormalError:fmt", "Reader::new", "Refused::as_str", "RemoteError:fmt",
     "ResolveError:fmt", "Rewrites::from_entries", "Service::as_str", "SettingsError:fmt", "SshError:fmt", "SshProgramError:fmt",
     "SshRefusal:fmt", "UrlPattern::matches"}
 # Members that an order for Rust may have as well.
 MEMBERS_RUST = {"path", "home", "at", "pattern"}
-# Errors of calls that C doesn't have, and one that Rust doesn't have either: a path is any bytes there.
+# Errors of calls that C doesn't have, and one that Rust doesn't have either: a path may have any bytes there.
 FOREIGN_C = {"NoHome", "PathNotUtf8", "Unresolved"}
 FOREIGN_RUST = {"PathNotUtf8"}
 # Styles with an alignment and a width, to which the crate for Rust pads a location, as `gix-url` does.
 PADDED = {"{:>40}", "{:*^#60.7}"}
-# The bytes past ASCII, by the characters that outcomes have for them, and as Python has them.
+# The bytes outside ASCII, by their characters in outcomes, and as Python represents them.
 LONE = {0xEF00 + byte: 0xDC00 + byte for byte in range(0x80, 0x100)}
 
 
@@ -90,13 +90,13 @@ def is_listing(text):
 
 
 def run(words, **environment):
-    """Runs a command that builds; where it fails it has printed why."""
+    """Runs a command that builds; if it fails, it has printed the reason."""
     if subprocess.run(words, cwd=ROOT, env={**os.environ, **environment}, check=False).returncode:
         sys.exit(f"vectors: this failed: {' '.join(words)}")
 
 
 class Answers:
-    """The program `answers`: it has every call, and takes an order as JSON."""
+    """The program `answers`: it has every call, and gets an order as JSON."""
 
     name: str = "answers"
     calls: set[str] = set()
@@ -108,19 +108,19 @@ class Answers:
         return True
 
     def makes(self, _row):
-        """Whether what a row is over can be made."""
+        """Whether the inputs of a row can be built."""
         return True
 
     def order(self, row):
         return row.order()
 
     def seen(self, outcome):
-        """An outcome, as far as it is compared."""
+        """The part of an outcome that is compared."""
         return outcome
 
 
 class Binding(Answers):
-    """A binding, by the program of it that the environment names, as VECTORS_C, or that is built."""
+    """A binding, by its program, which an environment variable such as VECTORS_C names, or which is built."""
 
     def command(self):
         return os.environ.get(f"VECTORS_{self.name.upper()}") or self.built()
@@ -131,7 +131,7 @@ class Binding(Answers):
     members = MEMBERS
 
     def makes(self, row):
-        """Only C is asked for large texts: the others call its library, by programs that take long for them."""
+        """Only C gets large texts: the others call its library, by programs that are slow for them."""
         return self.members.issuperset(row.members) and (self.name == "c" or not row.place.startswith("large."))
 
     def order(self, row):
@@ -153,7 +153,7 @@ class Binding(Answers):
         return True
 
     def built(self):
-        """The program, which is built over the library of `scripts/bindings`."""
+        """The program, built with the library of `scripts/bindings`."""
         if not os.path.isfile(f"{FOLDER}/libgix_url.a"):
             sys.exit("vectors: there is no out/bindings/libgix_url.a: call scripts/bindings first")
         return self.build()
@@ -163,8 +163,8 @@ class C(Binding):
     name, calls, members = "c", ALL | RULES, MEMBERS | MEMBERS_RULES
 
     def makes(self, row):
-        """All but other styles than the plain one, except of permissions, parts that are a record of the older form, as C
-        restores parts, an error that C doesn't have, a configuration that C refuses, and entries of another section than
+        """All except other styles than the plain one, unless for permissions, fields that are a record of the older form, as C
+        restores fields, an error that C doesn't have, a configuration that C refuses, and entries of another section than
         `http`."""
         url, error = row.members.get("url"), row.members.get("error", {})
         is_older = isinstance(url, dict) and "spelling" in url and url["spelling"] == url.get("path", "")
@@ -185,13 +185,13 @@ class C(Binding):
 
 
 class Python(C):
-    """The package of these sources over the shared library of `scripts/bindings`, or the one that the environment names."""
+    """The package of these sources with the shared library of `scripts/bindings`, or the one that an environment variable names."""
 
     name, calls = "python", ALL | RULES | ONLY_PYTHON
 
     def makes(self, row):
-        """What C makes, except an error that no call returned. A listing that is refused has its flaw alone, and a URL only
-        why it has no normal form."""
+        """All that C makes, except an error that no call returned. A refused listing only has its flaw, and a URL only the
+        reason why it has no normal form."""
         call, expected = row.members["call"], row.expected
         if call == "Reader::new":
             return len(expected) == 1 or not any("error" in it for it in expected)
@@ -208,7 +208,7 @@ class Python(C):
 
 
 def is_read_alike(row):
-    """Whether what is read of a listing is reported alike: reading ends at the first error here, and the library passes over it."""
+    """Whether the reading of a listing is reported alike: here it ends at the first error, which the library skips."""
     return is_listing(row.members.get("config") or "") or row.members["call"] == "Reader::new" and len(row.expected) == 1
 
 
@@ -216,8 +216,8 @@ class Rust(Binding):
     name, calls, members = "rust", ALL | ONLY_RUST | RULES | RULES_RUST, MEMBERS | MEMBERS_RULES | MEMBERS_RUST
 
     def makes(self, row):
-        """All but a location with a spelling or in a padded style, an error that the crate doesn't have, a path that it
-        takes as it is, a configuration with an error and entries, and entries of another section than `http`."""
+        """All except a location with an escaped path or in a padded style, an error that the crate doesn't have, a path that it
+        takes literally, a configuration with an error and entries, and entries of another section than `http`."""
         if not is_read_alike(row) or row.members.get("error") == "NoRoom" or row.members.get("section", "http") != "http":
             return False
         parts = [it for it in map(row.members.get, ("url", "other", "error")) if isinstance(it, dict)]

@@ -1,6 +1,6 @@
 """Bytes as the texts of rows, and texts and lists that a row spells in pieces."""
 
-# The characters of rows for bytes that aren't part of UTF-8, by those that Python has for them.
+# The characters of rows for bytes that aren't part of UTF-8, by Python's characters for them.
 CHARACTERS = {0xDC00 + byte: 0xEF00 + byte for byte in range(0x80, 0x100)}
 ESCAPED = {character: code for code, character in CHARACTERS.items()}
 
@@ -11,12 +11,12 @@ def text_of(given):
 
 
 def bytes_of(text):
-    """The bytes that a text of a row stands for."""
+    """The bytes that a text of a row represents."""
     return text.translate(ESCAPED).encode("utf-8", "surrogateescape")
 
 
 def placed(value, place):
-    """A value with its place among many: as five digits for each `#` of its texts, and times the step for `{"step": step}`."""
+    """A value with its index among many: as five digits for each `#` of its texts, and times the step for `{"step": step}`."""
     if isinstance(value, dict) and set(value) == {"step"}:
         return value["step"] * place
     if isinstance(value, dict):
@@ -25,16 +25,16 @@ def placed(value, place):
 
 
 def piece(it):
-    """A piece of a text: a text, a text and how often it occurs, or texts that are numbered."""
+    """A piece of a text: a text, a text and its number of repetitions, or texts that are numbered."""
     return "".join(joined(it)) if isinstance(it, dict) else it if isinstance(it, str) else it[0] * it[1]
 
 
 def joined(value):
-    """A value with its texts and its lists put together.
+    """A value with its texts and its lists assembled.
 
-    `{"joined": [..]}` is the text of these pieces (`piece`); `{"repeated": [value, count]}` is the list that has the value so
-    often; `{"numbered": [value, count]}` is the same with its place put into each (`placed`); and `{"entries": [[key, value],
-    [key]]}` is the text that `git config --list -z` writes for the entries.
+    `{"joined": [..]}` is the text of these pieces (`piece`); `{"repeated": [value, count]}` is the list of this many copies of
+    the value; `{"numbered": [value, count]}` is the same with its index put into each (`placed`); and `{"entries": [[key,
+    value], [key]]}` is the text that `git config --list -z` writes for the entries.
     """
     if isinstance(value, dict) and set(value) == {"entries"}:
         return "".join("\n".join(it) + "\0" for it in value["entries"])

@@ -1,13 +1,12 @@
-"""The rows of the tables in `vectors/`: a line of JSON each, a call with what it is over, and the outcome that is expected.
+"""The rows of the tables in `vectors/`: a line of JSON each, a call with its inputs, and the expected outcome.
 
-Beside the call and its members a row has `is`, the outcome, `from`, where the expectation comes from, and `requests` and
-`bytes` where the requests of the call for memory are counted, and the bytes that they ask for. `row_text.py` says how a
-line spells long texts, and `row_expansion.py` how it stands for many rows.
+In addition to the call and its members a row has `is`, the outcome, `from`, the source of the expectation, and `requests` and
+`bytes` if the requests of the call for memory are counted, and their bytes. `row_text.py` describes how a line spells long
+texts, and `row_expansion.py` how it represents many rows.
 
-Of JSON that is refused a row may expect less than the whole: `{"refused": true}`, whatever the words are; words that end
-in `…`, which are the front of those that are returned; and a `column` of two numbers, between which that column lies.
-The rows of `vectors/git.jsonl` that read a text have `class` and `git`, or of HTTP `class`, `credential` and `curl`
-(`git_rows.py`).
+For refused JSON a row may expect less than the whole: `{"refused": true}`, whatever the words are; words that end in `…`, which
+are the front of the returned ones; and a `column` of two numbers, between which that column lies. The rows of
+`vectors/git.jsonl` that read a text have `class` and `git`, or for HTTP `class`, `credential` and `curl` (`git_rows.py`).
 """
 import glob
 import json
@@ -20,7 +19,7 @@ from rt_api import ROOT
 from second_reading.row_outcomes import recomputed_fault
 
 FOLDER = f"{ROOT}/vectors"
-# Where an expectation may come from: nothing in this library.
+# The possible sources of an expectation: never this library.
 SOURCES = {"crate", "oracle", "reading", "git", "hand", "rfc"}
 # The members of a row that aren't part of the order.
 OWN = {"is", "from", "requests", "bytes", "note", "class", "git", "credential", "curl"}
@@ -32,7 +31,7 @@ MEMORY = {"error": "Memory"}
 
 
 def keeps(outcome, text):
-    """The outcome with the text that an error keeps, where the row leaves it out: the text of the call."""
+    """The outcome with the text that an error keeps, if the row leaves it out: the text of the call."""
     if not isinstance(outcome, dict) or not isinstance(text, str) or "kept" in outcome:
         return outcome
     name = str(outcome.get("error", "")).split(" ")[0]
@@ -42,24 +41,24 @@ def keeps(outcome, text):
 
 
 def is_refusal(told):
-    """Whether an outcome is an error, and not that memory was refused."""
+    """Whether an outcome is an error other than refused memory."""
     return isinstance(told, dict) and "error" in told and told != MEMORY
 
 
 def fits(expected, told):
-    """Whether an outcome is the expected one; or, of JSON that is refused, whether it is as much as is expected of it."""
+    """Whether an outcome is the expected one; for refused JSON, whether it contains everything that is expected of it."""
     if expected == {"refused": True}:
         return is_refusal(told)
     if isinstance(expected, dict) and str(expected.get("error", "")).endswith("…"):
         first, last = expected.get("column", (0, float("inf")))
         begins = is_refusal(told) and told["error"].startswith(expected["error"][:-1])
         return begins and first <= told.get("column", 0) <= last
-    # As JSON, since Python takes 1 for true.
+    # Compared as JSON, since Python takes 1 for true.
     return json.dumps(told, sort_keys=True) == json.dumps(expected, sort_keys=True)
 
 
 class Row:
-    """A call, and the outcome that is expected."""
+    """A call, and its expected outcome."""
 
     def __init__(self, place, members):
         self.place, self.source = place, members.get("from")
@@ -74,7 +73,7 @@ class Row:
         return json.dumps({**self.members, **more})
 
     def fault(self, line, seen=lambda outcome: outcome):
-        """What is wrong with an outcome, if anything is, by what is compared of it."""
+        """The fault of an outcome, if there is one, in its compared part."""
         try:
             if fits(seen(self.expected), seen(json.loads(line))):
                 return None
@@ -97,7 +96,7 @@ def lines(topic):
 
 
 def topics(folders=(".", "rules")):
-    """The tables in these folders: those of the library, and those of what Git does by its configuration."""
+    """The tables in these folders: those of the library, and those of Git's behaviour by its configuration."""
     found = [it for folder in folders for it in glob.glob(f"{FOLDER}/{folder}/*.jsonl")]
     return sorted(os.path.relpath(it, FOLDER).removesuffix(".jsonl") for it in found)
 
@@ -111,7 +110,7 @@ def rows(named=()):
 
 
 def source_faults(table):
-    """The rows whose expectation comes from nowhere that is known, or from the second reading, which gives another."""
+    """The rows whose expectation has no known source, or is from the second reading, which has another."""
     unknown = [f"{it.place}: its expectation is from {it.source!r}" for it in table if it.source not in SOURCES]
     faults = (recomputed_fault(it) for it in table if it.source == "oracle")
     return unknown + [it for it in faults if it]

@@ -1,7 +1,7 @@
-"""What scripts and tools share: the crates of the repository, and the programs that are proved and built of them.
+"""The common code of scripts and tools: the crates of the repository, and the programs that are proved and built from them.
 
 `scripts/` has the commands that people and CI call, without an ending unless `scripts/documents` imports them too;
-`tools/` has what they import and start. A command adds `tools/` to its path in the line that follows
+`tools/` has the modules that they import and the programs that they start. A command adds `tools/` to its path in the line that follows
 `sys.dont_write_bytecode`.
 """
 import functools
@@ -31,8 +31,8 @@ def stands_on(name):
     return [*dict.fromkeys([*found, name])]
 
 
-# The library, and what Git does with a location by its configuration; and their layers: the crates that they use, lowest
-# first, and themselves.
+# The library, and Git's rules for a location by its configuration; and their layers: the crates that they use, lowest first,
+# and themselves.
 LIBRARY = "gix_url"
 LIBRARIES = (LIBRARY, "git_rules", "git_audit", "git_modules")
 LAYERS = list(dict.fromkeys(it for name in LIBRARIES for it in stands_on(name)))
@@ -40,11 +40,11 @@ LAYERS = list(dict.fromkeys(it for name in LIBRARIES for it in stands_on(name)))
 
 @functools.cache
 def built(name):
-    """The program or the static library of a crate, which is proved and built now where it is missing or old."""
+    """The program or the static library of a crate, which is proved and built now if it is missing or old."""
     ran = subprocess.run([f"{ROOT}/scripts/built", name], stdout=subprocess.PIPE, text=True)
     return ran.stdout.rstrip("\n") if ran.returncode == 0 else sys.exit(f"{name} is not built")
 
 
 def program(name):
-    """The program of a crate: the one that the environment names, as ANSWERS for `answers`, or as `built` has it."""
+    """The program of a crate: the one that an environment variable names, as ANSWERS for `answers`, or the result of `built`."""
     return os.environ.get(name.upper()) or built(name)

@@ -1,8 +1,8 @@
-"""Entries of a configuration, as a file has them and as `git config --list -z` writes them, and folders to ask Git in.
+"""Entries of a configuration, as a file has them and as `git config --list -z` writes them, and folders to run Git in.
 
-Such a folder has a home of its own and a folder of configurations; each of them is a repository without commits, so
-that its entries are the repository's own. Git gets no other settings. Its helper programs are looked for in an empty
-folder, so that only those of the configuration are started.
+Such a folder has a home of its own and a folder of configurations; each of them is a repository without commits, so that its
+entries are the repository's own. Git gets no other settings. It looks for its helper programs in an empty folder, so that only
+those of the configuration are started.
 """
 import os
 import re
@@ -13,12 +13,12 @@ from contextlib import contextmanager
 from git_transports import alone, answers_of
 from rt_api import ROOT
 
-# The subsection is `place`, None where the section has none; the value is None where the key is alone.
+# The subsection is `place`, None if there is none; the value is None if the key has none.
 Entry = namedtuple("Entry", "section place name value")
 
 
 def entry_of(key, value=None):
-    """An entry by its key: the section ends at the first `.`, and the name begins behind the last."""
+    """An entry by its key: the section ends at the first `.`, and the name begins after the last."""
     section, _, rest = key.partition(b".")
     place, dot, name = rest.rpartition(b".")
     return Entry(section, place if dot else None, name, value)
@@ -29,7 +29,7 @@ def quoted(text):
 
 
 def file_of(entries):
-    """The entries as a file of configuration, each under a header of its own."""
+    """The entries as a configuration file, each under a header of its own."""
     out = []
     for it in entries:
         head = it.section if it.place is None else it.section + b" " + quoted(it.place)
@@ -38,7 +38,7 @@ def file_of(entries):
 
 
 def listed(entries):
-    """The entries as `git config --list -z` writes them: section and name in lower case, the subsection as it is."""
+    """The entries as `git config --list -z` writes them: section and name in lower case, the subsection unchanged."""
     out = []
     for it in entries:
         place = b"" if it.place is None else it.place + b"."
@@ -47,13 +47,13 @@ def listed(entries):
 
 
 def is_named(entry, section, *names):
-    """Whether an entry is of a section and has one of the names, without regard to the case of letters."""
+    """Whether an entry is of a section and has one of the names, ignoring letter case."""
     return entry.section.lower() == section and entry.name.lower() in names
 
 
 @contextmanager
 def rooms(configurations, **more):
-    """A folder with a repository for each list of entries: it, an environment, and the folders of the repositories."""
+    """A folder with a repository for each list of entries: the folder, an environment, and the folders of the repositories."""
     with tempfile.TemporaryDirectory(prefix="rules-") as room:
         for it in ("home", "empty"):
             os.makedirs(f"{room}/{it}")
@@ -79,7 +79,7 @@ for folder; do GIT_DIR="$folder" git config --local --list -z | tr '\000' '\001'
 
 
 def listing_faults(configurations):
-    """The lists of entries that Git writes otherwise than `listed`."""
+    """The lists of entries that Git writes differently from `listed`."""
     with rooms(configurations) as (room, environment, folders):
         for entries, said in zip(configurations, answers_of(LISTED, room, environment, folders)):
             if said.replace(b"\1", b"\0") != listed(entries):

@@ -1,6 +1,6 @@
-"""Settings of credentials, `credential.<url>.*`: which helpers Git asks for a URL, about which user, and whether they get the path.
+"""Settings of credentials, `credential.<url>.*`: the helpers that Git calls for a URL, the user, and whether they get the path.
 
-Git is asked by `git credential fill`: each entry is a helper that reports its number, a name for the user, or whether helpers get the
+`git credential fill` shows Git's behaviour: each entry is a helper that reports its number, a name for the user, or whether helpers get the
 path of HTTP.
 """
 import re
@@ -21,10 +21,10 @@ while [ $# -gt 0 ]; do
   shift 2
 done
 """
-# A helper reports its number between byte 1 and byte 2, and gives nothing. The last one shows the user and the path that it is
-# asked for.
+# A helper reports its number between byte 1 and byte 2, and returns nothing. The last one shows the user and the path that it
+# gets.
 REPORT, SHOW = b"!printf '\\001%d\\002' >&2; cat >/dev/null; :", b"!sed -n -e 's/^username=/\x03/p' -e 's/^path=/\x04/p' >&2; :"
-# The entries, the URL, and what Git says: the numbers of the helpers, the user, and the path; or none, as it refuses the URL.
+# The entries, the URL, and Git's result: the numbers of the helpers, the user, and the path; or None, if it refuses the URL.
 Case = namedtuple("Case", "entries url asked")
 
 
@@ -41,7 +41,7 @@ class Contexts(Places):
     """Makes entries of credentials, full and partial ones, for places of a few URLs."""
 
     def partial(self, base):
-        """Some parts of a place, spelled as they are or otherwise."""
+        """Some parts of a place, spelled alike or differently."""
         it = pieces(joined(self.other(base)))
         protocol, user, host, path = ((one or b"") if self.below(3) else b"" for one in it)
         mark = b"://" if protocol or self.below(4) == 0 else b""
@@ -60,7 +60,7 @@ class Contexts(Places):
         return Entry(b"credential", self.credential(base), *others.get(kind, (b"helper", value)))
 
     def url(self, bases):
-        """A URL without a password, since with one no helper is asked, and with a scheme."""
+        """A URL without a password, since no helper is called with one, and with a scheme."""
         it = self.other(self.one_of(bases))
         user = it.user if it.user is None else it.user.replace(b":", b"")
         return joined(it._replace(user=user, scheme=it.scheme or b"https"))
@@ -78,7 +78,7 @@ def made(count):
 
 
 def answer(said):
-    """The numbers of the helpers, the user and the path that Git has at the end; none where it refuses the URL."""
+    """The numbers of the helpers, the user and the path that Git has at the end; None if it refuses the URL."""
     if b"contains carriage return" in said or b"credential url cannot be parsed" in said:
         return None
     user, path = (re.search(mark + rb"(.*)", said) for mark in (b"\x03", b"\x04"))
@@ -86,7 +86,7 @@ def answer(said):
 
 
 def cases_of(configurations):
-    """The cases, as Git answers them; a helper after the entries shows the user and the path."""
+    """The cases, with Git's results; a helper after the entries shows the user and the path."""
     last = Entry(b"credential", None, b"helper", SHOW)
     with rooms([[*entries, last] for entries, _ in configurations]) as (room, environment, folders):
         words = [word for folder, (_, urls) in zip(folders, configurations) for url in urls for word in (folder, url)]
@@ -100,9 +100,9 @@ def summary(cases):
 
 
 def orders(cases):
-    """The calls of the library for the URLs, each with what Git says. Helpers get the path of HTTP by a setting alone, and always
-    that of another protocol; so a case is left out that has such a setting, and a URL without a path or of another protocol. A
-    carriage return in a path that helpers don't get is let pass by Git alone."""
+    """The calls of the library for the URLs, each with Git's result. Helpers only get the path of HTTP by a setting, and always
+    that of another protocol; so a case is left out that has such a setting, and a URL without a path or of another protocol.
+    Only Git accepts a carriage return in a path that helpers don't get."""
     for it in cases:
         if it.asked is None or b"\r" in b"".join(one or b"" for one in pieces(it.url)):
             continue

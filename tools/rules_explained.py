@@ -1,9 +1,9 @@
-"""What `./explain --config` reports of lines, beside what the library answers by the program `answers`; and command lines.
+"""The reports of `./explain --config` on lines, compared with the results of the library by the program `answers`; and command lines.
 
-What a line is rewritten to, which entries apply to that and whether its transport may be used is asked of the library, which
-`rules_witness` compares with Git; what a text is read as, of `second_reading`. Of each case all JSON is compared, and what is
-reported on standard error. Configurations are written by hand, and taken from those that Git is asked about. The text output
-was written by hand (`crates/explain/golden/by_config`).
+The library's calls, which `rules_witness` compares with Git, return the rewritten text of a line, the entries that apply to it
+and whether its transport may be used; `second_reading` returns the reading of a text. For each case all JSON is compared, and
+the reports on standard error. Configurations are written by hand, and taken from those that are compared with Git. The text
+output was written by hand (`crates/explain/golden/by_config`).
 """
 import json
 import os
@@ -25,11 +25,11 @@ from second_reading.explain import lossy, shown_line, told
 from second_reading.hidden import redacted
 
 STORED = f"{ROOT}/crates/explain/golden/by_config"
-# How many of the configurations that Git is asked about are taken of each kind.
+# The number of configurations of each kind that are taken from those compared with Git.
 TAKEN = 40
-# The names of what a run may fail for, in their order.
+# The names of the findings for which a run may fail, in their order.
 FOUND = ("danger", "unsettled", "refused", "git-differs", "policy")
-# The values that a remote may have beside its URLs.
+# The values that a remote may have in addition to its URLs.
 VALUES = ("vcs", "proxy", "uploadpack", "receivepack")
 PERMISSIONS = {"Allowed": "allowed", "Refused": "refused", "UnknownAllowance": "unknown_allowance", "UnknownFromUser": "unknown_from_user"}
 STOPS = {"NoValue": "has no value: Git stops at it", "NoBoolean": "is no boolean value: Git stops at it",
@@ -38,11 +38,11 @@ LACKS = {"ByteZero": {"reason": "byte_zero", "words": "byte 0 ends the argument 
          "OptionLike": {"reason": "option_like", "words": "a text that begins with `-` may be taken for an option"},
          "Rsync": {"reason": "rsync", "words": "Git has no transport for `rsync:` any more"},
          "UnknownScheme": {"reason": "unknown_scheme", "words": "the text before `://` is neither a transport nor a remote helper"}}
-# A configuration, both variables (None where they aren't set), and the lines.
+# A configuration, both variables (None if they aren't set), and the lines.
 Case = namedtuple("Case", "entries lines allow_list from_user", defaults=(None, None))
 
 
-# ---- what is expected; a generator yields orders, and is sent what the library answers
+# ---- expectations; a generator yields orders, and is sent the library's results
 
 def shown_value(entry):
     if entry.value and is_named(entry, b"http", b"extraheader"):
@@ -53,7 +53,7 @@ def shown_value(entry):
 
 
 def placed(entries):
-    """The entries, each behind the byte at which it begins."""
+    """The entries, each after the byte offset at which it begins."""
     return [*zip(accumulate((len(listed([it])) for it in entries), initial=0), entries)]
 
 
@@ -64,7 +64,7 @@ def setting(at, it):
 
 
 def host_name(v):
-    """The host as hosts are compared: without brackets, or a colon alone behind it, in lower case."""
+    """The host in the form that is compared: without brackets, or a lone colon after it, in lower case."""
     return None if v.host is None else grammar.peel(v.host).lower()
 
 
@@ -80,7 +80,7 @@ def transport(case, name):
 
 
 def route(case, line, text, *names):
-    """Where a line goes, by the rules with these names."""
+    """The destination of a line, by the rules with these names."""
     own, goal = grammar.spells(line), grammar.spells(text)
     fronts = [it.value for it in case.entries if is_named(it, b"url", *names) and it.place is not None and it.value is not None]
     same_host = None if own is None or goal is None else host_name(own) == host_name(goal)
@@ -92,7 +92,7 @@ def route(case, line, text, *names):
 
 
 def credentials(case, text):
-    """What Git's credential code uses: its helpers, the user that it asks about, and whether they get the path."""
+    """The settings of Git's credential code: its helpers, the user that it asks for, and whether they get the path."""
     request = (yield [{"call": "credential::reading", "text": text_of(text)}])[0]
     used = request and (yield [{"call": "credentials::credentials_for", "config": text_of(listed(case.entries)), "text": text_of(text)}])[0]
     if not used or "error" in used:
@@ -103,13 +103,13 @@ def credentials(case, text):
 
 
 def shown_user(text, request, user):
-    """The user: one that is read in a text that may have a secret only if the text shows it."""
+    """The user: if it is read in a text that may have a secret, only if the text shows it."""
     is_shown = request.get("user") is None or not hidden.places(text) or any(user in it for it in hidden.shown_parts(text))
     return lossy(redacted(user)) if is_shown else "redacted"
 
 
 def of_http(case, text):
-    """The entries of each name that Git uses, in the order in which the names come first."""
+    """The entries of each name that Git uses, in the order in which the names first occur."""
     place = (yield [{"call": "NormalUrl::parse_in", "text": text_of(text)}])[0]
     has_form = not isinstance(place, dict) or "error" not in place
     some = [it for it in placed(case.entries) if it[1].section.lower() == b"http"]
@@ -121,7 +121,7 @@ def of_http(case, text):
 
 
 def rules(case, line):
-    """What is reported of a line."""
+    """The report on a line."""
     texts = yield [{"call": "Rewrites::add_entry", "config": text_of(listed(case.entries)), "text": text_of(line)}]
     fetched, pushed = map(bytes_of, texts[0])
     fetch = yield from route(case, line, fetched, b"insteadof")
@@ -134,7 +134,7 @@ def rules(case, line):
 
 
 def remote(case, name):
-    """What is reported of a remote. Whether a text is rewritten is left out."""
+    """The report on a remote. Whether a text is rewritten is left out."""
     said = (yield [{"call": "Remote::of", "config": text_of(listed(case.entries)), "name": text_of(name)}])[0]
     report = {"remote": lossy(redacted(name)), "fetch": [], "push": [], **dict.fromkeys(VALUES), "stops_at": said.get("at")}
     found = {"refused"} if "at" in said else set()
@@ -147,7 +147,7 @@ def remote(case, name):
 
 
 def found_in(text, way):
-    """The names of what is found in a text that Git goes to, for which a run may fail."""
+    """The names of the findings in a text that Git connects with, for which a run may fail."""
     v = grammar.spells(text)
     report = {"settled": True, "agrees_with_git": True} if v is None else told(v)
     is_used = way["transport"] is not None and way["transport"]["permission"] == "allowed"
@@ -156,13 +156,13 @@ def found_in(text, way):
 
 
 def names_of_remotes(entries):
-    """The names of the remotes, in the order in which they come first."""
+    """The names of the remotes, in the order in which they first occur."""
     places = (it.place for it in entries if it.section.lower() == b"remote" and it.place)
     return [*dict.fromkeys(it for it in places if not it.startswith(b"/"))]
 
 
 def fault(it):
-    """What isn't understood of an entry, in words."""
+    """The fault of an entry, in words."""
     if it.section.lower() == b"http" and it.place is not None:
         said = yield [{"call": "UrlPattern::parse_in", "text": text_of(it.place)}]
         if said != [True]:
@@ -175,7 +175,7 @@ def fault(it):
 
 HUB = b"https://github.com/"
 BY_HAND = [
-    # The longest front wins, of equal ones the base that comes first.
+    # The longest front wins, among equal ones the base that comes first.
     Case([entry(b"url.https://a/.insteadof", b"gh:"), entry(b"url.https://b/.insteadof", b"gh:x/"), entry(b"url.https://c/.insteadof", b"gh:")],
          [b"gh:p", b"gh:x/p", b"h:p", b"gh:", b""]),
     # With `pushInsteadOf` and without; another host after rewriting.
@@ -203,17 +203,17 @@ BY_HAND = [
     Case([entry(b"protocol.ssh.allow", b"user")], [b"/p", b"h:p", b"https://h/p"], from_user=b"maybe"),
     Case([entry(b"protocol.ssh.allow", b"always")], [b"/p", b"h:p", b"https://h/p"], allow_list=b"https:file", from_user=b"0"),
     Case([entry(b"protocol.ssh.allow", b"always")], [b"/p", b"h:p", b"::x"], allow_list=b""),
-    # The rewritten text counts, for fetching and for pushing.
+    # The rewritten text decides, for fetching and for pushing.
     Case([entry(b"url./srv/.insteadof", b"https://h/"), entry(b"url.ext::sh .pushinsteadof", b"https://h/")], [b"https://h/p"]),
     # Texts whose transport isn't that of the location that is read, or that have none.
     Case([entry(b"protocol.ssh.allow", b"never")], [b"[evil:22]/x:p", b"[::1]/:p", b"rsync://h/p", b"-x", b"a!b://h/p", b"://h", b"h"]),
-    # Headers are added up, and an empty one takes those before it back.
+    # Headers accumulate, and an empty one removes those before it.
     Case([entry(b"http.extraheader", b"X-A: 1"), entry(b"http.https://h.extraheader", b"X-B: 2"), entry(b"http.https://h.extraheader", b"X-C: 3"),
           entry(b"http.https://none.curloptresolve", b"h:1:::1"), entry(b"http.https://none.curloptresolve", b"")], [b"https://h/p", b"https://none/", b"https://x/"]),
     # White space is a part of a value, and a long value is shown whole.
     Case([entry(b"protocol.ssh.allow", b"always "), entry(b"credential.helper", b"one"), entry(b"credential.helper", b" "), entry(b"http.proxy", b"p" * 300)],
          [b"h:p", b"https://h/p"]),
-    # What isn't understood.
+    # Values that can't be read.
     Case([entry(b"url.https://h/.insteadof"), entry(b"protocol.ssh.allow", b"maybe"), entry(b"protocol.file.allow"), entry(b"credential.h.helper", b"store"),
           entry(b"http.h.proxy", b"x"), entry(b"http.https://h/%zz.proxy", b"x"), entry(b"credential.usehttppath", b"maybe"), entry(b"http.sslverify", b"2g"),
           entry(b"credential.helper"), entry(b"http.https://u:s3cret@h:0/.proxy", b"x"), entry(b"http.version", b"maybe"),
@@ -222,7 +222,7 @@ BY_HAND = [
 ]
 
 
-# What decides on a transport in words: a variable, and an entry that has a part in it.
+# The decision about a transport in words: a variable, and an entry that takes part in it.
 USER = [entry(b"protocol.ssh.allow", b"user")]
 BY_VARIABLE = [
     (Case(USER, [b"h:p"], from_user=b"maybe"), b"ssh is not used, as Git stops by GIT_PROTOCOL_FROM_USER"),
@@ -241,13 +241,13 @@ REMOTES = [
 
 
 def made_remotes():
-    """Configurations with remotes that Git is asked about, except those with a rule that has no value."""
+    """Configurations with remotes that are compared with Git, except those with a rule that has no value."""
     some = [entries for entries, _ in rules_remote.made(TAKEN)]
     return [*REMOTES, *(Case(it, []) for it in some if not any(map(rules_rewrite.lacks_value, it)))]
 
 
 def made():
-    """Cases of the configurations that Git is asked about."""
+    """Cases of the configurations that are compared with Git."""
     for entries, asked in rules_rewrite.made(TAKEN):
         yield Case(entries, [line for line, _ in asked if not {10, 0} & {*line}])
     for sets, urls in rules_match.made(TAKEN):
@@ -267,7 +267,7 @@ def run(case, *words):
 
 
 def case_faults(case, words, wanted, file):
-    """Where the program reports otherwise of a case than these words of its entries, and this of its lines."""
+    """The differences of the program's report on a case from these words of its entries, and this of its lines."""
     pairs = zip(placed(case.entries), words)
     reported = "".join(f"explain: the entry at byte {at} of the configuration {it}\n" for (at, _), it in pairs if it)
     with open(file, "wb") as it:
@@ -286,7 +286,7 @@ def case_faults(case, words, wanted, file):
 
 
 def remote_faults(case, wanted, file):
-    """Where the program reports otherwise of the remotes of a case than this."""
+    """The differences of the program's report on the remotes of a case from this."""
     with open(file, "wb") as it:
         it.write(listed(case.entries))
     _, shown, said = run(case, "--json", "--remotes", "--config", file)
@@ -300,7 +300,7 @@ def remote_faults(case, wanted, file):
 
 
 def command_faults(folder):
-    """Where a command line has another outcome than the one written by hand: no lines of `explain` except these."""
+    """The differences of a command line's outcome from the one written by hand: no lines of `explain` except these."""
     file, nothing, rest = f"{folder}/given", Case([], []), Case([], [b"gh:p"])
     with open(file, "wb") as it:
         it.write(b"url.https://h/.insteadof\ngh:\0")
@@ -342,7 +342,7 @@ def stored(name):
 
 
 def people_faults(folder):
-    """Where the text output differs from the one written by hand."""
+    """The differences of the text output from the one written by hand."""
     for case, wanted in BY_VARIABLE:
         with open(f"{folder}/config", "wb") as it:
             it.write(listed(case.entries))

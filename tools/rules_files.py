@@ -1,7 +1,7 @@
-"""The entries of configuration files. Git is asked by `git config -f FILE --list -z`.
+"""The entries of configuration files. `git config -f FILE --list -z` returns Git's.
 
-The files are put together of pieces, sound ones and broken ones, so that most are read to the end and many are refused. A byte 0 in
-a subsection or a value, which Git takes for the end of a text, is an error of the library: those files are made apart.
+The files are assembled from pieces, sound ones and broken ones, so that most are read to the end and many are refused. A byte 0
+in a subsection or a value, which Git takes for the end of a text, is an error of the library: those files are separate.
 """
 import os
 import re
@@ -29,7 +29,7 @@ PIECES = (*(b"x", b"yes", b"a b", b"/p", b"https://h", b"1", b".") * 3, b" ", b"
 COMMENTS = (b"#", b"# c", b";", b"; [a]", b"#\"", b"# c\\", b"#\r", b"#\0", b"; a\0b", b"#\xff", b"  # x = y")
 ODD = (b"\"", b"]", b"=", b"\\", b"\v", b"\f", b"\xef\xbb\xbf", b"\xef", b"1", b"-", b".", b"\xff", b"\0", b"\x02")
 MARKS = (*(b"",) * 140, *(b"\xef\xbb\xbf",) * 30, b"\xef", b"\xef\xbb", b"\xef\xbb\n", b"\xef\r\n", b"\xef\xbb\r", b"\xbb\xbf", b"\xef\xbb\xbf\xef\xbb\xbf")
-# Where a byte 0 is read otherwise than Git reads it, what Git says, and where the byte is.
+# Texts with a byte 0 that is read differently from Git, Git's result, and the offset of the byte.
 CUT = ((b"[a \"b\0c\"]\nd = 1\n", b"a.b\n1\1", 5), (b"[a \"b\\\0c\"]\nd = 1\n", b"a.b\n1\1", 6), (b"[a]b=x\0y", b"a.b\nx\1", 6), (b"[a]\nb = \"\0\"\n", b"a.b\n\1", 9),
        (b"[a]\r\nb = x\\\n\0 z\r\n", b"a.b\nx\1", 12))
 
@@ -72,7 +72,7 @@ class Files(Maker):
 
 
 def made(count):
-    """The files, each once, and those with a byte 0 where Git's reading is cut."""
+    """The files, each once, and those with a byte 0 at which Git's reading ends."""
     maker, found = Files(NUMBER), {text: None for text, _, _ in CUT}
     while len(found) < count:
         found.setdefault(maker.text())
@@ -80,7 +80,7 @@ def made(count):
 
 
 def read(said):
-    """What Git says of a file: its entries, or the line that it refuses."""
+    """Git's result for a file: its entries, or the line that it refuses."""
     refused = REFUSED.match(said)
     if refused:
         return int(refused[1])
@@ -88,7 +88,7 @@ def read(said):
 
 
 def cases_of(texts):
-    """Each file with what Git says of it."""
+    """Each file with Git's result."""
     with rooms([]) as (room, environment, _):
         os.makedirs(f"{room}/files")
         names = [f"{room}/files/{at}".encode() for at, _ in enumerate(texts)]
@@ -106,7 +106,7 @@ def summary(cases):
 
 
 def outcome(text, said):
-    """What the library must say where Git says this: a key without a dot is a name without a section."""
+    """The required result of the library for this result of Git: a key without a dot is a name without a section."""
     zero = next((at for it, _, at in CUT if it == text), None)
     if zero is not None:
         return {"error": "ZeroByte", "at": zero, "line": 1 + text[:zero].count(b"\n")}
@@ -116,7 +116,7 @@ def outcome(text, said):
 
 
 def members(*parts):
-    """The parts of an entry that are there."""
+    """The parts of an entry that are present."""
     return {name: text_of(it) for name, it in zip(("section", "subsection", "name", "value"), parts) if it is not None}
 
 

@@ -1,7 +1,7 @@
-"""What the proved library answers, by the program `answers`.
+"""The results of the proved library, by the program `answers`.
 
-An order is a call and what it is over, as the rows of `docs/VECTORS.md` have it. Where an order comes with what Git says, the
-library must say so too.
+An order is a call and its inputs, in the form of the rows of `docs/VECTORS.md`. If an order comes with Git's result, the
+library's must be equal.
 """
 import functools
 import json
@@ -11,7 +11,7 @@ from collections import Counter
 import rows
 from rt_api import program
 
-# How often each call was made.
+# The number of times that each call was made.
 ASKED: Counter[str] = Counter()
 ready = functools.cache(program)
 
@@ -27,7 +27,7 @@ def answers(orders):
 
 
 def library_faults(expected):
-    """The orders that the library answers otherwise than Git, of pairs of an order and Git's outcome."""
+    """The orders whose result differs from Git's, among pairs of an order and Git's outcome."""
     pairs = [*expected]
     for (order, is_so), outcome in zip(pairs, answers([it for it, _ in pairs])):
         if not rows.fits(is_so, outcome):
@@ -35,7 +35,7 @@ def library_faults(expected):
 
 
 def together(readings):
-    """What generators return, each of which yields lists of orders and is sent their outcomes. One run answers all that wait."""
+    """The results of generators, each of which yields lists of orders and is sent their outcomes. One run answers all that wait."""
     waiting, ended = [(it, None) for it in readings], {}
     while waiting:
         asked = []

@@ -1,7 +1,7 @@
-"""Headers that Git sends by `http.extraHeader` and `http.<url>.extraHeader`, of which it adds up the values.
+"""Headers that Git sends by `http.extraHeader` and `http.<url>.extraHeader`, whose values accumulate.
 
-Git is asked by `git ls-remote` through a proxy on 127.0.0.1, which records the headers of a request and refuses it. Each entry names
-a header of its own, and the user agent names the question. Git compares a URL with a `/` at its end (`remote-curl.c`).
+`git ls-remote` runs with a proxy on 127.0.0.1, which records the headers of a request and refuses it. Each entry names a header
+of its own, and the user agent names the case. Git compares a URL with a `/` at its end (`remote-curl.c`).
 """
 import re
 import threading
@@ -23,7 +23,7 @@ Case = namedtuple("Case", "entries url sent")
 
 
 class Headers(Places):
-    """Makes entries for headers, for places of a few URLs, and an entry at times that removes those before it."""
+    """Makes entries for headers, for places of a few URLs, and sometimes an entry that removes those before it."""
 
     def entry(self, at, base):
         place = None if self.below(4) == 0 else joined(self.other(base)).replace(b"\n", b"").replace(b"\0", b"")
@@ -80,7 +80,7 @@ def summary(cases):
 
 
 def orders(cases):
-    """The calls of the library for the URLs that are asked, each with the headers that arrive."""
+    """The calls of the library for the URLs, each with the headers that arrive."""
     for it in cases:
         text = it.url if it.url.endswith(b"/") else it.url + b"/"
         about = {"config": text_of(listed(it.entries)), "name": "extraHeader"}

@@ -1,7 +1,7 @@
 """Settings of a URL, `http.<url>.*`.
 
-Git is asked by `git config --get-urlmatch SECTION URL`, which reports for each name the entry that is used. So one question
-asks for as many sets of entries as a configuration has names. A normal form it doesn't print.
+`git config --get-urlmatch SECTION URL` returns the entry that Git uses for each name. So one run covers as many sets of entries
+as a configuration has names. It doesn't print a normal form.
 """
 import re
 from collections import namedtuple
@@ -12,16 +12,16 @@ from row_text import text_of
 from rules_asked import Entry, answers_of, listed, rooms
 
 NUMBER, WHOLE, SAMPLE = 20_261_127, 240, 80
-# How many names a configuration has, and how many URLs are asked for.
+# The number of names in a configuration, and the number of URLs for it.
 NAMES, EACH = 25, 20
 ASK = r"""
 while [ $# -gt 0 ]; do GIT_DIR="$1" git config --get-urlmatch http "$2" 2>&1; printf '\0'; shift 2; done
 """
-# What Git says of URLs that it refuses.
+# Git's messages for URLs that it refuses.
 REFUSALS = (b"invalid URL scheme name", b"invalid %XX escape sequence", b"missing host", b"invalid characters in host name",
             b"may not have a port", b"invalid port number", b"port number not in range", b"invalid '..' path segment")
 REFUSED = {"refused": True}
-# The entries of a name, the URL, and the value that Git uses as a text: None without one, and `REFUSED` where it refuses the URL.
+# The entries of a name, the URL, and the value that Git uses as a text: None without one, and `REFUSED` if it refuses the URL.
 Case = namedtuple("Case", "entries url outcome")
 
 SCHEMES = (*(b"https", b"http") * 8, b"HTTPS", b"ssh", b"file", b"file", b"x+y", b"1x", b"x_y", b"")
@@ -35,7 +35,7 @@ SEGMENTS = (
     *(b"\xc3\xa9", b"%C3%a9", b"a%", b"a%4", b"a%zz", b"%00", b"a%0ab", b"a%0Db", b"%25", b"a|b", b"a%7Cb", b"a+b", b"a%2bb", b"*", b"a*", b"'", b"%27", b"\x7f", b"\x01", b"..."),
 )
 QUERIES = (*(b"",) * 10, b"?q", b"?q/a", b"?", b"#f", b"?%71", b"?q/../a", b"#%2f", b"?a%", b"?q?r")
-# A URL in pieces: `segments` are behind the authority, each with a `/` before it.
+# A URL in pieces: `segments` are those after the authority, each with a `/` before it.
 Pieces = namedtuple("Pieces", "scheme user host port segments query")
 
 
@@ -45,7 +45,7 @@ def joined(it):
 
 
 class Places(Maker):
-    """Makes URLs, and entries for the same or other places, spelled otherwise."""
+    """Makes URLs, and entries for the same or other places, spelled differently."""
 
     def host(self):
         if self.below(9) == 0:
@@ -65,7 +65,7 @@ class Places(Maker):
         return self.one_of((text[:at] + escape + text[at + 1 :], text.swapcase(), text.lower(), text.upper()))
 
     def other_host(self, host):
-        """Another host: with a `*`, with a `.` or a label more, or without its first label."""
+        """Another host: with a `*`, with one more `.` or label, or without its first label."""
         some = host.split(b".")
         some[self.below(len(some))] = self.one_of((b"*", b"*", b"*", b"a", b""))
         return self.one_of((b".".join(some), b".".join(some), host + b".", b"*." + host, host.partition(b".")[2], host.swapcase(), self.host()))
@@ -101,13 +101,13 @@ class Places(Maker):
         return Entry(self.one_of((b"http",) * 30 + (b"HTTP", b"https")), place, name, value)
 
     def usual(self):
-        """A place as most are: a path of plain segments, one of which may be odd; one of `file` may have no host."""
+        """A usual place: a path of plain segments, one of which may be odd; one of `file` may have no host."""
         segments = [it if self.below(5) else self.one_of(SEGMENTS) for it in (b"a", b"b", b"a.git")[: self.below(4)]]
         it = Pieces(self.one_of((b"https",) * 5 + (b"http", b"file")), self.one_of((None, b"u")), self.host(), b"", segments, b"")
         return it._replace(host=b"", user=None, port=self.one_of((b"", b"", b":", b":1", b":0"))) if it.scheme == b"file" and self.below(2) else it
 
     def bases(self):
-        """One to three places, of which others are made."""
+        """One to three places, from which others are made."""
         usual = self.usual()
         return [usual, self.other(usual), self.pieces()][: 1 + self.below(3)]
 
@@ -124,7 +124,7 @@ def made(count):
 
 
 def answer(said):
-    """The value that is used of each name, None where the URL is refused."""
+    """The value that Git uses for each name, None if the URL is refused."""
     if not said.startswith(b"fatal: "):
         return {name: text_of(value) for name, value in re.findall(rb"^http\.(\S+) (.*)$", said, re.M)}
     if not any(it in said for it in REFUSALS):
@@ -133,7 +133,7 @@ def answer(said):
 
 
 def cases_of(configurations):
-    """The cases, as Git answers them."""
+    """The cases, with Git's results."""
     with rooms([[it for entries in sets for it in entries] for sets, _ in configurations]) as (room, environment, folders):
         words = [word for folder, (_, urls) in zip(folders, configurations) for url in urls for word in (folder, url)]
         said = answers_of(ASK, room, environment, words, each=2)

@@ -1,6 +1,6 @@
-"""Which transport a text takes.
+"""The transport of a text.
 
-Git is asked by `git ls-remote`, with a list that allows nothing: it names the transport that it refuses.
+`git ls-remote` runs with a list that allows nothing: it names the transport that it refuses.
 """
 from git_texts import texts
 from row_text import text_of
@@ -9,7 +9,8 @@ from rules_transport import NAMED, ask
 from second_reading import grammar
 
 NUMBER, WHOLE, SAMPLE = 20_261_129, 4_000, 1_000
-# What Git refuses before it looks at the transport: a text that has none, by the library's names, or whose form has one.
+# Git's refusals before it looks at the transport: of a text that has none, by the library's names, or of a text whose form has
+# one.
 REASONS = {b"git-over-rsync": "Rsync", b"is not supported": "UnknownScheme"}
 REFUSALS = (b"no path specified", b"strange pathname", b"newline is forbidden")
 
@@ -19,7 +20,7 @@ def made(count):
 
 
 def answer(said):
-    """The transport that Git names, or the reason why the text has none; None where Git refuses the text for another reason."""
+    """The transport that Git names, or the reason why the text has none; None if Git refuses the text for another reason."""
     if refused := NAMED.search(said):
         return text_of(refused[1])
     if reason := next((it for words, it in REASONS.items() if words in said), None):
@@ -30,7 +31,7 @@ def answer(said):
 
 
 def cases_of(some):
-    """Each text with the transport that Git names. Behind `--` a text that begins with `-` isn't an option."""
+    """Each text with the transport that Git names. After `--` a text that begins with `-` isn't an option."""
     return [*zip(some, map(answer, ask([([], b"none-of-these", None, it) for it in some])))]
 
 

@@ -1,8 +1,8 @@
-"""The normal form of URLs, and which entries apply to one: a rule by hand for what Git doesn't print, and for credentials.
+"""The normal form of URLs, and the entries that apply to one: a rule by hand for the forms that Git doesn't print, and for credentials.
 
-git-config(1), `http.<url>.*`: all URLs are normalized before they are compared, the password is ignored, and a port that is
-left out is that of the scheme. What that leaves open is worked out here, by RFC 3986: scheme and host in lower case, zeros of
-a port and the scheme's own port left out, segments `.` and `..` taken out of the path, and escapes in one form.
+git-config(1), `http.<url>.*`: all URLs are normalized before they are compared, the password is ignored, and a missing port is
+the scheme's default port. The details left open follow RFC 3986: scheme and host in lower case, zeros of a port and the
+scheme's default port left out, segments `.` and `..` removed from the path, and escapes in one form.
 """
 import functools
 import re
@@ -12,8 +12,8 @@ from urllib.parse import quote, unquote_to_bytes
 from row_text import text_of
 from web_reads import cut_at_first
 
-# The user is None where there is no user information, and empty where that is empty; a port is None where it is the scheme's
-# own; the path has the query and the fragment behind it.
+# The user is None if there is no user information, and empty if that is empty; a port is None if it is the scheme's default
+# port; the path includes the query and the fragment.
 Normal = namedtuple("Normal", "scheme user host port path")
 URL = re.compile(rb"([A-Za-z][A-Za-z0-9+.-]*)://([^/?#]*)/?([^?#]*)(.*)", re.S)
 BROKEN_ESCAPE = re.compile(rb"%(?![0-9A-Fa-f]{2})")
@@ -22,13 +22,13 @@ OWN_PORTS = {b"http": b"80", b"https": b"443"}
 
 
 def escaped(text):
-    """Escapes in one form: of each byte that no URL has as it is, and of no byte that is never reserved."""
+    """Escapes in one form: one for each byte that no URL may contain, and for no byte that is never reserved."""
     raw = quote(text, safe="%:/?#[]@!$&'()*+,;=")
     return re.sub("%..", lambda it: quote(unquote_to_bytes(it[0]), safe=""), raw).encode()
 
 
 def without_dots(segments):
-    """The segments without `.` and `..`, each of which takes the one before it with it; None where there is none."""
+    """The segments without `.` and `..`, each of which removes the one before it; None if there is none."""
     found = []
     for it in segments:
         if it == b".." and not found:
@@ -38,7 +38,7 @@ def without_dots(segments):
 
 
 def place(scheme, named, with_any):
-    """The host and the port, None where they aren't allowed: only `file` may have no host, and then it has no port."""
+    """The host and the port, None if they aren't allowed: only `file` may have no host, and then it has no port."""
     host, colon, digits = named.rpartition(b":")
     if not colon or b"]" in digits:
         host, digits = named, b""
@@ -52,7 +52,7 @@ def place(scheme, named, with_any):
 
 @functools.lru_cache(1 << 17)
 def normal(text, with_any=False):
-    """The normal form of a text, None where it has none; with `*` in its host where an entry may have one."""
+    """The normal form of a text, None if it has none; with `*` in its host if an entry may have one."""
     found = URL.fullmatch(text)
     if found is None or BROKEN_ESCAPE.search(text):
         return None
@@ -65,7 +65,7 @@ def normal(text, with_any=False):
 
 
 def labels(host):
-    """The labels of a host; a `.` at its end is passed over."""
+    """The labels of a host; a `.` at its end is ignored."""
     return host.removesuffix(b".").split(b".") if host else []
 
 

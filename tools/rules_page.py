@@ -7,7 +7,7 @@ import rules_ssh
 from rt_api import ROOT
 
 PAGE, OTHER = "docs/RULES.md", "docs/GIT.md"
-# A class, and the cells behind it; a class may have more rows, which name it in the first one alone.
+# A class, and the cells after it; a class may have more rows, only the first of which names it.
 ROW = re.compile(r"^\| (?:`([a-z0-9-]+)` )?\| (.*) \|$", re.M)
 CODE = re.compile(r"`([^`]*)`")
 CLASSES = {*rules_rewrite.CLASSES, *rules_ssh.CLASSES}
@@ -46,5 +46,5 @@ def word_faults():
 
 
 def page_faults():
-    """What is wrong with the page's classes and examples."""
+    """The faults of the page's classes and examples."""
     return [*class_faults(), *word_faults()]

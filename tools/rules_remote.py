@@ -1,7 +1,7 @@
-"""Remotes, `remote.<name>.*`: what Git fetches from and pushes to.
+"""Remotes, `remote.<name>.*`: the URLs that Git fetches from and pushes to.
 
-Git is asked by `git remote get-url --all`, and with `--push`. It answers for a remote that its repository has, so each one
-asked for has an entry that says nothing of URLs.
+`git remote get-url --all`, and with `--push`, returns Git's. It answers for a remote that its repository has, so each one
+has an entry that doesn't affect URLs.
 """
 from collections import namedtuple
 
@@ -11,7 +11,7 @@ from rules_asked import Entry, answers_of, is_named, listed, listing_faults, roo
 from rules_library import library_faults
 
 NUMBER, WHOLE, SAMPLE = 20_261_127, 1_200, 150
-# How many remotes each configuration is asked for.
+# The number of remotes for each configuration.
 EACH = 4
 ASK = r"""
 while [ $# -gt 0 ]; do
@@ -22,7 +22,7 @@ done
 """
 NO_URL = b"fatal: no URLs configured for remote"
 CLASSES = ()
-# Entries, the name of a remote, and its two lists: each None where Git ends.
+# Entries, the name of a remote, and its two lists: each None if Git ends.
 Case = namedtuple("Case", "entries name urls push_urls")
 
 KEYS = (*("url",) * 8, *("pushurl",) * 5, "URL", "PushUrl", "vcs", "urls", "fetch")
@@ -49,7 +49,7 @@ class Remotes(rules_rewrite.Rules):
         return sorted(made + [self.setting(texts, names) for _ in range(self.below(9))], key=lambda _: self.random())
 
     def remotes(self):
-        """Entries, and the names that are asked for. Few texts and names, so that rules apply and remotes have many entries."""
+        """Entries, and the names of remotes. Few texts and names, so that rules apply and remotes have many entries."""
         names = [self.one_of(NAMES) for _ in range(EACH)]
         texts = [*(self.text_of_pieces() for _ in range(3)), *names]
         return [*self.mixed(texts, names), *(Entry(b"remote", it, b"skipfetchall", b"true") for it in names)], names
@@ -61,20 +61,20 @@ def made(count):
 
 
 def lacks_value(entry):
-    """Whether Git ends at an entry, whichever remote it is asked for."""
+    """Whether Git ends at an entry, whichever remote is named."""
     is_remote = is_named(entry, b"remote", *READ) and entry.place is not None and not entry.place.startswith(b"/")
     return is_remote and entry.value is None
 
 
 def answer(said):
-    """The URLs that Git says, None where it ends for an entry without a value."""
+    """The URLs that Git prints, None if it ends for an entry without a value."""
     if rules_rewrite.NO_VALUE in said:
         return None
     return [] if NO_URL in said else said.split(b"\n")[:-1]
 
 
 def cases_of(configurations):
-    """The cases, as Git answers them. Of an entry that it passes over Git writes a line."""
+    """The cases, with Git's results. For an entry that it ignores Git writes a line."""
     with rooms([entries for entries, _ in configurations]) as (room, environment, folders):
         words = [word for folder, (_, names) in zip(folders, configurations) for name in names for word in (folder, name)]
         said = answers_of(ASK, room, environment, words, each=2, answers=2)
@@ -89,19 +89,19 @@ def summary(cases):
 
 
 def differences(cases):
-    """How the library differs from Git, and how Git lists entries; none of this is in a class."""
+    """The differences of the library from Git, and of Git's lists of entries; none of this is in a class."""
     configurations = {id(it.entries): it.entries for it in cases}
     yield from ((None, it) for it in [*listing_faults([*configurations.values()]), *library_faults(orders(cases))])
 
 
 def values(case):
-    """What the library has of the names that say nothing of URLs, in the cases, which lack the other three."""
+    """The library's values of the names that don't affect URLs, in the cases, which lack the other three."""
     helpers = [it.value for it in case.entries if is_named(it, b"remote", b"vcs") and it.place == case.name]
     return {"vcs": text_of(helpers[-1])} if helpers else {}
 
 
 def outcome(case):
-    """Git's outcome. It says where it ends; at which byte that is follows from the entries before it."""
+    """Git's outcome. It reports that it ends; the byte offset follows from the entries before it."""
     if None in (case.urls, case.push_urls):
         at = next(at for at, it in enumerate(case.entries) if lacks_value(it))
         return {"error": "NoValue", "at": len(listed(case.entries[:at]))}

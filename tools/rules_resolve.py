@@ -1,8 +1,8 @@
 """URLs of submodules, as `git submodule init` stores them.
 
-Git runs in a repository whose remote has the parent as its URL. Its index has a link for each submodule, and `.gitmodules` their
-URLs. Git stops at the first one that it doesn't resolve. It is asked again without that one, until it stops no more: by the
-program that `git submodule init` runs, which takes a tenth of the time.
+Git runs in a repository whose remote has the parent as its URL. Its index has a link for each submodule, and `.gitmodules`
+their URLs. Git stops at the first one that it doesn't resolve. It runs again without that one, until it no longer stops: by the
+program that `git submodule init` starts, which takes a tenth of the time.
 """
 import os
 import re
@@ -16,10 +16,10 @@ from git_transports import alone
 from row_text import text_of
 
 NUMBER, WHOLE, SAMPLE = 20_261_141, 150, 12
-# How many URLs each parent is asked for.
+# The number of URLs for each parent.
 EACH = 160
 LINK = b"160000 " + b"1" * 40 + b" 0\t%06d\n"
-# What Git says where it stops, and the library's reason.
+# Git's messages when it stops, and the library's reasons.
 SAID = {b"cannot strip one component off url": "NothingLeft", b"invalid empty remote_url": "EmptyParent"}
 # The outcome is the URL that is stored, or the name of a reason.
 Case = namedtuple("Case", "parent url outcome")
@@ -43,7 +43,7 @@ class Pairs(Maker):
         return b"".join(self.one_of(some) for _ in range(count))
 
     def url(self):
-        """A URL. Most begin with steps; none with `-`, where Git has no URL."""
+        """A URL. Most begin with steps; none with `-`, for which Git has no URL."""
         if self.below(12) == 0:
             return self.pieces(PIECES, self.below(5))
         steps = self.pieces(STEPS, 1 + self.below(4))
@@ -63,7 +63,7 @@ def made(count):
 # ---- Git
 
 def quoted(text):
-    """A value as a file of configuration has it."""
+    """A value as a configuration file has it."""
     named = {b"\n": rb"\n", b"\t": rb"\t", b'"': rb"\"", b"\\": rb"\\"}
     return b'"' + re.sub(rb'[\n\t"\\]', lambda it: named[it[0]], text) + b'"'
 
@@ -90,7 +90,7 @@ def stored(folder, environment):
 
 
 def outcomes(folder, environment, count):
-    """What Git does with each URL. It takes them in their order, and stops at the first that isn't stored."""
+    """Git's result for each URL. It takes them in their order, and stops at the first that it doesn't store."""
     reasons, ran = {}, git(folder, environment, "submodule", "init")
     while True:
         found = {**stored(folder, environment), **reasons}

@@ -1,6 +1,6 @@
 """Rewriting by `url.<base>.insteadOf` and `url.<base>.pushInsteadOf`.
 
-Git is asked by `git ls-remote --get-url` for fetching, and by `git remote get-url --push` for pushing.
+`git ls-remote --get-url` returns Git's result for fetching, and `git remote get-url --push` for pushing.
 """
 from collections import namedtuple
 
@@ -10,7 +10,7 @@ from rules_asked import Entry, answers_of, is_named, listed, listing_faults, roo
 from rules_library import library_faults
 
 NUMBER, WHOLE, SAMPLE = 20_261_126, 1_200, 150
-# How many texts each configuration is asked for.
+# The number of texts for each configuration.
 EACH = 20
 ASK = r"""
 while [ $# -gt 0 ]; do
@@ -21,7 +21,7 @@ done
 """
 NO_VALUE = b"bad config variable"
 CLASSES = ("entry-without-value",)
-# Entries, a text, the push URL of its remote or None, and what Git rewrites them to: None where it ends.
+# Entries, a text, the push URL of its remote or None, and Git's rewritten texts: None if it ends.
 Case = namedtuple("Case", "entries text push_url fetch push")
 
 NAMES = (*("insteadOf", "pushInsteadOf") * 8, "insteadof", "INSTEADOF", "PushInsteadOf", "insteadOf2", "pushUrl")
@@ -37,7 +37,7 @@ class Rules(Maker):
         return (self.one_of(FRONTS) + "".join(self.one_of(PIECES) for _ in range(self.below(5)))).encode()
 
     def value(self, texts):
-        """A front of a text, all of it, one that goes on behind it or differs at its end, or nothing."""
+        """A front of a text, all of it, one that continues after it or differs at its end, or nothing."""
         text = self.one_of(texts)
         front = text[: self.below(len(text) + 1)]
         return self.one_of([front] * 8 + [text, text + b"a", front + b"\xc3", front.swapcase(), b""])
@@ -63,7 +63,7 @@ def made(count):
 
 
 def remotes(asked):
-    """The entries of the remotes, by which Git is asked for pushing."""
+    """The entries of the remotes, by which Git rewrites for pushing."""
     for at, (text, push_url) in enumerate(asked):
         yield Entry(b"remote", b"r%d" % at, b"url", text)
         if push_url is not None:
@@ -76,12 +76,12 @@ def lacks_value(entry):
 
 
 def answer(said):
-    """A line of Git's, None where it ends for an entry without a value."""
+    """A line of Git's, None if it ends for an entry without a value."""
     return None if NO_VALUE in said else said.removesuffix(b"\n")
 
 
 def cases_of(configurations):
-    """The cases, as Git answers them."""
+    """The cases, with Git's results."""
     whole = [[*entries, *remotes(asked)] for entries, asked in configurations]
     with rooms(whole) as (room, environment, folders):
         words = [word for folder, (_, asked) in zip(folders, configurations)
@@ -97,7 +97,8 @@ def summary(cases):
 
 
 def differences(cases):
-    """The cases in which Git ends, each with its class; and, without one, how the library differs from Git, and how Git lists entries."""
+    """The cases in which Git ends, each with its class; and, without one, the differences of the library from Git, and of Git's
+    lists of entries."""
     for it in cases:
         if None in (it.fetch, it.push):
             is_in = it.fetch is it.push is None and any(map(lacks_value, it.entries))
@@ -111,8 +112,8 @@ def outcome(text):
 
 
 def orders(cases):
-    """The calls of the library for the cases, each with Git's outcome. Where Git ends, no rules are made of the entries; one by
-    one those are added at which it doesn't."""
+    """The calls of the library for the cases, each with Git's outcome. If Git ends, no rules are made from all entries; those
+    at which it doesn't end are added one by one."""
     for it in cases:
         config, is_own = {"config": text_of(listed(it.entries))}, it.push_url is not None
         yield {"call": "Rewrites::rewrite_fetch", **config, "text": text_of(it.text)}, outcome(it.fetch)

@@ -1,6 +1,6 @@
-"""The rows of `vectors/rules/git.jsonl`, whose outcomes are Git's: `rules_witness` asks Git again for each, and records them.
+"""The rows of `vectors/rules/git.jsonl`, whose outcomes are Git's: `rules_witness` runs Git again for each, and records them.
 
-A row is written without `is` and `from`, and `scripts/rules_witness --record` puts both in. Its `note` says what it is about.
+A row is written without `is` and `from`, and `scripts/rules_witness --record` puts both in. Its `note` describes it.
 `{"entries": [["url.https://h/.insteadof", "gh:"], ["http.proxy"]]}` is the text that `git config --list -z` writes for entries.
 """
 import json
@@ -35,11 +35,11 @@ def pushed(row):
 
 
 def reporting(entries):
-    """The entries, in which each helper is one that reports its number."""
+    """The entries, with each helper replaced by one that reports its number."""
     return [it._replace(value=rules_credential.REPORT % at) if it.name == b"helper" and it.value else it for at, it in enumerate(entries)]
 
 
-# Of each call the topic, and what the topic makes a case of for a row: one of the orders for that has the row's outcome.
+# For each call the topic, and the topic's case for a row: one of the orders for that has the row's outcome.
 TOPICS = {
     "Rewrites::rewrite_fetch": (rules_rewrite, lambda it: (entries_of(it), [(*given(it, "text"), None)])),
     "Rewrites::rewrite_push": (rules_rewrite, lambda it: (entries_of(it), [pushed(it)])),
@@ -89,7 +89,7 @@ def record():
 
 
 def row_faults():
-    """The rows of which Git has another outcome by now."""
+    """The rows for which Git has another outcome now."""
     rows = [it for it in lines() if isinstance(it, dict)]
     print(f"{len(rows)} rows are asked again")
     for row, outcome in zip(rows, outcomes(rows)):

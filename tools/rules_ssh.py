@@ -1,9 +1,9 @@
-"""The words with which Git runs Secure Shell: texts, what Git says, and what the library has for the locations in them.
+"""The words with which Git runs Secure Shell: texts, Git's words, and the library's for the locations in them.
 
-Git's words are those that a `GIT_SSH_COMMAND` gets, which shows them and fails: by `git ls-remote`, `git send-pack` and
-`git archive --remote`, or for a family of addresses by `git fetch` and `git push`. Where the library has other words than
-Git, or none, the difference is in a class: one of `git_classes.py`, or one of those below, which are described in
-`docs/RULES.md`. And in each command `sh` must read the words of the program, by default the service alone, and the path.
+Git's words are those that a `GIT_SSH_COMMAND` gets, which shows them and fails: by `git ls-remote`, `git send-pack` and `git
+archive --remote`, or for an address family by `git fetch` and `git push`. If the library has other words than Git, or none, the
+difference is in a class: one of `git_classes.py`, or one of those below, which are described in `docs/RULES.md`. In each
+command `sh` must read the words of the program, by default only the service, and the path.
 """
 import re
 from collections import namedtuple
@@ -40,7 +40,7 @@ for command; do eval "set -- $command"; printf '%s\001' "$@"; printf '\0'; done
 """
 SERVICES = ("git-upload-pack", "git-receive-pack", "git-upload-archive")
 VARIANTS = ("ssh", "plink", "putty", "tortoiseplink", "simple")
-# What may be named in place of a service, with the words that a shell reads in it; None where it expands something.
+# The programs that may replace a service, with the words that a shell reads in them; None if it expands something.
 PROGRAMS = {
     b"/opt/up": [b"/opt/up"], b"/opt/up x": [b"/opt/up", b"x"], b"'/opt/my up' -v": [b"/opt/my up", b"-v"], b"up\\ x\\'": [b"up x'"],
     b"sudo  git-upload-pack": [b"sudo", b"git-upload-pack"], b"git-receive-pack": [b"git-receive-pack"], b"git-upload-pack": [b"git-upload-pack"],
@@ -48,19 +48,19 @@ PROGRAMS = {
     b"-x": None, b"--upload-pack": None, b"": None,
 }
 CALLS = ("ssh::ssh_command", "ssh::ssh_command_for", "SshCommand::git_protocol")
-# How Secure Shell is run: the variant, the version of the protocol, the service, the family of addresses (4 or 6), and the
-# program in place of the service's.
+# A run of Secure Shell: the variant, the version of the protocol, the service, the address family (4 or 6), and the program
+# that replaces the service's.
 Run = namedtuple("Run", "variant version service family program", defaults=(None, None))
-# A text, how it is run, and the value of `GIT_PROTOCOL` with the words behind it: Git's, or its reason to give none, and the
-# library's, None where it gives none.
+# A text, its run, and the value of `GIT_PROTOCOL` with the words after it: Git's, or its reason for none, and the library's,
+# None if it returns none.
 Case = namedtuple("Case", "text run git own")
 REFUSALS = {b"strange hostname": "strange hostname", b"strange pathname": "strange pathname", b"no path specified": "no path",
             b"is not supported": "unknown protocol", b"git-over-rsync": "rsync", b"does not support setting port": "port-of-simple", b"does not support -": "family-of-simple"}
-# Texts that are always asked for: each is the only kind of its class, or nearly so.
+# Texts that are always included: each is the only kind of its class, or nearly so.
 GIVEN = (b"ssh://ssh%3A%2F%2Fu@h/p", b"ssh://u@h/it's%21", b"u@h:a'b!c", b"[::1]:p", b"u@[::1]:p", b"ssh://[::1]:22/~/p", b"h:~u/p", b"h:/~u/p")
 # Texts that Git takes for Secure Shell, or for a remote helper of that name.
 FOR_SECURE_SHELL = re.compile(rb"(?!::|[0-9A-Za-z][0-9A-Za-z+.-]*:(:|//))[^/:]*:|(ssh|git\+ssh|ssh\+git)://|ssh::")
-# Why a location has no command, which are classes of differences where Git runs one.
+# The reasons why a location has no command, which are classes of differences if Git runs one.
 REASONS = {
     "not-read": lambda it, run: it is None,
     "not-of-ssh": lambda it, run: it.scheme != ("Ssh",),
@@ -76,18 +76,18 @@ REASONS = {
     "family-of-simple": lambda it, run: run.variant == "simple" and run.family is not None,
     "port-of-simple": lambda it, run: run.variant == "simple" and it.port is not None,
 }
-# The classes of differences, beside those of `git_classes`. For a family Git has no words either.
+# The classes of differences, in addition to those of `git_classes`. For an address family Git has no words either.
 CLASSES = (*(it for it in REASONS if it != "family-of-simple"), "zeros-of-port")
-# Reasons against programs, which have nothing to do with the location.
+# Reasons against programs, which don't depend on the location.
 OF_PROGRAMS = ("empty-program", "option-like-program")
-# How the examples of classes are run in the documents.
+# The run of the examples of classes in the documents.
 USUAL = Run("ssh", 2, SERVICES[0])
 RUNS = {"port-of-simple": USUAL._replace(variant="simple"), "empty-program": USUAL._replace(program=b""), "option-like-program": USUAL._replace(program=b"-x")}
 
 
 def made(count):
-    """Texts that Git takes for Secure Shell, each run by `ssh` and by `plink`, a tenth of them by other variants and services, and a
-    fourth by a family of addresses or a program in place of the service's."""
+    """Texts that Git takes for Secure Shell, each run by `ssh` and by `plink`, a tenth of them by other variants and services,
+    and a fourth by an address family or a program that replaces the service's."""
     given = [it for it in (remotes() if count == WHOLE else []) if FOR_SECURE_SHELL.match(it)]
     some = [it for it in texts(NUMBER, 2 * count, 0, []) if FOR_SECURE_SHELL.match(it)][: count // 2]
     every, maker = [*dict.fromkeys([*GIVEN, *given, *some, *secure_texts(NUMBER, count - len(some))])], Maker(NUMBER)
@@ -97,7 +97,7 @@ def made(count):
 
 
 def special(maker):
-    """A family of addresses, which `git archive` has no option for, a program, or both."""
+    """An address family, for which `git archive` has no option, a program, or both."""
     service, family, program = maker.one_of(SERVICES), maker.one_of((None, 4, 6)), maker.one_of((None, *PROGRAMS))
     return Run(maker.one_of(("ssh", *VARIANTS)), maker.below(3), service, None if service == SERVICES[2] else family, program)
 
@@ -113,14 +113,14 @@ def answer(said):
 
 
 def asked_of_git(asked):
-    """What Git gives Secure Shell for texts, each with how it is run."""
+    """The words that Git passes to Secure Shell for texts, each with its run."""
     with rooms([[]], GIT_SSH_COMMAND=SHOW) as (room, environment, (folder,)):
         given = [word for text, run in asked for word in (*words_of(run), text)]
         return map(answer, answers_of(ASK, room, {**environment, "GIT_DIR": folder.decode()}, given, each=6))
 
 
 def words_of(run):
-    """How Secure Shell is run, in five words."""
+    """A run of Secure Shell, in five words."""
     return run.variant, str(run.version), run.service, str(run.family or ""), b"" if run.program is None else b"=" + run.program
 
 
@@ -136,7 +136,7 @@ def order_of(call, text, run):
 
 
 def asked_of_library(asked):
-    """What the library gives for the locations in texts, None where it gives nothing."""
+    """The library's words for the locations in texts, None if it returns none."""
     read = [(text, run) for text, run in asked if grammar.spells(text) is not None]
     said = answers([*(order_of(call_of(run), text, run) for text, run in read), *(order_of(CALLS[2], text, run) for text, run in read)])
     found = {it: None if isinstance(words, dict) else [bytes_of(word) for word in (str(variable or ""), *words)]
@@ -145,7 +145,7 @@ def asked_of_library(asked):
 
 
 def cases_of(asked):
-    """The cases of texts, each with how it is run."""
+    """The cases of texts, each with its run."""
     return [Case(*it, git, own) for it, git, own in zip(asked, asked_of_git(asked), asked_of_library(asked))]
 
 
@@ -155,13 +155,13 @@ def path_of(command, run):
 
 
 def program_of(run):
-    """What the server is given to run, before a space and the path."""
+    """The program that the server runs, before a space and the path."""
     return run.service.encode() if run.program is None else run.program
 
 # ---- differences
 
 def cut(found, run):
-    """The reading that words are for, their port as it is written, and the words of which no location has a part."""
+    """The reading of words, their port as written, and the words that belong to no part of a location."""
     at = next((at for at, it in enumerate(found[:-2]) if it in (b"-p", b"-P")), len(found) - 2)
     port = found[at + 1] if at < len(found) - 2 else None
     user, host = next(iter(user_cuts(found[-2])), (None, None))
@@ -175,8 +175,8 @@ def is_alike(case):
 
 
 def class_of(case, location, reason):
-    """The class of a text for which the library has other words than Git, or none: None without one, and where the library's words
-    aren't for the location's own parts, or differ from Git's in others."""
+    """The class of a text for which the library has other words than Git, or none: None without a class, and if the library's
+    words aren't for the location's own parts, or otherwise differ from Git's."""
     of_git, port, others = (case.git, None, None) if isinstance(case.git, str) else cut(case.git, case.run)
     if reason or of_git == "port-of-simple":
         return reason or of_git
@@ -190,7 +190,7 @@ def class_of(case, location, reason):
 
 
 def is_own(text):
-    """Whether a text is what is written for a location of which `agrees_with_git` is true."""
+    """Whether a text is the one written for a location for which `agrees_with_git` is true."""
     location = grammar.spells(text)
     return location is not None and git_class.agrees_with_git(location) and writing.text(location) == text
 
@@ -202,8 +202,8 @@ def summary(cases):
 
 
 def judged(cases):
-    """The cases in which the library has other words than Git, each with its class, and with None those in which something is wrong:
-    the library has to give a command where no reason is against it, and Git's words where `agrees_with_git` is true."""
+    """The cases in which the library has other words than Git, each with its class, and with None those with a fault: the
+    library has to return a command if no reason is against it, and Git's words if `agrees_with_git` is true."""
     for it in cases:
         location, is_given = grammar.spells(it.text), it.own is not None
         reason = next((name for name, is_so in REASONS.items() if is_so(location, it.run)), None)
@@ -215,7 +215,7 @@ def judged(cases):
 
 
 def differences(cases):
-    """What is judged of the cases; and the commands in which a shell reads other words than the program's and the path."""
+    """The judged cases; and the commands in which a shell reads other words than the program's and the path."""
     yield from judged(cases)
     ran = [it for it in cases if not isinstance(it.git, str) and PROGRAMS.get(program_of(it.run), [program_of(it.run)])]
     with rooms([]) as (room, environment, _):
@@ -227,7 +227,7 @@ def differences(cases):
 
 
 def orders(cases):
-    """The calls of the library for the cases, each with what Git gives."""
+    """The calls of the library for the cases, each with Git's words."""
     for it in cases:
         outcome = {"refused": True} if isinstance(it.git, str) else [*map(text_of, it.git[1:])]
         yield order_of(call_of(it.run), it.text, it.run), outcome

@@ -1,10 +1,10 @@
-"""Which program Git runs for Secure Shell, and which variant it takes it for.
+"""The program that Git runs for Secure Shell, and the variant that Git takes it for.
 
-Git is asked by `git ls-remote` what it starts, by its own events (`GIT_TRACE2_EVENT`): the words of each start, and whether a
-shell is to run them. Programs in a folder of the script's own, which is the only one that Git finds them in, stand for Secure
-Shell: they end with a status of their own where they get `-G`, and else show their words and fail. The location has a port, for
-which the variants have different options, and is asked for again without one where Git starts nothing, as for `simple`.
-`plink` and `putty` have the same words, so which of the two it is the setting says.
+Git's own events (`GIT_TRACE2_EVENT`) show which programs `git ls-remote` starts: the words of each start, and whether a shell
+runs them. Programs in a folder of the script's own, the only one in which Git finds them, replace Secure Shell: they end with a
+status of their own if they get `-G`, otherwise they show their words and fail. The location has a port, for which the variants
+have different options; if Git starts nothing, as for `simple`, it is run again without one. `plink` and `putty` have the same
+words, so the setting decides between the two.
 """
 import json
 import os
@@ -16,7 +16,7 @@ from row_text import text_of
 from rules_asked import Entry, answers_of, is_named, listed, rooms
 
 NUMBER, WHOLE, SAMPLE = 20_261_150, 6_000, 600
-# Each case is five words: the repository, the variables, which have `=` before them where they are set, and the status of `-G`.
+# Each case is five words: the repository, the variables, with `=` before them if they are set, and the status of `-G`.
 ASK = r"""
 while [ $# -gt 0 ]; do
   unset GIT_SSH_COMMAND GIT_SSH GIT_SSH_VARIANT
@@ -40,10 +40,10 @@ NAMES = ("ssh", "SSH", "ssh.exe", "Ssh.Exe", "plink", "PLINK", "plink.exe", "tor
 FRONTS = ("", "", "", "@/", "@/", "@//", "./", "a/", "/", "//", "ssh/", "plink/", "a b/", "../x/")
 BACKS = ("", "", "", "", "", "/", "//", "/.", ".")
 VARIANTS = ("auto", "ssh", "plink", "putty", "tortoiseplink", "simple", "", "Auto", "PLINK", "Simple", "openssh", "auto ", "other")
-# Behind the first word of a command line, and before it.
+# The text after the first word of a command line, and before it.
 MORE = ("", "", "", " ", " -v", "\t-v", " 'x y'", ' "x"', " x\\ y", " '", ' "', "\\", " \\", ' "\\"', " #", "\r", "'' -v", '""', " -o 'A=\"b'", "\n-v")
 BEFORE = ("", "", "", "", "", " ", "\t", "''", '""', "\n", "\r ")
-# What Git is started with: the entries, the variables, None where they aren't set, and the status that a program has for `-G`.
+# The input of Git: the entries, the variables, None if they aren't set, and the status that a program has for `-G`.
 Case = namedtuple("Case", "entries command path variant status")
 
 
@@ -54,7 +54,7 @@ class SecureMaker(Maker):
         return self.one_of(("", "/", "//", "/.", ".")) if self.below(40) == 0 else self.one_of(FRONTS) + self.one_of(NAMES) + self.one_of(BACKS)
 
     def quoted(self, text):
-        """A text as a part of a word, in one of the ways that a shell has."""
+        """A text as a part of a word, in one of the ways of a shell."""
         way = self.below(5)
         if way == 0:
             return "'" + text.replace("'", "'\\''") + "'"
@@ -90,7 +90,7 @@ OTHERS = (("core", b"x", "sshCommand"), ("core", b"", "sshCommand"), ("ssh", b"y
 
 
 def made(part):
-    """So many cases, or all: four of each configuration, so that each kind of setting is both over and under others."""
+    """This many cases, or all: four of each configuration, so that each kind of setting both overrides others and is overridden."""
     maker, found = SecureMaker(NUMBER), []
     while len(found) < (part or WHOLE):
         entries = maker.entries()
@@ -101,7 +101,7 @@ def made(part):
 # ---- Git
 
 def placed(case, folder):
-    """The case with the folder of the programs in place of `@`."""
+    """The case with the folder of the programs instead of `@`."""
     entries = [it._replace(value=it.value and it.value.replace(b"@", folder)) for it in case.entries]
     return case._replace(entries=entries, command=case.command and case.command.replace(b"@", folder), path=case.path and case.path.replace(b"@", folder))
 
@@ -111,13 +111,13 @@ def set_word(value):
 
 
 def events(said):
-    """Git's events in what it says, of which the others are for the user."""
+    """Git's events in its output, the rest of which is for the user."""
     found = (json.loads(line.decode("utf-8", "surrogateescape")) for line in said.split(b"\n") if line.startswith(b'{"event":'))
     return [it for it in found if it["event"] in ("child_start", "child_exit", "error")]
 
 
 def stopped(case, said):
-    """The place of the entry that Git stops at, None where it doesn't."""
+    """The place of the entry that Git stops at, None if it doesn't."""
     found = re.search(rb"bad config variable '([a-z.]+)' in file '.*' at line ([0-9]+)", said)
     if not found:
         return None
@@ -129,13 +129,13 @@ def stopped(case, said):
 
 
 def kept_variant(case):
-    """The name of a variant that counts."""
+    """The name of a variant that decides."""
     own = [it.value for it in case.entries if it.place is None and is_named(it, b"ssh", b"variant")]
     return case.variant if case.variant is not None else own[-1] if own else None
 
 
 def variant_of(case, found):
-    """The variant that Git takes the program for, by what it starts: it asks a program by `-G`, and takes the status for an answer."""
+    """The variant that Git takes the program for, by its starts: it runs a program with `-G`, and takes the status for an answer."""
     words = next((it["argv"] for it in found if it["event"] == "child_start"), None)
     if words is None:
         return "Simple"
@@ -152,7 +152,7 @@ def variant_of(case, found):
 
 
 def outcome(case, said, more):
-    """What Git does: it stops at an entry, or starts a program."""
+    """Git's behaviour: it stops at an entry, or starts a program."""
     found = events(said)
     stop = stopped(case, said)
     if stop is not None:

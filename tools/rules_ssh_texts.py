@@ -1,4 +1,4 @@
-"""Texts of Secure Shell: URLs and scp forms whose paths have what a shell could take for more than itself."""
+"""Texts of Secure Shell: URLs and scp forms whose paths have bytes that are special to a shell."""
 from git_texts import ADDRESSES, BEHIND_ADDRESSES, HOSTS, PORTS, Maker
 
 PATHS = (
@@ -22,7 +22,7 @@ class SecureMaker(Maker):
         return f"[{self.one_of(ADDRESSES)}]"
 
     def host(self):
-        """A user and a host, most of them plain ones, so that the path decides."""
+        """A user and a host, mostly plain ones, so that the path decides."""
         user = self.one_of(("", "git@", "u@", self.user(1)))
         return user + self.one_of((*(self.one_of(PLAIN_HOSTS),) * 4, self.one_of(HOSTS), self.bracketed()))
 
@@ -38,7 +38,7 @@ class SecureMaker(Maker):
 
 
 def secure_texts(number, count):
-    """So many texts, each once, and none with byte 0."""
+    """This many texts, each once, and none with byte 0."""
     maker, found = SecureMaker(number), {}
     while len(found) < count:
         found.setdefault(maker.secure_url() if maker.below(2) else maker.secure_scp())

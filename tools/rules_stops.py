@@ -1,5 +1,6 @@
-"""Values at which Git stops. Git is asked by a command that reads the entry: `ls-remote` over HTTP, and of a text of the transport,
-`credential fill`, and `remote`. Nothing listens at the port that is asked."""
+"""Values at which Git stops. The results are from a command that reads the entry: `ls-remote` over HTTP, and for a text of the transport,
+`credential fill`, and `remote`. No server listens at the port.
+"""
 import re
 
 from row_text import text_of
@@ -16,7 +17,7 @@ while [ $# -gt 0 ]; do
   printf '%s\0' "$said"; shift 2
 done
 """
-# What Git says where it stops, and the library's reason.
+# Git's messages when it stops, and the library's reasons.
 SAID = {"missing value for": "NoValue", "bad boolean config value": "NoBoolean", "bad numeric config value": "NoNumber", "unknown value for config": "NoAllowance"}
 TEXTS = ("version", "sslcipherlist", "sslversion", "sslcert", "sslkey", "sslcapath", "sslcainfo", "proxy", "proxyauthmethod", "proxysslcert", "proxysslkey",
          "proxysslcainfo", "cookiefile", "useragent", "delegation", "pinnedpubkey", "extraheader", "curloptresolve", "sslbackend", "none")
@@ -45,19 +46,19 @@ def entries():
 
 
 def made(part):
-    """The entries, or each ninth of them."""
+    """The entries, or every ninth of them."""
     found = [Entry(*(it if it is None else it.encode() for it in one)) for one in entries()]
     return found[::part] if part else found
 
 
 def asked_for(entry):
-    """What is asked about an entry."""
+    """The command for an entry."""
     own = {b"http": b"http://127.0.0.1:1/", b"protocol": b"/none"}
     return own.get(entry.section, entry.section)
 
 
 def reason(said):
-    """Why Git stops, None where it doesn't for the entry."""
+    """The reason why Git stops, None if it doesn't stop for the entry."""
     return next((name for words, name in SAID.items() if re.search(words, said.decode(errors="replace"))), None)
 
 

@@ -1,8 +1,8 @@
-"""Entries of `.gitmodules` files. Git's fsck is asked which it refuses, and `git submodule init` which values it uses.
+"""Entries of `.gitmodules` files. Git's fsck reports which it refuses, and `git submodule init` which values it uses.
 
-All files that fsck is asked of are in one repository, as `.gitmodules` of folders of their own, since it looks at no others. It
-names the file and the reason of each entry that it refuses. A byte 255 ends what it reads of a file, so none of these has one.
-`git submodule init` is asked in a repository for each file, whose index has a submodule at each path.
+All files for fsck are in one repository, as `.gitmodules` of folders of their own, since it looks at no others. It names the
+file and the reason of each entry that it refuses. A byte 255 ends its reading of a file, so none of these has one. `git
+submodule init` runs in a repository for each file, whose index has a submodule at each path.
 """
 import os
 import random
@@ -16,10 +16,10 @@ from row_text import text_of
 from rules_asked import Entry, answers_of, listed
 
 NUMBER, WHOLE, SAMPLE = 20_261_180, 24_000, 2_000
-# Of how many files `git submodule init` is asked, for each that fsck is asked of.
+# The number of files for `git submodule init`, for each file for fsck.
 USED = 16
 REFUSED = re.compile(rb"error in blob ([0-9a-f]{40}): (gitmodules(?:Name|Url|Path|Update)): ")
-# A file with what fsck refuses of it, in the order of its entries, or with the values that Git uses.
+# A file with the refusals of fsck, in the order of its entries, or with the values that Git uses.
 Case = namedtuple("Case", "entries refused used")
 
 STEPS = (b"./", b"../", b".\\", b"..\\", b".", b"..", b"..:", b"/")
@@ -105,7 +105,7 @@ def git(room, *words, given=b""):
 
 
 def refused(files):
-    """What fsck refuses of each file, by Git's names and in the order of the entries."""
+    """The refusals of fsck for each file, by Git's names and in the order of the entries."""
     with tempfile.TemporaryDirectory(prefix="rules-") as room:
         os.makedirs(f"{room}/home")
         git(room, "init", "--quiet", "--bare")
@@ -135,7 +135,7 @@ def paths_of(entries):
 
 
 def used(configurations):
-    """What `git submodule init` writes for each file: the URL of each submodule with a path, and how it is updated."""
+    """The values that `git submodule init` writes for each file: the URL of each submodule with a path, and its way to update."""
     with tempfile.TemporaryDirectory(prefix="rules-") as room:
         os.makedirs(f"{room}/home")
         folders = [f"{room}/{at}" for at in range(len(configurations))]
@@ -150,7 +150,7 @@ def used(configurations):
 
 
 def settings(said):
-    """The URL and the update of each submodule that a configuration has."""
+    """The URL and the update of each submodule in a configuration."""
     found = defaultdict(dict)
     for line in said.split(b"\1"):
         key, _, value = line.partition(b"\n")
@@ -161,7 +161,7 @@ def settings(said):
 
 
 def cases_of(some):
-    """Each file with what Git says of it."""
+    """Each file with Git's results."""
     count = len(some) * USED // (USED + 1)
     first, second = some[:count], some[count:]
     cases = [Case(entries, said, None) for entries, said in zip(first, refused([file_of(it) for it in first]))]

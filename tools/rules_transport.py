@@ -1,7 +1,7 @@
 """Whether a transport may be used, by `protocol.*` and two variables.
 
-Git is asked by `git ls-remote`. Where a transport is allowed, nothing is connected to: Secure Shell, the proxy of `git://` and
-the program for local repositories are commands that fail, and remote helpers aren't found.
+`git ls-remote` shows Git's decision. If a transport is allowed, nothing is connected to: Secure Shell, the proxy of `git://`
+and the program for local repositories are commands that fail, and remote helpers aren't found.
 """
 import re
 from collections import namedtuple
@@ -11,7 +11,7 @@ from row_text import text_of
 from rules_asked import Entry, answers_of, listed, rooms
 
 NUMBER, WHOLE, SAMPLE = 20_261_129, 4_000, 600
-# The configuration, the list or nothing, the user's variable or nothing, and the text: a word behind a `=` is a value.
+# The configuration, the list or nothing, the user's variable or nothing, and the text: a word after a `=` is a value.
 ASK = r"""
 while [ $# -gt 0 ]; do
   unset GIT_ALLOW_PROTOCOL GIT_PROTOCOL_FROM_USER
@@ -22,10 +22,11 @@ while [ $# -gt 0 ]; do
 done
 """
 NAMED = re.compile(rb"^fatal: transport '(.*)' not allowed$", re.M | re.S)
-# Why Git ends before it decides, by the library's names: a value that isn't a policy, none, and a variable without a truth value.
+# The reasons why Git ends before it decides, by the library's names: a value that isn't a policy, none, and a variable without
+# a truth value.
 ENDS = {b"unknown value for config": "UnknownAllowance", b"bad config variable": "UnknownAllowance",
         b"bad boolean config value": "UnknownFromUser"}
-# The entries, both variables (None where they aren't set), the name of the transport, and what Git does by the library's names.
+# The entries, both variables (None if they aren't set), the name of the transport, and Git's decision by the library's names.
 Case = namedtuple("Case", "entries allow_list from_user name outcome")
 
 PROTOCOLS = (*(b"ssh", b"git", b"file", b"http", b"https", b"ext", b"x", b"hg") * 3, b"", b"HTTP", b"Ssh", b"x.y", b"x+y", b"git+ssh")
@@ -56,8 +57,8 @@ class Policies(Maker):
         return entries, self.allow_list(name), self.one_of(FROM_USER), name
 
     def text_of(self, name):
-        """A text that takes a transport. No URL has the scheme `git+ssh` as a helper's name, and none an empty one. Where a
-        helper is installed all the same, it has nowhere to go."""
+        """A text that uses a transport. No URL has the scheme `git+ssh` as a helper's name, and none an empty one. If a helper
+        is installed all the same, it has no target."""
         of_helper = (name + b"::/x",) if name in (b"", b"git+ssh") else (name + b"://127.0.0.1:1/p", name + b"::/x")
         return self.one_of(OF.get(name, of_helper))
 
@@ -68,7 +69,7 @@ def made(count):
 
 
 def answer(said, name):
-    """What Git does about the transport."""
+    """Git's decision about the transport."""
     ends = next((word for words, word in ENDS.items() if words in said), None)
     refused = NAMED.search(said)
     if refused and refused[1] != name:
@@ -77,7 +78,7 @@ def answer(said, name):
 
 
 def ask(asked):
-    """What Git says of configurations with their variables and texts."""
+    """Git's results for configurations with their variables and texts."""
     configurations = [*dict.fromkeys(tuple(it[0]) for it in asked)]
     room_for = rooms(configurations, GIT_SSH_COMMAND="false", GIT_SSH_VARIANT="simple", GIT_PROXY_COMMAND="false")
     with room_for as (room, environment, folders):
@@ -88,7 +89,7 @@ def ask(asked):
 
 
 def cases_of(policies):
-    """The cases, as Git answers them."""
+    """The cases, with Git's results."""
     maker = Policies(NUMBER + 1)
     said = ask([(entries, allow_list, from_user, maker.text_of(name)) for entries, allow_list, from_user, name in policies])
     return [Case(*it, answer(found, it[-1])) for it, found in zip(policies, said)]

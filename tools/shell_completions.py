@@ -1,8 +1,8 @@
-"""What shells complete of `explain`, by the files of `completions/`.
+"""The completions of `explain` in shells, by the files of `completions/`.
 
-Bash is asked itself. The files for zsh and fish are read by these shells where they are installed, which is reported.
-Each file has exactly the long options that the program's help names, and the file for zsh those pairs of them that the
-help says exclude each other.
+Bash itself completes. The files for zsh and fish are read by these shells if they are installed, which is reported. Each file
+has exactly the long options that the program's help names, and the file for zsh those pairs of them that the help lists as
+exclusive.
 """
 import re
 import shutil
@@ -12,7 +12,7 @@ import command_lines
 from rt_api import ROOT
 
 FOLDER = f"{ROOT}/completions"
-# The words of a command line, the last one to be completed, and what comes of it.
+# The words of a command line, the last one to be completed, and the completions.
 COMPLETED = [
     (("explain", "--o"), "--only"),
     (("explain", "--only", "f"), "fragment"),
@@ -38,16 +38,16 @@ COMPLETED = [
     (("explain", "--", "--o"), ""),
     (("explain", "-f", f"{FOLDER}/_e"), f"{FOLDER}/_explain"),
 ]
-# Prints what the function that bash keeps for the first word returns for all of them.
+# Prints the results of the function that bash keeps for the first word, for all of them.
 ASK = """source "$1"; shift; COMP_WORDS=("$@"); COMP_CWORD=$(($# - 1))
 kept=$(complete -p "$1"); call=${kept##*-F }; call=${call%% *}
 "${call:?}" && echo "${COMPREPLY[*]}" """
-# How a shell reads a file and runs nothing of it, and which files it has.
+# How a shell reads a file without running it, and its files.
 READ = {"bash": ("bash", "-n", ["gix_url.bash"]), "zsh": ("zsh", "-n", ["_explain"]), "fish": ("fish", "--no-execute", ["gix_url.fish"])}
 
 
 def completed(words):
-    """What bash completes, or what it says where it fails."""
+    """The completions of bash, or its message if it fails."""
     ran = subprocess.run(["bash", "-uc", ASK, "bash", f"{FOLDER}/gix_url.bash", *words], stdout=subprocess.PIPE, stderr=subprocess.STDOUT, text=True, timeout=60)
     return ran.stdout.rstrip("\n")
 
@@ -77,7 +77,7 @@ def excluded_by_zsh():
 
 
 def pair_faults():
-    """The pairs that exclude each other in one place alone."""
+    """The pairs that exclude each other in only one place."""
     wanted = {(first, other) for pair in command_lines.excluded() for first in pair for other in pair - {first} if "TEXT" not in pair}
     yield from (f"zsh and the help of explain differ in whether {first} excludes {other}" for first, other in sorted(wanted ^ {*excluded_by_zsh()}))
 

@@ -1,8 +1,8 @@
-"""The commands that `explain --ssh` prints, given to a shell, beside what Git runs: a program in place of Secure Shell shows
+"""The commands that `explain --ssh` prints, run by a shell, compared with Git's: a program that replaces Secure Shell shows
 the variable GIT_PROTOCOL and its words.
 
-Git is asked by `git ls-remote`. Each line is asked for by each configuration and with each of the variables. Where Git runs no
-such program `explain` prints an empty line, says why and ends with another status than 0.
+`git ls-remote` shows Git's command. Each line is tried with each configuration and with each of the variables. If Git runs no
+such program, `explain` prints an empty line, reports the reason and ends with a status other than 0.
 """
 import collections
 import itertools
@@ -13,7 +13,7 @@ from rt_api import program
 
 # Names of programs in a folder of the test's own, which is the first in which programs are looked for.
 NAMES = ("ssh", "plink", "tortoiseplink", "other", "my ssh")
-# Shows what it gets, and with -G that alone, by which Git finds out its variant.
+# Shows its arguments; with -G, by which Git detects its variant, only that.
 SHOW = r"""#!/bin/sh
 case " $* " in *" -G "*) printf '\003' >>"$SHOWN"; exit 1 ;; esac
 { printf '%s\001' "${0##*/}" "$GIT_PROTOCOL" "$@"; printf '\002'; } >>"$SHOWN"
@@ -24,7 +24,8 @@ LINES = (
     b"h:it's", b"h:a!b", b"h:a\\b", b"h:$(x) `y` \"z\" *?", b"h:\xc3\xa9", b"h:a\tb", b"h:%p", b"user.name@h:x=y", b"gh:a", b"evil:a",
     b"ssh://u@h:0/p", b"h:p\x1b[31m", b"ssh://h/-p",
 )
-# Lines for which there is no command: Git doesn't run Secure Shell, or it passes on an option, a password or a text that isn't a location.
+# Lines for which there is no command: Git doesn't run Secure Shell, or it passes on an option, a password or a text that isn't
+# a location.
 WITHOUT = (b"https://h/p", b"/srv/p", b"ext::sh -c x", b"git://h/p", b"h:", b"-oProxyCommand=x:p", b"ssh://-u@h/p", b"ssh://u:p@h/x", b"h:\xff")
 # Configurations.
 Entry = collections.namedtuple("Entry", "key value")
@@ -40,7 +41,7 @@ VARIABLES = ({"GIT_SSH": "my ssh", "GIT_SSH_VARIANT": "putty"}, {"GIT_SSH_COMMAN
 
 
 def shown_by(words, room, **how):
-    """What the programs show that a command starts."""
+    """The output of the programs that a command starts."""
     shown = f"{room}/shown"
     open(shown, "wb").close()
     environment = {"PATH": f"{room}/bin:/usr/bin:/bin", "HOME": room, "SHOWN": shown, "GIT_CONFIG_NOSYSTEM": "1", **how.pop("variables", {})}
@@ -50,14 +51,14 @@ def shown_by(words, room, **how):
 
 
 def of_git(line, entries, variables, room):
-    """What Git starts for a line; nothing if it has to find out the variant."""
+    """The start of Git for a line; nothing if it has to detect the variant."""
     words = ["git", *itertools.chain.from_iterable(("-c", f"{it.key}={it.value}") for it in entries), "ls-remote", "--", line]
     shown = shown_by(words, room, variables=variables)[1]
     return b"" if b"\3" in shown else shown
 
 
 def of_explain(line, entries, variables, room):
-    """What the command for a line starts, and the run that printed it. Where there is none the run says why and has a status."""
+    """The start of the command for a line, and the run that printed it. If there is none, the run reports the reason and has a status."""
     with open(f"{room}/config", "wb") as it:
         it.write(b"".join(f"{it.key}\n{it.value}\0".encode() for it in entries))
     given = ["--config", f"{room}/config"] if entries or variables else []
@@ -67,7 +68,7 @@ def of_explain(line, entries, variables, room):
         return None, ran
     if not is_line:
         return b"" if ran.returncode else None, ran
-    # `$'..'` is of POSIX since 2024, and bash has it.
+    # `$'..'` is in POSIX since 2024, and bash has it.
     return shown_by(["bash", "-c", ran.stdout], room)[1], ran
 
 

@@ -1,8 +1,8 @@
 #!/usr/bin/env python3
 """Proves the static library in whose folder it is called, and compiles it.
 
-`rt ci` proves a static library and compiles nothing. `rt lib` compiles, but proves all libraries below once more. So where
-`rt ci` left those of these very sources, the toolchain's own command is called over them, as a module.
+`rt ci` proves a static library and compiles nothing. `rt lib` compiles, but proves all libraries below once more. So if `rt ci`
+left those of these very sources, the toolchain's own command is called over them, as a module.
 """
 import glob
 import importlib.machinery
@@ -23,8 +23,8 @@ def load_kit():
 
 
 def is_current(crate):
-    """Whether the crate's library is there, and its folder younger than the sources: `rt ci` makes the folder, and may
-    take older files that it kept."""
+    """Whether the crate's library exists, and its folder is younger than the sources: `rt ci` makes the folder, and may take
+    older files that it kept."""
     files = [it for part in ("src", "specs", "proofs") for it in glob.glob(f"{crate.folder}/{part}/**", recursive=True)]
     made = os.path.dirname(crate.rlib)
     return os.path.isfile(f"{crate.rlib}/format") and all(os.stat(it).st_mtime <= os.stat(made).st_mtime for it in files)

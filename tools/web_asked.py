@@ -1,12 +1,11 @@
-"""What Git's credential code and libcurl say of HTTP texts.
+"""The results of Git's credential code and of libcurl for HTTP texts.
 
-`git credential fill` gets a text as `url=TEXT` and asks a helper, which reports what it is asked. libcurl's calls on URLs are
-made in the library that `git-remote-http` is linked to, with the flags of a transfer (`parseurlandfillconn` in lib/url.c of
-libcurl 7.88.1): `CURLU_GUESS_SCHEME` and `CURLU_NON_SUPPORT_SCHEME`, and neither `CURLU_PATH_AS_IS` nor
-`CURLU_DISALLOW_USER`, since Git doesn't set these options. As there, the whole URL is asked for first, which replaces each
-`%` that is left in the host by `%25`; then each part, without a flag, but the path with `CURLU_URLENCODE`. A transfer
-decodes the user, and refuses byte 0 in it where no password follows; a user with a password libcurl gets from Git,
-beside the URL.
+`git credential fill` gets a text as `url=TEXT` and asks a helper, which reports the request. libcurl's calls on URLs are made
+in the library that `git-remote-http` is linked to, with the flags of a transfer (`parseurlandfillconn` in lib/url.c of libcurl
+7.88.1): `CURLU_GUESS_SCHEME` and `CURLU_NON_SUPPORT_SCHEME`, and neither `CURLU_PATH_AS_IS` nor `CURLU_DISALLOW_USER`, since
+Git doesn't set these options. As in a transfer, the whole URL is read first, which replaces each `%` that is left in the host
+by `%25`; then each part, without a flag, except the path with `CURLU_URLENCODE`. A transfer decodes the user, and refuses byte
+0 in it if no password follows; a user with a password libcurl gets from Git, separately from the URL.
 """
 import ctypes
 import re
@@ -16,12 +15,12 @@ from git_reads import decoded
 from git_transports import ask_loop
 from web_reads import Web, escaped, host_and_port
 
-# The helper reports what it is asked for between byte 1 and byte 2, and does nothing for `store` and `erase`.
+# The helper reports its request between byte 1 and byte 2, and does nothing for `store` and `erase`.
 SETTINGS = r"""[credential]
 useHttpPath = true
 helper = "!f() { test \"$1\" = get || exit 0; printf '\\1' >&2; cat >&2; printf '\\2' >&2; echo username=x; echo password=y; }; f"
 """
-# Where Git refuses to write a part it ends before the helper does, so the end of both is waited for.
+# If Git refuses to write a part, it ends before the helper does, so the end of both is waited for.
 ASK_CREDENTIAL = r"""
 for text; do said=$(printf 'url=%s\n' "$text" | git credential fill 2>&1); printf '%s\0' "$said"; done
 """
@@ -34,7 +33,7 @@ GUESS_SCHEME, NON_SUPPORT_SCHEME, URLENCODE = 1 << 9, 1 << 3, 1 << 7
 # ---- Git's credential code
 
 def asked(answer):
-    """What a helper is asked, or the answer without one, where the text has a user and a password."""
+    """The request to a helper, or the answer without one, if the text has a user and a password."""
     refusal = next((name for words, name in REFUSALS.items() if words in answer), None)
     if refusal:
         return refusal
@@ -50,14 +49,14 @@ def can_be_asked(text):
 
 
 def ask_credential(texts):
-    """What Git's credential code makes of each text."""
+    """The result of Git's credential code for each text."""
     return [*map(asked, ask_loop(ASK_CREDENTIAL, texts, {"GIT_CONFIG_GLOBAL": SETTINGS}, GIT_TERMINAL_PROMPT="0"))]
 
 
 # ---- libcurl
 
 def library_of_git():
-    """The libcurl that `git-remote-http` is linked to; None where there is none."""
+    """The libcurl that `git-remote-http` is linked to; None if there is none."""
     try:
         folder = subprocess.run(["git", "--exec-path"], stdout=subprocess.PIPE, check=True, text=True).stdout.strip()
         said = subprocess.run(["ldd", f"{folder}/git-remote-http"], capture_output=True, check=True, text=True).stdout
@@ -81,7 +80,7 @@ class Curl:
         self.version = self.calls.curl_version().decode().split()[0]
 
     def part(self, url, name):
-        """A part of a URL, None where it has none."""
+        """A part of a URL, None if it has none."""
         place = ctypes.c_void_p()
         if self.calls.curl_url_get(url, ALL[name], ctypes.byref(place), URLENCODE if name == "path" else 0):
             return None
@@ -90,7 +89,7 @@ class Curl:
         return found
 
     def parts(self, text):
-        """The whole URL, and its parts as they are asked for behind it; None where it is refused."""
+        """The whole URL, and its parts, which are read after it; None if it is refused."""
         url = self.calls.curl_url()
         try:
             is_refused = self.calls.curl_url_set(url, ALL["whole"], text, GUESS_SCHEME | NON_SUPPORT_SCHEME)
@@ -99,7 +98,7 @@ class Curl:
             self.calls.curl_url_cleanup(url)
 
     def reads(self, text):
-        """What libcurl reads for a transfer; None where it refuses."""
+        """libcurl's reading for a transfer; None if it refuses."""
         parts = self.parts(text)
         _, scheme, user, password, host, port, path, query, zone = parts or [None] * len(ALL)
         if parts is None or user and password is None and b"%00" in user:

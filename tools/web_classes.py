@@ -1,8 +1,8 @@
 """The classes of HTTP texts in which this library, Git's credential code and libcurl read different things.
 
-A part that differs is named with its reader: Git's credential code, libcurl or the server, as in `git:host`; `refusal` stands for
-all parts. Classes by which another host, user or password is meant come first, then those of another path, of the same place
-spelled otherwise, and of texts that one reader refuses.
+A part that differs is named with its reader: Git's credential code, libcurl or the server, as in `git:host`; `refusal`
+represents all parts. Classes that mean another host, user or password come first, then those of another path, of the same place
+spelled differently, and of texts that one reader refuses.
 """
 import re
 from functools import cached_property
@@ -15,28 +15,28 @@ from witness import of, told
 
 
 class WebCase:
-    """A text with the location that this library reads in it, and what the two others read: a `Web`, or why they refuse."""
+    """A text with the location that this library reads in it, and the readings of the two others: a `Web`, or the reason of a refusal."""
 
     def __init__(self, text, location):
         self.text, self.location, self.host = text, location, location.host
         self.credential, self.curl = credential_reads(text), curl_reads(text)
         self.readings = {"credential code": self.credential, "libcurl": self.curl}
         self.said = told(self.credential), told(self.curl)
-        # The location as Git's credential code has it.
+        # The location in the form of Git's credential code.
         self.own = for_credential(location)
-        # What comes before the last `@`, None where there is none.
+        # The text before the last `@`, None if there is none.
         information, at, _ = cut(text)[1].rpartition(b"@")
         self.information = information if at else None
-        # The host without the colon that may end it, and the path in its spelling, without query and fragment.
+        # The host without the colon that may end it, and the escaped path, without query and fragment.
         self.name, self.is_literal = self.host.removesuffix(b":"), self.host.startswith(b"[")
         self.spelled = spelled_path(location)
         self.path = re.match(rb"[^?#]*", self.spelled)[0]
 
     @cached_property
     def differing(self):
-        """The parts that a reader reads otherwise than this library."""
+        """The parts that a reader reads differently from this library."""
         found = different("git", self.credential, self.own) | different("curl", self.curl, for_curl(self.location))
-        # The server takes user and password in one piece, and cuts it at the first colon (RFC 7617).
+        # The server gets user and password in one piece, and splits it at the first colon (RFC 7617).
         return found | {"server:user"} if b":" in (self.location.user or b"") else found
 
     @cached_property
@@ -45,13 +45,13 @@ class WebCase:
 
     @cached_property
     def is_alike(self):
-        """Whether all readers read the location's own, except for slashes behind a path and the spelling of an address."""
+        """Whether all readers read the location's own parts, except for trailing slashes of a path and the spelling of an address."""
         is_trimmed = isinstance(self.credential, Web) and (self.credential.path or None) == trimmed_path(self.location.path[1:])
         return self.differing <= CLASSES["long-address"](self) | ({"git:path"} if is_trimmed else set())
 
     @cached_property
     def is_written_so(self):
-        """Whether the location is settled and the text is what is written for it."""
+        """Whether the location is settled and the text is the one written for it."""
         return self.is_settled and writing.text(self.location) == self.text
 
 
@@ -100,7 +100,7 @@ CLASSES = {
     "fragment": of("curl:path", lambda it: b"#" in it.spelled),
     "colon-in-path": of("git:path", lambda it: is_left(it.credential.path, it.own.path, b"/")),
     "escape-of-zero": escape_of_zero,
-    # The same place, spelled otherwise.
+    # The same place, spelled differently.
     "slashes-of-path": of("git:path", lambda it: it.credential.path.strip(b"/") == it.own.path.strip(b"/")),
     "path-without-slash": of("curl:path", lambda it: it.path == b""),
     "empty-query": of("curl:path", lambda it: re.fullmatch(rb"[^?#]*\?(#.*)?", it.spelled, re.S)),

@@ -1,8 +1,8 @@
-"""A second reading of `CredentialReads` and `UriReads`, the definitions of what Git's credential code and a reader of URIs read
-in the text of a location of HTTP (`crates/git_reads/specs/Credentials.antt`, `crates/git_laws/specs/GitWeb.antt`).
+"""A second reading of `CredentialReads` and `UriReads`, the definitions of the readings of Git's credential code and of a reader of URIs
+in the text of an HTTP location (`crates/git_reads/specs/Credentials.antt`, `crates/git_laws/specs/GitWeb.antt`).
 
-Each function is a relation of the definitions, and answers all that it relates to what is given: every cut of a text is
-tried, and what each case asks is asked of it. It asks Git and libcurl nothing: `scripts/web_witness` compares.
+Each function is a relation of the definitions, and returns everything that it relates to its arguments: it tries every split of
+a text, and checks the condition of each case. It doesn't call Git or libcurl: `scripts/web_witness` compares.
 """
 import re
 from collections import namedtuple
@@ -19,7 +19,7 @@ URI_BYTES = HOST_BYTES | frozenset(b":@/?")
 
 
 def pieces(rest):
-    """The authority and what is behind it: it ends at the first byte with which a path may start."""
+    """The authority and the text after it: it ends at the first byte at which a path may start."""
     return [(front, back) for front, back in octets.halves(rest)
             if (back == b"" or back[0] in PATH_STARTS) and not any(it in front for it in PATH_STARTS)]
 
@@ -36,7 +36,7 @@ def credential_decodes(piece):
 
 
 def credential_cuts(authority):
-    """All of user, password and what names a host."""
+    """All of user, password and the text that names a host."""
     alone = [(None, None, authority)] if b"@" not in authority else []
     front = [(u, w, named) for information, named in first_cuts(authority, b"@") for u, w in splits_at(b":", information)]
     return alone + [(user, password, named) for u, w, named in front for user in credential_decodes(u)
@@ -73,7 +73,7 @@ def uri_authorities(authority):
 
 
 def uri_hosts(named):
-    """All of a host and what follows it."""
+    """All of a host and the text after it."""
     return [(host, behind) for host, behind in octets.halves(named) if is_bracketed(host) or (b":" not in host and host[:1] != b"[")]
 
 
@@ -97,7 +97,7 @@ def has_uri_bytes(r):
 
 
 def uri_readings(text):
-    """All ways in which a text is a URI with an authority."""
+    """All readings of a text as a URI with an authority."""
     found = {
         UriReading(scheme, information, host, port, path, query, fragment)
         for scheme, rest in cuts(text, b"://")
@@ -139,7 +139,7 @@ def is_own_uri(v, uri):
 
 
 def own_faults(text, v):
-    """What is wrong with `ReadsOwnOverWeb` of a text and a location."""
+    """The faults of `ReadsOwnOverWeb` for a text and a location."""
     if credential_readings(text) != {own_credential(v)}:
         yield f"by the definition Git's credential code reads {credential_readings(text)} in {text!r}, and not {own_credential(v)}"
     found = uri_readings(text)
@@ -147,10 +147,10 @@ def own_faults(text, v):
         yield f"by the definition {found} is the URI {text!r}, and not one in normal form of the location's own components"
 
 
-# ---- beside what the programs read
+# ---- comparison with the programs' readings
 
 def as_defined(credential):
-    """What Git's credential code reads, as the definition has it: none where it refuses."""
+    """The reading of Git's credential code in the form of the definition: None if it refuses."""
     if not isinstance(credential, Web):
         return set()
     scheme, user, password, host, port, path = credential
@@ -158,7 +158,7 @@ def as_defined(credential):
 
 
 def for_transfer(uri):
-    """A URI as libcurl has it for a transfer."""
+    """A URI as libcurl reads it for a transfer."""
     user, colon, password = (uri.information or b"").partition(b":")
     user, password = (octets.dec(it) if is_there else None for it, is_there in ((user, uri.information is not None), (password, colon)))
     return Web(uri.scheme, user, password, uri.host, uri.port, escaped(with_query(uri)))

@@ -1,9 +1,9 @@
-"""The conditions on a location of HTTP of which `agrees_with_git` is true, one by one: under all of them this library, Git's
+"""The conditions on an HTTP location for which `agrees_with_git` is true, one by one: under all of them this library, Git's
 credential code and libcurl read the same place in the location's text.
 
-Each condition is on the parts of the location. Most are needed: some location that meets all the others is read otherwise.
-Those of `STRICTER` aren't: the programs that were compared read such texts alike. They are asked since other readers differ
-there, or so that the text is a URI of RFC 3986 which is in its normal form also where it is decoded first.
+Each condition is on the fields of the location. Most are needed: some location that meets all the others is read differently.
+Those of `STRICTER` aren't: the compared programs read such texts alike. They are required since other readers differ there, or
+so that the text is a URI of RFC 3986 which is also in its normal form if it is decoded first.
 """
 import functools
 import re
@@ -16,7 +16,7 @@ NAME_BYTES = re.compile(rb"[a-z0-9._-]+")
 DOT_SEGMENT = re.compile(rb"/\.\.?(/|$)")
 LINE_ENDS = re.compile(rb"[\0\n\r]")
 OTHER_CONTROL = re.compile(rb"[\x01-\x09\x0b\x0c\x0e-\x1f\x7f]")
-# What RFC 3986 allows in a path and a query, `#` and controls aside, which are conditions of their own.
+# The bytes that RFC 3986 allows in a path and a query, except `#` and controls, which are conditions of their own.
 NO_URI_BYTE = re.compile(rb"[^\x00-\x1f\x7f#A-Za-z0-9._~!$&'()*+,;=:@/?%-]")
 
 
@@ -27,7 +27,7 @@ def path_of(location):
 
 
 def named(is_met):
-    """The condition on a host that isn't in brackets, without a colon behind it."""
+    """The condition on a host that isn't in brackets, without a colon after it."""
     return lambda it: it.host.startswith(b"[") or is_met(it.host.removesuffix(b":"))
 
 

@@ -1,9 +1,9 @@
-"""What the three readers of an HTTP remote read in its text: rules by hand for Git's credential code and for libcurl, and
+"""The readings of the three readers of an HTTP remote in its text: rules by hand for Git's credential code and for libcurl, and
 the second reading (`tools/second_reading`) for this library.
 
 A caller picks credentials by the host that this library reads. Git's credential code (`credential_from_url` of Git 2.39.5)
-cuts the same text for the helpers that it asks, and libcurl 7.88.1 cuts it to connect. `web_asked.py` asks the programs
-themselves, and each rule must give for each text what they give.
+splits the same text for the helpers that it asks, and libcurl 7.88.1 splits it to connect. `web_asked.py` runs the programs
+themselves, and each rule must agree with them for each text.
 """
 import ipaddress
 import re
@@ -12,18 +12,18 @@ from collections import namedtuple
 from git_reads import decoded
 from second_reading import grammar, writing
 
-# What a reader reads. A port is its digits, and the path includes the query; for libcurl it is what the request asks for.
+# The reading of a reader. A port is its digits, and the path includes the query; for libcurl it is that of the request.
 Web = namedtuple("Web", "scheme user password host port path")
 HTTP = (("Http",), ("Https",))
 HOST_AND_PORT = re.compile(rb"(.*?)(?::([0-9]+))?", re.S)
-# What libcurl refuses in each part of a URL, and in a decoded host.
+# The bytes that libcurl refuses in each part of a URL, and in a decoded host.
 CONTROL = re.compile(rb"[\x01-\x20\x7f]")
 NO_HOST = re.compile(rb"[\x01-\x1f \"/:#?!@{}\[\]\\$'^`*<>=;,+&()]")
 LONGEST_ZONE = 15
 
 
 def escaped(text):
-    """Escapes in place of the bytes past 127, as libcurl writes them."""
+    """Escapes instead of the bytes above 127, as libcurl writes them."""
     return re.sub(rb"[\x80-\xff]", lambda it: b"%%%02x" % it[0][0], text)
 
 
@@ -34,14 +34,14 @@ def cut(text):
 
 
 def cut_at_first(authority):
-    """User, password and host of an authority that the first `@` cuts; the first colon before it ends the user."""
+    """User, password and host of an authority that is split at the first `@`; the first colon before it ends the user."""
     return re.fullmatch(rb"(?:([^:@]*)(?::([^@]*))?@)?(.*)", authority, re.S).groups()
 
 
 # ---- this library
 
 def located(text):
-    """The location of HTTP that this library reads, None where it reads none."""
+    """The HTTP location that this library reads, None if it reads none."""
     found = grammar.spells(text)
     return found if found is not None and found.scheme in HTTP else None
 
@@ -57,37 +57,37 @@ def spelled_path(location):
 
 
 def for_credential(location):
-    """A location as Git's credential code has it: a decoded path without its first `/`."""
+    """A location in the form of Git's credential code: a decoded path without its first `/`."""
     port = None if location.port is None else b"%d" % location.port
     scheme, path = grammar.as_str(location.scheme), location.path.removeprefix(b"/")
     return Web(scheme, location.user, location.password, location.host, port, path)
 
 
 def for_curl(location):
-    """A location as libcurl has it: the path as the text has it."""
+    """A location in the form of libcurl: the path of the text."""
     return for_credential(location)._replace(path=escaped(spelled_path(location)))
 
 
 # ---- Git's credential code
 
 def decoded_by_git(piece):
-    """A piece with its escapes decoded, except before the first colon: Git takes that for a scheme."""
+    """A piece with its escapes decoded, except before the first colon: Git takes that part for a scheme."""
     colon = max(piece.find(b":"), 0)
     return piece[:colon] + decoded(piece[colon:])
 
 
 def credential_cut(text):
-    """The parts that Git's credential code cuts a text into."""
+    """The parts into which Git's credential code splits a text."""
     scheme, authority, rest = cut(text)
     user, password, named = (it if it is None else decoded_by_git(it) for it in cut_at_first(authority))
     path = decoded_by_git(rest.lstrip(b"/"))
-    # A single slash is left, where there is nothing else.
+    # A single slash is left if there is nothing else.
     path = path.rstrip(b"/") or path[:1]
     return Web(scheme, user, password, *host_and_port(named), path)
 
 
 def credential_reads(text):
-    """What Git's credential code asks helpers for, or why it asks none."""
+    """The request of Git's credential code to helpers, or the reason why there is none."""
     found, refused = credential_cut(text), {"line end": b"\n", "carriage return": b"\r"}
     return next((name for name, byte in refused.items() if any(byte in it for it in found if it)), found)
 
@@ -95,13 +95,13 @@ def credential_reads(text):
 # ---- libcurl
 
 def number(digits):
-    """A number as C's `strtoul` reads it with base 0, None where it doesn't read all of it. More digits make no address."""
+    """A number as C's `strtoul` reads it with base 0, None if it doesn't read all of it. More digits make no address."""
     found = re.fullmatch(rb"0[xX]([0-9a-fA-F]+)|(0[0-7]*)|([1-9][0-9]{,9})", digits)
     return found and int(found[found.lastindex], (16, 8, 10)[found.lastindex - 1])
 
 
 def address(host):
-    """The address that libcurl takes a host of numbers for, None where it takes it for a name."""
+    """The address that libcurl takes a host of numbers for, None if it takes it for a name."""
     numbers = [number(it) for it in host.split(b".")]
     if len(numbers) > 4 or None in numbers:
         return None
@@ -113,7 +113,7 @@ def address(host):
 
 
 def literal(host):
-    """A bracketed address as libcurl has it: a shorter form where there is one; None where it is none."""
+    """A bracketed address in the form of libcurl: a shorter form if there is one; None if it isn't an address."""
     inside, mark, zone = host[1:-1].partition(b"%")
     if not re.fullmatch(rb"[0-9A-Fa-f:.]+", inside) or (mark and not zone):
         return None
@@ -137,7 +137,7 @@ def shortest(found):
 
 
 def curl_host(host):
-    """A host as libcurl has it, None where it is none."""
+    """A host in the form of libcurl, None if it isn't one."""
     if CONTROL.search(host):
         return None
     if host.startswith(b"[") or address(host):
@@ -145,18 +145,18 @@ def curl_host(host):
     name = decoded(host)
     if not name or b"%00" in host or NO_HOST.search(name):
         return None
-    # A transfer asks for the whole URL first, which replaces each `%` that is left by its escape.
+    # A transfer reads the whole URL first, which replaces each `%` that is left by its escape.
     return name.replace(b"%", b"%25")
 
 
 def parted(named):
-    """A host and what follows its colon; None where something else follows its brackets."""
+    """A host and the text after its colon; None if other text follows its brackets."""
     found = re.fullmatch(rb"(\[[^\]]*\]|[^\[:][^:]*|)(?::(.*))?", named, re.S)
     return found and found.groups()
 
 
 def without_dots(path):
-    """A path without its segments `.` and `..`, as RFC 3986 takes them out."""
+    """A path without its segments `.` and `..`, as RFC 3986 removes them."""
     given, out = path, b""
     while given:
         if given.startswith(b"/./") or given == b"/.":
@@ -170,7 +170,7 @@ def without_dots(path):
 
 
 def target(rest):
-    """The path and the query that libcurl asks for; None where it refuses them."""
+    """The path and the query that libcurl requests; None if it refuses them."""
     front, _, fragment = rest.partition(b"#")
     path, _, query = front.partition(b"?")
     if any(CONTROL.search(it) for it in (path, query, fragment)):
@@ -179,14 +179,14 @@ def target(rest):
 
 
 def curl_reads(text):
-    """What libcurl reads for a transfer; None where it refuses."""
+    """libcurl's reading for a transfer; None if it refuses."""
     scheme, mark, rest = text.partition(b"://")
-    # A third slash is passed over.
+    # A third slash is skipped.
     scheme, authority, rest = cut(scheme + mark + rest.removeprefix(b"/"))
     user, password, named = cut_at_first(authority)
     host, digits = parted(named) or (b"", None)
     is_port = not digits or (re.fullmatch(rb"[0-9]+", digits) and int(digits) <= 65535)
-    # Git gives libcurl a user and a password itself; a user alone libcurl decodes, and refuses byte 0 in it.
+    # Git passes a user and a password to libcurl itself; a lone user libcurl decodes, and refuses byte 0 in it.
     is_user = not CONTROL.search((user or b"") + (password or b"")) and (password is not None or b"%00" not in (user or b""))
     if not is_port or not is_user or None in (curl_host(host), target(rest)):
         return None

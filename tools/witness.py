@@ -1,9 +1,9 @@
-"""What `git_witness` and `web_witness` share: classes of differences, and how the library is asked.
+"""The common code of `git_witness` and `web_witness`: classes of differences, and the calls of the library.
 
-A case is a text and what is read in it. It has the parts that are read differently (`differing`), what each reader reads by the
-reader's name (`readings`), what an example has of that (`said`), and whether this library reads a settled location
-(`is_settled`). A class gives, for a case, the parts that differ because of it. A difference belongs to the classes that together
-give all of its parts, and is counted in the first of them.
+A case is a text and its readings. It has the parts that are read differently (`differing`), the reading of each reader by the
+reader's name (`readings`), the example's version of that (`said`), and whether this library reads a settled location
+(`is_settled`). A class returns, for a case, the parts that differ because of it. A difference belongs to the classes that
+together return all of its parts, and is counted in the first of them.
 """
 import argparse
 import json
@@ -15,13 +15,13 @@ from rt_api import ROOT, program
 
 
 def of(parts, is_there=lambda case: True):
-    """The class of cases that are so, in which these parts differ. Only a case that differs in one of them is asked."""
+    """The class of such cases, in which these parts differ. Only a case that differs in one of them is tested."""
     names = frozenset(parts.split())
     return lambda case: names if case.differing & names and is_there(case) else frozenset()
 
 
 def class_of(case, classes):
-    """The name of the class in which a difference is counted; None where the classes don't give all of its parts."""
+    """The name of the class in which a difference is counted; None if the classes don't return all of its parts."""
     named = {name: case.differing & parts(case) for name, parts in classes.items()}
     if frozenset().union(*named.values()) < case.differing:
         return None
@@ -29,7 +29,7 @@ def class_of(case, classes):
 
 
 def in_classes(cases, classes):
-    """The differences by their classes; those in none by None."""
+    """The differences by their classes; those in no class by None."""
     found = {it: [] for it in [*classes, None]}
     for case in cases:
         if case.differing:
@@ -38,7 +38,7 @@ def in_classes(cases, classes):
 
 
 def told(reading):
-    """A reading in one line, as the examples have it."""
+    """A reading in one line, in the form of the examples."""
     if not isinstance(reading, tuple):
         return f"refused {reading or ''}".strip()
     first, *parts = (text_of(it) if isinstance(it, bytes) else it for it in reading)
@@ -46,7 +46,7 @@ def told(reading):
 
 
 def shown(cases, count):
-    """The shortest cases, with what is read in them."""
+    """The shortest cases, with their readings."""
     shortest = sorted(cases, key=lambda it: (len(it.text), it.text))[:count]
     return [f"    {case.text!r}" + "".join(f"\n        {name}: {told(it)}" for name, it in case.readings.items()) for case in shortest]
 
@@ -71,7 +71,7 @@ def class_faults(cases, classes, is_whole):
 
 
 def changed_examples(examples, case_of, classes):
-    """The examples that are read otherwise by now, or aren't in their class."""
+    """The examples whose reading has changed, or that aren't in their class."""
     for it in examples:
         case = case_of(it.text)
         found = (class_of(case, classes) if case.differing else "alike", *case.said)
@@ -80,7 +80,7 @@ def changed_examples(examples, case_of, classes):
 
 
 def unlike(words, texts, read, rule):
-    """The texts that are read otherwise than by a rule."""
+    """The texts whose reading differs from a rule."""
     for text in texts:
         found, wanted = read(text), rule(text)
         if found != wanted:
@@ -94,7 +94,7 @@ def check(faults):
 
 
 def read_words(doc, classes, sample=None):
-    """The words of the command, and the classes that are left."""
+    """The words of the command, and the remaining classes."""
     parser = argparse.ArgumentParser(description=doc, formatter_class=argparse.RawDescriptionHelpFormatter)
     parser.add_argument("--without", metavar="CLASS", choices=classes, help="leave a class out, to see that it is needed")
     parser.add_argument("--examples", metavar="N", type=int, default=0, help="show the N shortest texts of each class")
@@ -123,6 +123,6 @@ def answers(orders):
 
 
 def explained(texts):
-    """What the program `explain` says of texts."""
+    """The reports of the program `explain` on texts."""
     ran = subprocess.run([program("explain"), "--json", "--null"], input=b"\0".join([*texts, b""]), stdout=subprocess.PIPE)
     return [json.loads(it)["location"] for it in ran.stdout.splitlines()]

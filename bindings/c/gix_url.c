@@ -1,8 +1,8 @@
-/* The calls of gix_url.h over the exports of the static library crates/gix_url_c.
+/* The calls of gix_url.h, over the exports of the static library crates/gix_url_c.
  *
- * What is here is glue: null pointers become errors, parts become pointers and lengths, and what comes back as lengths
- * becomes pointers into the caller's room. Each export and its types are declared as crates/gix_url_c/src has them; a
- * slice of that library is a pointer that isn't null and a length. */
+ * Null pointers become errors, parts become pointers and lengths, and returned lengths become pointers into the
+ * caller's buffer. The declarations of exports and their types match crates/gix_url_c/src. A slice of that library is a
+ * pointer that isn't null and a length. */
 #include "parts.h"
 
 typedef struct made {
@@ -38,17 +38,17 @@ uint32_t gix_url_c_components(const given *, parted *, char *, size_t, size_t *,
 uint32_t gix_url_c_reason_name(uint8_t, char *, size_t, size_t *);
 uint32_t gix_url_c_reason_words(uint8_t, char *, size_t, size_t *);
 
-/* The location whose parts are in the room, in the order in which they are returned. */
-static gix_url located(const made *made, const char *room) {
+/* The location whose parts follow each other in the buffer, in the order in which they are returned. */
+static gix_url located(const made *made, const char *buffer) {
     gix_url url;
     memset(&url, 0, sizeof url);
     url.scheme = (gix_url_scheme)made->front.scheme;
-    url.name = next_part(&room, made->name, made->front.scheme >= GIX_URL_HELPER);
-    url.user = next_part(&room, made->user, made->front.has_user);
-    url.password = next_part(&room, made->password, made->front.has_password);
-    url.host = next_part(&room, made->host, made->front.has_host);
-    url.path = next_part(&room, made->path, true);
-    url.spelling = next_part(&room, made->spelling, made->front.has_spelling);
+    url.name = next_part(&buffer, made->name, made->front.scheme >= GIX_URL_HELPER);
+    url.user = next_part(&buffer, made->user, made->front.has_user);
+    url.password = next_part(&buffer, made->password, made->front.has_password);
+    url.host = next_part(&buffer, made->host, made->front.has_host);
+    url.path = next_part(&buffer, made->path, true);
+    url.spelling = next_part(&buffer, made->spelling, made->front.has_spelling);
     url.alternative = made->front.alternative;
     url.has_port = made->front.has_port;
     url.port = made->front.port;
@@ -69,42 +69,42 @@ static void tell(uint32_t error, const told *told, gix_url_problem *problem) {
     problem->len = told->len;
 }
 
-/* A pointer is null that may not be: an error without details. */
+/* The error for a null pointer that must not be null. It has no details. */
 static gix_url_error null_pointer(gix_url_problem *problem) {
     if (problem) memset(problem, 0, sizeof *problem);
     return GIX_URL_NULL;
 }
 
-/* Returns what was made in the room, or the error. */
-static gix_url_error hand_out(uint32_t error, const made *made, const char *room, gix_url *url, size_t *needed,
+/* Returns the location that was made in the buffer, or the error. */
+static gix_url_error hand_out(uint32_t error, const made *made, const char *buffer, gix_url *url, size_t *needed,
                               const told *told, gix_url_problem *problem) {
-    if (error == GIX_URL_OK) *url = located(made, room);
+    if (error == GIX_URL_OK) *url = located(made, buffer);
     if ((error == GIX_URL_OK || error == GIX_URL_NO_ROOM) && needed)
         *needed = made->name + made->user + made->password + made->host + made->path + made->spelling;
     tell(error, told, problem);
     return (gix_url_error)error;
 }
 
-gix_url_error gix_url_parse(const char *input, size_t len, char *room, size_t room_len, gix_url *url, size_t *needed,
+gix_url_error gix_url_parse(const char *input, size_t len, char *buffer, size_t buffer_len, gix_url *url, size_t *needed,
                             gix_url_problem *problem) {
     if (!url) return null_pointer(problem);
     if (!input) input = nowhere, len = 0;
-    if (!room) room = nowhere, room_len = 0;
+    if (!buffer) buffer = nowhere, buffer_len = 0;
     made made = {0};
     told told = {0};
-    uint32_t error = gix_url_c_read(input, len, &made, room, room_len, &told);
-    return hand_out(error, &made, room, url, needed, &told, problem);
+    uint32_t error = gix_url_c_read(input, len, &made, buffer, buffer_len, &told);
+    return hand_out(error, &made, buffer, url, needed, &told, problem);
 }
 
-gix_url_error gix_url_from_parts(const gix_url *parts, char *room, size_t room_len, gix_url *url, size_t *needed,
+gix_url_error gix_url_from_parts(const gix_url *parts, char *buffer, size_t buffer_len, gix_url *url, size_t *needed,
                                  gix_url_problem *problem) {
     if (!parts || !url) return null_pointer(problem);
-    if (!room) room = nowhere, room_len = 0;
+    if (!buffer) buffer = nowhere, buffer_len = 0;
     made made = {0};
     told told = {0};
     given given = given_of(parts);
-    uint32_t error = gix_url_c_from_parts(&given, &made, room, room_len, &told);
-    return hand_out(error, &made, room, url, needed, &told, problem);
+    uint32_t error = gix_url_c_from_parts(&given, &made, buffer, buffer_len, &told);
+    return hand_out(error, &made, buffer, url, needed, &told, problem);
 }
 
 gix_url_error gix_url_is_settled(const gix_url *url, bool *settled) {
@@ -136,22 +136,22 @@ gix_url_error gix_url_is_unambiguous(const gix_url *url, bool *unambiguous) {
     return error;
 }
 
-gix_url_error gix_url_write(const gix_url *url, char *room, size_t room_len, size_t *len, gix_url_problem *problem) {
+gix_url_error gix_url_write(const gix_url *url, char *buffer, size_t buffer_len, size_t *len, gix_url_problem *problem) {
     if (!url || !len) return null_pointer(problem);
-    if (!room) room = nowhere, room_len = 0;
+    if (!buffer) buffer = nowhere, buffer_len = 0;
     told told = {0};
     given given = given_of(url);
-    uint32_t error = gix_url_c_write(&given, room, room_len, len, &told);
+    uint32_t error = gix_url_c_write(&given, buffer, buffer_len, len, &told);
     tell(error, &told, problem);
     return (gix_url_error)error;
 }
 
-gix_url_error gix_url_display(const gix_url *url, char *room, size_t room_len, size_t *len, gix_url_problem *problem) {
+gix_url_error gix_url_display(const gix_url *url, char *buffer, size_t buffer_len, size_t *len, gix_url_problem *problem) {
     if (!url || !len) return null_pointer(problem);
-    if (!room) room = nowhere, room_len = 0;
+    if (!buffer) buffer = nowhere, buffer_len = 0;
     told told = {0};
     given given = given_of(url);
-    uint32_t error = gix_url_c_display(&given, room, room_len, len, &told);
+    uint32_t error = gix_url_c_display(&given, buffer, buffer_len, len, &told);
     tell(error, &told, problem);
     return (gix_url_error)error;
 }
@@ -173,21 +173,21 @@ gix_url_error gix_url_look(const gix_url *url, gix_url_seen *answer) {
     return GIX_URL_OK;
 }
 
-gix_url_error gix_url_path_query_fragment(const gix_url *url, char *room, size_t room_len, gix_url_pair *pairs,
-                                          size_t pair_room, gix_url_components *components, size_t *needed,
+gix_url_error gix_url_path_query_fragment(const gix_url *url, char *buffer, size_t buffer_len, gix_url_pair *pairs,
+                                          size_t pair_capacity, gix_url_components *components, size_t *needed,
                                           size_t *needed_pairs) {
     if (!url || !components) return GIX_URL_NULL;
-    if (!room) room = nowhere, room_len = 0;
-    if (!pairs || pair_room > SIZE_MAX / sizeof *pairs) pair_room = 0;
-    size_t *lengths = pair_room ? &pairs->name_len : no_numbers;
+    if (!buffer) buffer = nowhere, buffer_len = 0;
+    if (!pairs || pair_capacity > SIZE_MAX / sizeof *pairs) pair_capacity = 0;
+    size_t *lengths = pair_capacity ? &pairs->name_len : no_numbers;
     parted parted = {0};
     given given = given_of(url);
-    uint32_t error = gix_url_c_components(&given, &parted, room, room_len, lengths, 2 * pair_room);
+    uint32_t error = gix_url_c_components(&given, &parted, buffer, buffer_len, lengths, 2 * pair_capacity);
     if (error != GIX_URL_OK && error != GIX_URL_NO_ROOM) return (gix_url_error)error;
     if (needed) *needed = parted.bytes;
     if (needed_pairs) *needed_pairs = parted.pairs;
     if (error != GIX_URL_OK) return GIX_URL_NO_ROOM;
-    const char *at = room;
+    const char *at = buffer;
     components->path = next_part(&at, parted.path, true);
     components->fragment = next_part(&at, parted.fragment, parted.has_fragment);
     components->query = next_part(&at, parted.bytes - parted.path - parted.fragment, parted.has_query);
@@ -197,7 +197,7 @@ gix_url_error gix_url_path_query_fragment(const gix_url *url, char *room, size_t
 
 const char *gix_url_version(void) { return GIX_URL_VERSION; }
 
-/* The words that say something of a text that was taken for this form. */
+/* The words about a text that was taken for this form. */
 #define OF_FORM(form, words)                                  \
     ((form) == GIX_URL_KIND_URL     ? "the URL " words        \
      : (form) == GIX_URL_KIND_SCP   ? "the scp form " words   \
@@ -244,7 +244,7 @@ const char *gix_url_error_words(gix_url_error error, const gix_url_problem *prob
     case GIX_URL_HELPER_NAME: return "the remote helper has no valid name";
     case GIX_URL_UNWRITABLE: return unwritable_words(problem->write_fault);
     case GIX_URL_NO_LOCATION: return "the struct holds no location";
-    case GIX_URL_NO_ROOM: return "the room is too small for the answer";
+    case GIX_URL_NO_ROOM: return "the buffer is too small for the answer";
     case GIX_URL_NULL: return "a pointer is null that may not be";
     case GIX_URL_NO_VALUE: return "Git stops at an entry without a value";
     case GIX_URL_NO_BOOLEAN: return "Git stops at an entry whose value is not a boolean";
@@ -324,22 +324,22 @@ const char *gix_url_condition_name(gix_url_condition condition) {
     return "?";
 }
 
-/* What one of the two exports over the table of reasons puts. A number that isn't a byte becomes one of no reason. */
-static gix_url_error put_reason(uint32_t (*put)(uint8_t, char *, size_t, size_t *), gix_url_reason reason, char *room,
-                                size_t room_len, size_t *needed) {
-    if (!room) room = nowhere, room_len = 0;
+/* Calls one of the two exports over the table of reasons. A number that isn't a byte becomes one that has no reason. */
+static gix_url_error put_reason(uint32_t (*put)(uint8_t, char *, size_t, size_t *), gix_url_reason reason, char *buffer,
+                                size_t buffer_len, size_t *needed) {
+    if (!buffer) buffer = nowhere, buffer_len = 0;
     size_t len = 0;
-    uint32_t error = put((unsigned)reason < UINT8_MAX ? (uint8_t)reason : UINT8_MAX, room, room_len, &len);
+    uint32_t error = put((unsigned)reason < UINT8_MAX ? (uint8_t)reason : UINT8_MAX, buffer, buffer_len, &len);
     if (needed) *needed = len;
     return (gix_url_error)error;
 }
 
-gix_url_error gix_url_reason_name(gix_url_reason reason, char *room, size_t room_len, size_t *needed) {
-    return put_reason(gix_url_c_reason_name, reason, room, room_len, needed);
+gix_url_error gix_url_reason_name(gix_url_reason reason, char *buffer, size_t buffer_len, size_t *needed) {
+    return put_reason(gix_url_c_reason_name, reason, buffer, buffer_len, needed);
 }
 
-gix_url_error gix_url_reason_words(gix_url_reason reason, char *room, size_t room_len, size_t *needed) {
-    return put_reason(gix_url_c_reason_words, reason, room, room_len, needed);
+gix_url_error gix_url_reason_words(gix_url_reason reason, char *buffer, size_t buffer_len, size_t *needed) {
+    return put_reason(gix_url_c_reason_words, reason, buffer, buffer_len, needed);
 }
 
 gix_url_text gix_url_scheme_text(const gix_url *url) {

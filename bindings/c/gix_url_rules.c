@@ -1,9 +1,9 @@
-/* The calls of gix_url_rules.h that read a configuration or use one, over the exports of the static library
+/* The calls of gix_url_rules.h that parse a configuration or use one, over the exports of the static library
  * crates/gix_url_c.
  *
- * As gix_url.c this is glue: null pointers become errors, and what comes back as lengths becomes pointers into the
- * caller's buffers. Each export and its types are declared as crates/gix_url_c/src/rules has them; a slice of that library
- * is a pointer that isn't null and a length. A gix_url_entry is an entry of that library as it is. */
+ * As in gix_url.c, null pointers become errors, and returned lengths become pointers into the caller's buffers. The
+ * declarations of exports and their types match crates/gix_url_c/src/rules. A slice of that library is a pointer that
+ * isn't null and a length. A gix_url_entry has the layout of an entry of that library. */
 #include "gix_url_rules.h"
 #include "parts.h"
 
@@ -77,10 +77,10 @@ uint32_t gix_url_c_credentials(const gix_url_entry *, size_t, const char *, size
 uint32_t gix_url_c_check(const gix_url_entry *, check *);
 uint32_t gix_url_c_submodules(const gix_url_entry *, size_t, sizes *, char *, size_t, size_t *, size_t);
 
-/* How many numbers the library writes of an entry, and of a submodule. */
+/* How many numbers the library writes for an entry, and for a submodule. */
 enum { ENTRY_NUMBERS = 8, SUBMODULE_NUMBERS = 5 };
 
-/* Somewhere to point to where there are no entries. */
+/* The target of pointers if there are no entries. */
 static gix_url_entry no_entries[1];
 
 /* Whether no pointer of the entry is null. */
@@ -88,7 +88,7 @@ static bool is_whole(const gix_url_entry *entry) {
     return entry->section.at && entry->subsection.at && entry->name.at && entry->value.at;
 }
 
-/* The entries, of which there are none where the pointer is null; a null pointer where one of them has a null pointer. */
+/* The entries, or no entries for a null pointer; a null pointer if one of them has a null pointer. */
 static const gix_url_entry *whole(const gix_url_entry *entries, size_t *count) {
     if (!entries) *count = 0;
     for (size_t i = 0; i < *count; i++)
@@ -96,7 +96,7 @@ static const gix_url_entry *whole(const gix_url_entry *entries, size_t *count) {
     return entries ? entries : no_entries;
 }
 
-/* Stores a place at which Git stops. */
+/* Stores the position at which Git stops. */
 static void tell(const stop *told, gix_url_stop *stop) {
     if (!stop) return;
     memset(stop, 0, sizeof *stop);
@@ -105,13 +105,13 @@ static void tell(const stop *told, gix_url_stop *stop) {
     stop->flaw = (gix_url_flaw)told->flaw;
 }
 
-/* A pointer is null that may not be. */
+/* The error for a null pointer that must not be null. */
 static gix_url_error null_pointer(gix_url_stop *stop) {
     if (stop) memset(stop, 0, sizeof *stop);
     return GIX_URL_NULL;
 }
 
-/* The entry whose numbers these are, and whose parts end here, in front of which the entry before it ends. */
+/* The entry with these numbers, whose parts end at `*end`. Moves `*end` to the end of the entry before it. */
 static gix_url_entry entry_before(const char **end, const size_t *numbers) {
     gix_url_entry entry;
     memset(&entry, 0, sizeof entry);
@@ -126,7 +126,7 @@ static gix_url_entry entry_before(const char **end, const size_t *numbers) {
     return entry;
 }
 
-/* Makes entries of the numbers that are at the front of their array, from the last one on: an entry is longer than its
+/* Converts the numbers at the front of the array to entries, from the last one on: an entry is longer than its
  * numbers. */
 static void make_entries(gix_url_entry *entries, size_t count, const char *end) {
     for (size_t i = count; i-- > 0;) {
@@ -139,16 +139,16 @@ static void make_entries(gix_url_entry *entries, size_t count, const char *end) 
 typedef uint32_t reader(const char *, size_t, sizes *, char *, size_t, size_t *, size_t, stop *);
 
 static gix_url_error read_entries(reader *read, const char *text, size_t len, char *buffer, size_t buffer_len,
-                                  gix_url_entry *entries, size_t entry_room, size_t *count, size_t *needed,
+                                  gix_url_entry *entries, size_t entry_capacity, size_t *count, size_t *needed,
                                   gix_url_stop *stopped) {
     if (!count) return null_pointer(stopped);
     if (!text) text = nowhere, len = 0;
     if (!buffer) buffer = nowhere, buffer_len = 0;
     void *numbers = entries;
-    size_t room = number_room(&numbers, entry_room, sizeof *entries, ENTRY_NUMBERS);
+    size_t capacity = number_capacity(&numbers, entry_capacity, sizeof *entries, ENTRY_NUMBERS);
     sizes sizes = {0};
     stop stop = {0};
-    uint32_t error = read(text, len, &sizes, buffer, buffer_len, numbers, room, &stop);
+    uint32_t error = read(text, len, &sizes, buffer, buffer_len, numbers, capacity, &stop);
     if (is_measured(error)) *count = sizes.count, store(needed, sizes.bytes);
     if (error == GIX_URL_OK) make_entries(entries, sizes.count, buffer + sizes.bytes);
     tell(&stop, stopped);
@@ -156,16 +156,16 @@ static gix_url_error read_entries(reader *read, const char *text, size_t len, ch
 }
 
 gix_url_error gix_url_read_listing(const char *text, size_t len, char *buffer, size_t buffer_len, gix_url_entry *entries,
-                                   size_t entry_room, size_t *count, size_t *needed, gix_url_stop *stop) {
-    return read_entries(gix_url_c_read_listing, text, len, buffer, buffer_len, entries, entry_room, count, needed, stop);
+                                   size_t entry_capacity, size_t *count, size_t *needed, gix_url_stop *stop) {
+    return read_entries(gix_url_c_read_listing, text, len, buffer, buffer_len, entries, entry_capacity, count, needed, stop);
 }
 
 gix_url_error gix_url_read_file(const char *text, size_t len, char *buffer, size_t buffer_len, gix_url_entry *entries,
-                                size_t entry_room, size_t *count, size_t *needed, gix_url_stop *stop) {
-    return read_entries(gix_url_c_read_file, text, len, buffer, buffer_len, entries, entry_room, count, needed, stop);
+                                size_t entry_capacity, size_t *count, size_t *needed, gix_url_stop *stop) {
+    return read_entries(gix_url_c_read_file, text, len, buffer, buffer_len, entries, entry_capacity, count, needed, stop);
 }
 
-/* Returns what was rewritten into the buffer, or the error. */
+/* Returns the text that was rewritten into the buffer, or the error. */
 static gix_url_error hand_out(uint32_t error, const rewrite *made, const char *buffer, gix_url_rewritten *rewritten,
                               size_t *needed, const stop *told, gix_url_stop *stop) {
     if (is_measured(error)) store(needed, made->len);
@@ -205,7 +205,7 @@ gix_url_error gix_url_rewrite_push(const gix_url_entry *entries, size_t count, c
     return hand_out(error, &made, buffer, rewritten, needed, &stop, stopped);
 }
 
-/* Stores a remote whose values are in the buffer behind its URLs. */
+/* Stores a remote whose values follow its URLs in the buffer. */
 static void make_remote(const remote *made, const char *values, gix_url_remote *remote) {
     memset(remote, 0, sizeof *remote);
     remote->url_count = made->urls;
@@ -217,17 +217,17 @@ static void make_remote(const remote *made, const char *values, gix_url_remote *
 }
 
 gix_url_error gix_url_remote_of(const gix_url_entry *entries, size_t count, const char *name, size_t len, char *buffer,
-                                size_t buffer_len, gix_url_text *urls, size_t url_room, gix_url_remote *found,
+                                size_t buffer_len, gix_url_text *urls, size_t url_capacity, gix_url_remote *found,
                                 size_t *needed, size_t *needed_urls, gix_url_stop *stopped) {
     const gix_url_entry *config = whole(entries, &count);
     if (!config || !found) return null_pointer(stopped);
     if (!name) name = nowhere, len = 0;
     if (!buffer) buffer = nowhere, buffer_len = 0;
     void *lengths = urls;
-    size_t room = number_room(&lengths, url_room, sizeof *urls, 1);
+    size_t capacity = number_capacity(&lengths, url_capacity, sizeof *urls, 1);
     remote made = {0};
     stop stop = {0};
-    uint32_t error = gix_url_c_remote(config, count, name, len, &made, buffer, buffer_len, lengths, room, &stop);
+    uint32_t error = gix_url_c_remote(config, count, name, len, &made, buffer, buffer_len, lengths, capacity, &stop);
     if (is_measured(error)) store(needed, made.bytes), store(needed_urls, made.urls + made.push_urls);
     if (error == GIX_URL_OK) {
         const char *values = buffer + made.bytes - made.vcs - made.proxy - made.uploadpack - made.receivepack;
@@ -292,16 +292,16 @@ gix_url_error gix_url_ssh_program_of(const gix_url_entry *entries, size_t count,
 }
 
 gix_url_error gix_url_settings_of(const gix_url_entry *entries, size_t count, const char *name, size_t name_len,
-                                  const char *text, size_t len, size_t *indices, size_t setting_room,
+                                  const char *text, size_t len, size_t *indices, size_t setting_capacity,
                                   gix_url_settings *found, size_t *needed, gix_url_stop *stopped) {
     const gix_url_entry *config = whole(entries, &count);
     if (!config || !found) return null_pointer(stopped);
     if (!name) name = nowhere, name_len = 0;
     if (!text) text = nowhere, len = 0;
-    if (!indices) indices = no_numbers, setting_room = 0;
+    if (!indices) indices = no_numbers, setting_capacity = 0;
     settings made = {0};
     stop stop = {0};
-    uint32_t error = gix_url_c_settings(config, count, name, name_len, text, len, &made, indices, setting_room, &stop);
+    uint32_t error = gix_url_c_settings(config, count, name, name_len, text, len, &made, indices, setting_capacity, &stop);
     if (is_measured(error)) store(needed, made.count);
     if (error == GIX_URL_OK) {
         memset(found, 0, sizeof *found);
@@ -313,17 +313,17 @@ gix_url_error gix_url_settings_of(const gix_url_entry *entries, size_t count, co
 }
 
 gix_url_error gix_url_credentials_of(const gix_url_entry *entries, size_t count, const char *text, size_t len, char *buffer,
-                                     size_t buffer_len, size_t *helpers, size_t helper_room, gix_url_credentials *found,
+                                     size_t buffer_len, size_t *helpers, size_t helper_capacity, gix_url_credentials *found,
                                      size_t *needed, size_t *needed_helpers, gix_url_stop *stopped) {
     const gix_url_entry *config = whole(entries, &count);
     if (!config || !found) return null_pointer(stopped);
     if (!text) text = nowhere, len = 0;
     if (!buffer) buffer = nowhere, buffer_len = 0;
-    if (!helpers) helpers = no_numbers, helper_room = 0;
+    if (!helpers) helpers = no_numbers, helper_capacity = 0;
     credentials made = {0};
     stop stop = {0};
     uint32_t error =
-        gix_url_c_credentials(config, count, text, len, &made, buffer, buffer_len, helpers, helper_room, &stop);
+        gix_url_c_credentials(config, count, text, len, &made, buffer, buffer_len, helpers, helper_capacity, &stop);
     if (is_measured(error)) store(needed, made.user), store(needed_helpers, made.helpers);
     if (error == GIX_URL_OK) {
         memset(found, 0, sizeof *found);
@@ -345,8 +345,8 @@ gix_url_error gix_url_check_submodule(const gix_url_entry *entry, gix_url_submod
     return (gix_url_error)error;
 }
 
-/* Makes submodules of the numbers that are at the front of their array, from the last one on: a submodule is longer than
- * its numbers. Their names end here. */
+/* Converts the numbers at the front of the array to submodules, from the last one on: a submodule is longer than its
+ * numbers. Their names end at `end`. */
 static void make_submodules(gix_url_submodule *submodules, size_t count, const char *end) {
     for (size_t i = count; i-- > 0;) {
         size_t numbers[SUBMODULE_NUMBERS];
@@ -358,15 +358,15 @@ static void make_submodules(gix_url_submodule *submodules, size_t count, const c
 }
 
 gix_url_error gix_url_submodules_of(const gix_url_entry *entries, size_t count, char *buffer, size_t buffer_len,
-                                    gix_url_submodule *submodules, size_t submodule_room, size_t *submodule_count,
+                                    gix_url_submodule *submodules, size_t submodule_capacity, size_t *submodule_count,
                                     size_t *needed) {
     const gix_url_entry *config = whole(entries, &count);
     if (!config || !submodule_count) return GIX_URL_NULL;
     if (!buffer) buffer = nowhere, buffer_len = 0;
     void *numbers = submodules;
-    size_t room = number_room(&numbers, submodule_room, sizeof *submodules, SUBMODULE_NUMBERS);
+    size_t capacity = number_capacity(&numbers, submodule_capacity, sizeof *submodules, SUBMODULE_NUMBERS);
     sizes sizes = {0};
-    uint32_t error = gix_url_c_submodules(config, count, &sizes, buffer, buffer_len, numbers, room);
+    uint32_t error = gix_url_c_submodules(config, count, &sizes, buffer, buffer_len, numbers, capacity);
     if (is_measured(error)) *submodule_count = sizes.count, store(needed, sizes.bytes);
     if (error == GIX_URL_OK) make_submodules(submodules, sizes.count, buffer + sizes.bytes);
     return (gix_url_error)error;

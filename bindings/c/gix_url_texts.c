@@ -1,6 +1,6 @@
 /* The calls of gix_url_rules.h over texts and locations alone, over the exports of the static library crates/gix_url_c.
  *
- * gix_url_rules.c says what is here, and has the calls that use a configuration. */
+ * gix_url_rules.c has the calls that use a configuration, and describes the conventions of both files. */
 #include "gix_url_rules.h"
 #include "parts.h"
 
@@ -59,16 +59,16 @@ gix_url_error gix_url_transport_of(const char *text, size_t len, char *buffer, s
     return GIX_URL_OK;
 }
 
-gix_url_error gix_url_dangers_of(const char *text, size_t len, const gix_url *url, uint8_t *dangers, size_t danger_room,
+gix_url_error gix_url_dangers_of(const char *text, size_t len, const gix_url *url, uint8_t *dangers, size_t danger_capacity,
                                  size_t *count) {
     if (!url || !count) return GIX_URL_NULL;
     if (!text) text = nowhere, len = 0;
-    if (!dangers) dangers = (uint8_t *)nowhere, danger_room = 0;
+    if (!dangers) dangers = (uint8_t *)nowhere, danger_capacity = 0;
     given given = given_of(url);
-    return (gix_url_error)gix_url_c_dangers(text, len, &given, dangers, danger_room, count);
+    return (gix_url_error)gix_url_c_dangers(text, len, &given, dangers, danger_capacity, count);
 }
 
-/* What one of the two exports over a danger puts. A number that isn't a byte becomes one of no danger. */
+/* Calls one of the two exports over a danger. A number that isn't a byte becomes one that has no danger. */
 static gix_url_error put_danger(uint32_t (*put)(uint8_t, char *, size_t, size_t *), gix_url_danger danger, char *buffer,
                                 size_t buffer_len, size_t *needed) {
     if (!buffer) buffer = nowhere, buffer_len = 0;
@@ -86,12 +86,12 @@ gix_url_error gix_url_danger_words(gix_url_danger danger, char *buffer, size_t b
     return put_danger(gix_url_c_danger_words, danger, buffer, buffer_len, needed);
 }
 
-gix_url_error gix_url_secrets_of(const char *text, size_t len, gix_url_piece *pieces, size_t piece_room, size_t *count) {
+gix_url_error gix_url_secrets_of(const char *text, size_t len, gix_url_piece *pieces, size_t piece_capacity, size_t *count) {
     if (!count) return GIX_URL_NULL;
     if (!text) text = nowhere, len = 0;
     void *numbers = pieces;
-    size_t room = number_room(&numbers, piece_room, sizeof *pieces, 2);
-    return (gix_url_error)gix_url_c_secrets(text, len, numbers, room, count);
+    size_t capacity = number_capacity(&numbers, piece_capacity, sizeof *pieces, 2);
+    return (gix_url_error)gix_url_c_secrets(text, len, numbers, capacity, count);
 }
 
 gix_url_error gix_url_git_reading(const char *text, size_t len, char *buffer, size_t buffer_len, gix_url_git_place *reported,
@@ -135,16 +135,16 @@ gix_url_error gix_url_credential_reading(const char *text, size_t len, char *buf
     return GIX_URL_OK;
 }
 
-/* A number as a byte; one that isn't a byte becomes one that stands for nothing. */
+/* A number as a byte. A number that isn't a byte becomes one without a meaning. */
 static uint8_t byte_of(unsigned number) { return number < UINT8_MAX ? (uint8_t)number : UINT8_MAX; }
 
 gix_url_error gix_url_ssh_words(const gix_url *url, const gix_url_ssh_request *request, char *buffer, size_t buffer_len,
-                                gix_url_text *words, size_t word_room, gix_url_ssh_command *reported, size_t *needed,
+                                gix_url_text *words, size_t word_capacity, gix_url_ssh_command *reported, size_t *needed,
                                 size_t *needed_words) {
     if (!url || !request || !reported) return GIX_URL_NULL;
     if (!buffer) buffer = nowhere, buffer_len = 0;
     void *lengths = words;
-    size_t room = number_room(&lengths, word_room, sizeof *words, 1);
+    size_t capacity = number_capacity(&lengths, word_capacity, sizeof *words, 1);
     given given = given_of(url);
     asked asked = {
         .program = bytes_of(request->program),
@@ -155,7 +155,7 @@ gix_url_error gix_url_ssh_words(const gix_url *url, const gix_url_ssh_request *r
         .family = byte_of(request->family),
     };
     command made = {0};
-    uint32_t error = gix_url_c_ssh_words(&given, &asked, &made, buffer, buffer_len, lengths, room);
+    uint32_t error = gix_url_c_ssh_words(&given, &asked, &made, buffer, buffer_len, lengths, capacity);
     if (is_measured(error)) store(needed, made.bytes), store(needed_words, made.words);
     if (error != GIX_URL_OK) return (gix_url_error)error;
     make_texts(words, made.words, buffer + made.bytes);

@@ -1,4 +1,4 @@
-/* Parts of locations between the calls and the exports, for each file of this folder. */
+/* Conversions of parts of locations for the exports, shared by the files of this folder. */
 #ifndef GIX_URL_PARTS_H
 #define GIX_URL_PARTS_H
 
@@ -17,7 +17,7 @@ typedef struct given {
     gix_url_text name, user, password, host, path, spelling;
 } given;
 
-/* Somewhere to point to where there are no bytes, or no numbers. */
+/* The target of pointers if there are no bytes, or no numbers. */
 static char nowhere[1];
 static size_t no_numbers[1];
 
@@ -26,16 +26,16 @@ static inline gix_url_text text_of(const char *at, size_t len, bool is_there) {
     return text;
 }
 
-/* The part itself, with no length where it isn't there. */
+/* The part, with length 0 if it is missing. */
 static inline gix_url_text part_of(gix_url_text part) { return text_of(part.at, part.len, part.at != NULL); }
 
-/* The bytes of a part; none where it isn't there, whatever its length. */
+/* The bytes of a part; no bytes if it is missing, whatever its length. */
 static inline gix_url_text bytes_of(gix_url_text text) {
     gix_url_text none = {nowhere, 0};
     return text.at ? text : none;
 }
 
-/* The parts of a location. A scheme that isn't a byte becomes one that is none of the eight. */
+/* The parts of a location. A scheme that isn't a byte becomes a number of none of the eight schemes. */
 static inline given given_of(const gix_url *url) {
     return (given){
         .front = {
@@ -57,30 +57,30 @@ static inline given given_of(const gix_url *url) {
     };
 }
 
-/* The bytes at the front of the room, which moves on behind them. */
-static inline gix_url_text next_part(const char **room, size_t len, bool is_there) {
-    gix_url_text part = text_of(*room, len, is_there);
-    *room += len;
+/* Takes these bytes from the front of the buffer, which then begins after them. */
+static inline gix_url_text next_part(const char **buffer, size_t len, bool is_there) {
+    gix_url_text part = text_of(*buffer, len, is_there);
+    *buffer += len;
     return part;
 }
 
-/* Whether a call that returns this stores what is needed. */
+/* Whether a call that returns this error stores the size that it needs. */
 static inline bool is_measured(uint32_t error) { return error == GIX_URL_OK || error == GIX_URL_NO_ROOM; }
 
 static inline void store(size_t *where, size_t number) {
     if (where) *where = number;
 }
 
-/* How many numbers fit into the array of so many elements of this size, each of which has so many numbers. A null pointer
- * becomes an array of none. */
-static inline size_t number_room(void **array, size_t count, size_t size, size_t numbers) {
+/* How many numbers fit into an array of this many elements of this size, each of which has this many numbers. A null
+ * pointer becomes an array without elements. */
+static inline size_t number_capacity(void **array, size_t count, size_t size, size_t numbers) {
     if (*array && count <= SIZE_MAX / size) return count * numbers;
     *array = no_numbers;
     return 0;
 }
 
-/* Makes texts of the lengths that are at the front of their array, from the last one on: a text is longer than its length.
- * The texts end here. */
+/* Converts the lengths at the front of the array to texts, from the last one on: a text is longer than its length. The
+ * texts end at `end`. */
 static inline void make_texts(gix_url_text *texts, size_t count, const char *end) {
     for (size_t i = count; i-- > 0;) {
         size_t len;

@@ -1,5 +1,5 @@
-/* Answers each line of the standard input as the program `locations` does, by calls of the library, and checks that the
- * calls agree with one another. */
+/* Prints a result for each line of the standard input as the program `locations` does, by calls of the library, and
+ * checks that the calls agree with one another. */
 #include "told.h"
 
 #include <string.h>
@@ -10,26 +10,26 @@ static void answer_refused(line *out, gix_url_error error, const gix_url_problem
     if (problem->fault) put_word(out, " "), put_word(out, gix_url_fault_name(problem->fault));
 }
 
-/* What was written is read as the same fields; and made of its parts, which have no spelling, it is the same, if those
- * are settled. */
+/* Checks that the written text is parsed as the same fields, and that its parts, which have no spelling, give the same
+ * location if those are settled. */
 static void comes_back(const gix_url *url, gix_url_text text) {
     gix_url again;
     gix_url_error error;
     gix_url_problem problem;
-    char *room = read_input(text, &again, &error, &problem);
+    char *buffer = read_input(text, &again, &error, &problem);
     HOLDS(error == GIX_URL_OK && has_same_fields(url, &again));
-    free(room);
+    free(buffer);
     gix_url parts = *url;
     bool settled;
     parts.spelling = (gix_url_text){NULL, 0};
     HOLDS(gix_url_is_settled(&parts, &settled) == GIX_URL_OK);
     if (!settled) return;
-    room = make_parts(url, &again, &error, &problem);
+    buffer = make_parts(url, &again, &error, &problem);
     HOLDS(error == GIX_URL_OK && has_same_fields(url, &again));
-    free(room);
+    free(buffer);
 }
 
-/* No text that begins with - is returned as usable, and the original path is one of the two. */
+/* Checks that no text that begins with - is returned as usable, and that the original path is one of the two. */
 static void is_seen(const gix_url *url) {
     gix_url_seen seen;
     HOLDS(gix_url_look(url, &seen) == GIX_URL_OK);
@@ -48,8 +48,9 @@ static bool holds(gix_url_text text, char byte) {
     return text.len > 0 && memchr(text.at, byte, text.len);
 }
 
-/* What agrees with Git is settled. It is of one of Git's own three transports, and without a password or an option; or
- * of HTTP, with a host, a user without a colon, and a path from a slash on without a fragment. */
+/* Checks that a location that agrees with Git is settled. It has one of Git's own three transports, and no password or
+ * option; or it is of HTTP, with a host, a user without a colon, and a path that begins with a slash and has no
+ * fragment. */
 static void is_for_git(const gix_url *url, bool settled) {
     bool agrees;
     gix_url_seen seen;
@@ -65,18 +66,18 @@ static void is_for_git(const gix_url *url, bool settled) {
     HOLDS(seen.user != GIX_URL_DANGEROUS && seen.host != GIX_URL_DANGEROUS);
 }
 
-/* A location without a password is shown as its text, where that is ASCII; with one it is shown otherwise. */
+/* Checks that a location without a password is shown as its text, if that is ASCII, and differently with one. */
 static void is_shown(const gix_url *url, gix_url_text text) {
     gix_url_error error;
     gix_url_problem problem;
     gix_url_text shown;
-    char *room = text_of_location(gix_url_display, url, &shown.len, &error, &problem);
-    HOLDS(room);
-    shown.at = room;
+    char *buffer = text_of_location(gix_url_display, url, &shown.len, &error, &problem);
+    HOLDS(buffer);
+    shown.at = buffer;
     bool is_ascii = true;
     for (size_t i = 0; i < text.len; i++) is_ascii &= (unsigned char)text.at[i] < 128;
     if (!url->password.at && is_ascii) HOLDS(is_same(shown, text));
-    free(room);
+    free(buffer);
 }
 
 static void answer_read(line *out, const gix_url *url) {
@@ -90,13 +91,13 @@ static void answer_read(line *out, const gix_url *url) {
     free(told.at);
     HOLDS(gix_url_is_settled(url, &settled) == GIX_URL_OK);
     is_for_git(url, settled);
-    char *room = text_of_location(gix_url_write, url, &text.len, &error, &problem);
-    text.at = room;
-    put_word(out, !room ? "unwritable\t" : settled ? "settled\t" : "unsettled\t");
-    put_text(out, room && settled ? text : gix_url_scheme_text(url));
-    if (room) is_shown(url, text);
+    char *buffer = text_of_location(gix_url_write, url, &text.len, &error, &problem);
+    text.at = buffer;
+    put_word(out, !buffer ? "unwritable\t" : settled ? "settled\t" : "unsettled\t");
+    put_text(out, buffer && settled ? text : gix_url_scheme_text(url));
+    if (buffer) is_shown(url, text);
     if (settled) comes_back(url, text);
-    free(room);
+    free(buffer);
 }
 
 static void answer(line *out, gix_url_text input) {
@@ -104,11 +105,11 @@ static void answer(line *out, gix_url_text input) {
     gix_url_error error;
     gix_url_problem problem;
     about(input);
-    char *room = read_input(input, &url, &error, &problem);
+    char *buffer = read_input(input, &url, &error, &problem);
     if (error == GIX_URL_OK) answer_read(out, &url);
     else answer_refused(out, error, &problem);
     put_word(out, "\n");
-    free(room);
+    free(buffer);
 }
 
 int main(void) {

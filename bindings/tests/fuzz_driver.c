@@ -1,4 +1,4 @@
-/* Calls a fuzz target with texts that are changed by chance, where there is no libFuzzer: `fuzz_driver SECONDS <LINES`. */
+/* Calls a fuzz target with randomly changed texts, in place of libFuzzer: `fuzz_driver SECONDS <LINES`. */
 #include <stdint.h>
 #include <stdio.h>
 #include <stdlib.h>
@@ -17,8 +17,8 @@ static uint64_t chance(uint64_t below) {
     return state % below;
 }
 
-/* The lines of the standard input, as many as there is room for, each behind a byte 0 unless it begins with a control
- * character. */
+/* Reads the lines of the standard input, as many as the buffer holds, each after a byte 0 unless it begins with a
+ * control character. */
 static void read_seeds(void) {
     char line[LONGEST - 1];
     while (fgets(line, sizeof line, stdin)) {
@@ -29,7 +29,7 @@ static void read_seeds(void) {
     }
 }
 
-/* Changes, takes or inserts a byte: one that means something to a location, or any. */
+/* Changes, removes or inserts a byte: one with a meaning in a location, or any. */
 static size_t changed(uint8_t *data, size_t len) {
     static const char marks[] = ":/@[]%?#-~\\";
     size_t at = chance(len + 1);

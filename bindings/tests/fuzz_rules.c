@@ -1,6 +1,7 @@
-/* Each call is made over a configuration and a text. */
+/* Makes each call over a configuration and a text. */
 #include "fuzz_rules.h"
 
+#include <stdlib.h>
 #include <string.h>
 
 enum { MOST_ENTRIES = 64, BYTES = 1 << 13 };
@@ -15,7 +16,7 @@ static bool begins_with(gix_url_text text, gix_url_text front) {
     return text.len >= front.len && memcmp(text.at, front.at, front.len) == 0;
 }
 
-/* Whether a call may return this where Git may stop. */
+/* Whether the error is one at which Git stops. Checks that the stop is all 0 otherwise. */
 static bool stops(gix_url_error error, const gix_url_stop *stop) {
     static const gix_url_stop none;
     bool is_stop = error == GIX_URL_NO_VALUE || error == GIX_URL_NO_BOOLEAN || error == GIX_URL_NO_CONFIGURATION;
@@ -25,7 +26,7 @@ static bool stops(gix_url_error error, const gix_url_stop *stop) {
 
 typedef gix_url_error reader(const char *, size_t, char *, size_t, gix_url_entry *, size_t, size_t *, size_t *, gix_url_stop *);
 
-/* Reads a configuration, unless it has too many entries. */
+/* Parses a configuration, unless it has too many entries. */
 static bool read_config(reader *read, gix_url_text text, config *config) {
     size_t needed = 0;
     gix_url_stop stop;
@@ -42,7 +43,7 @@ static bool read_config(reader *read, gix_url_text text, config *config) {
     return error == GIX_URL_OK;
 }
 
-/* What is read of a listing that is written of the entries is the same. */
+/* Checks that a listing of the entries is parsed as the same entries. */
 static void comes_back(const config *read) {
     static config again;
     line listing = {0};
@@ -109,7 +110,7 @@ static void is_cut(gix_url_text text) {
     HOLDS(len == text.len);
 }
 
-/* What is asked for of credentials and settings is among the entries. */
+/* Checks that the entries for credentials and settings are among those of the configuration. */
 static void is_asked(const config *config, gix_url_text text) {
     char buffer[BYTES];
     size_t indices[MOST_ENTRIES];
@@ -126,7 +127,43 @@ static void is_asked(const config *config, gix_url_text text) {
         for (size_t i = 0; i < settings.setting_count; i++) HOLDS(indices[i] < config->count);
 }
 
-/* No word but an option begins with -, and Git has no words for what isn't read. */
+/* Checks that a request has a protocol, and fits in a buffer of just the needed length. */
+static void is_requested(gix_url_text text) {
+    char buffer[BYTES];
+    gix_url_request request, again;
+    size_t needed = 0;
+    if (gix_url_credential_reading(text.at, text.len, buffer, BYTES, &request, &needed) != GIX_URL_OK) return;
+    HOLDS(request.is_read ? request.protocol.len > 0 : !request.protocol.at && needed == 0);
+    char *exact = at_wall(0, NULL, needed);
+    HOLDS(gix_url_credential_reading(text.at, text.len, exact, needed, &again, NULL) == GIX_URL_OK);
+    HOLDS(is_same(again.host, request.host) && is_same(again.path, request.path) && is_same(again.user, request.user));
+}
+
+/* Finds the program for Secure Shell, also by each variable. */
+static void is_run(const config *config, gix_url_text text) {
+    const gix_url_ssh_variables cases[] = {{.git_ssh_command = text}, {.git_ssh = text}, {.git_ssh_variant = text}};
+    for (size_t i = 0; i <= 3; i++) {
+        char buffer[BYTES];
+        gix_url_ssh_program program;
+        gix_url_stop stop;
+        gix_url_error error = gix_url_ssh_program_of(config->entries, config->count, i < 3 ? &cases[i] : NULL, buffer, BYTES,
+                                                     &program, NULL, &stop);
+        if (stops(error, &stop) || error != GIX_URL_OK) continue;
+        HOLDS((int)program.variant >= 0 && program.variant <= GIX_URL_SSH_ASKED);
+    }
+}
+
+/* Checks that a danger has a name and words, and another number has none. */
+static void is_named(gix_url_danger danger) {
+    char buffer[64];
+    size_t len = 0;
+    bool is_one = (int)danger >= 1 && danger <= GIX_URL_DANGERS;
+    const gix_url_error wanted = is_one ? GIX_URL_OK : GIX_URL_NO_LOCATION;
+    HOLDS(gix_url_danger_name(danger, buffer, sizeof buffer, &len) == wanted && (len > 0) == is_one);
+    HOLDS(gix_url_danger_words(danger, buffer, sizeof buffer, &len) == wanted && (len > 0) == is_one);
+}
+
+/* Checks that no word except an option begins with -, and that there are no words for a text that Git doesn't read. */
 static void has_words(gix_url_text text) {
     gix_url url;
     gix_url_error error;
@@ -134,17 +171,30 @@ static void has_words(gix_url_text text) {
     static const gix_url_ssh_request usual = {.version = 2};
     gix_url_ssh_command command;
     gix_url_text words[GIX_URL_SSH_WORDS];
-    uint8_t dangers[GIX_URL_DANGERS];
-    char buffer[BYTES], *room = read_input(text, &url, &error, &problem);
-    size_t count = 0;
+    char buffer[BYTES], *parts = read_input(text, &url, &error, &problem);
     if (error == GIX_URL_OK) {
         error = gix_url_ssh_words(&url, &usual, buffer, BYTES, words, GIX_URL_SSH_WORDS, &command, NULL, NULL);
         for (size_t i = 1; error == GIX_URL_OK && i <= 2 && !command.refusal; i++)
             HOLDS(command.word_count >= 2 && !begins_with(words[command.word_count - i], (gix_url_text){"-", 1}));
-        error = gix_url_dangers_of(text.at, text.len, &url, dangers, GIX_URL_DANGERS, &count);
-        for (size_t i = 1; error == GIX_URL_OK && i < count; i++) HOLDS(dangers[i - 1] < dangers[i]);
     }
-    free(room);
+    free(parts);
+}
+
+/* Checks that dangers are in the order of their numbers. */
+static void is_dangerous(gix_url_text text) {
+    gix_url url;
+    gix_url_error error;
+    gix_url_problem problem;
+    uint8_t dangers[GIX_URL_DANGERS];
+    char *parts = read_input(text, &url, &error, &problem);
+    size_t count = 0;
+    if (error == GIX_URL_OK) error = gix_url_dangers_of(text.at, text.len, &url, dangers, GIX_URL_DANGERS, &count);
+    for (size_t i = 0; error == GIX_URL_OK && i < count; i++) {
+        HOLDS(i == 0 || dangers[i - 1] < dangers[i]);
+        is_named((gix_url_danger)dangers[i]);
+    }
+    is_named((gix_url_danger)text.len);
+    free(parts);
 }
 
 static void is_resolved(gix_url_text parent, gix_url_text url) {
@@ -169,13 +219,26 @@ void by_rules(gix_url_text input) {
     const char *end = input.len ? memchr(input.at, 0x1e, input.len) : NULL;
     gix_url_text first = {input.at, end ? (size_t)(end - input.at) : input.len};
     gix_url_text text = end ? (gix_url_text){end + 1, input.len - first.len - 1} : first;
-    if (read_config(gix_url_read_file, first, &config)) comes_back(&config), is_listed(&config);
-    if (!config.count) read_config(gix_url_read_listing, first, &config);
-    is_rewritten(&config, text);
-    is_remote(&config, text);
-    is_permitted(&config, text);
-    is_asked(&config, text);
-    is_cut(text);
-    has_words(text);
-    is_resolved(first, text);
+    bool is_listing = is_asked_for("listings") && !is_asked_for("files");
+    if (!is_listing && read_config(gix_url_read_file, first, &config)) {
+        if (is_asked_for("files")) comes_back(&config);
+        if (is_asked_for("submodules")) is_listed(&config);
+    }
+    if (is_listing || !config.count) read_config(gix_url_read_listing, first, &config);
+    if (is_asked_for("rewriting")) is_rewritten(&config, text);
+    if (is_asked_for("remotes")) is_remote(&config, text);
+    if (is_asked_for("transports")) is_permitted(&config, text);
+    if (is_asked_for("credentials")) is_asked(&config, text), is_requested(text);
+    if (is_asked_for("secrets")) is_cut(text);
+    if (is_asked_for("programs")) is_run(&config, text);
+    if (is_asked_for("words")) has_words(text);
+    if (is_asked_for("dangers")) is_dangerous(text);
+    if (is_asked_for("resolving")) is_resolved(first, text);
+}
+
+bool is_asked_for(const char *part) {
+    static const char *only;
+    static bool is_known;
+    if (!is_known) only = getenv("FUZZ_PART"), is_known = true;
+    return !only || strcmp(only, part) == 0;
 }

@@ -1,4 +1,4 @@
-// The headers are C++ too: their types can be made, and their calls named.
+// The headers are valid in C++: their types can be constructed, and their calls named.
 #include <gix_url.h>
 #include <gix_url_rules.h>
 
@@ -8,8 +8,8 @@ gix_url_error agrees(const gix_url &url, bool &answer) { return gix_url_agrees_w
 
 gix_url_error unmet(const gix_url &url, gix_url_condition &answer) { return gix_url_unmet_condition(&url, &answer); }
 
-gix_url_error named(const gix_url_problem &problem, char (&room)[32], size_t &len) {
-    return gix_url_reason_name(problem.reason, room, sizeof room, &len);
+gix_url_error named(const gix_url_problem &problem, char (&buffer)[32], size_t &len) {
+    return gix_url_reason_name(problem.reason, buffer, sizeof buffer, &len);
 }
 
 gix_url empty() { return gix_url(); }

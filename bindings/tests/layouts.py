@@ -1,6 +1,6 @@
 #!/usr/bin/env python3
-"""Whether the structs, the numbers and the calls of the package gix_url are those of the headers, as a C
-compiler has them."""
+"""Checks that the structs, the numbers and the calls of the package gix_url are those of the headers, as a C
+compiler sees them."""
 import ctypes
 import os
 import re
@@ -28,7 +28,7 @@ STRUCTS = {
     "gix_url_ssh_program": _calls.SshProgram, "gix_url_settings": _calls.Settings,
     "gix_url_credentials": _calls.Credentials, "gix_url_resolved": _calls.Resolved,
     "gix_url_submodule_check": _calls.Check, "gix_url_submodule": _calls.Submodule}
-# Numbers, each with what its names begin with in C.
+# Numbers, each with the prefix of its names in C.
 NUMBERS = {
     "gix_url_scheme": (gix_url.Scheme, ""), "gix_url_argument": (gix_url.Argument, ""),
     "gix_url_condition": (gix_url.Condition, "CONDITION_"), "gix_url_flaw": (rules.Flaw, "FLAW_"),
@@ -40,7 +40,7 @@ NUMBERS = {
     "gix_url_abnormal": (rules.Abnormal, "ABNORMAL_"),
     "gix_url_unresolved": (rules.Unresolved, "UNRESOLVED_"),
     "gix_url_submodule_refusal": (rules.SubmoduleRefusal, "SUBMODULE_")}
-# Calls of the headers that the package has no use for.
+# Calls of the headers that the package doesn't use.
 UNUSED = {"danger_name"}
 TYPES = {
     _library.Size: "size_t", _library.Truth: "_Bool", _library.Number: "int", ctypes.c_uint8: "uint8_t",
@@ -56,7 +56,7 @@ def preprocessed(header):
 
 
 def ran(lines):
-    """What a program in C with these lines prints."""
+    """The output of a program in C with these lines."""
     begin = '#include <stdio.h>\n#include "gix_url_rules.h"\nint main(void) {'
     text = "\n".join([begin, *lines, "}\n"])
     with tempfile.TemporaryDirectory() as folder:
@@ -72,7 +72,7 @@ CALL = re.compile(r"gix_url_error gix_url_(\w+)\((.*?)\);", re.S)
 
 
 def members(kind, name):
-    """What is between the braces of a type, a text for each member."""
+    """The texts between the braces of a type, one for each member."""
     body = re.search(rf"typedef {kind} {name} {{(.*?)}} {name};", HEADER, re.S)
     return [it.strip() for it in re.split("[;,]", body[1]) if it.strip()]
 
@@ -87,14 +87,14 @@ def short(name, front):
 
 
 def in_c(kind):
-    """The name of a type in C: a number of an enumeration is an int here."""
+    """The name of a type in C. A number of an enumeration is an int here."""
     if kind is ctypes.c_char_p:
         return "char *"
     return f"{in_c(kind._type_)} *" if hasattr(kind, "contents") else TYPES[kind]
 
 
 def parameter(text):
-    """The type of a parameter of the header, likewise."""
+    """The type of a parameter of the header, with the same rule."""
     kind = re.sub(r"\bconst\b|\w+$", "", text.strip()).strip()
     return "int" if f"typedef enum {kind} " in HEADER else kind
 
@@ -159,8 +159,8 @@ for call in (
 
 
 def ran_by(lines, program):
-    """What a program in Python prints, and the last line of its errors, over a library with these lines of
-    C."""
+    """The output of a program in Python, and the last line of its errors, with a library that these lines of
+    C build."""
     names = ("error_name", "fault_name", "kind_name", "write_fault_name", "error_words", "version")
     texts = (f'const char *gix_url_{it}(void) {{ return "0"; }}' for it in names)
     with tempfile.TemporaryDirectory() as folder:

@@ -1,19 +1,19 @@
-/* Makes one call on each line of the standard input, over and over: `measure CALL PASSES`, so that valgrind can count the
- * instructions of a call. The calls are read, settled, git, write and look. */
+/* Makes one call on each line of the standard input, PASSES times: `measure CALL PASSES`, so that valgrind can count
+ * the instructions of a call. The calls are read, settled, git, write and look. */
 #include <gix_url.h>
 
 #include <stdio.h>
 #include <stdlib.h>
 #include <string.h>
 
-static char room[65536], text[65536];
+static char buffer[65536], text[65536];
 
 static void call(const char *name, const char *line, size_t len) {
     gix_url url;
     gix_url_seen seen;
     bool answer;
     size_t written;
-    if (gix_url_parse(line, len, room, sizeof room, &url, NULL, NULL) != GIX_URL_OK) return;
+    if (gix_url_parse(line, len, buffer, sizeof buffer, &url, NULL, NULL) != GIX_URL_OK) return;
     if (strcmp(name, "settled") == 0) gix_url_is_settled(&url, &answer);
     if (strcmp(name, "git") == 0) gix_url_agrees_with_git(&url, &answer);
     if (strcmp(name, "write") == 0) gix_url_write(&url, text, sizeof text, &written, NULL);

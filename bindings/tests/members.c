@@ -1,5 +1,6 @@
-/* Prints for each line of the standard input what the calls return, in words separated by a space: bytes in hexadecimal
- * digits behind a `.`, and `-` for what isn't there. tools/compare_bindings.py compares it with explain's. */
+/* Prints the results of the calls for each line of the standard input, in words separated by a space: bytes as
+ * hexadecimal digits after a `.`, and `-` for a missing value. tools/compare_bindings.py compares the output with
+ * explain's. */
 #define _GNU_SOURCE
 #include "told.h"
 
@@ -55,10 +56,10 @@ static void members(line *out, const gix_url *url) {
     put_word(out, settled ? " settled" : " unsettled");
     put_word(out, agrees ? " alike" : " unsure");
     put_word(out, unambiguous ? " unambiguous" : " doubtful");
-    char *room = text_of_location(gix_url_display, url, &text.len, &error, &problem);
-    text.at = room;
+    char *buffer = text_of_location(gix_url_display, url, &text.len, &error, &problem);
+    text.at = buffer;
     put_member(out, text);
-    free(room);
+    free(buffer);
     tell_components(&parts, url);
     put_bytes(out, parts.at, parts.len);
     free(parts.at);
@@ -81,9 +82,9 @@ static void refusal(line *out, gix_url_error error, const gix_url_problem *probl
 
 int main(void) {
     char *input = NULL;
-    size_t room = 0;
+    size_t buffer = 0;
     ssize_t len;
-    while ((len = getline(&input, &room, stdin)) > 0) {
+    while ((len = getline(&input, &buffer, stdin)) > 0) {
         line out = {0};
         gix_url url;
         gix_url_error error;

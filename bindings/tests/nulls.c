@@ -1,5 +1,6 @@
-/* What each call leaves behind: with each pointer null in turn, with structs that hold no location, with a location without a
- * text, and with room that is one too small. Each byte that a call may store into is compared with what was there. */
+/* Checks what each call stores: with each pointer null in turn, with structs that aren't a location, with a location
+ * without a text, and with a buffer that is one byte too short. Each byte that a call may store into is compared with
+ * its previous value. */
 #include "told.h"
 
 #include <string.h>
@@ -8,7 +9,7 @@
 
 static gix_url_text text(const char *word) { return (gix_url_text){word, strlen(word)}; }
 
-/* What the calls store into. */
+/* The memory that the calls store into. */
 typedef struct places {
     gix_url url;
     gix_url_seen seen;
@@ -18,67 +19,67 @@ typedef struct places {
     gix_url_condition unmet;
     size_t len, count;
     gix_url_problem problem;
-    char room[64];
+    char buffer[64];
 } places;
 
-/* The pointers that a call takes: what it is about, and the places of its answer. */
+/* The pointers that a call takes: its subject, and the places of its results. */
 enum { SUBJECT = 1, ROOM = 2, PAIRS = 4, ANSWER = 8, LENGTH = 16, COUNT = 32, PROBLEM = 64, POINTERS = 128 };
 
 /* The calls, with one of these pointers null. */
-typedef gix_url_error caller(const gix_url *url, places *to, size_t room, int null);
+typedef gix_url_error caller(const gix_url *url, places *to, size_t buffer, int null);
 #define OR_NULL(pointer, place) (null == (pointer) ? NULL : (place))
 
-static gix_url_error parse(const gix_url *url, places *to, size_t room, int null) {
-    return gix_url_parse(OR_NULL(SUBJECT, url->path.at), url->path.len, OR_NULL(ROOM, to->room), room, OR_NULL(ANSWER, &to->url),
+static gix_url_error parse(const gix_url *url, places *to, size_t buffer, int null) {
+    return gix_url_parse(OR_NULL(SUBJECT, url->path.at), url->path.len, OR_NULL(ROOM, to->buffer), buffer, OR_NULL(ANSWER, &to->url),
                          OR_NULL(LENGTH, &to->len), OR_NULL(PROBLEM, &to->problem));
 }
 
-static gix_url_error make(const gix_url *url, places *to, size_t room, int null) {
-    return gix_url_from_parts(OR_NULL(SUBJECT, url), OR_NULL(ROOM, to->room), room, OR_NULL(ANSWER, &to->url),
+static gix_url_error make(const gix_url *url, places *to, size_t buffer, int null) {
+    return gix_url_from_parts(OR_NULL(SUBJECT, url), OR_NULL(ROOM, to->buffer), buffer, OR_NULL(ANSWER, &to->url),
                               OR_NULL(LENGTH, &to->len), OR_NULL(PROBLEM, &to->problem));
 }
 
-static gix_url_error settle(const gix_url *url, places *to, size_t room, int null) {
-    (void)room;
+static gix_url_error settle(const gix_url *url, places *to, size_t buffer, int null) {
+    (void)buffer;
     return gix_url_is_settled(OR_NULL(SUBJECT, url), OR_NULL(ANSWER, &to->is));
 }
 
-static gix_url_error agree(const gix_url *url, places *to, size_t room, int null) {
-    (void)room;
+static gix_url_error agree(const gix_url *url, places *to, size_t buffer, int null) {
+    (void)buffer;
     return gix_url_agrees_with_git(OR_NULL(SUBJECT, url), OR_NULL(ANSWER, &to->is));
 }
 
-static gix_url_error judge(const gix_url *url, places *to, size_t room, int null) {
-    (void)room;
+static gix_url_error judge(const gix_url *url, places *to, size_t buffer, int null) {
+    (void)buffer;
     return gix_url_is_unambiguous(OR_NULL(SUBJECT, url), OR_NULL(ANSWER, &to->is));
 }
 
-static gix_url_error meet(const gix_url *url, places *to, size_t room, int null) {
-    (void)room;
+static gix_url_error meet(const gix_url *url, places *to, size_t buffer, int null) {
+    (void)buffer;
     return gix_url_unmet_condition(OR_NULL(SUBJECT, url), OR_NULL(ANSWER, &to->unmet));
 }
 
-static gix_url_error write(const gix_url *url, places *to, size_t room, int null) {
-    return gix_url_write(OR_NULL(SUBJECT, url), OR_NULL(ROOM, to->room), room, OR_NULL(LENGTH, &to->len),
+static gix_url_error write(const gix_url *url, places *to, size_t buffer, int null) {
+    return gix_url_write(OR_NULL(SUBJECT, url), OR_NULL(ROOM, to->buffer), buffer, OR_NULL(LENGTH, &to->len),
                          OR_NULL(PROBLEM, &to->problem));
 }
 
-static gix_url_error show(const gix_url *url, places *to, size_t room, int null) {
-    return gix_url_display(OR_NULL(SUBJECT, url), OR_NULL(ROOM, to->room), room, OR_NULL(LENGTH, &to->len),
+static gix_url_error show(const gix_url *url, places *to, size_t buffer, int null) {
+    return gix_url_display(OR_NULL(SUBJECT, url), OR_NULL(ROOM, to->buffer), buffer, OR_NULL(LENGTH, &to->len),
                            OR_NULL(PROBLEM, &to->problem));
 }
 
-static gix_url_error look(const gix_url *url, places *to, size_t room, int null) {
-    (void)room;
+static gix_url_error look(const gix_url *url, places *to, size_t buffer, int null) {
+    (void)buffer;
     return gix_url_look(OR_NULL(SUBJECT, url), OR_NULL(ANSWER, &to->seen));
 }
 
-static gix_url_error part(const gix_url *url, places *to, size_t room, int null) {
-    return gix_url_path_query_fragment(OR_NULL(SUBJECT, url), OR_NULL(ROOM, to->room), room, OR_NULL(PAIRS, to->pairs), 2,
+static gix_url_error part(const gix_url *url, places *to, size_t buffer, int null) {
+    return gix_url_path_query_fragment(OR_NULL(SUBJECT, url), OR_NULL(ROOM, to->buffer), buffer, OR_NULL(PAIRS, to->pairs), 2,
                                        OR_NULL(ANSWER, &to->parts), OR_NULL(LENGTH, &to->len), OR_NULL(COUNT, &to->count));
 }
 
-/* Each call with the pointers that it takes, and those of them that may not be null. */
+/* The pointers that each call takes, and those that must not be null. */
 enum { OF_READ, OF_MAKE, OF_SETTLED, OF_AGREES, OF_JUDGED, OF_MET, OF_WRITE, OF_SHOW, OF_LOOK, OF_PARTS, CALLS };
 static const struct {
     caller *call;
@@ -96,23 +97,24 @@ static const struct {
     [OF_PARTS] = {part, SUBJECT | ROOM | PAIRS | ANSWER | LENGTH | COUNT, SUBJECT | ANSWER},
 };
 
-/* What a call is to answer: an error with its problem, or GIX_URL_OK with as many bytes, and for components so many pairs. */
+/* The expected result of a call: an error with its problem, or GIX_URL_OK with this many bytes, and for components this
+ * many pairs. */
 typedef struct answer {
     gix_url_error error;
     gix_url_problem problem;
     size_t len, count;
 } answer;
 
-/* The same with this pointer null, in room of this size. */
-static answer answer_with(int call, answer wanted, size_t room, int null) {
+/* The expected result with this pointer null, in a buffer of this size. */
+static answer answer_with(int call, answer wanted, size_t buffer, int null) {
     if (null & calls[call].wants) wanted = (answer){.error = GIX_URL_NULL};
     else if (null == SUBJECT) wanted = (answer){.error = GIX_URL_EMPTY_LOCAL, .problem.reason = GIX_URL_REASON_EMPTY};
-    else if (wanted.error == GIX_URL_OK && (room < wanted.len || (null == ROOM && wanted.len) || (null == PAIRS && wanted.count)))
+    else if (wanted.error == GIX_URL_OK && (buffer < wanted.len || (null == ROOM && wanted.len) || (null == PAIRS && wanted.count)))
         wanted.error = GIX_URL_NO_ROOM;
     return wanted;
 }
 
-/* Stores what is to be stored beside the answer itself. */
+/* Stores the expected problem, length and count. */
 static void store(int call, const answer *answer, int null, places *to) {
     int stored = calls[call].takes & ~null;
     if (stored & PROBLEM) memcpy(&to->problem, &answer->problem, sizeof to->problem);
@@ -121,9 +123,9 @@ static void store(int call, const answer *answer, int null, places *to) {
     if (stored & COUNT) to->count = answer->count;
 }
 
-/* Takes over what only GIX_URL_OK stores, which other tests look at. */
+/* Copies the values that only GIX_URL_OK stores, which other tests check. */
 static void take_over(const answer *answer, const places *got, places *to) {
-    memcpy(to->room, got->room, answer->len);
+    memcpy(to->buffer, got->buffer, answer->len);
     memcpy(to->pairs, got->pairs, answer->count * sizeof *to->pairs);
     memcpy(&to->url, &got->url, sizeof to->url);
     memcpy(&to->seen, &got->seen, sizeof to->seen);
@@ -132,22 +134,23 @@ static void take_over(const answer *answer, const places *got, places *to) {
     memcpy(&to->unmet, &got->unmet, sizeof to->unmet);
 }
 
-static void answers_so(int call, const gix_url *url, answer wanted, size_t room, int null) {
+static void answers_so(int call, const gix_url *url, answer wanted, size_t buffer, int null) {
     static places got, kept;
     memset(&got, 0xA5, sizeof got);
     memset(&kept, 0xA5, sizeof kept);
-    wanted = answer_with(call, wanted, room, null);
-    HOLDS(calls[call].call(url, &got, room, null) == wanted.error);
+    wanted = answer_with(call, wanted, buffer, null);
+    HOLDS(calls[call].call(url, &got, buffer, null) == wanted.error);
     store(call, &wanted, null, &kept);
     if (wanted.error == GIX_URL_OK) take_over(&wanted, &got, &kept);
     HOLDS(memcmp(&got, &kept, sizeof got) == 0);
 }
 
-/* The call answers so with no pointer null and with each in turn; and in room of just as many bytes, and of one less. */
+/* Checks the result of the call with no pointer null, and with each in turn; in a buffer that is just large enough, and
+ * in one that is one byte too short. */
 static void answers(int call, const gix_url *url, answer wanted) {
     about(url->path);
     for (int null = 0; null < POINTERS; null = null ? 2 * null : 1)
-        if (null == 0 || null & calls[call].takes) answers_so(call, url, wanted, sizeof((places *)0)->room, null);
+        if (null == 0 || null & calls[call].takes) answers_so(call, url, wanted, sizeof((places *)0)->buffer, null);
     answers_so(call, url, wanted, wanted.len, 0);
     if (wanted.len) answers_so(call, url, wanted, wanted.len - 1, 0);
 }
@@ -156,7 +159,7 @@ static void answers(int call, const gix_url *url, answer wanted) {
 #define REFUSED(error, wrong, why, before, length) \
     {(error), {.kind = GIX_URL_KIND_URL, .fault = (wrong), .reason = (why), .at = (before), .len = (length)}, 0, 0}
 
-/* Inputs, and what reading them answers. */
+/* Inputs, and the results of parsing them. */
 static const struct {
     gix_url_text input;
     answer read;
@@ -174,7 +177,8 @@ static const struct {
 #define NO_LOCATION {GIX_URL_NO_LOCATION, {0}, 0, 0}
 #define UNWRITABLE(why) {GIX_URL_UNWRITABLE, {.write_fault = (why)}, 0, 0}
 
-/* Locations, and what the calls answer that make, write, show and take apart; those that look at one answer as the last. */
+/* Locations, and the results of the calls that build, write, show and split them. The calls that inspect a location
+ * have the error of the last one. */
 static const struct {
     gix_url url;
     answer made, written, shown, parted;
@@ -222,23 +226,23 @@ static void of_tables(void) {
     }
 }
 
-/* Room for pairs whose size isn't a number counts as none. */
-static void of_pair_room(void) {
+/* Checks that an array of pairs whose size overflows counts as empty. */
+static void of_pair_capacity(void) {
     const gix_url url = {.scheme = GIX_URL_HTTP, .host = TEXT("h"), .path = TEXT("/?b=c")};
-    static const size_t rooms[] = {SIZE_MAX, SIZE_MAX / 2 + 2, SIZE_MAX / sizeof(gix_url_pair) + 1};
-    for (size_t i = 0; i < sizeof rooms / sizeof *rooms; i++) {
+    static const size_t buffers[] = {SIZE_MAX, SIZE_MAX / 2 + 2, SIZE_MAX / sizeof(gix_url_pair) + 1};
+    for (size_t i = 0; i < sizeof buffers / sizeof *buffers; i++) {
         places got, kept;
         memset(&got, 0xA5, sizeof got);
         memcpy(&kept, &got, sizeof got);
         kept.len = 3, kept.count = 1;
-        gix_url_error error = gix_url_path_query_fragment(&url, got.room, sizeof got.room, got.pairs, rooms[i], &got.parts,
+        gix_url_error error = gix_url_path_query_fragment(&url, got.buffer, sizeof got.buffer, got.pairs, buffers[i], &got.parts,
                                                           &got.len, &got.count);
         HOLDS(error == GIX_URL_NO_ROOM);
         HOLDS(memcmp(&got, &kept, sizeof got) == 0);
     }
 }
 
-/* Long parts aren't an error. */
+/* Checks that long parts aren't an error. */
 static void of_long_parts(void) {
     static char bytes[100000];
     memset(bytes, 'a', sizeof bytes);
@@ -248,27 +252,27 @@ static void of_long_parts(void) {
     for (size_t i = 0; i < sizeof locations / sizeof *locations; i++)
         for (int call = OF_SETTLED; call < CALLS; call++) {
             places got;
-            gix_url_error error = calls[call].call(&locations[i], &got, sizeof got.room, 0);
+            gix_url_error error = calls[call].call(&locations[i], &got, sizeof got.buffer, 0);
             HOLDS(error == GIX_URL_OK || error == GIX_URL_NO_ROOM);
         }
 }
 
-/* A text is refused with this error, and the room is left as it was. */
+/* Checks that a text is refused with this error, and that the buffer is left unchanged. */
 static gix_url_problem refused(const char *input, size_t len, gix_url_error error) {
-    static char room[8192], kept[sizeof room];
+    static char buffer[8192], kept[sizeof buffer];
     gix_url url;
     gix_url_problem problem;
-    memset(room, 0xA5, sizeof room);
-    memcpy(kept, room, sizeof room);
-    HOLDS(gix_url_parse(input, len, room, sizeof room, &url, NULL, &problem) == error);
-    HOLDS(memcmp(room, kept, sizeof room) == 0);
+    memset(buffer, 0xA5, sizeof buffer);
+    memcpy(kept, buffer, sizeof buffer);
+    HOLDS(gix_url_parse(input, len, buffer, sizeof buffer, &url, NULL, &problem) == error);
+    HOLDS(memcmp(buffer, kept, sizeof buffer) == 0);
     return problem;
 }
 
-/* The error of a text that is too long has how much of it is shown, its length, and what of it is too long. Past 256 bytes a
- * text is read into memory. */
+/* Checks that the error of a text that is too long has the length that is shown, the length of the text, and the
+ * position of the part that is too long. A text of more than 256 bytes is parsed into allocated memory. */
 static void of_length(void) {
-    static char input[2000], room[8192];
+    static char input[2000], buffer[8192];
     gix_url url;
     memset(input, 'a', sizeof input);
     memcpy(input, "http://", 7);
@@ -281,11 +285,11 @@ static void of_length(void) {
         problem = refused(input, len, GIX_URL_BAD_URL);
         HOLDS(problem.reason == GIX_URL_REASON_WHITE_SPACE && problem.at == len - 1 && problem.len == 1 && problem.total == 0);
         input[len - 1] = 'a';
-        HOLDS(gix_url_parse(input, len, room, sizeof room, &url, NULL, &problem) == GIX_URL_OK && url.host.len == len - 17);
+        HOLDS(gix_url_parse(input, len, buffer, sizeof buffer, &url, NULL, &problem) == GIX_URL_OK && url.host.len == len - 17);
     }
 }
 
-/* The reasons by their numbers have the names of the header, and a sentence each; no other number has any. */
+/* Checks that the reasons have the names of the header, and a sentence each; no other number has any. */
 static void of_reasons(void) {
     static const struct {
         gix_url_reason reason;
@@ -318,15 +322,15 @@ static void of_reasons(void) {
     }
     static const int others[] = {GIX_URL_REASON_NONE, 29, 255, 256, 257, -1};
     for (size_t i = 0; i < sizeof others / sizeof *others; i++) {
-        char room[4] = "abc";
+        char buffer[4] = "abc";
         size_t len = 77, words_len = 77;
-        HOLDS(gix_url_reason_name((gix_url_reason)others[i], room, sizeof room, &len) == GIX_URL_NO_LOCATION && len == 0);
-        HOLDS(gix_url_reason_words((gix_url_reason)others[i], room, sizeof room, &words_len) == GIX_URL_NO_LOCATION && words_len == 0);
-        HOLDS(strcmp(room, "abc") == 0);
+        HOLDS(gix_url_reason_name((gix_url_reason)others[i], buffer, sizeof buffer, &len) == GIX_URL_NO_LOCATION && len == 0);
+        HOLDS(gix_url_reason_words((gix_url_reason)others[i], buffer, sizeof buffer, &words_len) == GIX_URL_NO_LOCATION && words_len == 0);
+        HOLDS(strcmp(buffer, "abc") == 0);
     }
 }
 
-/* Of a null pointer no length counts; a struct without parts is the file URL of an empty path. */
+/* Checks that the length of a null pointer is ignored. A struct without parts is the file URL of an empty path. */
 static void of_nothing(void) {
     const gix_url_text no = {NULL, 9};
     gix_url url = {.name = no, .user = no, .password = no, .host = no, .path = no, .spelling = no}, read;
@@ -335,10 +339,10 @@ static void of_nothing(void) {
     gix_url_condition unmet = GIX_URL_CONDITION_NONE;
     bool is = true;
     size_t len = 77, pairs;
-    char room[64];
-    HOLDS(gix_url_parse(NULL, 0, room, sizeof room, &read, NULL, NULL) == GIX_URL_EMPTY_LOCAL);
+    char buffer[64];
+    HOLDS(gix_url_parse(NULL, 0, buffer, sizeof buffer, &read, NULL, NULL) == GIX_URL_EMPTY_LOCAL);
     HOLDS(gix_url_parse(NULL, 5, NULL, 5, &read, NULL, NULL) == GIX_URL_EMPTY_LOCAL);
-    HOLDS(gix_url_parse("/a", 0, room, sizeof room, &read, NULL, NULL) == GIX_URL_EMPTY_LOCAL);
+    HOLDS(gix_url_parse("/a", 0, buffer, sizeof buffer, &read, NULL, NULL) == GIX_URL_EMPTY_LOCAL);
     HOLDS(gix_url_write(&url, NULL, 0, &len, NULL) == GIX_URL_NO_ROOM && len == strlen("file://"));
     HOLDS(gix_url_look(&url, &seen) == GIX_URL_OK && !seen.original_path.at && seen.original_path.len == 0 && seen.user == GIX_URL_ABSENT && !seen.has_port && !seen.path_is_usable);
     HOLDS(gix_url_path_query_fragment(&url, NULL, 0, NULL, 9, &parts, &len, &pairs) == GIX_URL_OK && len == 0 && pairs == 0);
@@ -353,22 +357,22 @@ static void of_nothing(void) {
     HOLDS(gix_url_unmet_condition(&url, &unmet) == GIX_URL_OK && unmet == GIX_URL_CONDITION_GIT);
 }
 
-/* A spelling counts where it stands for the path, and one that is null doesn't. */
+/* Checks that a spelling is used if it decodes to the path, and that a null spelling isn't used. */
 static void of_spellings(void) {
     size_t len;
-    char room[64];
+    char buffer[64];
     gix_url url = {.scheme = GIX_URL_HTTP, .host = TEXT("h"), .path = TEXT("/a%20b"), .spelling = TEXT("/a%20b")};
-    HOLDS(gix_url_write(&url, room, 64, &len, NULL) == GIX_URL_OK && len == strlen("http://h/a%2520b"));
-    HOLDS(memcmp(room, "http://h/a%2520b", len) == 0);
+    HOLDS(gix_url_write(&url, buffer, 64, &len, NULL) == GIX_URL_OK && len == strlen("http://h/a%2520b"));
+    HOLDS(memcmp(buffer, "http://h/a%2520b", len) == 0);
     url.spelling = text("/a%2520b");
-    HOLDS(gix_url_write(&url, room, 64, &len, NULL) == GIX_URL_OK && memcmp(room, "http://h/a%2520b", len) == 0);
+    HOLDS(gix_url_write(&url, buffer, 64, &len, NULL) == GIX_URL_OK && memcmp(buffer, "http://h/a%2520b", len) == 0);
     bool settled = true;
     url.path = url.spelling = text("/a b");
-    HOLDS(gix_url_write(&url, room, 64, &len, NULL) == GIX_URL_OK && len == strlen("http://h/a b"));
-    HOLDS(memcmp(room, "http://h/a b", len) == 0);
+    HOLDS(gix_url_write(&url, buffer, 64, &len, NULL) == GIX_URL_OK && len == strlen("http://h/a b"));
+    HOLDS(memcmp(buffer, "http://h/a b", len) == 0);
     HOLDS(gix_url_is_settled(&url, &settled) == GIX_URL_OK && !settled);
     url.path = (gix_url_text){"/\xff\0", 3}, url.spelling = (gix_url_text){NULL, 3};
-    HOLDS(gix_url_write(&url, room, 64, &len, NULL) == GIX_URL_OK && memcmp(room, "http://h/%FF%00", len) == 0);
+    HOLDS(gix_url_write(&url, buffer, 64, &len, NULL) == GIX_URL_OK && memcmp(buffer, "http://h/%FF%00", len) == 0);
 }
 
 static void of_names(void) {
@@ -379,7 +383,7 @@ static void of_names(void) {
     HOLDS(strcmp(gix_url_version(), "0.40.1") == 0 && strcmp(gix_url_version(), GIX_URL_VERSION) == 0);
 }
 
-/* Each error has a message, with no problem too, and no two have the same. */
+/* Checks that each error has a message, also without a problem, and that no two messages are equal. */
 static void of_words(void) {
     static const gix_url_error errors[] = {
         GIX_URL_OK, GIX_URL_MEMORY, GIX_URL_EMPTY_LOCAL, GIX_URL_MISSING_PATH, GIX_URL_NOT_UTF8, GIX_URL_TOO_LONG, GIX_URL_BAD_URL,
@@ -394,7 +398,7 @@ static void of_words(void) {
 
 int main(void) {
     of_tables();
-    of_pair_room();
+    of_pair_capacity();
     of_long_parts();
     of_length();
     of_reasons();

@@ -5,7 +5,7 @@
 
 static int digit(char c) { return c <= '9' ? c - '0' : c - 'a' + 10; }
 
-/* Takes the escapes out of a value, in its place: `\x` with two digits is a byte. */
+/* Decodes the escapes of a value, in place: `\x` with two digits is a byte. */
 static gix_url_text unescaped(char *value) {
     size_t len = 0;
     for (const char *from = value; *from; len++) {
@@ -16,7 +16,7 @@ static gix_url_text unescaped(char *value) {
     return (gix_url_text){value, len};
 }
 
-/* The order of a line, in its place. */
+/* Parses the order on a line, in place. */
 order order_of(char *line) {
     order order = {.count = 0};
     for (char *member; (member = strsep(&line, "\t"));) {
@@ -29,7 +29,7 @@ order order_of(char *line) {
     return order;
 }
 
-/* The value of a member; none where there is no such member. */
+/* The value of a member; no text if the member is missing. */
 gix_url_text value(const order *order, const char *name) {
     for (size_t i = 0; i < order->count; i++)
         if (strcmp(order->names[i], name) == 0) return order->values[i];
@@ -42,7 +42,7 @@ bool is_word(gix_url_text text, const char *word) {
 
 const char *const schemes[] = {"File", "Git", "Ssh", "Http", "Https", "Ext", "Helper", "HelperUrl"};
 
-/* Stores the scheme of this text, which has the name behind a space. */
+/* Stores the scheme of this text, in which a name follows a space. */
 void set_scheme(gix_url *url, gix_url_text told) {
     HOLDS(told.at);
     const char *space = memchr(told.at, ' ', told.len);
@@ -59,7 +59,7 @@ static gix_url_text part(const order *order, const char *whole, const char *name
     return value(order, both);
 }
 
-/* The location of these parts, as they are. */
+/* The location with these parts, as they are. */
 gix_url location(const order *order, const char *whole) {
     gix_url url;
     memset(&url, 0, sizeof url);
@@ -77,7 +77,7 @@ gix_url location(const order *order, const char *whole) {
     return url;
 }
 
-/* Bytes as the inside of a text of JSON: U+EF00 with the byte added for a byte past ASCII. */
+/* Writes bytes as the inside of a JSON string. A byte that isn't ASCII is written as U+EF00 plus the byte. */
 void put_inside(line *out, gix_url_text text) {
     for (size_t i = 0; i < text.len; i++) {
         unsigned char byte = (unsigned char)text.at[i];
@@ -99,7 +99,7 @@ void put_quoted(line *out, gix_url_text text) {
     put_word(out, "\"");
 }
 
-/* A further member of an object, if there is a text for it. */
+/* Writes a further member of an object, if there is a text for it. */
 void put_member(line *out, const char *name, gix_url_text text) {
     if (!text.at) return;
     put_word(out, ",\""), put_word(out, name), put_word(out, "\":");

@@ -1,6 +1,6 @@
 #!/usr/bin/env python3
-"""What the package gix_url is to Python: how it finds its library, its types and its help, its use in threads and in
-processes. It is the package that is installed, or that PYTHONPATH names, with the library that it finds."""
+"""Tests the package gix_url as Python sees it: how it finds its library, its types and its help, its use in threads and
+in processes. The package is the installed one, or the one that PYTHONPATH names, with the library that it finds."""
 import inspect
 import multiprocessing
 import os
@@ -30,13 +30,13 @@ def mapped_library():
 
 
 def read(text):
-    """What a worker makes of a text."""
+    """The result of a worker for a text."""
     url = gix_url.parse(text)
     return url, str(url), url.is_settled(), url.components()
 
 
 def said(program, *words, **environment):
-    """The last line of what a program in Python prints, or of what Python says of it."""
+    """The last line of the output of a program in Python, or of its errors."""
     command = [sys.executable, "-B", "-c", program, *words]
     ran = subprocess.run(command, env=environment, capture_output=True, text=True, check=False)
     return (ran.stdout or ran.stderr).strip().split("\n")[-1]
@@ -58,7 +58,7 @@ class Library(unittest.TestCase):
         self.library, = mapped_library()
 
     def put(self, place):
-        """A copy of the library at this place below the prefix."""
+        """Copies the library to this place below the prefix."""
         (self.prefix / place).parent.mkdir(parents=True, exist_ok=True)
         return str(shutil.copy(self.library, self.prefix / place))
 

@@ -1,4 +1,4 @@
-/* Each call is made twice, with nothing to store into, and then with just what is needed. */
+/* Makes each call twice: with no buffer, and then with buffers that are just large enough. */
 #include "rule_calls.h"
 
 #include <string.h>
@@ -119,7 +119,7 @@ static void tell_request(line *out, gix_url_text text) {
     put_word(out, "}");
 }
 
-/* Prints the pieces of a text; those of one kind are joined. */
+/* Prints the pieces of a text. Neighbours of one kind are joined. */
 static void tell_pieces(line *out, gix_url_text text) {
     size_t count = 0;
     HOLDS(is_measured(gix_url_secrets_of(text.at, text.len, NULL, 0, &count)));
@@ -161,7 +161,7 @@ static void tell_dangers(line *out, gix_url_text text, const gix_url *url) {
     put_word(out, "]");
 }
 
-/* The danger of this name, as the rows have it. */
+/* The danger with this name, as the rows have it. */
 static gix_url_danger danger_named(gix_url_text name) {
     static const char *const names[] = {
         "?", "Command", "OptionLikeUser", "OptionLikeHost", "OptionLikePath", "Password", "Token", "HostCharacter", "LineEnd",
@@ -175,19 +175,19 @@ static void over_danger(line *out, gix_url_text call, gix_url_text name) {
 
 /* ---- calls */
 
-/* Makes a call over the location that is read in a text, or over parts as they are. */
+/* Makes a call over the location that a text is parsed as, or over parts as they are. */
 static void over_location(line *out, gix_url_text call, const order *order) {
     gix_url url = {.scheme = GIX_URL_FILE};
     gix_url_error error = GIX_URL_OK;
     gix_url_problem problem;
     gix_url_text read = value(order, "url"), text = value(order, "text");
-    char *room = NULL;
-    if (read.at) room = read_input(read, &url, &error, &problem);
+    char *buffer = NULL;
+    if (read.at) buffer = read_input(read, &url, &error, &problem);
     else url = location(order, "url");
     if (error != GIX_URL_OK) put_word(out, "{\"halt\":\"not prepared\"}");
     else if (is_word(call, "danger::dangers")) tell_dangers(out, text.at ? text : read, &url);
     else tell_words(out, call, order, &url);
-    free(room);
+    free(buffer);
 }
 
 static bool is_of_location(gix_url_text call) {

@@ -5,20 +5,20 @@
 #include "../c/include/gix_url_rules.h"
 #include "orders.h"
 
-/* Makes a call and prints its outcome, if it is one of gix_url_rules.h. */
+/* Makes a call and prints its result, if it is one of gix_url_rules.h. */
 bool rule_call(line *out, gix_url_text call, const order *order);
 
-/* The same of a call over a configuration. */
+/* Makes a call over a configuration and prints its result. */
 void config_call(line *out, gix_url_text call, const order *order);
 
-/* So many elements of this size, of which there may be none. They are to be freed. */
+/* Allocates this many elements of this size, of which there may be none. The caller frees them. */
 static inline void *elements(size_t count, size_t size) {
     void *at = calloc(count + 1, size);
     HOLDS(at);
     return at;
 }
 
-/* A call answers with these lengths, or reports them first. */
+/* Whether a call with this error stores the lengths of its result. */
 static inline bool is_measured(gix_url_error error) { return error == GIX_URL_OK || error == GIX_URL_NO_ROOM; }
 
 static inline void put_count(line *out, const char *name, size_t number) {

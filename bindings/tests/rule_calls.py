@@ -1,4 +1,4 @@
-"""Carries out orders of calls over a configuration, and over texts that Git reads, by the module
+"""Executes orders of calls over a configuration, and over texts that Git reads, by the module
 `gix_url.rules`."""
 import itertools
 
@@ -8,7 +8,7 @@ from gix_url.rules import Configuration, Decider, Decision
 
 SERVICES = {f"git-{it}".replace("_", "-").encode(): it for it in rules.Service}
 VARIANTS = {b"ssh": rules.Variant.OPENSSH, **{str(it).encode(): it for it in list(rules.Variant)[1:]}}
-# A style in which the outcome of a call is shown.
+# A style in which the result of a call is printed.
 WHOLE = b"{:?}"
 
 
@@ -18,12 +18,12 @@ def named(of):
 
 
 def told(value):
-    """A value as it is printed: each byte past ASCII as U+EF00 with the byte added."""
+    """A value as it is printed: each byte that isn't ASCII as U+EF00 plus the byte."""
     return None if value is None else "".join(chr(it if it < 128 else 0xEF00 + it) for it in value)
 
 
 def members(of, *names):
-    """The fields of these names that there are."""
+    """The fields with these names, if they exist."""
     values = {it: getattr(of, it) for it in names}
     return {name: told(it) if isinstance(it, bytes) else it for name, it in values.items() if it is not None}
 
@@ -33,7 +33,7 @@ def config(order):
 
 
 def indices(entries, of):
-    """The places of entries in a configuration, by where each begins."""
+    """The indices of entries in a configuration, by their positions."""
     begins = [it.at for it in of.entries]
     return [begins.index(it.at) for it in entries]
 
@@ -67,7 +67,7 @@ def permission(order):
 
 
 def told_permission(order):
-    """What Git does, and if the style asks for it by what."""
+    """The decision, and if the style asks for it the setting that decides."""
     found = permission(order)
     if order.get("style") != WHOLE:
         return named(found.decision)
@@ -94,7 +94,7 @@ def location(order):
 
 
 def ssh_command(order):
-    """The command for the request of an order, as the library has it: a family is a number."""
+    """The command for the request of an order, in the form of the library: a family is a number."""
     request = {
         "program": order.get("program"), "variant": VARIANTS[order["variant"]],
         "version": int(order["version"])
@@ -123,7 +123,7 @@ def ssh_program(order):
 
 
 def settings(order):
-    """The indices of the entries that count; without a text those that count if no entry with a URL
+    """The indices of the entries that count; without a text, those that count if no entry with a URL
     applies."""
     of = config(order)
     return indices(of.settings(order["name"], order.get("text", b"")).entries, of)
@@ -197,7 +197,7 @@ def refusals(order):
 
 
 def secrets(order):
-    """The pieces of a text; those of one kind are joined."""
+    """The pieces of a text. Neighbours of one kind are joined."""
     pieces = rules.secrets(order["text"])
     assert rules.redacted(order["text"]) == b"".join(
         b"redacted" if it.is_hidden else it.text for it in pieces
@@ -250,7 +250,7 @@ CALLS = {
 
 
 def outcome(order):
-    """The outcome of a call, or the error that it raises, with its place."""
+    """The result of a call, or the error that it raises, with its position."""
     try:
         return CALLS[order["call"].decode()](order)
     except rules.NoConfiguration as error:

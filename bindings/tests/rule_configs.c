@@ -1,4 +1,4 @@
-/* Each call is made twice, with nothing to store into, and then with just what is needed. */
+/* Makes each call twice: with no buffer, and then with buffers that are just large enough. */
 #include "rule_calls.h"
 
 #include <string.h>
@@ -34,7 +34,7 @@ static void free_config(config config) {
     free(config.buffer);
 }
 
-/* Prints the error of a call, with the place at which Git stops. */
+/* Prints the error of a call, with the position at which Git stops. */
 static void tell_stop(line *out, gix_url_error error, gix_url_stop stop) {
     HOLDS(error == GIX_URL_NO_VALUE || error == GIX_URL_NO_BOOLEAN);
     HOLDS(!stop.line && !stop.flaw);
@@ -53,7 +53,7 @@ static void tell_flaw(line *out, const config *config) {
     put_word(out, "}");
 }
 
-/* A part of an entry; none where it isn't there. */
+/* A part of an entry; no text if it is missing. */
 static gix_url_text there(gix_url_text part, bool is_there) { return is_there ? part : none; }
 
 static void tell_entries(line *out, const config *config, bool has_places) {
@@ -80,7 +80,7 @@ static void over_file(line *out, const order *order) {
 
 /* ---- rewriting and remotes */
 
-/* Rewrites in the way of a call, in this buffer. */
+/* Rewrites a text by this call, into this buffer. */
 static gix_url_error rewrite(gix_url_text call, const order *order, const config *config, char *buffer, size_t len,
                              gix_url_rewritten *rewritten, size_t *needed, gix_url_stop *stop) {
     gix_url_text text = value(order, "text");
@@ -133,7 +133,7 @@ static void tell_remote(line *out, const order *order, const config *config) {
 
 static const char *const decisions[] = {"?", "Allowed", "Refused", "UnknownAllowance", "UnknownFromUser"};
 
-/* Prints what decides as well. */
+/* Prints the decision, and the setting that decides. */
 static void show_permission(line *out, const gix_url_permission *permission) {
     static const char *const deciders[] = {"", "(AllowList)", "(Entry { at: ", "(Default)"};
     bool is_unknown = permission->decision == GIX_URL_UNKNOWN_ALLOWANCE;
@@ -236,7 +236,7 @@ static void tell_program(line *out, const order *order, const config *config) {
 
 /* ---- submodules */
 
-/* Prints what git fsck refuses in each entry, by its own names. */
+/* Prints the reasons why git fsck refuses each entry, by its own names. */
 static void tell_checks(line *out, const config *config) {
     static const char *const names[] = {"?", "gitmodulesName", "gitmodulesUrl", "gitmodulesPath", "gitmodulesUpdate"};
     const char *before = "[\"";
@@ -250,7 +250,7 @@ static void tell_checks(line *out, const config *config) {
     put_word(out, before[0] == '[' ? "[]" : "\"]");
 }
 
-/* Prints those that have a path and a URL, each with its URL and how it is updated. */
+/* Prints the submodules that have a path and a URL, each with its URL and how it is updated. */
 static void tell_submodules(line *out, const config *config) {
     size_t count = 0, needed = 0;
     gix_url_error error = gix_url_submodules_of(config->entries, config->count, NULL, 0, NULL, 0, &count, &needed);

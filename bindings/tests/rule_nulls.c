@@ -1,12 +1,12 @@
-/* What each call of gix_url_rules.h leaves behind: with each pointer null in turn, with an entry that has a null pointer, with
- * buffers and arrays that are one too short, and with each error. Each byte that a call may store into is compared with
- * what was there. */
+/* Checks what each call of gix_url_rules.h stores: with each pointer null in turn, with an entry that has a null
+ * pointer, with buffers and arrays that are one element too short, and with each error. Each byte that a call may store
+ * into is compared with its previous value. */
 #include "../c/include/gix_url_rules.h"
 #include "told.h"
 
 #include <string.h>
 
-/* What the calls are about. */
+/* The inputs of the calls. */
 typedef struct input {
     gix_url_entry entries[4];
     size_t count;
@@ -14,7 +14,7 @@ typedef struct input {
     gix_url url;
 } input;
 
-/* What the calls store into. */
+/* The memory that the calls store into. */
 typedef struct places {
     char buffer[128];
     union {
@@ -43,11 +43,12 @@ typedef struct places {
     gix_url_stop stop;
 } places;
 
-/* The pointers that a call takes: the text, another one, the location, the configuration, and the places of its result. */
+/* The pointers that a call takes: the text, a second one, the location, the configuration, and the places of its
+ * result. */
 enum { TEXT = 1, OTHER = 2, URL = 4, CONFIG = 8, BUFFER = 16, ARRAY = 32, RESULT = 64, NEEDED = 128, MORE = 256, STOP = 512,
        POINTERS = 1024 };
 
-/* The calls, with one of these pointers null, and so much room. */
+/* The calls, with one of these pointers null, and buffers of these sizes. */
 typedef gix_url_error caller(const input *in, places *to, size_t buffer, size_t array, int null);
 #define OR_NULL(pointer, place) (null == (pointer) ? NULL : (place))
 #define ENTRIES OR_NULL(CONFIG, in->entries), in->count
@@ -129,7 +130,7 @@ CALL(submodules) {
     return gix_url_submodules_of(ENTRIES, INTO_BUFFER, INTO_ARRAY(submodules), INTO_MORE, INTO_NEEDED);
 }
 
-/* Each call with the pointers that it takes, those of them that may not be null, and the size of an element of its array. */
+/* The pointers that each call takes, those that must not be null, and the size of an element of its array. */
 #define STOPS(call) call, CONFIG | BUFFER | RESULT | NEEDED | STOP
 enum { LIST, READ, FETCH, PUSH, REMOTE, TRANSPORT, PERMIT, DANGERS, SECRETS, PLACE, REQUEST, WORDS, PROGRAM, SETTINGS,
        CREDENTIALS, RESOLVE, CHECK, SUBMODULES, CALLS };
@@ -158,7 +159,7 @@ static const struct {
     [SUBMODULES] = {submodules, CONFIG | BUFFER | ARRAY | MORE | NEEDED, MORE, sizeof(gix_url_submodule)},
 };
 
-/* A call, what it is about, and its result: an error with its place, or so many bytes and elements. */
+/* A call, its input, and its result: an error with its position, or this many bytes and elements. */
 typedef struct row {
     int call;
     const char *config, *text, *other;
@@ -211,7 +212,7 @@ static const row rows[] = {
     {SUBMODULES, "submodule.ab.url\nu_submodule.c.path\np_", "", "", GIX_URL_OK, {0}, 3, 2},
 };
 
-/* A text in which an underscore stands for a byte 0. */
+/* A text in which an underscore is written for a byte 0. */
 static gix_url_text text_of(const char *word, char *copy) {
     gix_url_text text = {copy, word ? strlen(word) : 0};
     for (size_t i = 0; i < text.len; i++) copy[i] = word[i] == '_' ? '\0' : word[i];
@@ -219,7 +220,7 @@ static gix_url_text text_of(const char *word, char *copy) {
     return text;
 }
 
-/* What a row is about. The location has the other text as its host, and a user and a password before an @ in it. */
+/* The input of a row. The location has the second text as its host, and a user and a password before an @ in it. */
 static void make(const row *row, input *in) {
     static char buffer[256], config[256], texts[2][64];
     gix_url_text listing = text_of(row->config, config);
@@ -240,13 +241,13 @@ static size_t ample_array(const row *row) {
     return element ? sizeof((places *)0)->array / element : 0;
 }
 
-/* Makes the call over places that hold a pattern. */
+/* Makes the call over memory that holds a pattern. */
 static gix_url_error made(const row *row, const input *in, places *to, size_t buffer, size_t array, int null) {
     memset(to, 0xA5, sizeof *to);
     return calls[row->call].call(in, to, buffer, array, null);
 }
 
-/* What the row's call leaves behind in so much room, with no pointer null. */
+/* Checks what the row's call stores with buffers of these sizes, and with no pointer null. */
 static void leaves(const row *row, const input *in, size_t buffer, size_t array) {
     static places got, kept;
     gix_url_error wanted = row->error;
@@ -268,7 +269,8 @@ static void leaves(const row *row, const input *in, size_t buffer, size_t array)
     HOLDS(memcmp(&got, &kept, sizeof got) == 0);
 }
 
-/* With this pointer null the call does the same as with nothing in its place, and doesn't store there. */
+/* Checks that with this pointer null the call stores the same as with an empty buffer in its place, and nothing
+ * there. */
 static void is_alike(const row *row, const input *in, int null) {
     static places same, got;
     input without = *in;
@@ -286,7 +288,7 @@ static void is_alike(const row *row, const input *in, int null) {
     HOLDS(memcmp(&got, &same, sizeof got) == 0);
 }
 
-/* With this pointer null the call is refused, and stores only that there is no stop. */
+/* Checks that with this pointer null the call is refused, and stores only that there is no stop. */
 static void is_refused(const row *row, const input *in, int null) {
     static places got, kept;
     HOLDS(made(row, in, &got, ample, ample_array(row), null) == GIX_URL_NULL);
@@ -295,7 +297,7 @@ static void is_refused(const row *row, const input *in, int null) {
     HOLDS(memcmp(&got, &kept, sizeof got) == 0);
 }
 
-/* Entries with a null pointer are refused, whichever it is. */
+/* Checks that entries with any null pointer are refused. */
 static void refuses_entries(const row *row, const input *in) {
     for (int part = 0; part < 4; part++) {
         input broken = *in;
@@ -322,7 +324,7 @@ static void of_row(const row *row) {
     if (calls[row->call].takes & CONFIG && in.count) refuses_entries(row, &in);
 }
 
-/* Numbers that stand for no danger put nothing. */
+/* Checks that nothing is written for numbers without a danger. */
 static void of_numbers(void) {
     static const int numbers[] = {-1, 0, 11, 255, 256 + 1};
     for (size_t i = 0; i < sizeof numbers / sizeof *numbers; i++) {

@@ -1,6 +1,6 @@
 #!/usr/bin/env python3
-"""What the modules gix_url.rules and gix_url.audit are to Python: types, errors, buffers, values, threads,
-help and status."""
+"""Tests the modules gix_url.rules and gix_url.audit as Python sees them: types, errors, buffers, values,
+threads, help and status."""
 import copy
 import dataclasses
 import doctest
@@ -21,15 +21,15 @@ import gix_url
 from gix_url import audit, rules
 from gix_url.rules import Configuration, Entry
 
-# What the message of a TypeError begins with.
+# The beginning of the message of a TypeError.
 NAMED = "^gix_url: [a-z_ ]+ is "
-# Where another process finds the package.
+# The folder in which another process finds the package.
 FOLDER = os.path.dirname(os.path.dirname(gix_url.__file__))
 SEARCHED = os.pathsep.join(filter(None, [os.environ.get("PYTHONPATH"), FOLDER]))
 URL = gix_url.parse("ssh://u@h:22/p")
 ENTRY = Entry(b"submodule", b"a", b"url", b"../b")
 NONE = Configuration()
-# Calls, each with arguments of another type than its own.
+# Calls, each with arguments of a wrong type.
 WRONG = (
     (Configuration, "ab"), (Configuration, [ENTRY]), (Configuration, (b"a.b",)),
     (Configuration.from_listing, "a.b\0"), (Configuration.from_file, None), (NONE.rewrite_fetch, 5),
@@ -52,7 +52,7 @@ HOSTILE = (
 
 
 def listing(*entries):
-    """What git config --list -z writes for keys with their values."""
+    """The output of git config --list -z for keys with their values."""
     return Configuration.from_listing("".join("\n".join(it) + "\0" for it in entries).encode())
 
 
@@ -267,7 +267,7 @@ class Values(unittest.TestCase):
 
 
 def audited(*words, given=b""):
-    """The status, and what is printed, of the package as a program."""
+    """The status and the output of the package as a program."""
     command = [sys.executable, "-B", "-W", "error", "-m", "gix_url", "audit", *words]
     ran = subprocess.run(
         command, input=given, capture_output=True, check=False, env={**os.environ, "PYTHONPATH": SEARCHED}

@@ -30,9 +30,9 @@ char *at_wall(int number, const char *bytes, size_t len) {
 }
 
 void put(line *out, const char *bytes, size_t len) {
-    if (out->room - out->len < len) {
-        out->room = 2 * (out->room + len) + 64;
-        out->at = realloc(out->at, out->room);
+    if (out->capacity - out->len < len) {
+        out->capacity = 2 * (out->capacity + len) + 64;
+        out->at = realloc(out->at, out->capacity);
         HOLDS(out->at);
     }
     if (len) memcpy(out->at + out->len, bytes, len);
@@ -49,7 +49,7 @@ void put_number(line *out, size_t number) {
 }
 
 bool is_same(gix_url_text one, gix_url_text other) {
-    /* Of what isn't there no length counts. */
+    /* The length of a missing part is ignored. */
     if (!one.at || !other.at) return !one.at && !other.at;
     return one.len == other.len && memcmp(one.at, other.at, one.len) == 0;
 }
@@ -66,12 +66,12 @@ char *text_of_location(putter *call, const gix_url *url, size_t *len, gix_url_er
     if (*error != GIX_URL_NO_ROOM && !(*error == GIX_URL_OK && *len == 0)) return NULL;
     size_t wanted = *len;
     if (wanted > 0) HOLDS(call(url, at_wall(1, NULL, wanted - 1), wanted - 1, len, problem) == GIX_URL_NO_ROOM && *len == wanted);
-    char *room = at_wall(1, NULL, wanted);
-    *error = call(url, room, wanted, len, problem);
+    char *buffer = at_wall(1, NULL, wanted);
+    *error = call(url, buffer, wanted, len, problem);
     HOLDS(*error == GIX_URL_OK && *len == wanted);
     char *text = malloc(wanted + 1);
     HOLDS(text);
-    memcpy(text, room, wanted);
+    memcpy(text, buffer, wanted);
     return text;
 }
 
@@ -80,13 +80,13 @@ gix_url_pair *components_of(const gix_url *url, gix_url_components *parts) {
     gix_url_error error = gix_url_path_query_fragment(url, NULL, 0, NULL, 0, parts, &needed, &needed_pairs);
     HOLDS(error == GIX_URL_NO_ROOM || (error == GIX_URL_OK && needed == 0 && needed_pairs == 0));
     gix_url_pair *pairs = (gix_url_pair *)malloc(needed_pairs * sizeof *pairs + 1);
-    char *room = at_wall(1, NULL, needed);
+    char *buffer = at_wall(1, NULL, needed);
     HOLDS(pairs);
     if (needed > 0)
-        HOLDS(gix_url_path_query_fragment(url, room + 1, needed - 1, pairs, needed_pairs, parts, NULL, NULL) == GIX_URL_NO_ROOM);
+        HOLDS(gix_url_path_query_fragment(url, buffer + 1, needed - 1, pairs, needed_pairs, parts, NULL, NULL) == GIX_URL_NO_ROOM);
     if (needed_pairs > 0)
-        HOLDS(gix_url_path_query_fragment(url, room, needed, pairs, needed_pairs - 1, parts, NULL, NULL) == GIX_URL_NO_ROOM);
-    HOLDS(gix_url_path_query_fragment(url, room, needed, pairs, needed_pairs, parts, &again, &pairs_again) == GIX_URL_OK);
+        HOLDS(gix_url_path_query_fragment(url, buffer, needed, pairs, needed_pairs - 1, parts, NULL, NULL) == GIX_URL_NO_ROOM);
+    HOLDS(gix_url_path_query_fragment(url, buffer, needed, pairs, needed_pairs, parts, &again, &pairs_again) == GIX_URL_OK);
     HOLDS(again == needed && pairs_again == needed_pairs && parts->pair_count == needed_pairs);
     size_t bytes = 0;
     for (size_t i = 0; i < parts->pair_count; i++) bytes += pairs[i].name_len + pairs[i].value_len;
@@ -109,7 +109,7 @@ void tell_components(line *out, const gix_url *url) {
     free(pairs);
 }
 
-/* The location in room of its own that is just large enough, whose bytes are those of the room. */
+/* A copy of the location in a buffer of its own that is just large enough, with the same bytes. */
 static gix_url moved(gix_url url, const char *from, size_t len, char *to) {
     gix_url_text *parts[] = {&url.name, &url.user, &url.password, &url.host, &url.path, &url.spelling};
     if (len) memcpy(to, from, len);
@@ -125,12 +125,12 @@ char *read_input(gix_url_text input, gix_url *url, gix_url_error *error, gix_url
     if (*error != GIX_URL_NO_ROOM) return NULL;
     HOLDS(needed <= GIX_URL_ROOM(input.len));
     HOLDS(gix_url_parse(bytes, input.len, at_wall(1, NULL, needed - 1), needed - 1, url, &again, problem) == GIX_URL_NO_ROOM && again == needed);
-    char *room = at_wall(1, NULL, needed);
-    *error = gix_url_parse(bytes, input.len, room, needed, url, &again, problem);
+    char *buffer = at_wall(1, NULL, needed);
+    *error = gix_url_parse(bytes, input.len, buffer, needed, url, &again, problem);
     HOLDS(*error == GIX_URL_OK && again == needed);
     char *own = malloc(needed);
     HOLDS(own);
-    *url = moved(*url, room, needed, own);
+    *url = moved(*url, buffer, needed, own);
     return own;
 }
 
@@ -138,12 +138,12 @@ char *make_parts(const gix_url *parts, gix_url *url, gix_url_error *error, gix_u
     size_t needed = 0, again;
     *error = gix_url_from_parts(parts, NULL, 0, url, &needed, problem);
     if (*error != GIX_URL_NO_ROOM) return NULL;
-    char *room = at_wall(1, NULL, needed);
-    *error = gix_url_from_parts(parts, room, needed, url, &again, problem);
+    char *buffer = at_wall(1, NULL, needed);
+    *error = gix_url_from_parts(parts, buffer, needed, url, &again, problem);
     HOLDS(*error == GIX_URL_OK && again == needed);
     char *own = malloc(needed);
     HOLDS(own);
-    *url = moved(*url, room, needed, own);
+    *url = moved(*url, buffer, needed, own);
     return own;
 }
 
@@ -153,8 +153,8 @@ void is_refused_so(gix_url_text text, gix_url_error error, const gix_url_problem
     gix_url url;
     gix_url_error again;
     gix_url_problem read;
-    char *room = read_input(text, &url, &again, &read);
-    HOLDS(!room && again == error);
+    char *buffer = read_input(text, &url, &again, &read);
+    HOLDS(!buffer && again == error);
     HOLDS(read.kind == problem->kind && read.fault == problem->fault && read.reason == problem->reason && !problem->write_fault);
     HOLDS(read.shown == problem->shown && read.total == problem->total && read.at == problem->at && read.len == problem->len);
 }
@@ -162,14 +162,14 @@ void is_refused_so(gix_url_text text, gix_url_error error, const gix_url_problem
 char *text_of_reason(reason_putter *call, gix_url_reason reason, size_t *len) {
     size_t again = 77;
     HOLDS(call(reason, NULL, SIZE_MAX, len) == GIX_URL_NO_ROOM && *len > 0);
-    char *room = at_wall(1, NULL, *len - 1);
-    memset(room, 0xA5, *len - 1);
-    HOLDS(call(reason, room, *len - 1, &again) == GIX_URL_NO_ROOM && again == *len);
-    for (size_t i = 0; i + 1 < *len; i++) HOLDS((unsigned char)room[i] == 0xA5);
-    room = at_wall(1, NULL, *len);
-    HOLDS(call(reason, room, *len, NULL) == GIX_URL_OK);
+    char *buffer = at_wall(1, NULL, *len - 1);
+    memset(buffer, 0xA5, *len - 1);
+    HOLDS(call(reason, buffer, *len - 1, &again) == GIX_URL_NO_ROOM && again == *len);
+    for (size_t i = 0; i + 1 < *len; i++) HOLDS((unsigned char)buffer[i] == 0xA5);
+    buffer = at_wall(1, NULL, *len);
+    HOLDS(call(reason, buffer, *len, NULL) == GIX_URL_OK);
     char *text = malloc(*len);
     HOLDS(text);
-    memcpy(text, room, *len);
+    memcpy(text, buffer, *len);
     return text;
 }

@@ -1,5 +1,6 @@
 #!/usr/bin/env python3
-"""What the values of the package gix_url are to Python: types, order, texts, names, copies and errors."""
+"""Tests the values of the package gix_url as Python sees them: types, order, texts, names, copies and
+errors."""
 import copy
 import ctypes
 import dataclasses
@@ -17,12 +18,12 @@ sys.path.append(f"{os.path.dirname(os.path.realpath(__file__))}/../python")
 import gix_url
 from gix_url import Argument, Condition, Scheme, Url
 
-# Fields, each with values of another type than its own.
+# Fields, each with values of a wrong type.
 WRONG = {
     "scheme": (None, "https", b"https", 4, 4.0), "name": (b"a", 5), "user": (b"u", 5, True), "password": (b"p", 5), "host": (b"h", 5),
     "port": ("22", 22.0, b"22", True), "path": (None, 3, "/p", ["/p"], True), "alternative": (None, 1, "no"), "spelling": (3, "/p")}
 FIELDS = ("name", "kind", "fault", "write_fault", "shown", "total", "at", "len", "reason", "words")
-# Texts, and locations without a text, each refused for another error.
+# Texts, and locations without a text, each refused with another error.
 REFUSED = ("", "ssh://h", "http://h:x/", b"http://h/\xff", "http://" + "a" * 2000, Url(Scheme.SSH, user="u", path=b"/p"))
 SECRET = "https://u:s3cret@h:22/a%20b?c#d"
 
@@ -32,7 +33,7 @@ def whole():
 
 
 def refusal(of):
-    """The error for which a text or a location is refused."""
+    """The error with which a text or a location is refused."""
     try:
         bytes(of if isinstance(of, Url) else gix_url.parse(of))
     except gix_url.Error as error:

@@ -1,12 +1,12 @@
-/* Carries out the orders of the standard input, a line each, by the calls of gix_url.h, and prints the outcome of each
- * call, a line of JSON, as the program `answers` does. tools/row_programs.py writes and describes orders. */
+/* Executes the orders on the standard input, one a line, by the calls of gix_url.h, and prints the result of each call
+ * as a line of JSON, as the program `answers` does. tools/row_programs.py writes and describes orders. */
 #define _GNU_SOURCE
 #include "rule_calls.h"
 
 #include <string.h>
 #include <sys/types.h>
 
-/* What is seen of a location: a port that isn't there is 0, and the original path is a part of the location itself. */
+/* Properties of a location: a missing port is 0, and the original path is a part of the location itself. */
 static gix_url_seen seen_of(const gix_url *url) {
     gix_url_seen seen;
     HOLDS(gix_url_look(url, &seen) == GIX_URL_OK);
@@ -31,7 +31,7 @@ static void tell_url(line *out, const gix_url *url) {
     put_word(out, "}");
 }
 
-/* Prints where and why a text is refused. */
+/* Prints the position and the reason of a parse error. */
 static void tell_place(line *out, gix_url_error error, const gix_url_problem *problem) {
     if (!is_refusal(error)) return;
     gix_url_text name;
@@ -43,7 +43,7 @@ static void tell_place(line *out, gix_url_error error, const gix_url_problem *pr
     free(own);
 }
 
-/* Prints an error by its names. Of a text that is too long the front is printed that is fit to be shown. */
+/* Prints an error by its names. For a text that is too long, prints the front that is fit to be shown. */
 static void tell_error(line *out, gix_url_error error, const gix_url_problem *problem, gix_url_text refused) {
     put_word(out, "{\"error\":\""), put_word(out, gix_url_error_name(error));
     if (problem->fault) put_word(out, " "), put_word(out, gix_url_fault_name(problem->fault));
@@ -63,13 +63,13 @@ static void parse(line *out, gix_url_text input) {
     gix_url url;
     gix_url_error error;
     gix_url_problem problem;
-    char *room = read_input(input, &url, &error, &problem);
+    char *buffer = read_input(input, &url, &error, &problem);
     if (error == GIX_URL_OK) tell_url(out, &url);
     else tell_error(out, error, &problem, input);
-    free(room);
+    free(buffer);
 }
 
-/* The text that these parts are written as; none where there is no such text. It is to be freed. */
+/* The text that these parts are written as, or none. The caller frees it. */
 static gix_url_text written(const gix_url *url, gix_url_error *error, gix_url_problem *problem) {
     gix_url_text text = none;
     text.at = text_of_location(gix_url_write, url, &text.len, error, problem);
@@ -81,11 +81,11 @@ static void from_parts(line *out, const order *order) {
     gix_url_error error;
     gix_url_problem problem;
     gix_url_text text = written(&parts, &error, &problem);
-    char *room = make_parts(&parts, &url, &error, &problem);
+    char *buffer = make_parts(&parts, &url, &error, &problem);
     if (is_refusal(error)) is_refused_so(text, error, &problem);
     if (error == GIX_URL_OK) tell_url(out, &url);
     else tell_error(out, error, &problem, text);
-    free(room);
+    free(buffer);
     free((char *)text.at);
 }
 
@@ -110,11 +110,11 @@ static void fmt(line *out, const gix_url *url) {
     size_t len;
     gix_url_error error;
     gix_url_problem problem;
-    char *room = text_of_location(gix_url_display, url, &len, &error, &problem);
+    char *buffer = text_of_location(gix_url_display, url, &len, &error, &problem);
     put_word(out, "{\"shown\":\"");
-    if (room) put_inside(out, (gix_url_text){room, len});
-    put_word(out, room ? "\"}" : "\",\"failed\":true}");
-    free(room);
+    if (buffer) put_inside(out, (gix_url_text){buffer, len});
+    put_word(out, buffer ? "\"}" : "\",\"failed\":true}");
+    free(buffer);
 }
 
 static void path_query_fragment(line *out, const gix_url *url) {
@@ -134,7 +134,7 @@ static void path_query_fragment(line *out, const gix_url *url) {
     free(pairs);
 }
 
-/* What a part is to a command line. */
+/* Prints whether a part is safe as an argument of a command. */
 static void tell_judged(line *out, gix_url_argument judged, gix_url_text text) {
     static const char *const fronts[] = {"null", "{\"usable\":", "{\"dangerous\":"};
     put_word(out, fronts[judged]);
@@ -143,7 +143,7 @@ static void tell_judged(line *out, gix_url_argument judged, gix_url_text text) {
     put_word(out, "}");
 }
 
-/* Prints a part of a location, or what is seen of it, if the call is one of those. */
+/* Prints a part of a location, or a property of it, if the call is one of those. */
 static bool tell_part(line *out, gix_url_text call, const gix_url *url) {
     gix_url_seen seen = seen_of(url);
     if (is_word(call, "Url::user")) put_quoted(out, url->user);
@@ -168,7 +168,8 @@ static void tell_condition(line *out, gix_url_condition unmet) {
     put_quoted(out, unmet ? (gix_url_text){name, strlen(name)} : none);
 }
 
-/* Prints what a call over a location returns; what isn't settled is not for Git, and what isn't for Git is ambiguous. */
+/* Prints the result of a call over a location. A location that isn't settled doesn't agree with Git, and one that
+ * doesn't agree with Git is ambiguous. */
 static void tell_call(line *out, gix_url_text call, const gix_url *url) {
     bool settled, agrees, unambiguous;
     gix_url_condition unmet;
@@ -187,21 +188,21 @@ static void tell_call(line *out, gix_url_text call, const gix_url *url) {
     else if (!tell_part(out, call, url)) put_word(out, "{\"halt\":\"no such call\"}");
 }
 
-/* Makes a call over what a text is read as, or over parts as they are. */
+/* Makes a call over the location that a text is parsed as, or over parts as they are. */
 static void over_url(line *out, gix_url_text call, const order *order) {
     gix_url url;
     gix_url_error error = GIX_URL_OK;
     gix_url_problem problem;
     gix_url_text text = value(order, "url");
-    char *room = NULL;
-    if (text.at) room = read_input(text, &url, &error, &problem);
+    char *buffer = NULL;
+    if (text.at) buffer = read_input(text, &url, &error, &problem);
     else url = location(order, "url");
     if (error == GIX_URL_OK) tell_call(out, call, &url);
     else put_word(out, "{\"halt\":\"not prepared\"}");
-    free(room);
+    free(buffer);
 }
 
-/* The error of these names, with its details. */
+/* The error with these names and its details. */
 static gix_url_error named_error(gix_url_text names, gix_url_problem *problem) {
     gix_url_error error = GIX_URL_OK;
     const char *end = names.at + names.len;
@@ -220,20 +221,20 @@ static gix_url_error named_error(gix_url_text names, gix_url_problem *problem) {
     return error;
 }
 
-/* The words of the error that a text is refused with, or of the error of these names; the length of a text that is too
- * long, which the library says too, is returned with them. */
+/* Prints the message of the error that a text is refused with, or of the error with these names. The length of a text
+ * that is too long, which the library's message has too, is printed with it. */
 static void fmt_error(line *out, const order *order) {
     gix_url url;
     gix_url_problem problem = {.total = 2016};
     gix_url_error error;
     gix_url_text names = value(order, "error.error");
-    char *room = NULL;
+    char *buffer = NULL;
     if (names.at) error = named_error(names, &problem);
-    else room = read_input(value(order, "text"), &url, &error, &problem);
+    else buffer = read_input(value(order, "text"), &url, &error, &problem);
     put_word(out, "{\"shown\":\""), put_word(out, gix_url_error_words(error, &problem));
     if (error == GIX_URL_TOO_LONG) put_word(out, ", in a text of "), put_number(out, problem.total), put_word(out, " bytes");
     put_word(out, "\"}");
-    free(room);
+    free(buffer);
 }
 
 static void scheme_text(line *out, gix_url_text told) {
@@ -253,7 +254,7 @@ static void carry_out(line *out, const order *order) {
     else over_url(out, call, order);
 }
 
-/* Answers a line, which is shown where something doesn't hold. */
+/* Prints the result for a line, which is shown if a check fails. */
 static void answer(const char *input, size_t len) {
     line out = {0};
     char *copy = strndup(input, len);
@@ -269,9 +270,9 @@ static void answer(const char *input, size_t len) {
 
 int main(void) {
     char *input = NULL;
-    size_t room = 0;
+    size_t buffer = 0;
     ssize_t len;
-    while ((len = getline(&input, &room, stdin)) > 0) answer(input, strcspn(input, "\n"));
+    while ((len = getline(&input, &buffer, stdin)) > 0) answer(input, strcspn(input, "\n"));
     free(input);
     return 0;
 }

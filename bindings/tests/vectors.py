@@ -1,6 +1,6 @@
 #!/usr/bin/env python3
-"""Carries out the orders of the standard input, a line each, by the package gix_url, and prints the outcome of each
-call, a line of JSON, as the program `answers` does. tools/row_programs.py writes and describes orders."""
+"""Executes the orders on the standard input, one a line, by the package gix_url, and prints the result of each call as
+a line of JSON, as the program `answers` does. tools/row_programs.py writes and describes orders."""
 import json
 import os
 import re
@@ -26,7 +26,7 @@ def order_of(line):
 
 
 def location(order, whole):
-    """The location of the parts of an order that begin so, as they are."""
+    """The location with the parts of an order that have this prefix, as they are."""
     part = {name.removeprefix(whole): it for name, it in order.items() if name.startswith(whole)}
     scheme, space, name = part["scheme"].decode().partition(" ")
     texts = {it: part[it].decode() for it in ("user", "password", "host") if it in part}
@@ -36,7 +36,7 @@ def location(order, whole):
 
 
 def told(value):
-    """A value as it is printed: each byte past ASCII as U+EF00 with the byte added, and nothing where there is none."""
+    """A value as it is printed: each byte that isn't ASCII as U+EF00 plus the byte, and nothing for a missing value."""
     if isinstance(value, str):
         value = value.encode()
     return "".join(chr(it if it < 128 else 0xEF00 + it) for it in value) if isinstance(value, bytes) else value
@@ -82,7 +82,7 @@ def shown(url):
 
 
 def unmet_condition(url):
-    """The first condition that isn't met, by its name here, which is that of the library with `_` between words."""
+    """The first condition that isn't met, by its name here, which is the library's name with `_` between words."""
     unmet = url.unmet_condition()
     assert (unmet is None) == url.is_unambiguous()
     return None if unmet is None else unmet.name.title().replace("_", "")
@@ -95,7 +95,7 @@ def told_order(one, other):
     return [[order, order], [one == other, hash(one) == hash(other)]]
 
 
-# What each call over a location returns.
+# The result of each call over a location.
 CALLS = {
     "Url::agrees_with_git": lambda url: url.agrees_with_git(),
     "Url::host": lambda url: told(url.host),
@@ -120,7 +120,7 @@ CALLS = {
 
 
 def refused_parts(parts, error):
-    """The error for which parts are refused: where they have a text, it is the error of reading that."""
+    """The error with which parts are refused. If they have a text, it is the parse error of that."""
     try:
         return told_error(error, bytes(parts))
     except gix_url.Error:
@@ -128,7 +128,7 @@ def refused_parts(parts, error):
 
 
 def of_scheme(call, order):
-    """What a call over a scheme returns, by a location that has nothing else."""
+    """The result of a call over a scheme, by a location that has nothing else."""
     url = location({"scheme": order["scheme"]}, "")
     return told(url.scheme_text()) if call == "Scheme::as_str" else told_order(url, location({"scheme": order["other"]}, ""))
 
@@ -161,7 +161,7 @@ def outcome(order):
 
 
 def words(text):
-    """What the error says that a text is refused with: the library adds the length of one that is too long."""
+    """The message for a refused text, with the length of a text that is too long, as the library writes it."""
     try:
         gix_url.parse(text)
     except gix_url.Error as error:

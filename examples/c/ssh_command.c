@@ -27,11 +27,11 @@ static void command(const gix_url *url) {
 }
 
 int main(void) {
-    char line[4096], room[GIX_URL_ROOM(sizeof line)];
+    char line[4096], buffer[GIX_URL_ROOM(sizeof line)];
     while (fgets(line, sizeof line, stdin)) {
         gix_url url;
         bool settled = false;
-        gix_url_error error = gix_url_parse(line, strcspn(line, "\n"), room, sizeof room, &url, NULL, NULL);
+        gix_url_error error = gix_url_parse(line, strcspn(line, "\n"), buffer, sizeof buffer, &url, NULL, NULL);
         /* Of a location that isn't settled, Git would read another host in its text. */
         if (error == GIX_URL_OK && gix_url_is_settled(&url, &settled) == GIX_URL_OK && settled)
             command(&url);

@@ -21,11 +21,11 @@ static void write_text(const gix_url *url) {
 }
 
 int main(void) {
-    char line[4096], room[GIX_URL_ROOM(sizeof line)];
+    char line[4096], buffer[GIX_URL_ROOM(sizeof line)];
     while (fgets(line, sizeof line, stdin)) {
         gix_url url;
         gix_url_problem problem;
-        gix_url_error error = gix_url_parse(line, strcspn(line, "\n"), room, sizeof room, &url, NULL, &problem);
+        gix_url_error error = gix_url_parse(line, strcspn(line, "\n"), buffer, sizeof buffer, &url, NULL, &problem);
         if (error != GIX_URL_OK) {
             printf("refused: %s\n", gix_url_error_words(error, &problem));
             continue;

@@ -1,4 +1,4 @@
-"""dulwich: the client that it makes of a text, and of HTTP the URL that the client asks for."""
+"""dulwich: the client for a text, and for HTTP the URL that the client requests."""
 from urllib.parse import urlsplit
 
 from dulwich import client

@@ -10,7 +10,7 @@ def text_of(part):
 def read(text):
     it = url(text.encode())
     path = it.localpath() if it.scheme == b"file" and it.host is None else it.path or b""
-    # The path lacks its first slash where the URL has a host.
+    # The path lacks its first slash if the URL has a host.
     path = b"/" + path if it.host is not None else path
     return parts(*map(text_of, (it.scheme, it.user, it.passwd, it.host, it.port, path, it.query)))
 

@@ -1,4 +1,4 @@
-"""pip: the URL that it makes of a remote of Git, and that URL without its user."""
+"""pip: the URL of a remote of Git, and that URL without its user."""
 from urllib.parse import urlsplit
 
 from pip._internal.utils.misc import split_auth_netloc_from_url

@@ -1,10 +1,10 @@
-"""What the readers in Python share: each line of the input is a text, and is answered by a line of JSON."""
+"""The common code of the readers in Python: each line of the input is a text, and is answered by a line of JSON."""
 import json
 import sys
 
 
 def parts(scheme, user, password, host, port, path, query=None):
-    """What is read in a text. What is absent is left out."""
+    """The parts of a reading. Absent parts are left out."""
     named = {"scheme": scheme, "user": user, "password": password, "host": host, "port": port, "path": path, "query": query}
     return {name: it for name, it in named.items() if it is not None}
 

@@ -1,4 +1,4 @@
-"""What is dangerous in a line and in the location that is read in it: a second reading of the definitions of `Danger`."""
+"""The dangers in a line and in the location that is read in it: a second reading of the definitions of `Danger`."""
 import re
 
 from git_reads import git_reads
@@ -7,11 +7,11 @@ from second_reading.groups import is_own, other_hosts
 from web_defined import credential_readings
 
 FRONTS = rb"ghp_|gho_|ghu_|ghs_|ghr_|github_pat_|glpat-|gldt-|glrt-|glcbt-|glptt-|glft-|glimt-|glagent-|gloas-|glsoat-|ATBB|ATCTT3"
-# A user of HTTP without a password that is so long may be a token.
+# A user of HTTP without a password that is at least this long may be a token.
 LONG_USER = 20
-# A word of a path that is a token: it has 24 bytes at least.
+# A word of a path that is a token: it has at least 24 bytes.
 WORD = re.compile(rb"(?<![0-9A-Za-z_-])(?=[0-9A-Za-z_-]{24})(?:" + FRONTS + rb")")
-# What each danger is called for people.
+# The words for each danger.
 WORDS = {
     "command": "it runs a command", "option_like_user": "the user begins with -", "option_like_host": "the host begins with -",
     "option_like_path": "the path begins with - or /-", "password": "it holds a password", "token": "it may hold a token",
@@ -21,14 +21,14 @@ WORDS = {
 
 
 def is_token(v):
-    """Whether the user may be a token, or a word of the path."""
+    """Whether the user or a word of the path may be a token."""
     user = v.user or b""
     is_long = v.scheme in grammar.HTTP_SCHEMES and v.password is None and len(user) >= LONG_USER
     return bool(re.match(FRONTS, user)) or is_long or bool(WORD.search(v.path))
 
 
 def is_other_host(line, v):
-    """Whether Git takes another host from the line than that of the location."""
+    """Whether Git reads another host in the line than that of the location."""
     if v.scheme not in grammar.HTTP_SCHEMES:
         return any(it.host is not None and not is_own(v.host, it.host) for it in git_reads(line))
     return any(not is_own(v.host, it.host) and not is_own(v.host, re.sub(rb":\d*\Z", b"", it.host)) for it in credential_readings(line))

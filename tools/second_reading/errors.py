@@ -1,4 +1,4 @@
-"""Why a text is refused: each flaw as (name, form, fault), and the one that is reported, which is that of the first place
+"""The error of a refused text: each flaw as (name, form, fault), and the one that is reported, which is that of the first place
 in the order of checks.
 """
 from second_reading.fault_places import place
@@ -14,12 +14,12 @@ def refused(name, kind=None, fault=None):
 
 
 def url_shapes(b):
-    """All (scheme, rest) around the first `://` of what isn't a helper form."""
+    """All (scheme, rest) around the first `://` of a text that isn't a helper form."""
     return [] if has_helper_form(b) else [(s, r) for s, r in cuts(b, b"://") if b"://" not in s]
 
 
 def host_flaws(mode, piece):
-    """What is wrong with the piece that names host and port."""
+    """The flaws of the piece that names host and port."""
     found = set()
     for front, digits in cuts(piece, b":"):
         boxed = front.startswith(b"[") and front.endswith(b"]") and len(front) > 1 and b"]" not in front[1:-1]
@@ -84,7 +84,7 @@ def url_flaws(b):
 
 
 def scp_flaws(b):
-    """The flaws of the scp form. Bytes with a user and a bracketed address have those of that shape alone."""
+    """The flaws of the scp form. Bytes with a user and a bracketed address only have those of that shape."""
     found = set()
     shaped = address_scp_shapes(b)
     if (shaped or plain_scp_shapes(b)) and not is_utf8(b):
@@ -122,7 +122,7 @@ REASONS = {
 
 
 def refusal(b):
-    """The error that is answered for the bytes, None where they are read."""
+    """The error that is reported for the bytes, None if they are read."""
     found = place(b)
     if found is None:
         return None

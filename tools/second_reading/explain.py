@@ -1,17 +1,20 @@
-"""What the program `explain` reports of a location or a refused line, as JSON has it.
+"""The report of the program `explain` on a location or a refused line, in the form of its JSON.
 
-Whether Git is known to read the same is the rule by hand of docs/GIT.md, in `git_classes.py` and of HTTP in `web_plain.py`.
-What Git reads is asked of `git_reads.py`, of Git's credential code of `web_defined.py`, and of libcurl of `web_reads.py`.
+Whether Git is known to read the same is the rule by hand of docs/GIT.md, in `git_classes.py` and for HTTP in `web_plain.py`.
+The readings are those of `git_reads.py` for Git, of `web_defined.py` for Git's credential code, and of `web_reads.py` for
+libcurl.
 """
 from git_classes import Case, Reading, is_careful
 from git_reads import git_reads, unread
 from second_reading import (
     errors, fault_places, git_class, grammar, hidden, laws, octets, plain_paths, records, settled_class, writing)
+from second_reading.shown_text import quoted
 from web_defined import credential_readings
 from web_plain import broken
 from web_reads import curl_reads
 
-# Why of HTTP not all are known to read the same, in this order, and the conditions that a location misses then.
+# The reasons why not all readers of HTTP are known to read the same, in this order, and the conditions that a location then
+# misses.
 DOUBTS = {
     "NotSettled": {"the location is settled"},
     "Zone": {"host: no zone"},
@@ -52,7 +55,7 @@ def form(v):
 
 
 def home_split(path):
-    """The user, empty for the current one, and the path below the home folder; None where the path has no user."""
+    """The user, empty for the current one, and the path below the home folder; None if the path has no user."""
     found = plain_paths.home_split(path)
     return found and (lossy(found[0]), lossy(found[1]))
 
@@ -62,7 +65,7 @@ def is_of_files(v):
 
 
 def home(v):
-    """Paths of Secure Shell and Git are kept without the `/` before `~`. Git looks for no home folder in `/~` of this machine."""
+    """Paths of Secure Shell and Git are kept without the `/` before `~`. Git looks for no home folder for `/~` on this machine."""
     if v.scheme[0] not in ("Ssh", "Git"):
         return None
     found = home_split(b"/" + v.path if v.path.startswith(b"~") else v.path)
@@ -90,7 +93,7 @@ def components(v):
 
 
 def refusal(t):
-    """Why a text is refused that isn't a line: it has no place."""
+    """The error of a text that isn't a line: it has no place."""
     name, kind, fault = errors.refusal(t)
     words = {"EmptyLocal": "the location is empty",
              "TooLong": f"the scheme or the authority of the URL is longer than 1024 bytes, in a text of {len(t)} bytes",
@@ -101,18 +104,18 @@ def refusal(t):
 
 
 def refusal_of_line(t):
-    """Why a line is refused, with the place and the words of its fault."""
+    """The error of a line, with the place and the words of its fault."""
     place = fault_places.place(t)
     return {**refusal(t), **place._asdict(), "words": fault_places.SENTENCES[place.reason], "git_reads": read_in_refused(t)}
 
 
 def may_hold_secret(t, user, host, path):
-    """Whether a part of a refused line may be a secret, or of what Git reads in it once that is decoded."""
+    """Whether a part of a refused line, or of Git's decoded reading of it, may be a secret."""
     return bool(b":" in (user or b"") or b"@" in (host or b"") or any(hidden.places(it or b"") for it in (t, user, host, path)))
 
 
 def read_in_refused(t):
-    """What Git reads in a refused line, unless it hands it to a remote helper: nothing of it where a part may be a secret."""
+    """Git's reading of a refused line, unless a remote helper gets it: none of it if a part may be a secret."""
     found = [*git_reads(t)]
     nothing: tuple = (None,) * 6
     protocol, user, _, host, port, path = found[0] if found else nothing
@@ -131,11 +134,6 @@ def field_texts(v):
     return scheme, lossy(v.user), password, lossy(v.host), str(v.flag).lower(), None if v.port is None else str(v.port), lossy(v.path)
 
 
-def quoted(t):
-    assert all(c.isalnum() or c in "[]%:/~ ." for c in t), t
-    return f'"{t}"'
-
-
 def reread(v):
     if settled_class.settled(v):
         return None
@@ -151,20 +149,20 @@ def reread(v):
         words = "its own text is read with the same fields, which isn't promised" + "".join(marked[:1])
         return {"difference": None, "refusal": None, "words": words}
     field, here, instead = pairs[0]
-    read = f"no {field}" if instead is None else f"the {field} {quoted(instead)}"
-    words = f"its own text is read with {read} in place of {'none' if here is None else quoted(here)}"
+    read = f"no {field}" if instead is None else f"the {field} {quoted(instead.encode())}"
+    words = f"its own text is read with {read} in place of {'none' if here is None else quoted(here.encode())}"
     return {"difference": {"field": field, "here": here, "instead": instead}, "refusal": None, "words": words}
 
 
 def reading(v):
-    """The location as the classes of Git's readings have it: of what Git passes to another program there are no parts."""
+    """The location in the form of the classes of Git's readings: for one that Git passes to another program there are no parts."""
     if not is_of_files(v):
         return Reading(f"helper {lossy(grammar.as_str(v.scheme))}", None, None, None, None, None)
     return Reading(v.scheme[0].lower(), v.user, v.password, v.host or None, v.port, v.path)
 
 
 def agrees_with_git(v):
-    """The rules by hand, asked of the text that is written: the text of a settled location is read as it and written again."""
+    """The rules by hand for the written text: the text of a settled location is read as it and written again."""
     is_web = v.scheme in grammar.HTTP_SCHEMES
     answer = not broken(v) if is_web else is_careful(Case(writing.text(v), None, reading(v)), settled_class.settled(v))
     assert answer == git_class.agrees_with_git(v), v
@@ -172,9 +170,9 @@ def agrees_with_git(v):
 
 
 def read_by_git(v):
-    """What Git reads in the text of the location by the second reading of its definition, unless that is known to be the same.
+    """Git's reading of the text of the location by the second reading of its definition, unless that is known to be the same.
 
-    A reading with a password isn't reported. Of HTTP it is reported what may be read otherwise.
+    A reading with a password isn't reported. For HTTP the possible differences are reported.
     """
     text, is_web = writing.text(v), v.scheme in grammar.HTTP_SCHEMES
     if not (is_web or is_of_files(v)) or agrees_with_git(v) or isinstance(text, writing.Fault):
@@ -193,7 +191,7 @@ def read_by_git(v):
 
 
 def credential(v):
-    """What Git's credential code asks helpers for in the text of a location of HTTP, None where Git refuses it."""
+    """The request of Git's credential code for the text of an HTTP location, None if Git refuses it."""
     text = writing.text(v)
     if v.scheme not in grammar.HTTP_SCHEMES or isinstance(text, writing.Fault):
         return None
@@ -203,7 +201,7 @@ def credential(v):
 
 
 def curl(v):
-    """What curl connects to and asks for in the text of a location of HTTP; None where it refuses it, and for byte 0."""
+    """The connection and the request of curl for the text of an HTTP location; None if it refuses it, and for byte 0."""
     text = writing.text(v)
     if v.scheme not in grammar.HTTP_SCHEMES or isinstance(text, writing.Fault) or b"\0" in text:
         return None
@@ -211,13 +209,13 @@ def curl(v):
     return found and {"host": lossy(found.host), "port": found.port and int(found.port), "path": lossy(found.path)}
 
 
-# Why nothing is reported of a line that is read, but whose parts may be secrets.
+# The reason why nothing is reported for a line that is read, but whose parts may be secrets.
 WITHHELD = {"error": "Withheld", "kind": None, "fault": None, "at": None, "len": None, "reason": None,
             "words": "what it is read as may show a secret", "git_reads": None}
 
 
 def shown_line(line):
-    """The line with the word in place of what may be a secret."""
+    """The line with the word instead of each possible secret."""
     return lossy(hidden.redacted(line))
 
 

@@ -28,7 +28,7 @@ def rows_below(document, head):
 
 
 def table():
-    """The rows of the texts that surprise: text, three cells that are computed, and a reason."""
+    """The rows of the texts that surprise: text, three computed cells, and a reason."""
     return rows_below("GRAMMAR.md", HEAD)
 
 
@@ -38,12 +38,12 @@ def reasons():
 
 
 def reason_examples():
-    """The examples of the reasons that are shown as they are, each with its row."""
+    """The examples of the reasons that are shown literally, each with its row."""
     return {row[2].strip("`").encode(): row for row in reasons() if row[2].startswith("`")}
 
 
 def reason_faults():
-    """Which rows of the reasons say otherwise than the second reading."""
+    """The rows of the reasons that differ from the second reading."""
     said = {row[0].strip("`"): row[1] for row in reasons()}
     if list(said.items()) != list(fault_places.SENTENCES.items()):
         yield f"the reasons of docs/EXPLAIN.md are {said}, and not {fault_places.SENTENCES}"
@@ -67,7 +67,7 @@ def sentences():
 
 
 def hint_faults():
-    """Which rows of the hints say otherwise than the code, or have an example to which the second reading applies no such hint."""
+    """The rows of the hints that differ from the code, or have an example to which the second reading applies no such hint."""
     found = hint_rows()
     if [name for name, _, _ in found] != [*HINTS]:
         yield "the hints of docs/EXPLAIN.md are others than those of the second reading, or in another order"
@@ -80,7 +80,7 @@ def hint_faults():
 
 
 def cells(line):
-    """What the table says of a text: what it is read as, how that is written, and whether it is settled."""
+    """The cells of the table for a text: its reading, the text that is written for it, and whether it is settled."""
     v = grammar.spells(line)
     if v is None:
         name, _, fault = errors.refusal(line)
@@ -92,7 +92,7 @@ def cells(line):
 
 
 def table_faults():
-    """Which rows of the table say otherwise than the second reading."""
+    """The rows of the table that differ from the second reading."""
     rows = table()
     if len(rows) < 20:
         yield f"the table has {len(rows)} rows"

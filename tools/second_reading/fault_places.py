@@ -1,14 +1,14 @@
-"""Where a refused text is wrong, and for which reason, by a second reading of docs/GRAMMAR.md.
+"""The place and the reason of the error in a refused text, by a second reading of docs/GRAMMAR.md.
 
-What it is for: the reason, `at` and `len` of a refusal are computed here, and not by the library. Each function returns
-the first flaw of a piece in the order of checks, or None: `a or b` is what the check `a` finds, else what `b` finds.
+Its purpose: the reason, `at` and `len` of a refusal are computed here, and not by the library. Each function returns the first
+flaw of a piece in the order of checks, or None: `a or b` is the result of the check `a`, or else of `b`.
 """
 import re
 from collections import namedtuple
 
 from second_reading import grammar, hosts, octets
 
-# Where the flaw begins, in bytes; how many bytes are wrong, 0 where something is missing; and what is wrong.
+# The offset of the flaw in bytes; the number of faulty bytes, 0 if something is missing; and the reason.
 Place = namedtuple("Place", "at len reason")
 
 SENTENCES = {
@@ -47,7 +47,7 @@ SENTENCES = {
 # Characters
 
 def first(t, at, reason, is_wrong):
-    """The first character that is wrong, of a text in UTF-8."""
+    """The first faulty character of a text in UTF-8."""
     for c in map(str.encode, t.decode("utf-8")):
         if is_wrong(c):
             return Place(at, len(c), reason)
@@ -56,7 +56,7 @@ def first(t, at, reason, is_wrong):
 
 
 def not_text(t, at, reason, units):
-    """The first units of a text that aren't UTF-8; `t` is what they decode to, and `at` where they begin."""
+    """The first units of a text that aren't UTF-8; `t` is the decoded text, and `at` its offset."""
     try:
         t.decode("utf-8")
     except UnicodeDecodeError as error:
@@ -70,7 +70,7 @@ def not_utf8(b):
 
 
 def undecodable(t, at):
-    """The first bytes or escapes that stand for no text."""
+    """The first bytes or escapes that don't decode to text."""
     return not_text(octets.dec(t), at, "EscapesNotUtf8", re.findall(rb"(?s)%[0-9A-Fa-f]{2}|.", t))
 
 
@@ -100,14 +100,14 @@ def range_fault(mode, digits, at):
 
 
 def inner_fault(mode, x, at):
-    """What is wrong with the text between brackets."""
+    """The fault of the text between brackets."""
     if hosts.inner(mode, x) is not None:
         return None
     return Place(at, len(x), "NotAnAddress") if mode == hosts.STRICT else undecodable(x, at)
 
 
 def bracket_fault(mode, piece, at):
-    """What is wrong with a piece that begins with a bracket."""
+    """The fault of a piece that begins with a bracket."""
     x, closing, back = piece[1:].partition(b"]")
     if not closing:
         return Place(at, 1, "UnclosedBracket")
@@ -120,7 +120,7 @@ def bracket_fault(mode, piece, at):
 
 
 def colon_fault(mode, piece, at):
-    """What is wrong with a piece whose colons end no host."""
+    """The fault of a piece whose colons end no host."""
     if mode != hosts.STRICT:
         return undecodable(piece, at)
     for address in [piece] + [piece[:-1]] * piece.endswith(b":"):
@@ -131,14 +131,14 @@ def colon_fault(mode, piece, at):
 
 
 def text_fault(mode, host, at):
-    """What is wrong with the text of a host."""
+    """The fault of the text of a host."""
     if mode != hosts.STRICT:
         return undecodable(host, at)
     return first(host, at, "HostCharacter", lambda c: not set(c) <= octets.HTTP_HOST)
 
 
 def host_fault(mode, piece, at):
-    """What is wrong with the piece that names host and port."""
+    """The fault of the piece that names host and port."""
     if mode == hosts.BARE and hosts.is_bare_address(piece):
         return None
     if piece.startswith(b"["):
@@ -181,7 +181,7 @@ def authority_fault(s, a, at):
 
 
 def rest_fault(b, s, rest):
-    """What is wrong behind `://`."""
+    """The fault after `://`."""
     (a, p), = grammar.path_cuts(s, rest)
     begins = len(s) + 3
     found = undecodable(p, begins + len(a)) or authority_fault(s, a, begins)
@@ -203,7 +203,7 @@ def file_fault(b, rest):
 # All texts
 
 def front_fault(front):
-    """What is wrong with what is before the colon of the scp form, in which a `%` begins no escape."""
+    """The fault of the text before the colon of the scp form, in which a `%` begins no escape."""
     user, sign, host = front.rpartition(b"@")
     at = len(user + sign)
     return (
@@ -212,13 +212,13 @@ def front_fault(front):
 
 
 def scp_fault(b, path, front=None):
-    """What is wrong with the scp form; of a user and an address in brackets the front is fine."""
+    """The fault of the scp form; with a user and an address in brackets the front is valid."""
     found = not_utf8(b) or (Place(len(b), 0, "ScpPathMissing") if path == b"" else None)
     return found or (None if front is None else front_fault(front))
 
 
 def place(b):
-    """The first flaw of a text in the order of checks; None where it is read."""
+    """The first flaw of a text in the order of checks; None if it is read."""
     if grammar.has_helper_form(b):
         return None
     if b == b"":

@@ -1,4 +1,4 @@
-"""The locations of which `agrees_with_git` is true."""
+"""The locations for which `agrees_with_git` is true."""
 from second_reading.grammar import HTTP_SCHEMES
 from second_reading.hosts import ip6, is_ip4
 from second_reading.octets import PASSWORD_SET, PLAIN_HOST, URI_PATH, cuts, enc
@@ -7,7 +7,7 @@ from second_reading.writing import canonical_path, text
 
 
 def agrees_with_git(v):
-    """The readers of the location's text read the same place in it: of HTTP all that read it, else Git."""
+    """The readers of the location's text read the same place in it: for HTTP all that read it, otherwise Git."""
     return agrees_over_web(v) if v.scheme in HTTP_SCHEMES else agrees_by_transport(v)
 
 
@@ -58,7 +58,7 @@ def is_unambiguous_host(host):
 
 
 def has_dot_segment(path):
-    """A segment `.` or `..` behind a `/`, which ends at a `/`, at a `?` or at the end."""
+    """A segment `.` or `..` after a `/`, which ends at a `/`, at a `?` or at the end."""
     return any(behind[:len(dots)] == dots and (behind[len(dots):] == b"" or behind[len(dots)] in b"/?")
                for _, behind in cuts(path, b"/") for dots in (b".", b".."))
 

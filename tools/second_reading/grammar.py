@@ -1,4 +1,4 @@
-"""The grammar: which location a text spells, by trying every cut of its bytes."""
+"""The grammar: the location that a text spells, by trying every split of its bytes."""
 from collections import namedtuple
 
 from second_reading.hosts import BARE, authorities, ip6, mode_of, names
@@ -40,14 +40,14 @@ def path_starts(scheme):
 
 
 def path_cuts(scheme, rest):
-    """All (authority, path) that the bytes behind `://` are."""
+    """All (authority, path) of the bytes after `://`."""
     starts = path_starts(scheme)
     return [(a, p) for a, p in halves(rest)
             if (p == b"" or p[0] in starts) and not any(b in starts for b in a)]
 
 
 def fits(scheme, rest):
-    """The test of length."""
+    """The check of the length."""
     if len(scheme) > 1024:
         return False
     dense = bytes(b for b in rest if b not in ASCII_WHITE_SPACE)
@@ -65,7 +65,7 @@ def text_fits(t):
 
 
 def peel(host):
-    """What Secure Shell takes off its host."""
+    """The host that Secure Shell uses: without brackets."""
     if host is None:
         return None
     if host.startswith(b"["):
@@ -154,7 +154,7 @@ def address_scp_shapes(b):
 
 
 def scp_hosts(f):
-    """All (user, text of the host) that the front of a plain scp form is."""
+    """All (user, text of the host) of the front of a plain scp form."""
     return ([(None, f)] if b"@" not in f else []) + [(u, h) for u, h in cuts(f, b"@") if b"@" not in h]
 
 
@@ -190,7 +190,7 @@ def all_spelled(b):
 
 
 def spells(b):
-    """The one location that the bytes spell, None where they spell none."""
+    """The only location that the bytes spell, None if they spell none."""
     found = all_spelled(b)
     assert len(found) <= 1, ("two readings", b, found)
     return found.pop() if found else None

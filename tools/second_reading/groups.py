@@ -1,7 +1,7 @@
-"""Groups of readers that cut remotes otherwise than Git, and the host that each finds in a text: a second reading of `Group`.
+"""Groups of readers that split remotes differently from Git, and the host that each finds in a text: a second reading of `Group`.
 
 The scp form is here each text with a `:`, if neither another `:` nor `//` follows the first one. A host is as it is written, without
-brackets. It isn't empty, but that of `digits_are_port` has its port, and may be that alone.
+brackets. It isn't empty, but that of `digits_are_port` has its port, and may be only that.
 """
 import re
 
@@ -14,7 +14,7 @@ FOUR_NUMBERS = re.compile(rb"((?:[0-9]{1,3}\.){3}[0-9]{1,3})\.")
 
 
 def front(pattern: re.Pattern[bytes], text: bytes) -> bytes:
-    """What the pattern takes from the front of a text, empty where it takes nothing."""
+    """The text that the pattern matches at the front, empty if it doesn't match."""
     found = pattern.match(text)
     return found[1] if found else b""
 
@@ -31,7 +31,7 @@ def host_in(authority: bytes) -> bytes:
     return named.rpartition(b":")[0] if b":" in named else named
 
 
-# ---- the groups: of each the host in a text, empty where it finds none
+# ---- the groups: for each the host in a text, empty if it finds none
 
 def urls(text: bytes) -> bytes:
     """RFC 3986: an authority is behind `//`, at the front or after a scheme, and ends at `/`, `?` or `#`. Its last `@` ends user
@@ -73,7 +73,7 @@ GROUPS = {it.__name__: it for it in (urls, url_standard, made_urls, first_colon,
 
 
 def host_by(group: str, text: bytes) -> bytes | None:
-    """The host that the readers of a group find in a text, None where they find none."""
+    """The host that the readers of a group find in a text, None if they find none."""
     return GROUPS[group](text) or None
 
 
@@ -86,7 +86,7 @@ def host_name(host: bytes) -> bytes:
 
 
 def is_own(host: bytes | None, named: bytes) -> bool:
-    """Whether a host is named so."""
+    """Whether a host has this name."""
     return host is not None and host_name(host) == host_name(named)
 
 

@@ -1,4 +1,4 @@
-"""What of a text is hidden where `explain` prints it, and where the parts of a line are that is read as a location.
+"""The parts of a text that `explain` hides, and the places of the parts of a line that is read as a location.
 
 It is written from the words of docs/EXPLAIN.md, not from the code.
 """
@@ -22,19 +22,19 @@ def last_at(text, begin):
 
 
 def password(text, begin):
-    """The place of what may be a password in a text that begins there and in which no path starts."""
+    """The place of a possible password in a text that begins there and in which no path starts."""
     colon = COLON.search(text)
     at = colon and last_at(text, colon.end())
     return [] if at is None or at == colon.end() else [(begin + colon.end(), begin + at)]
 
 
 def runs(starts, text, begin):
-    """The texts between bytes at which a path may start, with where they begin."""
+    """The texts between bytes at which a path may start, with their offsets."""
     return [(it[0], begin + it.start()) for it in re.finditer(b"[^%s]+" % starts, text, re.S)]
 
 
 def wide(starts, text):
-    """Where a password begins and ends that may have a `/` in it."""
+    """The start and the end of a password that may have a `/` in it."""
     begin = text.find(b"://") + 3
     authority = re.split(b"[%s]" % starts, text[begin:])[0]
     colon = COLON.search(authority)
@@ -47,7 +47,7 @@ def wide(starts, text):
 
 
 def places(text):
-    """The places of all that is hidden, in their order."""
+    """The places of all hidden parts, in their order."""
     front = text.partition(b"::")[0]
     skipped = len(front) + 2 if b"::" in text and grammar.is_helper_name(front) else 0
     url = text[skipped:]
@@ -55,7 +55,7 @@ def places(text):
     found = wide(starts, url) or (len(url), len(url))
     secrets = [it for run, begin in runs(starts, url[:found[0]], skipped) for it in password(run, begin)]
     secrets += [(begin, begin + len(run)) for run, begin in runs(starts, url[found[0]:found[1]], skipped + found[0])]
-    # Tokens are looked for in what is left.
+    # Tokens are looked for in the rest.
     ends = [0, skipped, *(end for place in secrets for end in place), len(text)]
     rest = [(0, skipped), *zip([skipped, *(end for _, end in secrets)], [*(begin for begin, _ in secrets), len(text)])]
     assert ends == sorted(ends)
@@ -63,7 +63,7 @@ def places(text):
 
 
 def redacted(text):
-    """The text with the word in place of each secret."""
+    """The text with the word instead of each secret."""
     shown, end = b"", 0
     for begin, behind in places(text):
         shown, end = shown + text[end:begin] + WORD, behind
@@ -77,7 +77,7 @@ def shown_parts(text):
 
 
 def moved(text, place):
-    """Where a place of the text is shown; None inside a secret."""
+    """The shown position of a place of the text; None inside a secret."""
     if any(begin < place < end for begin, end in places(text)):
         return None
     return len(redacted(text[:place])) if place == len(text) else place + sum(len(WORD) - (end - begin) for begin, end in places(text) if end <= place)

@@ -1,4 +1,4 @@
-"""The hints of `explain`: of each its name, and where it applies; docs/EXPLAIN.md has them in words."""
+"""The hints of `explain`: for each its name, and its condition; docs/EXPLAIN.md has them in words."""
 import re
 import unicodedata
 
@@ -10,7 +10,7 @@ HOST_NAME = rb"(?:[A-Za-z0-9-]+\.)+(?!git(?:/|\Z))[A-Za-z]{2,}"
 OF_SERVICES = rb"(?:[A-Za-z0-9-]+\.)+(?:com|org|net|io|dev|app|edu|gov|info|cloud)"
 TRANSPORTS = (b"ssh", b"git", b"http", b"https", b"file", b"ftp", b"ftps", b"git+ssh", b"ssh+git")
 MISTYPED = (b"ssh", b"git", b"http", b"https", b"file")
-# A user without unusual bytes; `\w` of bytes is ASCII.
+# A user without unusual bytes; `\w` for bytes is ASCII.
 USER = rb"[\w.-]+"
 COLON_FOR_SLASH = re.compile(rb"(?:ssh|git|https?)://(?:[^/]*@)?[^/@:\[\]]+:[A-Za-z~][^/@:]*(?:/|\Z)")
 SLASH_IN_PASSWORD = re.compile(rb"(?:ssh|git|https?)://[^/@:]*:[^/@]*/.*@[^@/][^@]*/[^@]*\Z", re.S)
@@ -26,7 +26,7 @@ FORGES = (b"github.com", b"codeberg.org", b"gitea.com", b"bitbucket.org", b"git.
 DETAILS = b"tree|blob|raw|blame|edit|pull|commit|compare|src|branch|log|item"
 LISTS = b"pulls|pull-requests|issues|releases|tags|branches|commits|actions|wiki|refs"
 OF_GITLAB = b"tree|blob|raw|blame|commit|commits|compare|merge_requests|issues|tags|branches|releases|pipelines|wikis"
-# No `@` is before the path, and the last `%40` there has something behind it.
+# There is no `@` before the path, and the last `%40` there has text after it.
 ESCAPED_AT = re.compile(rb"(?:ssh|git|https?)://(?=[^/?#@]*(?:[/?#]|\Z))[^/?#]*%40(?=[^/?#])(?![^/?#]*%40)")
 SETTING = re.compile(rb"[ \t\n\r\f]*(?:(?:remote|submodule)\.[^=]*\.)?(?i:(?:push)?url)[ \t\n\r\f]*=")
 DRAWN_ALIKE = ("GREEK ", "CYRILLIC ", "ARMENIAN ", "CHEROKEE ")
@@ -41,7 +41,7 @@ def is_scheme(v, *schemes):
 
 
 def is_page(v):
-    """Whether the path goes on behind a repository, as forges show a part of it."""
+    """Whether the path goes on after a repository, as in forges' links to a part of it."""
     path = re.split(rb"[?#]", v.path)[0]
     of_forge = v.host in FORGES and re.match(rb"/[^/]+/[^/]+/(?:(?:" + LISTS + rb")(?:/|\Z)|(?:" + DETAILS + rb")/[^/])", path)
     return bool(of_forge or re.match(rb"(?s:(?:(?!/-/).)*)/-/(?:" + OF_GITLAB + rb")(?:/|\Z)", path))
@@ -53,7 +53,7 @@ def has_one_slash(line):
 
 
 def edits(text):
-    """Each text that is one edit away, of letters and digits."""
+    """Each text that is one edit away, with letters and digits."""
     bytes_ = [bytes([it]) for it in b"abcdefghijklmnopqrstuvwxyzABCDEFGHIJKLMNOPQRSTUVWXYZ0123456789"]
     for at in range(len(text) + 1):
         front, rest = text[:at], text[at:]
@@ -79,7 +79,7 @@ def names_revision(v):
 
 
 def refused_host(line):
-    """What a refused URL has in the place of its host."""
+    """The text that a refused URL has instead of its host."""
     _, mark, rest = line.partition(b"://")
     return rest.split(b"/")[0].rpartition(b"@")[2].partition(b":")[0] if mark else b""
 
@@ -140,7 +140,7 @@ HINTS = {
     "pasted_remote": lambda line, v: re.search(rb" \((?:fetch|push)\)\Z", line),
     "windows_share": lambda line, v: is_form(v, "local") and line[:2] == b"\\\\",
     "file_drive": lambda line, v: is_form(v, "url") and is_scheme(v, "File") and re.fullmatch(DRIVE, v.host or b""),
-    # Of the line that is explained, which may be another one than what is shown.
+    # For the line that is explained, which may differ from the shown one.
     "hidden_secret": lambda line, v: False,
     "write_instead": lambda line, v: v is not None and instead(line, v),
 }

@@ -13,7 +13,7 @@ def is_ip4(t):
 
 
 def group_list(t, ip4_allowed):
-    """How many groups a list of groups holds (an address of four numbers at its end counts two); None: no list."""
+    """The number of groups in a list of groups (an address of four numbers at its end counts as two); None if it isn't a list."""
     if t == b"":
         return 0
     items = t.split(b":")
@@ -42,7 +42,7 @@ def zone(z):
 
 
 def lit6(t):
-    """What the literal is read as; None where it is none."""
+    """The reading of the literal; None if it isn't one."""
     found = set()
     if ip6(t):
         found.add(t.lower())
@@ -69,14 +69,14 @@ def mode_of(scheme):
 
 
 def hosttext(mode, text):
-    """The host that a host's text stands for, None where it stands for none."""
+    """The host that a host's text spells, None if it spells none."""
     if mode == STRICT:
         return norm(text) if all(b in HTTP_HOST for b in text) else None
     return norm(dec(text)) if is_utf8(dec(text)) else None
 
 
 def inner(mode, x):
-    """What stands for the text between brackets, None where nothing does."""
+    """The host that the text between brackets spells, None if it spells none."""
     literal = lit6(x)
     if mode == STRICT:
         return literal
@@ -85,7 +85,7 @@ def inner(mode, x):
 
 
 def num(mode, digits):
-    """The port, None where it is none."""
+    """The port, None if it isn't one."""
     if digits == b"" or any(b not in DIGITS for b in digits):
         return None
     value = int(digits)
@@ -93,7 +93,7 @@ def num(mode, digits):
 
 
 def is_plain_front(h):
-    """What may precede a port without brackets."""
+    """A text that may precede a port without brackets."""
     return h != b"" and b":" not in h and not h.startswith(b"[")
 
 
@@ -140,13 +140,13 @@ def names(mode, piece):
 
 
 def user_informations(i):
-    """All (text of the user, text of the password or None) that the bytes before the `@` can be."""
+    """All (text of the user, text of the password or None) of the bytes before the `@`."""
     found = [(u, w) for u, w in cuts(i, b":") if b":" not in u]
     return found + [(i, None)] if b":" not in i else found
 
 
 def authorities(mode, a):
-    """All (user, password, host, port) that an authority is read as."""
+    """All (user, password, host, port) of an authority."""
     found = set()
     if b"@" not in a:
         found |= {(None, None, host, port) for host, port in names(mode, a)}

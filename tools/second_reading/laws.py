@@ -15,7 +15,7 @@ def same_fields(v, w):
 
 
 def comes_back(v):
-    """The location that v's text spells, where it has v's fields and v's text; else None."""
+    """The location that v's text spells, if it has v's fields and v's text; otherwise None."""
     t = text(v)
     if isinstance(t, Fault):
         return None
@@ -27,7 +27,7 @@ FIVE = ("Http", "Https", "File", "Ext", "Helper")
 
 
 def is_exception(v):
-    """What is read and yet not settled, of the five schemes whose readings are."""
+    """The texts that are read but not settled, for the five schemes with readings."""
     host = v.host or b""
     if v.scheme == ("File",) and not v.flag:
         return not host.startswith(b"[") and b":" in host and b"%" in host
@@ -37,7 +37,7 @@ def is_exception(v):
 
 
 def value_faults(v):
-    """Which laws of values fail at v."""
+    """The laws of values that fail at v."""
     w = comes_back(v)
     if settled(v):
         if w is None:
@@ -51,7 +51,7 @@ def value_faults(v):
 
 
 def text_faults(b):
-    """Which laws of texts fail at b."""
+    """The laws of texts that fail at b."""
     found = all_spelled(b)
     named, stand = refusal(b), flaws(b)
     if len(found) > 1:

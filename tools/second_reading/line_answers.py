@@ -1,4 +1,4 @@
-"""The lines of a text, and the answer that the program `locations` gives to a line."""
+"""The lines of a text, and the answer of the program `locations` to a line."""
 from second_reading.errors import refusal, refusal_name
 from second_reading.grammar import as_str, spells
 from second_reading.settled_class import settled

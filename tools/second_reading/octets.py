@@ -28,7 +28,7 @@ def is_utf8(t):
 
 
 def has_white_space(t):
-    """Whether the bytes hold a character of White_Space (UTF-8 never hides one inside another character)."""
+    """Whether the bytes contain a character of White_Space (UTF-8 never hides one inside another character)."""
     return any(space in t for space in WHITE_SPACE)
 
 
@@ -37,7 +37,7 @@ def is_escape(t):
 
 
 def dec(t):
-    """Each escape is one byte, every other byte itself."""
+    """Each escape is one byte, every other byte is literal."""
     out, i = bytearray(), 0
     while i < len(t):
         if is_escape(t[i:i + 3]):
@@ -50,12 +50,12 @@ def dec(t):
 
 
 def enc(escaped, t):
-    """Each byte of the set or past 127 is an escape, every other byte itself."""
+    """Each byte of the set or above 127 is an escape, every other byte is literal."""
     return b"".join(b"%%%02X" % b if b in escaped or b > 127 else bytes([b]) for b in t)
 
 
 def sound(t):
-    """Every percent has two hexadecimal digits behind it."""
+    """Every percent sign is followed by two hexadecimal digits."""
     return all(is_escape(t[i:i + 3]) for i in range(len(t)) if t[i] == 37)
 
 

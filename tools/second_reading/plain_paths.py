@@ -1,24 +1,24 @@
-"""Plain second readings of paths: what the path of a URL is made of, and where a path of a home folder lies.
+"""Plain second readings of paths: the components of the path of a URL, and the location of a path of a home folder.
 
-The library cuts texts at their marks. Here a path of a URL is read byte by byte, each byte in its place, and a path of
-files by its segments with the places where they begin and end. Both are tried on random paths, the same each time, of
-which `cases` makes what a call is over and its outcome. All texts are bytes here; `rows.py` makes rows of them.
+The library splits texts at their marks. Here a path of a URL is read byte by byte, each byte in its role, and a path of files
+by its segments with their starts and ends. Both are tried on random paths, the same each time, from which `cases` makes the
+inputs of a call and its outcome. All texts are bytes here; `rows.py` makes rows of them.
 """
 import re
 
 from second_reading import grammar, octets
 
 # ---------------------------------------------------------------------------------------------------------------
-# What the path of a URL is made of
+# The components of the path of a URL
 
-# The place behind a mark, by the place of the mark. In any other place it is a byte as others are.
+# The role of the bytes after a mark, by the role of the mark. In any other role it is an ordinary byte.
 BEHIND = {
     ("path", b"?"): "name", ("name", b"="): "value", ("name", b"&"): "name", ("value", b"&"): "name",
     ("path", b"#"): "fragment", ("name", b"#"): "fragment", ("value", b"#"): "fragment"}
 
 
 def pieces(path):
-    """The pieces of a path as they are spelled, each with its place: a mark ends one and begins the next."""
+    """The pieces of a path as they are spelled, each with its role: a mark ends one and begins the next."""
     found = [("path", b"")]
     for number in path:
         place, piece = found[-1]
@@ -42,12 +42,12 @@ def fields(found):
 
 
 def decoded(piece):
-    """The piece with the byte of each escape in its place."""
+    """The piece with each escape replaced by its byte."""
     return re.sub(rb"%([0-9A-Fa-f]{2})", lambda escape: bytes([int(escape[1], 16)]), piece)
 
 
 def components(path, is_spelled):
-    """What a path is made of; where it is a spelling its escapes stand for bytes."""
+    """The components of a path; in an escaped path escapes represent bytes."""
     meant = decoded if is_spelled else bytes
 
     def term(piece):
@@ -67,31 +67,31 @@ def components(path, is_spelled):
 # Home folders and paths of files
 
 def lossy(text):
-    """The text, with U+FFFD for what isn't UTF-8."""
+    """The text, with U+FFFD for bytes that aren't UTF-8."""
     return text.decode("utf-8", "replace").encode()
 
 
 def home_split(path):
-    """The name of the user in whose home folder a path begins, empty for the current one, and what is left of the path,
-    which begins with the root; None where it begins in none."""
+    """The name of the user in whose home folder a path begins, empty for the current one, and the rest of the path, which
+    begins with the root; None if it begins in none."""
     found = re.fullmatch(rb"/~([^/]*)/?(.*)", path, re.DOTALL)
     return found and (found[1], b"/" + lossy(found[2]))
 
 
 def shell_path(path):
-    """The path as a shell takes it."""
+    """The path as a shell reads it."""
     found = home_split(path)
     return path if found is None else b"~" + found[0] + found[1]
 
 
 def places(path):
-    """Where the components of a path begin and end. The root is none, and `.` is one only at the front."""
+    """The starts and ends of the components of a path. The root isn't one, and `.` only at the front."""
     found = [it.span() for it in re.finditer(rb"[^/]+", path)]
     return [(start, end) for start, end in found if start == 0 or path[start:end] != b"."]
 
 
 def parent(path):
-    """The front of a path that lies above its last component; None where it has no component."""
+    """The front of a path above its last component; None if it has no component."""
     ends = [end for _, end in places(path)]
     if len(ends) < 2:
         return path[:path.startswith(b"/")] if ends else None
@@ -111,8 +111,8 @@ def below(path):
 
 
 def expanded(name, path, home):
-    """Where a path lies, below the home folder of the user of this name, if one is named: the current one has an empty
-    name and this home folder, and others have theirs beside it."""
+    """The location of a path below the home folder of the user of this name, if one is named: the current one has an empty name
+    and this home folder, and others have theirs next to it."""
     if name is None:
         return path if octets.is_utf8(path) else {"error": "PathNotUtf8"}
     above = parent(home)
@@ -126,11 +126,11 @@ def expanded(name, path, home):
 # Random paths
 
 SEED = 0x9E37_79B9_7F4A_7C15
-# What random paths of URLs are put together from: broken escapes and a byte past ASCII follow the first 21.
+# The pieces of random paths of URLs: broken escapes and a byte outside ASCII follow the first 21.
 PARTS = (b"/", b"?", b"#", b"&", b"=", b"+", b"a", b"4", b"%41", b"%2b", b"%2B", b"%26", b"%3d", b"%3F", b"%23", b"%20",
          b"%C3%B6", b"&&", b"=&", b"?&", b"b", b"%", b"%2", b"\xff")
 WHOLE_PARTS = PARTS[:21]
-# The bytes of random paths of files: the two of `ö` among them, which aren't text apart.
+# The bytes of random paths of files, including the two of `ö`, which aren't text separately.
 BYTES = b"////..~~abc\xc3\xb6\xb6\xffd"
 
 
@@ -146,7 +146,7 @@ class Numbers:
 
 
 def url_path(number):
-    """The path of this number, of up to 16 parts, and where the number is even of none but the whole ones."""
+    """The path of this number, of up to 16 pieces, and only of the whole ones if the number is even."""
     numbers = Numbers(number * SEED + 1)
     parts = PARTS if number % 2 else WHOLE_PARTS
     return b"".join(parts[numbers.below(len(parts))] for _ in range(number % 17))
@@ -159,7 +159,7 @@ def file_path(numbers):
 
 
 def file_paths(number):
-    """So many paths, each with a home folder, which is a text: what isn't ASCII is left out of it."""
+    """This many paths, each with a home folder, which is a text without the bytes outside ASCII."""
     numbers = Numbers(SEED)
     for _ in range(number):
         path = file_path(numbers)
@@ -170,8 +170,8 @@ def file_paths(number):
 # Calls over random paths
 
 def web_location(path):
-    """A location of HTTP with this path, what it is read from, and whether that is a spelling: what a URL with the path
-    is read as, or where it isn't a URL a location that has the path and no spelling."""
+    """An HTTP location with this path, the text that it is read from, and whether the path is escaped: the reading of a URL
+    with the path, or if that isn't a URL a location with the path and no escaped path."""
     url = b"http://h/" + path
     read = grammar.spells(url)
     if read is None:
@@ -181,7 +181,7 @@ def web_location(path):
 
 
 def component_cases(number):
-    """Locations of HTTP and what is in their paths; enough of them have a spelling, and enough have none."""
+    """HTTP locations and the components of their paths; enough of them have an escaped path, and enough have none."""
     found = [web_location(url_path(it)) for it in range(number)]
     spelled = sum(is_spelled for _, _, is_spelled in found)
     if not number < 5 * spelled < 4 * number:
@@ -201,7 +201,7 @@ def shell_cases(number):
 
 
 def expansion_cases(number):
-    """What is left of paths, for the user in whose home folder they begin."""
+    """The rests of paths, for the user in whose home folder they begin."""
     for path, home in file_paths(number):
         name, rest = home_split(path) or (None, path)
         user = {} if name is None else {"user": b"~" + name}
@@ -214,7 +214,7 @@ CASES = {
 
 
 def cases(call, number):
-    """What a call is over and its outcome, for so many random paths."""
+    """The inputs of a call and its outcome, for this many random paths."""
     if call not in CASES:
         raise ValueError(f"{call} has no plain reading")
     return CASES[call](number)

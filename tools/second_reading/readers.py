@@ -1,5 +1,5 @@
-"""Who may read a line otherwise, as the JSON of `explain` has it: the first condition under which all read alike that the location
-doesn't meet, by the conditions of `unambiguous`, and the hosts that groups of readers take, by `groups`.
+"""The readers that may read a line differently, in the form of the JSON of `explain`: the first condition under which all read
+alike that the location doesn't meet, by the conditions of `unambiguous`, and the hosts that groups of readers find, by `groups`.
 """
 import re
 from collections import namedtuple
@@ -10,7 +10,7 @@ from second_reading.explain import agrees_with_git, lossy
 from second_reading.groups import host_name, other_hosts
 from web_reads import curl_reads
 
-# The conditions of the library behind the first two, in its order, and the conditions of a text that are parts of each.
+# The conditions of the library after the first two, in its order, and the conditions of a text that are parts of each.
 PARTS = {
     "Host": r"Host\w+|Label\w+|LastLabel|TwoNumbers", "User": r"User\w+", "Password": r"Password\w+", "Port": r"Port\w+",
     "PathBytes": r"Path(Space|Letter|Escape|Query|Fragment|Semicolon|Quote|Bracket|Byte)|Scp(Again|At|Colon|Mark|Bracket|Byte)"
@@ -18,12 +18,12 @@ PARTS = {
     "PathStart": r"Path(Slashes|Drive|Tilde|Dash)|FileTilde|Scp(Digits|Front)|Local(At|Slashes|Front)",
     "DotSegment": r"PathDots", "ScpHost": r"Scp(Letter|Scheme)", "ScpPath": r"ScpSlash",
 }
-# The host that Git connects to: none where it opens a local path.
+# The host that Git connects to: None if it opens a local path.
 GitHost = namedtuple("GitHost", "host")
 
 
 def condition(v):
-    """The first condition that a location doesn't meet; None where all read its text alike."""
+    """The first condition that a location doesn't meet; None if all read its text alike."""
     if not agrees_with_git(v):
         return "Git"
     broken = unambiguous.broken(writing.text(v))
@@ -35,8 +35,7 @@ def condition(v):
 
 
 def git_host(line):
-    """The host that Git connects to for a line, by curl over HTTP, if it is text; None where it connects to none, or where that isn't
-    known."""
+    """The host that Git connects to for a line, by curl over HTTP, if it is text; None if it connects to none, or if that isn't known."""
     if line.startswith((b"http://", b"https://")):
         found = None if b"\0" in line else curl_reads(line)
         return found and (None if "\ufffd" in lossy(found.host) else GitHost(found.host))
@@ -46,12 +45,12 @@ def git_host(line):
 
 
 def shown(host, line):
-    """The host, or a word where it isn't in a part of the line that is shown."""
+    """The host, or a word if it isn't in a part of the line that is shown."""
     return lossy(host) if any(host in it for it in hidden.shown_parts(line)) else "redacted"
 
 
 def others(line, own):
-    """Each other host that groups take, with their names, in the order of the groups."""
+    """Each other host that groups find, with their names, in the order of the groups."""
     found = {}
     for group, host in other_hosts(line, own).items():
         found.setdefault(host_name(host), (host, []))[1].append(group)
@@ -65,8 +64,8 @@ def as_url(v):
 
 
 def instead(line, v):
-    """A URL of the same place that all read alike, or from which no group takes another host, though one does from the line; None
-    where there is none, a part of one may be a secret, or the line begins as a URL that lacks a slash."""
+    """A URL of the same place that all read alike, or in which no group finds another host, though one does in the line; None
+    if there is none, a part of one may be a secret, or the line begins as a URL that lacks a slash."""
     is_slip = re.match(rb"(?:ssh|https?|file|ftps?|git\+ssh|ssh\+git):/(?!/)", line)
     if is_slip or v.scheme[0] not in ("Ssh", "Git", "File") or v.password is not None or not v.path.startswith(b"/") or not octets.is_utf8(v.path):
         return None
@@ -79,7 +78,7 @@ def instead(line, v):
 
 
 def readers(line, v):
-    """Who may read a line otherwise; None where all read it alike, as far as is known."""
+    """The readers that may read a line differently; None if all read it alike, as far as is known."""
     if v is None:
         git = git_host(line)
         found = git and others(line, git.host)

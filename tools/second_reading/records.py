@@ -5,7 +5,7 @@ from second_reading.writing import matching
 
 
 def parts(v):
-    """(path, pairs or None, fragment or None)."""
+    """The path, the pairs or None, and the fragment or None."""
     if v.scheme not in HTTP_SCHEMES:
         return v.path, None, None
     whole = v.path if matching(v) is None else matching(v)
@@ -21,7 +21,7 @@ def parts(v):
 
 
 def migrated(v):
-    """A stored record brought to this form: where path and spelling are alike, it is of the old form."""
+    """A stored record brought to this form: if path and escaped path are alike, it is of the old form."""
     if v.spelling is None or v.spelling != v.path:
         return v
     out, i = b"", 0

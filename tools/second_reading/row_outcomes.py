@@ -1,8 +1,8 @@
-"""What the second reading of this package, and of `fault_places` for places, gives for rows of the tables in
+"""The results of the second reading of this package, and of `fault_places` for places, for rows of the tables in
 `vectors/`.
 
-A row whose expectation is from `oracle` is worked out again here, so that each such expectation is checked.
-The table of calls names those that the second reading knows, each with the function that gives the outcome of a row.
+A row whose expectation is from `oracle` is computed again here, so that each such expectation is checked. The table of calls
+names those that the second reading knows, each with the function that computes the outcome of a row.
 """
 import json
 
@@ -21,7 +21,7 @@ def told_scheme(of):
 
 
 def location(told):
-    """The location that a row has: what a text is read as, or parts as they are."""
+    """The location of a row: the reading of a text, or the given fields."""
     if isinstance(told, str):
         found = grammar.spells(bytes_of(told))
         if found is None:
@@ -34,19 +34,19 @@ def location(told):
 
 
 def told_location(of):
-    """A location as rows have it: the parts that are there, and the spelling where it is another than the path."""
+    """A location in the form of rows: the fields that are present, and the escaped path if it differs from the path."""
     return told_parts(of, None if writing.matching(of) == of.path else writing.matching(of))
 
 
 def told_parts(of, spelling):
-    """The parts that are there, with this spelling."""
+    """The fields that are present, with this escaped path."""
     parts = {"scheme": told_scheme(of.scheme), "user": of.user, "password": of.password, "host": of.host,
              "port": of.port, "alternative": of.flag or None, "path": of.path, "spelling": spelling}
     return {name: text_of(it) if isinstance(it, bytes) else it for name, it in parts.items() if it is not None}
 
 
 def refused(given):
-    """The error that bytes are refused with, what it keeps of them, and where and why they are wrong."""
+    """The error for bytes, the text that it keeps, and the place and the reason."""
     name, kind, fault = errors.refusal(given)
     place = fault_places.place(given)._asdict()
     if name == "TooLong":
@@ -61,7 +61,7 @@ def read(given):
 
 
 def read_in(row):
-    """What reading a text into a buffer gives; an error keeps nothing of the text."""
+    """The result of reading a text into a buffer; an error keeps nothing of the text."""
     given = bytes_of(row["text"])
     found = grammar.spells(given)
     if found is None:
@@ -70,7 +70,7 @@ def read_in(row):
 
 
 def refusal(given):
-    """The refusal of bytes, by the members that it has."""
+    """The refusal of bytes, by its members."""
     at, size, reason = fault_places.place(given)
     form = errors.refusal(given)[1] or ("Url" if given else "Local")
     return {"form": form, "reason": reason, "at": at, "len": size}
@@ -86,7 +86,7 @@ def debug_of_refusal(given):
 
 
 def written(of, call=text_of):
-    """What a call gives for the text of a location, or why that has none."""
+    """The result of a call for the text of a location, or the reason why that has none."""
     text = writing.text(of)
     return {"error": f"Unwritable {text.name}"} if isinstance(text, writing.Fault) else call(text)
 
@@ -102,14 +102,14 @@ def original_path(of):
 
 
 def reread(of):
-    """What the text of a location is read as; a settled one has to come back."""
+    """The reading of the text of a location; a settled one has to come back."""
     if settled_class.settled(of) and laws.comes_back(of) is None:
         raise ValueError(f"{told_location(of)} is settled, and its text isn't read as the same")
     return written(of, read)
 
 
 def from_parts(parts):
-    """What the text of parts is read as; HTTP keeps the path that was given, unless that is empty, and no spelling."""
+    """The reading of the text of fields; HTTP keeps the given path, unless that is empty, and no escaped path."""
     given = location({name: it for name, it in parts.items() if name != "spelling"})
     if given.scheme[0] == "Helper" and not grammar.is_helper_name(given.scheme[1]):
         return {"error": "HelperName", "kept": text_of(given.scheme[1])}
@@ -121,12 +121,12 @@ def from_parts(parts):
 
 
 def record(of):
-    """A location as its record has it: with its retained spelling, whether or not that still is one of its path."""
+    """A location in the form of its record: with its retained escaped path, whether or not that still decodes to its path."""
     return told_parts(of, of.spelling)
 
 
 def json_again(text):
-    """The record of the location that the JSON of a record is restored as, as JSON in the order of the record's members."""
+    """The record of the location that is restored from the JSON of a record, as JSON in the order of the record's members."""
     names = ["scheme", "user", "password", "host", "serialize_alternative_form", "port", "path", "path_with_percent_escapes"]
     told = {name: json.loads(text).get(name) for name in names}
     path, spelling = (None if told[it] is None else bytes(told[it]) for it in names[-2:])
@@ -141,7 +141,7 @@ def display(of):
 
 
 def run(given):
-    """What the program of lines answers, and the status that it ends with."""
+    """The output of the program of lines, and its exit status."""
     answers = [line_answers.answer_line(it) for it in line_answers.lines_of(given)]
     outcome = all(it.startswith(b"settled\t") for it in answers)
     out = b"".join(it + b"\n" for it in answers)
@@ -212,7 +212,7 @@ CALLS = {
 
 
 def outcome(members):
-    """What the second reading gives for a row of these members."""
+    """The result of the second reading for a row of these members."""
     name = members["call"] + members.get("style", "")
     if name not in CALLS:
         raise ValueError(f"the second reading knows nothing of {name}")
@@ -220,7 +220,7 @@ def outcome(members):
 
 
 def recomputed_fault(row):
-    """What is wrong with a row by the second reading, if anything is."""
+    """The fault of a row by the second reading, if there is one."""
     try:
         given = outcome(row.members)
     except ValueError as error:

@@ -1,4 +1,4 @@
-"""How `explain` shows a line that is read as a location: as itself with the word for its password, or as the text that is shown of it.
+"""How `explain` shows a line that is read as a location: the line with the word for its password, or the text that is shown for it.
 
 It is written from the words of docs/EXPLAIN.md, not from the code.
 """
@@ -11,7 +11,7 @@ def verdicts(v):
 
 
 def seen(line):
-    """The line in which is read what is reported, or None where nothing is reported; a refused line is itself."""
+    """The line whose reading is reported, or None if nothing is reported; a refused line is itself."""
     v, other = grammar.spells(line), hidden.redacted(line)
     if v is None:
         return line

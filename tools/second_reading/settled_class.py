@@ -10,7 +10,7 @@ def is_lower(t):
 
 
 def settled_http_host(host, port):
-    """A literal in brackets or a host of HTTP's bytes; with no port one colon may follow."""
+    """A literal in brackets or a host of HTTP's bytes; without a port one colon may follow."""
     def is_literal(h):
         if not (h.startswith(b"[") and h.endswith(b"]") and len(h) >= 2):
             return False
@@ -29,7 +29,7 @@ def settled_http_host(host, port):
 
 
 def settled_plain_host(v):
-    """The host of a URL of any other scheme, where there is one."""
+    """The host of a URL of any other scheme, if there is one."""
     host = v.host
     if host != b"" and not any(b in b":[]" for b in host) and host == norm(host):
         return True

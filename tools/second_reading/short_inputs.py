@@ -1,4 +1,4 @@
-"""The texts of the stored run of the crate `locations`: every form beside every piece that matters to it."""
+"""The texts of the stored run of the crate `locations`: every form with every piece that matters to it."""
 import os
 
 from second_reading.line_answers import answer_line
@@ -31,7 +31,7 @@ BYTES = [b"http://h/\xff", b"http://h\xff /%", b"\xff://h/p", b"h:\xff", b"\xff:
 
 
 def short_inputs():
-    """The texts of the stored run: every form beside every piece that matters to it, each once, in a fixed order."""
+    """The texts of the stored run: every form with every piece that matters to it, each once, in a fixed order."""
     texts = [f"{s}://{a}/p" for s in ["http", "ssh", "x"] for a in AUTHORITIES]
     texts += [f"{s}://{a}/p" for s in ["git", "ssh+git"] for a in AUTHORITIES[::2]]
     texts += [f"{s}://{a}{p}" for s in SCHEMES for a in ["", "h", "u@h:22"] for p in ["", "/p"]]

@@ -15,22 +15,26 @@ from second_reading.seen import seen
 
 
 def found(line, v):
-    """The names of what is found in a line, for which a run may fail."""
+    """The names of the findings in a line, for which a run may fail."""
     if v is None:
         return ["refused"]
     is_found = {"danger": dangers(line, v), "unsettled": not told(v)["settled"], "git-differs": not told(v)["agrees_with_git"]}
     return [name for name, it in is_found.items() if it]
 
 
-def answer(number, line):
-    """The object of a line. Of a location it is reported what is read in the line as it is shown."""
+def object_of(number, line):
+    """The object of a line. For a location the reading of the line as it is shown is reported."""
     v, other = grammar.spells(line), seen(line)
     location = None if v is None or other is None else told(grammar.spells(other))
     refusal = refusal_of_line(line) if v is None else WITHHELD if other is None else None
-    it = {"line": number, "input": shown_line(line), "location": location, "refusal": refusal,
+    return {"line": number, "input": shown_line(line), "location": location, "refusal": refusal,
           "readers": None if other is None else readers(line, v), "dangers": [] if v is None else dangers(line, v), "findings": found(line, v),
           "hints": [] if other is None else hints_of(line, other), "rules": None}
-    return json.dumps(it, separators=(",", ":"), ensure_ascii=False)
+
+
+def answer(number, line):
+    """The line of JSON of a line."""
+    return json.dumps(object_of(number, line), separators=(",", ":"), ensure_ascii=False)
 
 
 def hints_of(line, other):

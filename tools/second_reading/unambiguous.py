@@ -1,7 +1,8 @@
-"""The texts that no reader is known to read otherwise: a class of texts by their bytes alone.
+"""The texts that no reader is known to read differently: a class of texts by their bytes alone.
 
-A text is cut into pieces as most readers cut it: a URL has `://`, the scp form has a `:` before any `/`, and any other text is a
-local path. Each condition is a function of the pieces that returns whether they break it. A text is in the class if it breaks none.
+A text is split into pieces as most readers split it: a URL has `://`, the scp form has a `:` before any `/`, and any other text
+is a local path. Each condition is a function of the pieces that returns whether they break it. A text is in the class if it
+breaks none.
 """
 import re
 from collections import namedtuple
@@ -22,7 +23,7 @@ ESCAPE = re.compile(rb"%(?:20|[89A-F][0-9A-F])")
 # ---- the pieces
 
 def authority(front):
-    """User, password, host and port of what is between `://` and the path."""
+    """User, password, host and port of the text between `://` and the path."""
     information, at, named = front.rpartition(b"@")
     user, colon, password = information.partition(b":")
     host, port = re.fullmatch(rb"(\[[^\]]*\]|.*?)(?::([^:\]]*))?", named, re.S).groups()
@@ -36,7 +37,7 @@ def url_pieces(text):
 
 
 def scp_pieces(text):
-    """The first `:` ends the host, or the first one behind its brackets."""
+    """The first `:` ends the host, or the first one after its brackets."""
     front, path = re.fullmatch(rb"(?s)((?:[^:@/]*@)?\[[^\]]*\]|[^:]*):(.*)", text).groups()
     user, at, host = front.rpartition(b"@")
     return Pieces("scp", None, user if at else None, None, host, None, path)
@@ -53,15 +54,15 @@ def pieces(text):
     return Pieces("local", None, None, None, None, None, text)
 
 
-# ---- what conditions share
+# ---- common functions of conditions
 
 def has(piece, found):
-    """Whether a piece has what a pattern finds."""
+    """Whether a piece matches a pattern."""
     return piece is not None and re.search(found, piece) is not None
 
 
 def name(it):
-    """A host that is a name: one without a colon that isn't an address of four numbers. It is empty where there is none."""
+    """A host that is a name: one without a colon that isn't an address of four numbers. It is empty if there is none."""
     is_name = it.form in PLACES and not bracketed(it) and b":" not in it.host and not is_ip4(it.host)
     return it.host if is_name else b""
 
@@ -76,12 +77,12 @@ def bracketed(it):
 
 
 def address(it):
-    """The IPv6 address between the brackets of a host, empty where there is none."""
+    """The IPv6 address between the brackets of a host, empty if there is none."""
     return it.host[1:-1] if bracketed(it) and it.host.endswith(b"]") and ip6(it.host[1:-1]) else b""
 
 
 def url_path(it):
-    """The path of a URL, empty of another form."""
+    """The path of a URL, empty for another form."""
     return it.path if it.form in URLS else b""
 
 
@@ -94,7 +95,7 @@ def local_path(it):
 
 
 def other_escapes(it):
-    """The path of a URL, of HTTP without the escapes that most readers keep."""
+    """The path of a URL, for HTTP without the escapes that most readers keep."""
     return ESCAPE.sub(b"", url_path(it)) if it.form == "http" else url_path(it)
 
 
@@ -103,7 +104,7 @@ def kept_escapes(it):
     return b"".join(ESCAPE.findall(url_path(it))) if it.form == "http" else b""
 
 
-# ---- the conditions: of each what breaks it
+# ---- the conditions: for each the break of it
 
 def scheme(it):
     """A remote helper, or a scheme other than `http`, `https`, `ssh`, `git` and `file` in lower case."""

@@ -1,4 +1,4 @@
-"""The text that is written for a location, and how it is displayed."""
+"""The text that is written for a location, and its display."""
 from collections import namedtuple
 
 from second_reading.grammar import HTTP_SCHEMES, as_str, is_helper_name
@@ -9,7 +9,7 @@ Fault = namedtuple("Fault", "name")
 
 
 def matching(v):
-    """The retained spelling where it stands for the path."""
+    """The retained escaped path if it decodes to the path."""
     return v.spelling if v.spelling is not None and dec(v.spelling) == v.path else None
 
 
@@ -74,6 +74,6 @@ def text(v):
 
 
 def display(v):
-    """What `Display` shows: a word in place of the password; None where there is no text."""
+    """The text that `Display` shows: a word instead of the password; None if there is no text."""
     shown = text(v if v.password is None else v._replace(password=b"redacted"))
     return None if isinstance(shown, Fault) else shown.decode("utf-8", "replace")

@@ -90,17 +90,17 @@ typedef struct gix_url_stop {
 /* Reads the entries that git config --list -z writes. The text is refused if one of its lines is not an entry, or its last
  * entry has no end: GIX_URL_NO_CONFIGURATION.
  *
- * On GIX_URL_OK the entries are in entries, which has entry_room places, and point into the buffer. count is their number
+ * On GIX_URL_OK the entries are in entries, which has entry_capacity places, and point into the buffer. count is their number
  * and needed how many bytes of the buffer they take, on GIX_URL_NO_ROOM too. A buffer as long as the text, and a place
  * for each byte 0 in it, are enough. */
 gix_url_error gix_url_read_listing(const char *text, size_t len, char *buffer, size_t buffer_len, gix_url_entry *entries,
-                                   size_t entry_room, size_t *count, size_t *needed, gix_url_stop *stop);
+                                   size_t entry_capacity, size_t *count, size_t *needed, gix_url_stop *stop);
 
 /* The same with the text of a configuration file: what git config --file FILE --list -z lists. No file is included. The
  * section of an entry is in the buffer once for each entry, so the buffer may have to be longer than the text; an entry
  * before any header has an empty section. */
 gix_url_error gix_url_read_file(const char *text, size_t len, char *buffer, size_t buffer_len, gix_url_entry *entries,
-                                size_t entry_room, size_t *count, size_t *needed, gix_url_stop *stop);
+                                size_t entry_capacity, size_t *count, size_t *needed, gix_url_stop *stop);
 
 /* A URL after rewriting. */
 typedef struct gix_url_rewritten {
@@ -132,13 +132,13 @@ typedef struct gix_url_remote {
 
 /* Finds the remote of this name: its URLs, rewritten, and four values. Without entries of its own the name is the only URL.
  *
- * The URLs are stored in urls, which has url_room places: those to fetch from, and behind them those to push to. All
+ * The URLs are stored in urls, which has url_capacity places: those to fetch from, and behind them those to push to. All
  * texts point into the buffer. On GIX_URL_NO_ROOM only needed and needed_urls are stored, how many bytes and places it
  * takes; they are stored on GIX_URL_OK too. Git stops at an entry of any remote that has one of the six names and no
  * value, and at one of insteadOf or pushInsteadOf: GIX_URL_NO_VALUE, with the place of the first of insteadOf and
  * pushInsteadOf, or else of the first of remotes. */
 gix_url_error gix_url_remote_of(const gix_url_entry *entries, size_t count, const char *name, size_t len, char *buffer,
-                                size_t buffer_len, gix_url_text *urls, size_t url_room, gix_url_remote *remote,
+                                size_t buffer_len, gix_url_text *urls, size_t url_capacity, gix_url_remote *remote,
                                 size_t *needed, size_t *needed_urls, gix_url_stop *stop);
 
 /* Why Git has no transport for a text. */
@@ -213,9 +213,9 @@ typedef enum gix_url_danger {
 #define GIX_URL_DANGERS 10
 
 /* Finds the dangers of a text that a program uses as a remote, and of the location that is read in it: each once, in the
- * order of their numbers. The numbers are stored in dangers, which has danger_room bytes, and count is how many there
+ * order of their numbers. The numbers are stored in dangers, which has danger_capacity bytes, and count is how many there
  * are, on GIX_URL_NO_ROOM too. */
-gix_url_error gix_url_dangers_of(const char *text, size_t len, const gix_url *url, uint8_t *dangers, size_t danger_room,
+gix_url_error gix_url_dangers_of(const char *text, size_t len, const gix_url *url, uint8_t *dangers, size_t danger_capacity,
                                  size_t *count);
 
 /* Puts the name of a danger into the buffer, as option_like_host, or the danger in a few words, as "the host begins with
@@ -232,8 +232,8 @@ typedef struct gix_url_piece {
 
 /* Cuts a text into pieces, of which some may be secrets: passwords, and tokens of GitHub, GitLab and Bitbucket. Joined they
  * are the text. The text may be a location or none, or a key or a value of a configuration. The pieces are stored in
- * pieces, which has piece_room places, and count is their number, on GIX_URL_NO_ROOM too. */
-gix_url_error gix_url_secrets_of(const char *text, size_t len, gix_url_piece *pieces, size_t piece_room, size_t *count);
+ * pieces, which has piece_capacity places, and count is their number, on GIX_URL_NO_ROOM too. */
+gix_url_error gix_url_secrets_of(const char *text, size_t len, gix_url_piece *pieces, size_t piece_capacity, size_t *count);
 
 /* Why Git reads no place in a text. */
 typedef enum gix_url_unread {
@@ -346,13 +346,13 @@ typedef struct gix_url_ssh_command {
 /* The most words that a command has. */
 #define GIX_URL_SSH_WORDS 7
 
-/* Makes the words with which Git runs Secure Shell for a location. They are stored in words, which has word_room places,
+/* Makes the words with which Git runs Secure Shell for a location. They are stored in words, which has word_capacity places,
  * and point into the buffer: options, the destination, and last the command, which a shell on the server reads. Pass each
  * as one argument, without a shell. On GIX_URL_NO_ROOM only needed and needed_words are stored, how many bytes and places
  * it takes; they are stored on GIX_URL_OK too. GIX_URL_NO_LOCATION is returned also for a number of the request that
  * stands for nothing. */
 gix_url_error gix_url_ssh_words(const gix_url *url, const gix_url_ssh_request *request, char *buffer, size_t buffer_len,
-                                gix_url_text *words, size_t word_room, gix_url_ssh_command *command, size_t *needed,
+                                gix_url_text *words, size_t word_capacity, gix_url_ssh_command *command, size_t *needed,
                                 size_t *needed_words);
 
 /* Three variables of the environment; null where they aren't set, which isn't the same as empty. */
@@ -398,10 +398,10 @@ typedef struct gix_url_settings {
  * entries that apply count, in their order, and an empty value removes those before it; Git stops at an entry of a list
  * that applies and has no value: GIX_URL_NO_VALUE. For a text without a normal form only entries without a URL apply.
  *
- * The indices of the entries are stored in settings, which has setting_room places, and needed is their number, on
+ * The indices of the entries are stored in settings, which has setting_capacity places, and needed is their number, on
  * GIX_URL_NO_ROOM too. A name that is not UTF-8 returns GIX_URL_NO_LOCATION. */
 gix_url_error gix_url_settings_of(const gix_url_entry *entries, size_t count, const char *name, size_t name_len,
-                                  const char *text, size_t len, size_t *settings, size_t setting_room,
+                                  const char *text, size_t len, size_t *settings, size_t setting_capacity,
                                   gix_url_settings *found, size_t *needed, gix_url_stop *stop);
 
 /* What Git's credential code uses of a configuration for a URL. If it reads nothing in the URL, all is 0. */
@@ -413,12 +413,12 @@ typedef struct gix_url_credentials {
 } gix_url_credentials;
 
 /* Finds what Git's credential code uses for a URL. The indices of the entries whose values are the helpers are stored in
- * helpers, which has helper_room places, in the order in which Git asks them. The user points into the buffer. On
+ * helpers, which has helper_capacity places, in the order in which Git asks them. The user points into the buffer. On
  * GIX_URL_NO_ROOM only needed and needed_helpers are stored, how many bytes and places it takes; they are stored on
  * GIX_URL_OK too. Git stops at an entry that applies and has no value, or is a useHttpPath with no boolean value:
  * GIX_URL_NO_VALUE or GIX_URL_NO_BOOLEAN. */
 gix_url_error gix_url_credentials_of(const gix_url_entry *entries, size_t count, const char *text, size_t len, char *buffer,
-                                     size_t buffer_len, size_t *helpers, size_t helper_room,
+                                     size_t buffer_len, size_t *helpers, size_t helper_capacity,
                                      gix_url_credentials *credentials, size_t *needed, size_t *needed_helpers,
                                      gix_url_stop *stop);
 
@@ -474,10 +474,10 @@ typedef struct gix_url_submodule {
 } gix_url_submodule;
 
 /* Lists the submodules of a .gitmodules file, in the order in which their names come first. They are stored in submodules,
- * which has submodule_room places, and their names point into the buffer. submodule_count is their number and needed how
+ * which has submodule_capacity places, and their names point into the buffer. submodule_count is their number and needed how
  * many bytes the names take, on GIX_URL_NO_ROOM too. */
 gix_url_error gix_url_submodules_of(const gix_url_entry *entries, size_t count, char *buffer, size_t buffer_len,
-                                    gix_url_submodule *submodules, size_t submodule_room, size_t *submodule_count,
+                                    gix_url_submodule *submodules, size_t submodule_capacity, size_t *submodule_count,
                                     size_t *needed);
 
 #ifdef __cplusplus

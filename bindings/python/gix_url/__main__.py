@@ -1,13 +1,13 @@
-"""Answers each line of the standard input as the program `locations` does: `python3 -m gix_url <
-remotes.txt`. With the word `audit` it audits a .gitmodules file: `python3 -m gix_url audit FILE [--parent
-URL]`."""
+"""Prints a result for each line of the standard input as the program `locations` does:
+`python3 -m gix_url < remotes.txt`. With the word `audit` it audits a .gitmodules file:
+`python3 -m gix_url audit FILE [--parent URL]`."""
 import sys
 
 import gix_url
 
 
 def _answer(line: bytes) -> bytes:
-    """What `locations` answers to a line."""
+    """The output of `locations` for a line."""
     try:
         url = gix_url.parse(line)
     except gix_url.Error as error:
@@ -16,7 +16,7 @@ def _answer(line: bytes) -> bytes:
 
 
 def _main() -> int:
-    """0 if all lines are settled, else 1; of an audit the status of that."""
+    """Returns 0 if all lines are settled, otherwise 1; for an audit, the status of the audit."""
     if sys.argv[1:2] == ["audit"]:
         from . import audit
 

@@ -1,5 +1,5 @@
-"""The structs and the calls of gix_url_rules.h, and how a call is made: one table says what each takes and
-stores."""
+"""The structs and the calls of gix_url_rules.h, and how a call is made. One table lists the arguments and
+results of each call."""
 import ctypes
 from typing import Any, NamedTuple
 
@@ -8,9 +8,9 @@ import gix_url
 from ._library import Location, Number, Problem, Size, Text, Truth, bytes_of, lib, ref, struct, text_of
 
 _NO_ROOM = 102
-# The errors with a stop.
+# The errors that come with a stop.
 STOPS = NO_VALUE, NO_BOOLEAN, NO_CONFIGURATION = 104, 105, 106
-# How many elements a buffer has at first.
+# The initial number of elements of a buffer.
 _START = 64
 _Byte, _Letters = ctypes.c_uint8, ctypes.c_char_p
 
@@ -38,24 +38,24 @@ Submodule = struct(name=Text, path=Size, url=Size, update=Size, branch=Size)
 
 
 class Call(NamedTuple):
-    """What a call takes, in order: what it reads; the elements of each buffer, with its length; the result;
-    for each buffer where to store how many elements are needed, for the last buffer first if `is_turned`; and
-    a stop."""
+    """The parameters of a call, in order: its inputs; the elements of each buffer, with its length; the
+    result; for each buffer, where to store the number of elements that are needed, for the last buffer first
+    if `is_turned`; and a stop."""
 
     given: tuple[Any, ...]
-    rooms: tuple[Any, ...] = ()
+    buffers: tuple[Any, ...] = ()
     result: Any = None
     stops: bool = False
     is_turned: bool = False
 
     def types(self) -> list[Any]:
         """The types of all arguments."""
-        rooms = [it for room in self.rooms for it in (ctypes.POINTER(room), Size)]
-        stored = self.in_order(self.result, [Size for _ in self.rooms], Stop)
-        return [*self.given, *rooms, *map(ctypes.POINTER, stored)]
+        buffers = [it for kind in self.buffers for it in (ctypes.POINTER(kind), Size)]
+        stored = self.in_order(self.result, [Size for _ in self.buffers], Stop)
+        return [*self.given, *buffers, *map(ctypes.POINTER, stored)]
 
     def in_order(self, result: Any, sizes: list[Any], stop: Any) -> list[Any]:
-        """What the last arguments point to, as far as the call has it."""
+        """The last arguments, as far as the call has them: pointers to these values."""
         turned = sizes[::-1] if self.is_turned else sizes
         return [*([result] if self.result else []), *turned, *([stop] if self.stops else [])]
 
@@ -94,8 +94,8 @@ for _name, _call in CALLS.items():
 
 
 class Made(NamedTuple):
-    """What a call returned: 0 or an error with a stop, the stop, the fields of its result, and what is in its
-    last buffer."""
+    """The outcome of a call: 0 or an error with a stop, the stop, the fields of its result, and the contents
+    of its last buffer."""
 
     error: int
     stop: Any
@@ -104,38 +104,38 @@ class Made(NamedTuple):
 
 
 def make(name: str, *given: Any) -> Made:
-    """Makes a call. If its buffers are too short, it is made once more, with buffers that are long enough.
-    Raises MemoryError, and Error for any other error without a stop."""
+    """Makes a call, and again with buffers that are long enough if its buffers are too short. Raises
+    MemoryError, and Error for any other error without a stop."""
     call, function = CALLS[name], getattr(lib, f"gix_url_{name}")
     result, stop = call.result and call.result(), Stop()
-    sizes = [Size() for _ in call.rooms]
-    rooms = [array(it, _START) for it in call.rooms]
+    sizes = [Size() for _ in call.buffers]
+    buffers = [array(it, _START) for it in call.buffers]
     stored = call.in_order(result, sizes, stop)
     error = _NO_ROOM
     for _ in range(2):
         if error == _NO_ROOM:
-            error = function(*given, *(it for room in rooms for it in (room, len(room))), *map(ref, stored))
-            rooms = [_grown(room, size.value) for room, size in zip(rooms, sizes)]
+            error = function(*given, *(it for items in buffers for it in (items, len(items))), *map(ref, stored))
+            buffers = [_grown(items, size.value) for items, size in zip(buffers, sizes)]
     if error not in (0, *STOPS):
         gix_url._check(error)
         raise gix_url._refusal(error, Problem(), gix_url.Error)
-    items = rooms[-1][: sizes[-1].value] if rooms and not error else []
+    items = buffers[-1][: sizes[-1].value] if buffers and not error else []
     items = items if isinstance(items, bytes) else [fields_of(it) for it in items]
     return Made(error, stop, fields_of(result), items)
 
 
-def _grown(room: Any, length: int) -> Any:
-    """The buffer itself if it has so many elements, or else a longer one."""
-    return array(type(room)._type_, length) if length > len(room) else room
+def _grown(items: Any, length: int) -> Any:
+    """The buffer itself if it has this many elements, or else a longer one."""
+    return array(type(items)._type_, length) if length > len(items) else items
 
 
 def array(kind: Any, length: int) -> Any:
-    """An array of at least so many elements: a power of two, since ctypes keeps a type for each length."""
+    """An array of at least this many elements: a power of two, since ctypes keeps a type for each length."""
     return (kind * (1 << max(length - 1, 0).bit_length()))()
 
 
 def fields_of(of: Any) -> Any:
-    """What is in a struct: its fields by their names; of a text a copy of its bytes, or None."""
+    """The fields of a struct by their names; for a text, a copy of its bytes, or None."""
     if isinstance(of, Text):
         return bytes_of(of)
     if isinstance(of, ctypes.Structure):
@@ -144,8 +144,8 @@ def fields_of(of: Any) -> Any:
 
 
 def lent(kind: Any, **fields: Any) -> Any:
-    """A struct with these fields, in which bytes are pointers to them; it keeps the bytes. None leaves a
-    field 0."""
+    """A struct with these fields. Bytes become pointers to them, and the struct keeps the bytes. None leaves
+    a field 0."""
     there = {name: it for name, it in fields.items() if it is not None}
     made = kind(**{name: text_of(it) if isinstance(it, bytes) else it for name, it in there.items()})
     made.kept = fields

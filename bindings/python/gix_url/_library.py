@@ -1,4 +1,4 @@
-"""The shared library gix_url: where it is found, and the structs of its header."""
+"""Finds the shared library gix_url, and declares the structs of its header."""
 import ctypes
 import os
 import pathlib
@@ -8,7 +8,7 @@ _NAME = "libgix_url.so.2"
 
 
 def _candidates(named: str | None) -> list[pathlib.Path]:
-    """The files of which the first that exists is the library: as it is named, or by this package's own path."""
+    """The files of which the first that exists is the library: by its given name, or by this package's own path."""
     if named:
         return [pathlib.Path(named), pathlib.Path(named, _NAME), pathlib.Path(named, "lib", _NAME)]
     folder = pathlib.Path(__file__).resolve().parent
@@ -17,7 +17,7 @@ def _candidates(named: str | None) -> list[pathlib.Path]:
 
 
 def _loaded() -> ctypes.CDLL:
-    """The library. Without a file of it the system looks for one."""
+    """The library. If none of the files exists, the system searches for one."""
     named = os.environ.get("GIX_URL_LIB")
     found = next((str(it.absolute()) for it in _candidates(named) if it.is_file()), None)
     if named and not found:
@@ -50,15 +50,15 @@ Parts = struct(path=Text, fragment=Text, query=Text, pair_count=Size)
 
 
 def text_of(part: Any) -> Any:
-    """The struct of bytes, which have to be kept as long as it is used."""
+    """The struct of bytes. The caller keeps the bytes while it uses the struct."""
     return Text(ctypes.cast(part, ctypes.c_void_p), len(part))
 
 
 def bytes_of(text: Any) -> bytes | None:
-    """A copy of the bytes; None where there are none at all."""
+    """A copy of the bytes; None for a null pointer."""
     return None if text.at is None else ctypes.string_at(text.at, text.len)
 
 
 def buffer(length: int) -> Any:
-    """Room for so many bytes."""
+    """A buffer of this many bytes."""
     return (ctypes.c_char * length)()

@@ -1,5 +1,5 @@
-"""What the calls of `gix_url.rules` return, and the numbers that they take: those of gix_url_rules.h by their
-names."""
+"""The results of the calls of `gix_url.rules`, and the numbers that the calls take: those of gix_url_rules.h
+by their names."""
 import dataclasses
 
 from ._calls import make
@@ -8,8 +8,7 @@ from ._values import Named, check_type
 
 
 class Flaw(Named):
-    """What is wrong with the text of a configuration; NO_KEY and NO_END are of a listing, the others of a
-    file."""
+    """A flaw in the text of a configuration. NO_KEY and NO_END occur in a listing, the others in a file."""
 
     PARTIAL_MARK, NO_START, NO_SECTION, BAD_SECTION, NO_QUOTE, OPEN_SUBSECTION, OPEN_HEADER = range(1, 8)
     NO_EQUALS, BAD_ESCAPE, OPEN_QUOTE, ZERO_BYTE, NO_KEY, NO_END = range(8, 14)
@@ -23,33 +22,33 @@ class NoTransport(Named):
 
 
 class Decision(Named):
-    """What Git does about a transport: it uses it only if it is ALLOWED. It stops if the entry that decides
-    has a value that it doesn't know, or if it needs GIT_PROTOCOL_FROM_USER and that isn't a boolean value."""
+    """Whether Git uses a transport: it does only if it is ALLOWED. Git stops if the entry that decides has an
+    unknown value, or if it needs GIT_PROTOCOL_FROM_USER and that isn't a boolean value."""
 
     ALLOWED, REFUSED, UNKNOWN_ALLOWANCE, UNKNOWN_FROM_USER = range(1, 5)
 
 
 class Decider(Named):
-    """What decides about a transport: GIT_ALLOW_PROTOCOL, an entry of protocol.*, or neither, so that it is
-    as by default."""
+    """The setting that decides about a transport: GIT_ALLOW_PROTOCOL, an entry of protocol.*, or neither, so
+    that the default applies."""
 
     BY_LIST, BY_ENTRY, BY_DEFAULT = range(1, 4)
 
 
 class Danger(Named):
-    """What is dangerous in a text, or in the location that is read in it."""
+    """A danger in a text, or in the location that the text is parsed as."""
 
     COMMAND, OPTION_LIKE_USER, OPTION_LIKE_HOST, OPTION_LIKE_PATH, PASSWORD, TOKEN = range(1, 7)
     HOST_CHARACTER, LINE_END, OTHER_HOST, MISREAD_HOST = range(7, 11)
 
     @property
     def words(self) -> str:
-        """The danger in a few words, as `the host begins with -`."""
+        """The danger in a few words, such as `the host begins with -`."""
         return bytes(make("danger_words", self).items).decode()
 
 
 class Unread(Named):
-    """Why Git reads no place in a text: byte 0, an option, the address of a remote helper, a local path that
+    """Why Git finds no place in a text: byte 0, an option, the address of a remote helper, a local path that
     begins with ~, a word that OpenSSH reads as a URL, or a text that Git or Secure Shell refuses."""
 
     BYTE_ZERO, OPTION, REMOTE_HELPER, HOME_OR_HERE, SECURE_SHELL_URL, REFUSED = range(1, 7)
@@ -62,14 +61,14 @@ class Protocol(Named):
 
 
 class Service(Named):
-    """What Git has the server run: to fetch, to push, or for git archive --remote."""
+    """The service that Git runs on the server: to fetch, to push, or for git archive --remote."""
 
     UPLOAD_PACK, RECEIVE_PACK, UPLOAD_ARCHIVE = range(3)
 
 
 class Variant(Named):
-    """The program that is run for Secure Shell, by its options: ssh.variant. Of ASKED Git runs the program to
-    find it."""
+    """The kind of program that is run for Secure Shell, by its options: ssh.variant. Git runs the program to
+    find the kind of ASKED."""
 
     OPENSSH, SIMPLE, PLINK, PUTTY, TORTOISEPLINK, ASKED = range(6)
 
@@ -81,7 +80,8 @@ class Family(Named):
 
 
 class SshRefusal(Named):
-    """Why there is no command of Secure Shell: of several reasons the first, in this order."""
+    """Why there is no command of Secure Shell. If there are several reasons, it is the first in this
+    order."""
 
     NOT_SECURE_SHELL, PASSWORD, EMPTY_USER, BYTE_ZERO, OPTION_LIKE_USER, NO_HOST = range(1, 7)
     OPTION_LIKE_HOST, AT_SIGN_IN_HOST, URL_LIKE_DESTINATION, NO_PATH = range(7, 11)
@@ -90,13 +90,13 @@ class SshRefusal(Named):
 
 
 class Abnormal(Named):
-    """Why a URL has no normal form, so that no entry with a URL applies to it."""
+    """Why a URL has no normal form. No entry with a URL applies to it then."""
 
     NO_URL, BROKEN_ESCAPE, NO_HOST, BAD_HOST, BAD_PORT, ABOVE_ROOT = range(1, 7)
 
 
 class Unresolved(Named):
-    """Why Git resolves no relative URL of a submodule: the URL of the remote is empty, or has too few
+    """Why Git doesn't resolve a relative URL of a submodule: the URL of the remote is empty, or has too few
     elements."""
 
     EMPTY_PARENT, NOTHING_LEFT = 1, 2
@@ -117,11 +117,11 @@ class SubmoduleRefusal(Named):
 class Entry(Redacted):
     """An entry of a configuration: section.subsection.name and its value, bytes or None if it has none; a key
     without = has no value. Section and name are compared without letter case. `at` is how many bytes of the
-    text that was read come before the entry, and `line` the line of a file in which the name begins, from 1;
-    it is 0 of a listing.
+    parsed text come before the entry, and `line` the line of a file on which the name begins, from 1; it is 0
+    in a listing.
 
-    Raises TypeError for a value of another type, and ValueError for a place that is negative or has more than
-    64 bits."""
+    Raises TypeError for a value of another type, and ValueError for a position that is negative or has more
+    than 64 bits."""
 
     section: bytes
     subsection: bytes | None
@@ -142,14 +142,14 @@ class Entry(Redacted):
 
     @property
     def key(self) -> bytes:
-        """The key as git config prints it: the parts that are there, with dots between them."""
+        """The key as git config prints it: its parts, with dots between them."""
         return b".".join(it for it in (self.section or None, self.subsection, self.name) if it is not None)
 
 
 @dataclasses.dataclass(frozen=True, repr=False)
 class Rewritten(Redacted):
-    """A URL after rewriting: `is_rewritten` if a value of insteadOf or pushInsteadOf matched. The text then
-    begins with the base, which has `base_len` bytes; else that is 0."""
+    """A URL after rewriting. `is_rewritten` is true if a value of insteadOf or pushInsteadOf matched. The
+    text then begins with the base, which has `base_len` bytes; otherwise that is 0."""
 
     text: bytes
     is_rewritten: bool
@@ -158,8 +158,8 @@ class Rewritten(Redacted):
 
 @dataclasses.dataclass(frozen=True, repr=False)
 class Remote(Redacted):
-    """A remote: git fetch takes the first of `urls`, git push all `push_urls`. Of vcs and proxy it has the
-    last value, of uploadpack and receivepack the first, or None."""
+    """A remote. git fetch uses the first of `urls`, git push all `push_urls`. vcs and proxy are the last
+    values, uploadpack and receivepack the first ones, or None."""
 
     urls: tuple[bytes, ...]
     push_urls: tuple[bytes, ...]
@@ -171,8 +171,8 @@ class Remote(Redacted):
 
 @dataclasses.dataclass(frozen=True)
 class Permission:
-    """What Git does about a transport, and by what: None of UNKNOWN_FROM_USER. `at` is that of the entry that
-    decides, or None."""
+    """Whether Git uses a transport, and which setting decides: None for UNKNOWN_FROM_USER. `at` is that of
+    the entry that decides, or None."""
 
     decision: Decision
     by: Decider | None
@@ -181,8 +181,8 @@ class Permission:
 
 @dataclasses.dataclass(frozen=True, repr=False)
 class GitPlace(Redacted):
-    """The place that Git's own transports read in a text. A host is without brackets, and None if it is
-    empty; the path is decoded if the text is a URL."""
+    """The place that Git's own transports find in a text. A host has no brackets, and is None if it is empty;
+    the path is decoded if the text is a URL."""
 
     protocol: Protocol
     user: bytes | None
@@ -193,7 +193,7 @@ class GitPlace(Redacted):
 
 @dataclasses.dataclass(frozen=True, repr=False)
 class Request(Redacted):
-    """What Git's credential code asks helpers for: the parts decoded, the host with its port. The
+    """The request that Git's credential code makes to helpers: the parts decoded, the host with its port. The
     representation leaves the password out."""
 
     protocol: bytes
@@ -207,7 +207,7 @@ class Request(Redacted):
 class SshCommand(Redacted):
     """A command of Secure Shell: the words after the name of the program, each of which is one argument,
     without a shell. The last one is the command that a shell on the server reads. `git_protocol` is the
-    version that GIT_PROTOCOL is to be set to, as version=2, or None if it isn't to be set."""
+    version to set GIT_PROTOCOL to, such as version=2, or None if it isn't to be set."""
 
     words: tuple[bytes, ...]
     git_protocol: int | None
@@ -226,7 +226,7 @@ class SshProgram(Redacted):
 @dataclasses.dataclass(frozen=True)
 class Settings:
     """The entries whose values Git uses for a URL. `why` is the reason if the URL has no normal form, so that
-    only entries without a URL apply; else None."""
+    only entries without a URL apply; otherwise None."""
 
     entries: tuple[Entry, ...]
     why: Abnormal | None
@@ -234,9 +234,9 @@ class Settings:
 
 @dataclasses.dataclass(frozen=True, repr=False)
 class Credentials(Redacted):
-    """What Git's credential code uses for a URL: the entries whose values are the helpers, in the order in
-    which Git asks them; the user that they are asked about, decoded, or None; and whether they get the path
-    of a URL of HTTP."""
+    """The settings that Git's credential code uses for a URL: the entries whose values are the helpers, in
+    the order in which Git asks them; the user that they are asked about, decoded, or None; and whether they
+    get the path of a URL of HTTP."""
 
     helpers: tuple[Entry, ...]
     user: bytes | None
@@ -245,8 +245,8 @@ class Credentials(Redacted):
 
 @dataclasses.dataclass(frozen=True, repr=False)
 class Resolved(Redacted):
-    """The URL of a submodule after it is resolved. A URL that isn't relative is itself. `climbs` if it leaves
-    the path of the URL of the remote, and so may lead to another host."""
+    """The URL of a submodule after it is resolved. A URL that isn't relative is unchanged. `climbs` is true
+    if it leaves the path of the URL of the remote, and so may lead to another host."""
 
     url: bytes
     is_relative: bool
@@ -255,7 +255,7 @@ class Resolved(Redacted):
 
 @dataclasses.dataclass(frozen=True, repr=False)
 class Submodule(Redacted):
-    """A submodule: its name, and the entries whose values Git uses, each or None."""
+    """A submodule: its name, and the entries whose values Git uses, each of which may be None."""
 
     name: bytes
     path: Entry | None

@@ -1,4 +1,4 @@
-"""Pieces of a text that may be secrets, and texts without them."""
+"""Splits texts into pieces that may be secrets and others, and redacts the former."""
 import dataclasses
 from typing import Any
 
@@ -8,7 +8,7 @@ from ._values import check_text
 
 @dataclasses.dataclass(frozen=True)
 class Piece:
-    """A piece of a text; `is_hidden` if it may be a secret."""
+    """A piece of a text. `is_hidden` is true if it may be a secret."""
 
     text: bytes = dataclasses.field(repr=False)
     is_hidden: bool
@@ -16,8 +16,8 @@ class Piece:
 
 def secrets(text: str | bytes) -> tuple[Piece, ...]:
     """The pieces of a text, of which some may be secrets: passwords, and tokens of GitHub, GitLab and
-    Bitbucket by how they begin. Joined they are the text, which may be a location or none, or a key or a
-    value of a configuration."""
+    Bitbucket by how they begin. Joined, the pieces are the text. The text may be a location or not, or a key
+    or a value of a configuration."""
     given = check_text("text", text)
     pieces, at = [], 0
     for it in make("secrets_of", given, len(given)).items:
@@ -27,13 +27,13 @@ def secrets(text: str | bytes) -> tuple[Piece, ...]:
 
 
 def redacted(text: str | bytes) -> str:
-    """The text for display, with `redacted` for each piece that may be a secret and U+FFFD for what isn't
-    UTF-8. A secret of another form is shown, and so are control characters."""
+    """The text for display, with `redacted` for each piece that may be a secret and U+FFFD for bytes that
+    aren't UTF-8. A secret of another form is shown, and so are control characters."""
     return b"".join(b"redacted" if it.is_hidden else it.text for it in secrets(text)).decode(errors="replace")
 
 
 class Redacted:
-    """A value that is represented with `redacted` for what may be a secret in its texts."""
+    """A value that is represented with `redacted` in place of pieces of its texts that may be secrets."""
 
     def __repr__(self) -> str:
         fields = dataclasses.fields(self)

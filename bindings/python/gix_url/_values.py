@@ -1,4 +1,4 @@
-"""What the values of the package have in common: numbers that are shown by their names, and exact types."""
+"""Common code of the package's values: numbers that are shown by their names, and exact types."""
 import enum
 from typing import Any
 

@@ -1,10 +1,10 @@
 """An audit of a .gitmodules file: `python3 -m gix_url audit FILE [--parent URL]`.
 
-It reports of each entry what git fsck refuses, and of each URL of a submodule its dangers, or why it isn't a
-location; also of a URL that a later entry replaces. A relative URL is resolved against the parent, the URL of
-the remote of the repository around the file, as it is configured: the dangers are those of the result, and it
-is reported if it leaves the path of the parent. The calls of `gix_url.rules` decide all of that. The program
-`explain` finds more: docs/EXPLAIN.md has its findings.
+For each entry it reports what git fsck refuses, and for each URL of a submodule its dangers, or why it isn't
+a location; also for a URL that a later entry replaces. A relative URL is resolved against the parent, the URL
+of the remote of the repository around the file, as it is configured: the dangers are those of the result, and
+it is reported if it leaves the path of the parent. The calls of `gix_url.rules` decide all of that. The
+program `explain` finds more: docs/EXPLAIN.md has its findings.
 
 >>> text = b'[submodule "a"]\\n\\turl = ext::sh -c id\\n[submodule "b"]\\n\\turl = ../../x\\n'
 >>> for finding in audit(text, "https://h/a"):
@@ -12,7 +12,7 @@ is reported if it leaves the path of the parent. The calls of `gix_url.rules` de
 line 2: "submodule.a.url": command: it runs a command: "ext::sh -c id"
 line 4: "submodule.b.url": climbs: it leaves the path of the parent: "https://x"
 
-Nothing is printed of a text but its `gix_url.rules.redacted`, in quotes, with an escape for each character
+Texts are printed only as `gix_url.rules.redacted` returns them, in quotes, with an escape for each character
 that isn't printable.
 """
 import argparse
@@ -42,9 +42,9 @@ _UNRESOLVED = {
 
 @dataclasses.dataclass(frozen=True, repr=False)
 class Finding(Redacted):
-    """What is found in an entry: a name, as option_like_host, words for it, and the text that it is about:
-    the entry's value, what a relative URL is resolved to, or None. As a `str` it is a line without a secret
-    that the library knows."""
+    """A finding in an entry: a name, such as option_like_host, words for it, and the text that it is about:
+    the entry's value, the URL that a relative URL is resolved to, or None. As a `str` it is a line without a
+    secret that the library knows."""
 
     entry: rules.Entry
     name: str
@@ -57,7 +57,7 @@ class Finding(Redacted):
 
 
 def audit(gitmodules: bytes, parent: str | bytes | None = None) -> tuple[Finding, ...]:
-    """What is found in the text of a .gitmodules file, in the order of its entries. Without a parent a
+    """The findings in the text of a .gitmodules file, in the order of its entries. Without a parent a
     relative URL is a finding. Raises NoConfiguration if the text isn't a configuration, and Error if the
     parent isn't a location."""
     if parent is not None:
@@ -66,7 +66,7 @@ def audit(gitmodules: bytes, parent: str | bytes | None = None) -> tuple[Finding
 
 
 def _found(entry: rules.Entry, parent: str | bytes | None) -> Iterator[Finding]:
-    """What is found in an entry. An entry gives the URL of a submodule if it does so by itself."""
+    """The findings in an entry. An entry has the URL of a submodule if it sets one by itself."""
     for refusal in rules.check_submodule(entry):
         yield Finding(entry, str(refusal), _REFUSED[refusal], entry.value)
     for alone in Configuration((entry,)).submodules():
@@ -75,7 +75,7 @@ def _found(entry: rules.Entry, parent: str | bytes | None) -> Iterator[Finding]:
 
 
 def _found_in_url(entry: rules.Entry, url: bytes, parent: str | bytes | None) -> Iterator[Finding]:
-    """What is found in the URL of a submodule."""
+    """The findings in the URL of a submodule."""
     resolved = rules.resolve_submodule(b"" if parent is None else parent, url)
     if isinstance(resolved, Unresolved):
         if parent is None:
@@ -93,7 +93,7 @@ def _found_in_url(entry: rules.Entry, url: bytes, parent: str | bytes | None) ->
 
 
 def _quoted(text: bytes) -> str:
-    """A text as it may be printed."""
+    """A text in the form in which it is printed."""
     return f'"{"".join(map(_escaped, rules.redacted(text)))}"'
 
 
@@ -104,7 +104,7 @@ def _escaped(character: str) -> str:
 
 
 def main(words: list[str]) -> int:
-    """Prints what is found, and returns the exit status: 0 if nothing is found, 1 if anything is, and 2 if
+    """Prints the findings, and returns the exit status: 0 if there is no finding, 1 if there is one, and 2 if
     the file can't be read or isn't a configuration, the parent isn't a location, or the output can't be
     written. Raises SystemExit with 2 for wrong arguments."""
     parser = argparse.ArgumentParser("python3 -m gix_url audit", description="Audits a .gitmodules file.")
@@ -113,7 +113,8 @@ def main(words: list[str]) -> int:
     given = parser.parse_args(words)
     try:
         found = audit(_read(given.file), given.parent)
-        # A stream of its own: what it fails to write isn't written once more at the end of the program.
+        # A stream of its own: bytes that it fails to write aren't written once more at the end of the
+        # program.
         with open(1, "wb", closefd=False) as out:
             out.write("".join(f"{it}\n" for it in found).encode())
     except (OSError, MemoryError, gix_url.Error) as error:

@@ -1,6 +1,6 @@
-"""What Git does by its configuration before it connects, by the shared library: rewriting, remotes,
-transports and permission, words of Secure Shell, settings of http.*, credentials and submodules; and what Git
-reads in a text, and what is dangerous in it.
+"""Applies Git's configuration as Git does before it connects, with the shared library: rewriting of URLs,
+remotes, transports and permissions, words of Secure Shell, settings of http.*, credentials and submodules.
+Also reads texts as Git does, and finds dangers in them.
 
 >>> config = Configuration.from_file(b'[url "https://github.com/"]\\n\\tinsteadOf = gh:\\n')
 >>> config.rewrite_fetch("gh:a/b").text
@@ -14,11 +14,12 @@ Decision.REFUSED
 >>> [str(it) for it in dangers("ext::sh -c id")], redacted("https://u:secret@h/p")
 (['command'], 'https://u:redacted@h/p')
 
-The rules are those of Git 2.39.5 on Linux; docs/RULES.md has them, and docs/AUDIT.md those of dangers. No
-call reads a file or the environment, or runs a program: the caller passes texts. A text is bytes, or a str
-that stands for its UTF-8, with `surrogateescape`; a value of another type is a TypeError. Results are bytes.
-They may have passwords, which the representation (`%r`) of a result shows as `redacted`. Calls may run in
-several threads; all values can be hashed and pickled. Each call raises MemoryError if memory is refused.
+The rules are those of Git 2.39.5 on Linux; docs/RULES.md describes them, and docs/AUDIT.md those of dangers.
+No call reads a file or the environment, or runs a program: the caller passes texts. A text is bytes, or a
+str, which is encoded in UTF-8 with `surrogateescape`; a value of another type is a TypeError. Results are
+bytes. They may have secrets: the representation (`%r`) of a result shows each one that `secrets` finds as
+`redacted`. Calls may run in several threads; all values can be hashed and pickled. Each call raises
+MemoryError if memory is refused.
 """
 import dataclasses
 import functools
@@ -45,7 +46,7 @@ __all__ = [
     "resolve_submodule", "secrets", "ssh_words", "transport_of"]
 
 Text = str | bytes
-# What is defined in another module is shown, and pickled, by the name that it has here.
+# Names from other modules are shown, and pickled, by the names that they have here.
 for _it in (*vars(_results).values(), Piece, redacted, secrets):
     if getattr(_it, "__name__", None) in __all__:
         _it.__module__ = __name__
@@ -81,7 +82,7 @@ _STOPS = {
 
 
 def _made(name: str, *given: Any) -> _calls.Made:
-    """What a call returned, unless it is an error, which is raised."""
+    """The outcome of a call, or its error, which is raised."""
     made = make(name, *given)
     if made.error:
         error = gix_url._refusal(made.error, Problem(), _STOPS[made.error])
@@ -92,7 +93,7 @@ def _made(name: str, *given: Any) -> _calls.Made:
 
 
 def _measured(name: str, text: Text) -> tuple[bytes, int]:
-    """The bytes of a text, and how many they are."""
+    """The bytes of a text, and their number."""
     given = check_text(name, text)
     return given, len(given)
 
@@ -104,8 +105,8 @@ def _optional(**texts: Text | None) -> dict[str, bytes | None]:
 
 @dataclasses.dataclass(frozen=True)
 class Configuration:
-    """A configuration: entries in the order in which Git reads them. They may be joined, left out and made by
-    hand. Raises TypeError for what isn't an entry."""
+    """A configuration: entries in the order in which Git reads them. A program may join, omit and create
+    entries. Raises TypeError for an item that isn't an entry."""
 
     entries: tuple[Entry, ...] = ()
 
@@ -116,15 +117,15 @@ class Configuration:
 
     @classmethod
     def from_listing(cls, text: bytes) -> "Configuration":
-        """The entries of what `git config --list -z` writes. Raises NoConfiguration if a part of the text
-        isn't an entry, or its last entry has no end, a byte 0."""
+        """Parses the output of `git config --list -z`. Raises NoConfiguration if a part of the text isn't an
+        entry, or its last entry has no end, a byte 0."""
         return cls._read("read_listing", text)
 
     @classmethod
     def from_file(cls, text: bytes) -> "Configuration":
-        """The entries of the text of a configuration file or a .gitmodules file, as `git config --file FILE
-        --list -z` lists them; no file is included. An entry before any header has an empty section. Raises
-        NoConfiguration if the text isn't a configuration."""
+        """Parses the text of a configuration file or a .gitmodules file. The entries are those that
+        `git config --file FILE --list -z` lists; no other file is included. An entry before any header has an
+        empty section. Raises NoConfiguration if the text isn't a configuration."""
         return cls._read("read_file", text)
 
     def rewrite_fetch(self, url: Text) -> Rewritten:
@@ -133,17 +134,17 @@ class Configuration:
         return Rewritten(**self._made("rewrite_fetch", *_measured("url", url)).fields)
 
     def rewrite_push(self, url: Text, has_push_url: bool = False) -> Rewritten:
-        """The same before Git pushes to it: by pushInsteadOf, or if no value of that matches by insteadOf. A
-        URL that is a pushurl of a remote, for which `has_push_url` is true, is rewritten by insteadOf alone.
-        Raises NoValue likewise."""
+        """Rewrites a URL as Git does before it pushes to it: by pushInsteadOf, or if no value of that matches
+        by insteadOf. A URL that is a pushurl of a remote, for which `has_push_url` is true, is rewritten by
+        insteadOf alone. Raises NoValue as `rewrite_fetch` does."""
         check_type("has_push_url", has_push_url, bool)
         return Rewritten(**self._made("rewrite_push", *_measured("url", url), has_push_url).fields)
 
     def remote(self, name: Text) -> Remote:
-        """The remote of this name, its URLs rewritten: git-config(1), remote.<name>.*. Without entries of its
-        own the name is the only URL. Raises NoValue at an entry of insteadOf or pushInsteadOf without a
-        value, or else at one of any remote that is a url, pushurl, vcs, proxy, uploadpack or receivepack
-        without a value."""
+        """The remote with this name, its URLs rewritten: git-config(1), remote.<name>.*. If it has no entries
+        of its own, the name is the only URL. Raises NoValue at an entry of insteadOf or pushInsteadOf without
+        a value, or else at an entry of any remote that is a url, pushurl, vcs, proxy, uploadpack or
+        receivepack without a value."""
         made = self._made("remote_of", *_measured("name", name))
         count, pushed = made.fields.pop("url_count"), made.fields.pop("push_url_count")
         return Remote(tuple(made.items[:count]), tuple(made.items[count : count + pushed]), **made.fields)
@@ -151,9 +152,9 @@ class Configuration:
     def permission(
         self, transport: Text, *, allow_list: Text | None = None, from_user: Text | None = None
     ) -> Permission:
-        """Whether Git may use the transport of this name, as `transport_of` returns it: git-config(1),
+        """Whether Git may use the transport with this name, which `transport_of` returns: git-config(1),
         protocol.allow. The variables GIT_ALLOW_PROTOCOL, `allow_list`, and GIT_PROTOCOL_FROM_USER,
-        `from_user`, are None if they aren't set. Raises Error, NoLocation by its name, for a transport that
+        `from_user`, are None if they aren't set. Raises Error, whose name is NoLocation, for a transport that
         is not UTF-8."""
         policy = lent(_calls.Policy, **_optional(allow_list=allow_list, from_user=from_user))
         found = self._made("permission_of", policy, *_measured("transport", transport)).fields
@@ -161,18 +162,18 @@ class Configuration:
         return Permission(Decision(found["decision"]), by, found["at"] if by == Decider.BY_ENTRY else None)
 
     def settings(self, name: Text, url: Text) -> Settings:
-        """The entries of http.<name> and http.<url>.<name> whose values Git uses for a URL, of names as proxy
-        or extraHeader: git-config(1), http.<url>.*. Most names have one such entry at most; extraHeader and
-        curloptResolve are lists. Raises NoValue at an entry of a list that applies and has no value, and
-        Error, NoLocation by its name, for a name that is not UTF-8."""
+        """The entries of http.<name> and http.<url>.<name> whose values Git uses for a URL, for names such as
+        proxy or extraHeader: git-config(1), http.<url>.*. Most names have one such entry at most; extraHeader
+        and curloptResolve are lists. Raises NoValue at an entry of a list that applies and has no value, and
+        Error, whose name is NoLocation, for a name that is not UTF-8."""
         made = self._made("settings_of", *_measured("name", name), *_measured("url", url))
         why = made.fields["why"]
         return Settings(tuple(self.entries[it] for it in made.items), Abnormal(why) if why else None)
 
     def credentials(self, url: Text) -> Credentials | None:
-        """What Git's credential code uses for a URL, or None if it reads nothing in it: gitcredentials(7).
-        Raises NoValue at an entry that applies and has no value, and NoBoolean at a useHttpPath that applies
-        and has no boolean value."""
+        """The settings that Git's credential code uses for a URL, or None if it finds nothing in it:
+        gitcredentials(7). Raises NoValue at an entry that applies and has no value, and NoBoolean at a
+        useHttpPath that applies and has no boolean value."""
         made = self._made("credentials_of", *_measured("url", url))
         helpers = tuple(self.entries[it] for it in made.items)
         if not made.fields["is_read"]:
@@ -191,7 +192,7 @@ class Configuration:
         return SshProgram(found["text"] or b"", found["is_command_line"], Variant(found["variant"]))
 
     def submodules(self) -> tuple[Submodule, ...]:
-        """The submodules of a .gitmodules file, in the order in which their names come first:
+        """The submodules of a .gitmodules file, in the order in which their names first occur:
         gitmodules(5)."""
         return tuple(self._submodule(**it) for it in self._made("submodules_of").items)
 
@@ -202,7 +203,7 @@ class Configuration:
 
     @functools.cached_property
     def _lent(self) -> Any:
-        """The entries as the library takes them, which point to the bytes of this configuration."""
+        """The entries in the form that the library takes, which point to the bytes of this configuration."""
         entries = _calls.array(_calls.Entry, len(self.entries))
         for at, entry in enumerate(self.entries):
             entries[at] = _lent_entry(entry)
@@ -212,38 +213,38 @@ class Configuration:
         return Configuration, (self.entries,)
 
     def _made(self, name: str, *given: Any) -> _calls.Made:
-        """What a call over these entries returned."""
+        """The outcome of a call over these entries."""
         return _made(name, self._lent, len(self.entries), *given)
 
     def _submodule(self, name: bytes, **places: int) -> Submodule:
-        """A submodule by the indices of its entries: an index past all entries is none."""
+        """A submodule by the indices of its entries. An index past all entries gives None."""
         there = {it: self.entries[at] for it, at in places.items() if at < len(self.entries)}
         return Submodule(name, **{it: there.get(it) for it in places})
 
 
 def _entry(has_subsection: bool, has_value: bool, **fields: Any) -> Entry:
-    """An entry that the library read."""
+    """An entry that the library parsed."""
     is_there = {"subsection": has_subsection, "value": has_value}
     return Entry(**{name: it if is_there.get(name, True) else None for name, it in fields.items()})
 
 
 def _lent_entry(entry: Entry) -> Any:
-    """An entry as the library takes it: none of its pointers is null."""
+    """An entry in the form that the library takes: none of its pointers is null."""
     fields = {it.name: getattr(entry, it.name) for it in dataclasses.fields(entry)}
     there = {f"has_{name}": fields[name] is not None for name in ("subsection", "value")}
     return lent(_calls.Entry, **{name: b"" if it is None else it for name, it in fields.items()}, **there)
 
 
 def transport_of(text: Text) -> str | NoTransport:
-    """The transport that Git takes for a text after rewriting, by the form of the text alone: ssh, git, file,
-    http, https, ext or the name of another remote helper, which may be empty; or why it has none. The rule is
-    of `transport.c` of Git."""
+    """The transport that Git uses for a text after rewriting, by the form of the text alone: ssh, git, file,
+    http, https, ext or the name of another remote helper, which may be empty; or why there is none. The rule
+    is in `transport.c` of Git."""
     found = _made("transport_of", *_measured("text", text)).fields
     return NoTransport(found["why"]) if found["why"] else str(found["name"] or b"", "utf-8")
 
 
 def git_reading(text: Text) -> GitPlace | Unread:
-    """The place that Git's own transports read in a text, or why they read none: `connect.c` of Git."""
+    """The place that Git's own transports find in a text, or why they find none: `connect.c` of Git."""
     found = _made("git_reading", *_measured("text", text)).fields
     if found["why"]:
         return Unread(found["why"])
@@ -252,8 +253,8 @@ def git_reading(text: Text) -> GitPlace | Unread:
 
 
 def credential_reading(text: Text) -> Request | None:
-    """What Git's credential code asks helpers for by a URL, or None if it reads nothing in it: `credential.c`
-    of Git."""
+    """The request that Git's credential code makes for a URL, or None if it finds nothing in it:
+    `credential.c` of Git."""
     found = _made("credential_reading", *_measured("text", text)).fields
     is_read = found.pop("is_read")
     return Request(**found) if is_read else None
@@ -264,9 +265,9 @@ def ssh_words(
     variant: Variant = Variant.OPENSSH, version: int = 2, family: Family = Family.ANY
 ) -> SshCommand | SshRefusal:
     """The words with which Git runs Secure Shell for a location, or why there are none: git-config(1),
-    ssh.variant, and `connect.c` of Git. `program` is what the server runs in place of the service, as
-    remote.<name>.uploadpack, `version` protocol.version: 0, 1 or 2, and else a ValueError. Raises Error,
-    NoLocation by its name, for the variant ASKED."""
+    ssh.variant, and `connect.c` of Git. `program` is the program that the server runs in place of the
+    service, as with remote.<name>.uploadpack. `version` is protocol.version: 0, 1 or 2, otherwise a
+    ValueError. Raises Error, whose name is NoLocation, for the variant ASKED."""
     check_type("url", url, gix_url.Url)
     check_type("service", service, Service)
     check_type("variant", variant, Variant)
@@ -282,8 +283,8 @@ def ssh_words(
 
 
 def dangers(text: Text, url: gix_url.Url | None = None) -> tuple[Danger, ...]:
-    """The dangers of a text that a program uses as a remote, and of the location that is read in it, each
-    once and in order. Without a `url` that is the location that `gix_url.parse` reads, which raises Error if
+    """The dangers of a text that a program uses as a remote, and of the location that the text is parsed as,
+    each once and in order. If there is no `url`, `gix_url.parse` parses it from the text, and raises Error if
     the text isn't a location."""
     check_type("url", url, gix_url.Url, type(None))
     given = _measured("text", text)
@@ -302,8 +303,8 @@ def resolve_submodule(parent: Text, url: Text) -> Resolved | Unresolved:
 
 
 def check_submodule(entry: Entry) -> tuple[SubmoduleRefusal, ...]:
-    """What git fsck refuses in an entry of .gitmodules: its name, its value, both or nothing. The rules are
-    of `fsck.c` and `submodule-config.c` of Git."""
+    """The reasons why git fsck refuses an entry of .gitmodules: its name, its value, both or nothing. The
+    rules are in `fsck.c` and `submodule-config.c` of Git."""
     check_type("entry", entry, Entry)
     found = _made("check_submodule", _lent_entry(entry)).fields
     return tuple(SubmoduleRefusal(it) for it in (found["name"], found["value"]) if it)

@@ -1,10 +1,10 @@
-//! Links `libgix_url.a`, which `scripts/bindings` builds: in the folder that `GIX_URL_LIB` names, or in `out/bindings` of the
-//! repository, or beside the manifest.
+//! Links `libgix_url.a`, which `scripts/bindings` builds. It is searched in the folder that `GIX_URL_LIB` names, or
+//! else in `out/bindings` of the repository and beside the manifest.
 
 use std::path::{Path, PathBuf};
 use std::process::exit;
 
-/// The folders in which the library may be.
+/// The folders that may have the library.
 fn folders() -> Vec<PathBuf> {
     if let Some(named) = std::env::var_os("GIX_URL_LIB") {
         return vec![named.into()];

@@ -1,7 +1,7 @@
-//! What calls are over: locations, records, schemes and users, made of orders.
+//! Builds the inputs of calls from orders: locations, records, schemes and users.
 //!
-//! A location is a text, or an object of its parts, as a record is: `scheme`, `user`, `password`, `host`,
-//! `port`, `alternative`, `path` and `spelling`. A scheme with a name has it behind it, as in `Helper a`.
+//! A location is a text, or an object of its parts, like a record: `scheme`, `user`, `password`, `host`, `port`,
+//! `alternative`, `path` and `spelling`. The name of a scheme follows it, as in `Helper a`.
 
 use crate::bytes::decode;
 use crate::halt::Halt;
@@ -14,7 +14,7 @@ use gix_url::{ArgumentSafety, Error, Scheme, Url};
 use std::alloc::Global;
 use std::mem;
 
-/// The location of a member: what its text is read as, or the parts as they are.
+/// The location of a member: its text, parsed, or the parts as they are.
 pub fn url(alloc: Global, order: Order<'_>, name: &str) -> Result<Url, Halt> {
     match order.object(name) {
         Some(parts) => url_of_parts(alloc, parts),
@@ -25,8 +25,8 @@ pub fn url(alloc: Global, order: Order<'_>, name: &str) -> Result<Url, Halt> {
     }
 }
 
-/// The location of parts. Its path is put in last: a record whose spelling is its path is one of the older
-/// form.
+/// The location with these parts. Its path is stored last, because a record whose spelling equals its path has the
+/// older format.
 fn url_of_parts(alloc: Global, parts: Order<'_>) -> Result<Url, Halt> {
     let mut record = record(alloc, parts)?;
     let path = mem::replace(&mut record.path, Vec::new(alloc));
@@ -35,13 +35,13 @@ fn url_of_parts(alloc: Global, parts: Order<'_>) -> Result<Url, Halt> {
     Ok(url)
 }
 
-/// What was not made, whatever the error.
+/// The halt for an input that can't be built, whatever the error.
 pub fn unprepared(error: Error) -> Halt {
     drop(error);
     Halt::Unprepared
 }
 
-/// The record of parts.
+/// The record of these parts.
 pub fn record(alloc: Global, parts: Order<'_>) -> Result<StoredUrl, Halt> {
     let mut record = StoredUrl {
         scheme: scheme(alloc, parts.needed("scheme")?)?,
@@ -62,14 +62,14 @@ pub fn record(alloc: Global, parts: Order<'_>) -> Result<StoredUrl, Halt> {
     }
 }
 
-/// The port of parts, if they have one.
+/// The port of the parts, if they have one.
 fn port(parts: Order<'_>) -> Option<u16> {
     parts
         .number("port")
         .and_then(|number| u16::try_from(number).ok())
 }
 
-/// Puts what takes memory into a record.
+/// Stores the parts that allocate in a record.
 fn fill(alloc: Global, record: &mut StoredUrl, parts: Order<'_>) -> Result<(), Halt> {
     record.user = parts.owned(alloc, "user")?;
     record.password = parts.owned(alloc, "password")?;
@@ -81,7 +81,7 @@ fn fill(alloc: Global, record: &mut StoredUrl, parts: Order<'_>) -> Result<(), H
     Ok(())
 }
 
-/// The scheme that a text has.
+/// The scheme of a text.
 pub fn scheme(alloc: Global, given: &str) -> Result<Scheme, Halt> {
     match given {
         "File" => Ok(Scheme::File),
@@ -94,7 +94,7 @@ pub fn scheme(alloc: Global, given: &str) -> Result<Scheme, Halt> {
     }
 }
 
-/// The scheme that a text with a name has.
+/// The scheme of a text with a name.
 fn named_scheme(alloc: Global, given: &str) -> Result<Scheme, Halt> {
     match given.split_once(' ') {
         Some(("Helper", name)) => Ok(Scheme::Helper(String::from_str(alloc, name)?)),
@@ -103,7 +103,7 @@ fn named_scheme(alloc: Global, given: &str) -> Result<Scheme, Halt> {
     }
 }
 
-/// The user of a member: `~` is the current one, `~bob` another, and `{"name": ""}` one whose name is empty.
+/// The user of a member: `~` is the current one, `~bob` another, and `{"name": ""}` one with an empty name.
 pub fn user(alloc: Global, order: Order<'_>, name: &str) -> Result<Option<ForUser>, Halt> {
     if let Some(given) = order.object(name) {
         return Ok(Some(ForUser::Name(BString::new(given.bytes(alloc, "name")?))));
@@ -115,7 +115,7 @@ pub fn user(alloc: Global, order: Order<'_>, name: &str) -> Result<Option<ForUse
     }
 }
 
-/// The judgement of a part in a member, as `{"usable": "h"}`; none where the order lacks it.
+/// The judgement of a part in a member, such as `{"usable": "h"}`; `Absent` if the order has no such member.
 pub fn judgement<'a>(order: Order<'a>, name: &str) -> ArgumentSafety<'a> {
     let Some(given) = order.object(name) else {
         return ArgumentSafety::Absent;

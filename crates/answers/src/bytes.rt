@@ -1,5 +1,4 @@
-//! Bytes as text of JSON, and back: a byte that is no part of UTF-8 is the character U+EF00 with that byte
-//! added.
+//! Converts bytes to JSON strings and back. A byte that isn't part of UTF-8 is the character U+EF00 plus the byte.
 
 use crate::halt::Halt;
 use crate::report::Out;
@@ -7,10 +6,10 @@ use bstr::ByteSlice;
 use std::alloc::Global;
 use std::io::{self, Write};
 
-/// The character for the byte 0, which with bytes past ASCII added gives the characters for those.
+/// The character for byte 0. Adding a byte that isn't ASCII gives the character for that byte.
 const FIRST: u32 = 0xEF00;
 
-/// The bytes that a text stands for.
+/// The bytes that a text encodes.
 pub fn decode(alloc: Global, text: &str) -> Result<Vec<u8>, Halt> {
     let mut bytes = Vec::with_capacity(alloc, text.len())?;
     for character in text.chars() {
@@ -19,7 +18,7 @@ pub fn decode(alloc: Global, text: &str) -> Result<Vec<u8>, Halt> {
     Ok(bytes)
 }
 
-/// Puts the bytes that a character stands for behind others.
+/// Appends the bytes that a character encodes.
 fn push(bytes: &mut Vec<u8>, character: char) -> Result<(), Halt> {
     let code = u32::from(character);
     match u8::try_from(code.wrapping_sub(FIRST)) {
@@ -32,14 +31,14 @@ fn push(bytes: &mut Vec<u8>, character: char) -> Result<(), Halt> {
     }
 }
 
-/// Writes bytes as a text of JSON.
+/// Writes bytes as a JSON string.
 pub fn write_quoted(out: &mut Out, bytes: &[u8]) -> io::Result<()> {
     out.write_all(b"\"")?;
     write_inside(out, bytes)?;
     out.write_all(b"\"")
 }
 
-/// Writes bytes as the inside of a text of JSON.
+/// Writes bytes as the inside of a JSON string.
 pub fn write_inside(out: &mut Out, bytes: &[u8]) -> io::Result<()> {
     for chunk in bytes.utf8_chunks() {
         for &byte in chunk.valid().as_bytes() {
@@ -52,7 +51,7 @@ pub fn write_inside(out: &mut Out, bytes: &[u8]) -> io::Result<()> {
     Ok(())
 }
 
-/// Writes a byte of a text of UTF-8.
+/// Writes a byte of a UTF-8 text.
 fn write_byte(out: &mut Out, byte: u8) -> io::Result<()> {
     match byte {
         b'"' => out.write_all(b"\\\""),

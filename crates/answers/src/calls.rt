@@ -1,9 +1,8 @@
-//! The table of calls, a line each, by what they are over.
+//! The table of calls, one a line, by the type of their input.
 //!
-//! The names are those of the public functions of the library; behind a single colon is what a trait gives.
-//! Each function makes what its calls are over, and then makes the call, unless the order ends there. A
-//! module below has the calls over one kind of value; those over errors, and the laws, which are over
-//! nothing, are here.
+//! The names are those of the library's public functions; a single colon precedes the name of a trait's method. Each
+//! function builds the inputs of its calls, and then makes the call, unless the order ends before it. Each module below
+//! has the calls over one kind of value; those over errors, and the laws, which have no input, are here.
 
 mod change;
 mod compare;
@@ -28,7 +27,7 @@ use std::alloc::Global;
 use text::{over_lines, over_text};
 use url::over_url;
 
-/// Makes the call of an order, by what it is over.
+/// Makes the call of an order, by the type of its input.
 pub fn make(alloc: Global, order: &Order<'_>, out: &mut Out) -> Result<(), Halt> {
     let order = *order;
     if rule_words::has(order.name()) {
@@ -64,12 +63,12 @@ pub fn make(alloc: Global, order: &Order<'_>, out: &mut Out) -> Result<(), Halt>
     }
 }
 
-/// Whether a call is over an error, which may be reported by the text that is refused with it.
+/// Whether a call is over an error, which an order may name by a text that is refused with it.
 fn is_over_error(name: &str) -> bool {
     matches!(name, "Error:fmt" | "Error::is_memory" | "Error::refusal")
 }
 
-/// Calls over an error, a form or a fault; and what is over nothing.
+/// Calls over an error, a form or a fault, and calls without input.
 fn over_error(alloc: Global, order: Order<'_>, out: &mut Out) -> Result<(), Halt> {
     if is_over_error(order.name()) {
         return look_at_error(alloc, order, out);
@@ -88,7 +87,7 @@ fn over_error(alloc: Global, order: Order<'_>, out: &mut Out) -> Result<(), Halt
     }
 }
 
-/// Calls that look at an error, or show it.
+/// Calls that inspect an error, or show it.
 fn look_at_error(alloc: Global, order: Order<'_>, out: &mut Out) -> Result<(), Halt> {
     let error = errors::error(alloc, order)?;
     let outcome = match order.call() {
@@ -101,7 +100,7 @@ fn look_at_error(alloc: Global, order: Order<'_>, out: &mut Out) -> Result<(), H
     outcome
 }
 
-/// Laws, which hold of all values, and whose calls do nothing.
+/// Laws, which hold for all values, and whose calls do nothing.
 fn over_nothing(order: Order<'_>, out: &mut Out) -> Result<(), Halt> {
     match order.call() {
         "laws::law_address_test" => report_lent(out, &laws::law_address_test()),

@@ -1,7 +1,7 @@
 //! Calls of `git_rules` over commands of Secure Shell.
 //!
-//! `service`, `variant` and `version` are as Git has them: `git-upload-pack`, `tortoiseplink`, 2. `program` is in
-//! place of the service's, and `family` is 4 or 6.
+//! `service`, `variant` and `version` are Git's names and numbers: `git-upload-pack`, `tortoiseplink`, 2. `program`
+//! replaces that of the service, and `family` is 4 or 6.
 
 use crate::halt::Halt;
 use crate::order::{Order, unknown};
@@ -14,7 +14,7 @@ use git_rules::ssh::{
 use gix_url::UrlRef;
 use std::alloc::Global;
 
-/// Whether these are calls over commands, by the module or the type that they are named with.
+/// Whether a call is over commands, by the module or the type in its name.
 pub fn has(owner: &str) -> bool {
     matches!(owner, "ssh" | "SshCommand" | "SshProgram" | "Service")
 }
@@ -70,7 +70,7 @@ fn family(order: Order<'_>) -> Result<AddressFamily, Halt> {
     }
 }
 
-/// Calls over a location and what is asked for.
+/// Calls over a location and a request for a command.
 pub fn over_url(
     alloc: Global,
     order: Order<'_>,
@@ -83,7 +83,7 @@ pub fn over_url(
     outcome
 }
 
-/// The same, with the program in place of the service's.
+/// Calls over a location and a request whose program may replace that of the service.
 fn over_program(
     alloc: Global,
     order: Order<'_>,
@@ -112,7 +112,7 @@ fn over_program(
     }
 }
 
-/// Reports the words of a command, its variable, or why there is none.
+/// Reports the words of a command or its variable, or why there is no command.
 fn over_made(
     alloc: Global,
     order: Order<'_>,

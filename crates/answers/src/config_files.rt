@@ -9,7 +9,7 @@ use git_modules::config_file::{FileEntry, entries};
 use std::alloc::Global;
 use std::io::{self, Write};
 
-/// Calls over a file, each into a buffer as long as it is.
+/// Calls over a file, each with a buffer as long as the file.
 pub fn over_file(alloc: Global, order: Order<'_>, out: &mut Out) -> Result<(), Halt> {
     let text = order.bytes(alloc, "file")?;
     let mut buffer = order.bytes(alloc, "file")?;

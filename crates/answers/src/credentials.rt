@@ -1,4 +1,4 @@
-//! Calls of `git_rules` over what Git's credential code reads in a text.
+//! Calls of `git_rules` over the reading of a text by Git's credential code.
 
 use crate::halt::Halt;
 use crate::order::{Order, unknown};
@@ -35,7 +35,7 @@ impl Report for CredentialsError {
     }
 }
 
-/// Calls over the entries of a configuration and what is read in a text; where nothing is, that is reported.
+/// Calls over the entries of a configuration and the reading of a text. Reports it if nothing is found in the text.
 pub fn over_entries(
     alloc: Global,
     order: Order<'_>,
@@ -54,7 +54,7 @@ pub fn over_entries(
     outcome
 }
 
-/// Reports what Git uses of entries for a request.
+/// Reports the entries that Git uses for a request.
 fn over_request(
     alloc: Global,
     order: Order<'_>,

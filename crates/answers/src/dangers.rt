@@ -1,6 +1,6 @@
 //! Calls of `git_audit` over dangers.
 //!
-//! `url` is a location and `text` the text that Git gets, if it is another one; `danger` is the name of one.
+//! `url` is a location, and `text` the text that Git gets if that differs; `danger` is the name of one.
 
 use crate::build;
 use crate::halt::Halt;
@@ -10,7 +10,7 @@ use git_audit::danger::{Danger, dangers};
 use std::alloc::Global;
 use std::io::{self, Write};
 
-/// Whether a call is one over dangers, by the module or the type that it is named with.
+/// Whether a call is over dangers, by the module or the type in its name.
 pub fn has(name: &str) -> bool {
     name.starts_with("danger::") || name.starts_with("Danger::")
 }

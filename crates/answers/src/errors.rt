@@ -1,4 +1,4 @@
-//! Errors as JSON, by their names and their fields; and errors made of that.
+//! Errors as JSON, by their names and their fields; and errors built from that.
 
 use crate::halt::Halt;
 use crate::order::Order;
@@ -21,7 +21,7 @@ impl Report for Error {
     }
 }
 
-/// Reports the name of an error of reading, with the form and the fault, and the text that it keeps.
+/// Reports the name of a parse error, with the form and the fault, and the text that it keeps.
 fn report_fields(out: &mut Out, error: &Error) -> io::Result<()> {
     match error {
         Error::MissingPath { kind, input } => {
@@ -45,7 +45,7 @@ fn report_fields(out: &mut Out, error: &Error) -> io::Result<()> {
     }
 }
 
-/// Reports where and why a text is wrong, behind a `{` or a `,`.
+/// Reports the position and the reason of a parse error, after a `{` or a `,`.
 fn report_place(out: &mut Out, before: &str, refusal: &Refusal) -> io::Result<()> {
     let (at, len, reason) = (refusal.at, refusal.len, refusal.reason.name());
     write!(
@@ -90,7 +90,7 @@ impl Report for ParseError {
     }
 }
 
-/// Reports the name of the error that a refusal is, with the fault and the form.
+/// Reports the name of the error for a refusal, with the fault and the form.
 fn report_refusal(out: &mut Out, refusal: &Refusal) -> io::Result<()> {
     let form = refusal.form;
     match refusal.reason.kind() {
@@ -151,7 +151,7 @@ impl Report for serde_json::Error {
     }
 }
 
-/// The form of this name.
+/// The form with this name.
 pub fn kind(name: &str) -> Result<UrlKind, Halt> {
     match name {
         "Url" => Ok(UrlKind::Url),
@@ -161,7 +161,7 @@ pub fn kind(name: &str) -> Result<UrlKind, Halt> {
     }
 }
 
-/// The fault of a URL of this name.
+/// The fault of a URL with this name.
 pub fn fault(name: &str) -> Result<UrlFault, Halt> {
     match name {
         "NoScheme" => Ok(UrlFault::NoScheme),
@@ -172,7 +172,7 @@ pub fn fault(name: &str) -> Result<UrlFault, Halt> {
     }
 }
 
-/// The fault of writing of this name.
+/// The write fault with this name.
 pub fn write_fault(name: &str) -> Result<WriteFault, Halt> {
     match name {
         "HelperName" => Ok(WriteFault::HelperName),
@@ -183,7 +183,7 @@ pub fn write_fault(name: &str) -> Result<WriteFault, Halt> {
     }
 }
 
-/// The error that a text is refused with, or the error of this name and these fields.
+/// The parse error of a text, or the error with this name and these fields.
 pub fn error(alloc: Global, order: Order<'_>) -> Result<Error, Halt> {
     match order.object("error") {
         Some(given) => error_of(alloc, given),
@@ -197,7 +197,7 @@ pub fn error(alloc: Global, order: Order<'_>) -> Result<Error, Halt> {
     }
 }
 
-/// The error of this name and these fields.
+/// The error with this name and these fields.
 fn error_of(alloc: Global, given: Order<'_>) -> Result<Error, Halt> {
     let kept = BString::new(given.bytes(alloc, "kept")?);
     let (name, rest) = given
@@ -236,7 +236,7 @@ fn bad_url(given: Order<'_>, names: &str, input: BString) -> Result<Error, Halt>
     })
 }
 
-/// The error that no home is known for a user.
+/// The error for a user without a known home folder.
 fn no_home(alloc: Global, given: Order<'_>) -> Result<Error, Halt> {
     match crate::build::user(alloc, given, "user")? {
         Some(user) => Ok(Error::NoHome(user)),
@@ -244,7 +244,7 @@ fn no_home(alloc: Global, given: Order<'_>) -> Result<Error, Halt> {
     }
 }
 
-/// The error of this name that keeps no text.
+/// The error with this name, of those that keep no text.
 fn bare_error(name: &str, rest: &str) -> Result<Error, Halt> {
     match name {
         "Memory" => Ok(Error::Memory),
@@ -256,7 +256,7 @@ fn bare_error(name: &str, rest: &str) -> Result<Error, Halt> {
     }
 }
 
-/// The error of a stream with the kind and the words in an order.
+/// The error of a stream, with the kind and the words in an order.
 fn stream_error(order: Order<'_>) -> io::Error {
     let kind = match order.text("kind") {
         Some("BrokenPipe") => ErrorKind::BrokenPipe,
@@ -280,7 +280,7 @@ pub fn run_error(order: Order<'_>) -> Result<RunError, Halt> {
     }
 }
 
-/// The error of writing in an order: a fault, or that of a stream.
+/// The write error in an order: a fault, or the error of a stream.
 pub fn write_error(order: Order<'_>) -> Result<WriteError, Halt> {
     match order.text("fault") {
         Some(name) => Ok(WriteError::Fault(write_fault(name)?)),

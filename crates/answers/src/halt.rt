@@ -1,25 +1,25 @@
-//! Why an order was not carried out. None of these is ever the outcome of a call.
+//! Why an order was not executed. No call has one of these as its result.
 
 use std::alloc::{AllocError, AllocFailed};
 use std::io;
 
-/// Why an order was not carried out.
+/// Why an order was not executed.
 #[derive(Clone, Copy)]
 pub enum Halt {
-    /// It is no JSON, or memory was refused while it was read.
+    /// The order isn't JSON, or memory was refused while it was parsed.
     Unread,
-    /// It names no call, or not over what it says.
+    /// The order doesn't name a call, or not one over its inputs.
     Unknown,
-    /// What the call is over was not made: memory was refused, or the order has no such member.
+    /// An input of the call wasn't built: memory was refused, or the order has no such member.
     Unprepared,
-    /// The call changed what it only borrows.
+    /// The call changed a borrowed input.
     Changed,
-    /// The outcome can't be written.
+    /// The result can't be written.
     NotReported(io::Error),
 }
 
 impl Halt {
-    /// The words that are reported in place of an outcome.
+    /// The words that are reported in place of a result.
     pub fn words(self) -> &'static str {
         match self {
             Halt::Unread => "no order",

@@ -1,12 +1,11 @@
-//! Makes calls of the library and reports how each ended: what `scripts/vectors` asks for the rows of
-//! `vectors/`.
+//! Makes calls of the library and reports their results, which `scripts/vectors` compares with the rows of `vectors/`.
 //!
-//! Each line of the standard input is an order, one call as JSON, and is answered by one line of JSON.
-//! `order` reads orders, `build` makes what calls are over, `calls` is the table of calls, `rules` that of
-//! calls of `git_rules`, `report` and `parts` report outcomes.
+//! Each line of the standard input is an order: one call, as JSON. Its result is one line of JSON. `order` parses
+//! orders, `build` builds the inputs of calls, `calls` is the table of calls, `rules` that of calls of `git_rules`, and
+//! `report` and `parts` report results.
 //!
-//! All memory but the call's own is taken before the call is made, and an order can end there: so
-//! `scripts/hostile` can count the requests of a call, and refuse each of them.
+//! All memory except the call's own is allocated before the call is made, and an order can end there. So
+//! `scripts/hostile` can count the allocations of a call, and refuse each of them.
 #![tactic(auto)]
 
 mod build;
@@ -43,7 +42,7 @@ use serde_json::Value;
 use std::alloc::Global;
 use std::io::{self, BufRead, BufReader, BufWriter, Write};
 
-/// Carries out the order of a line.
+/// Executes the order on a line.
 fn carry_out(alloc: Global, line: &[u8], out: &mut Out) -> Result<(), Halt> {
     let Ok(members) = Value::from_slice(alloc, line) else {
         return Err(Halt::Unread);
@@ -53,7 +52,7 @@ fn carry_out(alloc: Global, line: &[u8], out: &mut Out) -> Result<(), Halt> {
     outcome
 }
 
-/// Answers the order of a line.
+/// Writes the result of the order on a line.
 fn answer(alloc: Global, line: &[u8], out: &mut Out) -> io::Result<()> {
     match carry_out(alloc, line, out) {
         Ok(()) => {}

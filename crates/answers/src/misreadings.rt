@@ -1,6 +1,6 @@
-//! Calls of `git_audit` over the hosts that other programs take from a text.
+//! Calls of `git_audit` over the hosts that other programs find in a text.
 //!
-//! `group` is the name of a group of readers, `url` a location, and `text` the text that is read if it is another one.
+//! `group` is the name of a group of readers, `url` a location, and `text` the text that is read if it differs.
 
 use crate::build;
 use crate::halt::Halt;
@@ -11,7 +11,7 @@ use git_audit::misreading::{Group, is_misread, other_host};
 use gix_url::UrlRef;
 use std::alloc::Global;
 
-/// Whether a call is one of these, by the module or the type that it is named with.
+/// Whether a call is over misreadings, by the module or the type in its name.
 pub fn has(name: &str) -> bool {
     name.starts_with("misreading::") || name.starts_with("Group::")
 }
@@ -28,7 +28,7 @@ pub fn make(alloc: Global, order: Order<'_>, out: &mut Out) -> Result<(), Halt> 
     outcome
 }
 
-/// Reports what is read in a text that isn't of the location.
+/// Reports the host that is found in a text and isn't the location's.
 fn over_url(alloc: Global, order: Order<'_>, text: &[u8], out: &mut Out) -> Result<(), Halt> {
     let url = build::url(alloc, order, "url")?;
     let outcome = over_location(order, text, &url.as_ref(), out);
@@ -36,7 +36,7 @@ fn over_url(alloc: Global, order: Order<'_>, text: &[u8], out: &mut Out) -> Resu
     outcome
 }
 
-/// The same of a location that is borrowed.
+/// Reports the host that is found in a text and isn't that of a borrowed location.
 fn over_location(
     order: Order<'_>,
     text: &[u8],

@@ -1,5 +1,5 @@
-//! Orders: an object of JSON. Its member `call` names the call, `prepare` says that the order ends before the
-//! call, and the others are what the call is over, by their names.
+//! Orders: JSON objects. The member `call` names the call; `prepare` says that the order ends before the call; the
+//! other members are the inputs of the call, by their names.
 
 use crate::bytes::decode;
 use crate::halt::Halt;
@@ -23,12 +23,12 @@ impl<'a> Order<'a> {
         self.text("call").unwrap_or("")
     }
 
-    /// The name of the call that is made; none where the order ends before it.
+    /// The name of the call to make; empty if the order ends before it.
     pub fn call(self) -> &'a str {
         if self.is("prepare") { "" } else { self.name() }
     }
 
-    /// The style in which a value is shown; none for the plain one.
+    /// The style in which a value is shown; empty for the plain one.
     pub fn style(self) -> &'a str {
         self.text("style").unwrap_or("")
     }
@@ -69,7 +69,7 @@ impl<'a> Order<'a> {
         self.text(name).ok_or(Halt::Unprepared)
     }
 
-    /// The bytes of a member; none where it isn't there.
+    /// The bytes of a member; no bytes if it is missing.
     pub fn bytes(self, alloc: Global, name: &str) -> Result<Vec<u8>, Halt> {
         decode(alloc, self.text(name).unwrap_or(""))
     }
@@ -91,7 +91,7 @@ impl<'a> Order<'a> {
     }
 }
 
-/// That there is no such call; or nothing, where the order ends before the call.
+/// The halt for an unknown call; nothing if the order ends before the call.
 pub fn unknown(call: &str) -> Result<(), Halt> {
     if call.is_empty() {
         Ok(())

@@ -1,5 +1,5 @@
-//! Outcomes of the library's own types as JSON: locations and records by their parts, schemes, users, what a
-//! path is made of, and what a part is to a command.
+//! Results with the library's own types as JSON: locations and records by their parts, schemes, users, the components
+//! of a path, and judgements of parts as arguments.
 
 use crate::halt::Halt;
 use crate::report::{Out, Report, report_member, report_name};
@@ -30,15 +30,15 @@ impl Report for SchemeRef<'_> {
     }
 }
 
-/// Reports a name behind a word, as one text.
+/// Reports a word and a name after it, as one text.
 fn report_named(out: &mut Out, word: &str, name: &[u8]) -> io::Result<()> {
     write!(out, "\"{word}")?;
     crate::bytes::write_inside(out, name)?;
     out.write_all(b"\"")
 }
 
-/// Reports the parts of a location or a record, but its path and its spelling: the texts are user, password
-/// and host.
+/// Reports the parts of a location or a record, except its path and its spelling: the texts are user, password and
+/// host.
 fn report_front(
     out: &mut Out,
     scheme: SchemeRef<'_>,
@@ -56,7 +56,7 @@ fn report_front(
     report_member(out, "alternative", &alternative.then_some(true))
 }
 
-/// Reports a path, and its spelling if it has one, and ends the parts.
+/// Reports a path, and its spelling if it has one, and closes the object of the parts.
 fn report_path(out: &mut Out, path: &[u8], spelling: Option<&[u8]>) -> io::Result<()> {
     report_member(out, "path", &Some(BStr::new(path)))?;
     if let Some(spelling) = spelling {
@@ -139,7 +139,7 @@ impl Report for ArgumentSafety<'_> {
     }
 }
 
-/// Reports what a text is to a command.
+/// Reports a text as judged for an argument.
 fn report_judged(out: &mut Out, word: &str, text: &str) -> io::Result<()> {
     report_name(out, "{", word)?;
     text.report(out)?;

@@ -1,6 +1,6 @@
 //! Calls of `git_rules` over places: normal forms, patterns, and entries that apply to a place.
 //!
-//! Each normal form is written into a room, which is as long as the call asks for, or as `room` says.
+//! Each normal form is written into a buffer, whose size is the one that the call needs, or the number in `room`.
 
 use crate::halt::Halt;
 use crate::order::{Order, unknown};
@@ -15,8 +15,8 @@ use git_rules::pattern::{UrlPattern, best};
 use gix_url::UrlRef;
 use std::alloc::Global;
 
-/// A room for a normal form: of as many bytes as the order says, and else as are asked for a text of this
-/// length. It isn't empty: what the library leaves there is none of a place.
+/// A buffer for a normal form: its size is the number in the order, or else the size that a text of this length needs.
+/// The buffer is filled with `#`: bytes that the library doesn't write aren't part of a place.
 fn room_of(alloc: Global, order: Order<'_>, len: usize) -> Result<Vec<u8>, Halt> {
     let size = match order.number("room") {
         Some(size) => usize::try_from(size).unwrap_or(0),
@@ -34,7 +34,7 @@ pub fn over_len(order: Order<'_>, len: u64, out: &mut Out) -> Result<(), Halt> {
     }
 }
 
-/// Calls over a text, and over a pattern beside it.
+/// Calls over a text, or over a text and a pattern.
 pub fn over_text(alloc: Global, order: Order<'_>, text: &[u8], out: &mut Out) -> Result<(), Halt> {
     let mut room = room_of(alloc, order, text.len())?;
     let outcome = match order.name() {
@@ -45,7 +45,8 @@ pub fn over_text(alloc: Global, order: Order<'_>, text: &[u8], out: &mut Out) ->
     outcome
 }
 
-/// The same, of which the buffer has no password, whatever the outcome: it is in no normal form.
+/// Parses a text, and checks that the buffer doesn't have its password, whatever the result: the password isn't in a
+/// normal form.
 fn read_apart(order: Order<'_>, text: &[u8], buffer: &mut [u8], out: &mut Out) -> Result<(), Halt> {
     read(order, text, buffer, out)?;
     match order.text("password") {
@@ -59,7 +60,7 @@ fn holds(bytes: &[u8], text: &str) -> bool {
     bytes.contains_str(text.as_bytes())
 }
 
-/// Reports the normal form of a text, or that it is a pattern.
+/// Reports the normal form of a text, or whether it is a pattern.
 fn read(order: Order<'_>, text: &[u8], room: &mut [u8], out: &mut Out) -> Result<(), Halt> {
     match order.call() {
         "NormalUrl::parse_in" => report_owned(out, NormalUrl::parse_in(text, room)),
@@ -71,13 +72,13 @@ fn read(order: Order<'_>, text: &[u8], room: &mut [u8], out: &mut Out) -> Result
     }
 }
 
-/// That a text is a pattern, whichever it is.
+/// True for each pattern.
 fn is_pattern(pattern: UrlPattern<'_>) -> bool {
     drop(pattern);
     true
 }
 
-/// Calls over a place and a pattern; a text that has no normal form is reported.
+/// Calls over a place and a pattern. If a text has no normal form, that is reported.
 fn over_place(
     alloc: Global,
     order: Order<'_>,
@@ -100,7 +101,7 @@ fn over_place(
     outcome
 }
 
-/// Reports why a text is no place, where a call is made.
+/// Reports why a text isn't a place, if a call is made.
 fn refused(order: Order<'_>, error: NormalError, out: &mut Out) -> Result<(), Halt> {
     match order.call() {
         "" => Ok(()),
@@ -108,7 +109,7 @@ fn refused(order: Order<'_>, error: NormalError, out: &mut Out) -> Result<(), Ha
     }
 }
 
-/// Calls over a place and a pattern; a text that isn't a pattern matches nothing.
+/// Calls over a place and a pattern. A text that isn't a pattern matches nothing.
 fn over_pattern(
     order: Order<'_>,
     place: &NormalUrl<'_>,
@@ -154,7 +155,7 @@ pub fn over_entries(
     outcome
 }
 
-/// Reports which entries are used for a place, or what is picked of them.
+/// Reports which entries are used for a place, or the entry that is chosen of them.
 fn over_place_of(
     alloc: Global,
     order: Order<'_>,

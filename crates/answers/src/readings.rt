@@ -1,4 +1,4 @@
-//! What Git reads in a text, and why readers may differ, as JSON.
+//! Git's readings of a text, and why readers may differ, as JSON.
 
 use crate::report::{Out, Report, report_member};
 use bstr::BStr;

@@ -24,7 +24,7 @@ pub fn over_entries(
     outcome
 }
 
-/// Makes the rules that entries are, and a call over them and the name of a remote.
+/// Builds the rules of entries, and makes a call over them and the name of a remote.
 fn over_name<'a>(
     alloc: Global,
     order: Order<'_>,
@@ -42,7 +42,7 @@ fn over_name<'a>(
     }
 }
 
-/// Reports the remote of a name, by entries and their rules.
+/// Reports the remote with a name, by entries and their rules.
 fn over_rules<'a>(
     alloc: Global,
     order: Order<'_>,
@@ -76,7 +76,7 @@ fn report_remote(
     }
 }
 
-/// Reports the parts of a remote: the texts of its lists, and the values that it has.
+/// Reports the parts of a remote: the texts of its lists, and its values.
 fn report_parts(
     remote: &Remote<'_>,
     texts: (Vec<BString>, Vec<BString>),
@@ -109,7 +109,7 @@ fn both_texts(
     Ok((urls, push_urls))
 }
 
-/// The texts that rewritten ones are.
+/// The texts of the results of rewriting.
 fn texts(alloc: Global, outcomes: &[Rewritten<'_>]) -> Result<Vec<BString>, AllocError> {
     let mut texts = Vec::with_capacity(alloc, outcomes.len())?;
     for outcome in outcomes {

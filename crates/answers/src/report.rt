@@ -1,5 +1,5 @@
-//! Outcomes as JSON: truths, numbers, texts, what may be missing, pairs, and what is shown of a value.
-//! Nothing here takes memory.
+//! Results as JSON: booleans, numbers, texts, optional values, pairs, and values as they are shown. Nothing here
+//! allocates.
 
 use crate::bytes::{write_inside, write_quoted};
 use crate::halt::Halt;
@@ -7,23 +7,23 @@ use bstr::{BStr, BString};
 use std::cmp::Ordering;
 use std::io::{self, BufWriter, Stdout, Write};
 
-/// Where outcomes are reported.
+/// The output for results.
 pub type Out = BufWriter<Stdout>;
 
-/// What can be the outcome of a call.
+/// The types of results of calls.
 pub trait Report {
     /// Reports the value as JSON.
     fn report(&self, out: &mut Out) -> io::Result<()>;
 }
 
-/// Reports a value that is owned, and drops it.
+/// Reports an owned value, and drops it.
 pub fn report_owned<T: Report + Drop>(out: &mut Out, value: T) -> Result<(), Halt> {
     let reported = value.report(out);
     drop(value);
     Ok(reported?)
 }
 
-/// Reports a value that is lent.
+/// Reports a borrowed value.
 pub fn report_lent<T: Report>(out: &mut Out, value: &T) -> Result<(), Halt> {
     Ok(value.report(out)?)
 }
@@ -123,7 +123,7 @@ impl<A: Report, B: Report> Report for (A, B) {
     }
 }
 
-/// Reports two values, one behind the other.
+/// Reports two values, one after the other.
 pub fn report_pair<A: Report, B: Report>(out: &mut Out, one: &A, other: &B) -> io::Result<()> {
     out.write_all(b"[")?;
     one.report(out)?;
@@ -132,7 +132,7 @@ pub fn report_pair<A: Report, B: Report>(out: &mut Out, one: &A, other: &B) -> i
     out.write_all(b"]")
 }
 
-/// Reports the name of a member of an object, and what is before it: `{` or `,`.
+/// Reports the name of an object's member, and the `{` or `,` before it.
 pub fn report_name(out: &mut Out, before: &str, name: &str) -> io::Result<()> {
     write!(out, "{before}\"{name}\":")
 }
@@ -148,10 +148,10 @@ pub fn report_member<T: Report>(out: &mut Out, name: &str, value: &Option<T>) ->
     }
 }
 
-/// A writer that reports what it takes as the inside of a text of JSON.
+/// A writer that reports its input as the inside of a JSON string.
 #[derive(Drop)]
 pub struct Taking<'a> {
-    /// Where that is reported.
+    /// The output.
     pub out: &'a mut Out,
 }
 

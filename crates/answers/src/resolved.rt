@@ -14,12 +14,12 @@ impl Report for ResolveError {
     }
 }
 
-/// Whether a call is one of these, by the module or the type that it is named with.
+/// Whether a call is over these URLs, by the module or the type in its name.
 pub fn has(name: &str) -> bool {
     matches!(name.split_once("::"), Some(("resolve" | "Resolved", _)))
 }
 
-/// Makes a call over both URLs. A call over one alone has no parent.
+/// Makes a call over both URLs. A call over one of them has no parent.
 pub fn make(alloc: Global, order: Order<'_>, out: &mut Out) -> Result<(), Halt> {
     let parent = order.bytes(alloc, "parent")?;
     let url = order.bytes(alloc, "url")?;

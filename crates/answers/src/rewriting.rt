@@ -8,7 +8,7 @@ use git_rules::config::Entry;
 use git_rules::rewrite::{RewriteError, Rewrites};
 use std::alloc::{AllocError, Global};
 
-/// Calls over the rules that entries are, and a text.
+/// Calls over the rules of entries, and a text.
 pub fn over_entries(
     alloc: Global,
     order: Order<'_>,
@@ -21,7 +21,7 @@ pub fn over_entries(
     outcome
 }
 
-/// Reports what becomes of a text by the rules that entries are.
+/// Reports the result of rewriting a text by the rules of entries.
 fn rewrite(
     alloc: Global,
     order: Order<'_>,
@@ -43,7 +43,7 @@ fn rewrite(
     }
 }
 
-/// Makes the rules that entries are.
+/// Builds the rules of entries.
 fn fill(alloc: Global, entries: &[Entry<'_>]) -> Result<(), RewriteError> {
     let rules = Rewrites::from_entries(alloc, entries)?;
     drop(rules);
@@ -71,7 +71,7 @@ fn pushed(
     Ok(written?)
 }
 
-/// Whether a rule wins where a text is fetched from.
+/// Whether a rule applies when a text is fetched from.
 fn is_rewritten(alloc: Global, entries: &[Entry<'_>], text: &[u8]) -> Result<bool, RewriteError> {
     let rules = Rewrites::from_entries(alloc, entries)?;
     let is_rewritten = rules.rewrite_fetch(text).is_rewritten();
@@ -79,7 +79,7 @@ fn is_rewritten(alloc: Global, entries: &[Entry<'_>], text: &[u8]) -> Result<boo
     Ok(is_rewritten)
 }
 
-/// What a text is fetched from and pushed to, by the rules that have a value.
+/// The texts that Git fetches from and pushes to, by the rules that have a value.
 fn by_entries(
     alloc: Global,
     entries: &[Entry<'_>],
@@ -96,7 +96,7 @@ fn by_entries(
     Ok(both(alloc, rules, text)?)
 }
 
-/// Calls over a text, and over the base and the front of a rule.
+/// Calls over a text, and the base and the prefix of a rule.
 pub fn over_rule(alloc: Global, order: Order<'_>, text: &[u8], out: &mut Out) -> Result<(), Halt> {
     let base = order.bytes(alloc, "base")?;
     let front = order.bytes(alloc, "front")?;
@@ -111,7 +111,7 @@ pub fn over_rule(alloc: Global, order: Order<'_>, text: &[u8], out: &mut Out) ->
     outcome
 }
 
-/// What a text is fetched from and pushed to, by a rule for fetching.
+/// The texts that Git fetches from and pushes to, by a rule for fetching.
 fn by_fetch_rule(
     alloc: Global,
     base: &[u8],
@@ -123,7 +123,7 @@ fn by_fetch_rule(
     both(alloc, rules, text)
 }
 
-/// What a text is fetched from and pushed to, by a rule for pushing.
+/// The texts that Git fetches from and pushes to, by a rule for pushing.
 fn by_push_rule(
     alloc: Global,
     base: &[u8],
@@ -135,7 +135,7 @@ fn by_push_rule(
     both(alloc, rules, text)
 }
 
-/// What a text is fetched from and pushed to.
+/// The texts that Git fetches from and pushes to.
 fn both(alloc: Global, rules: Rewrites<'_>, text: &[u8]) -> Result<(BString, BString), AllocError> {
     let fetched = rules.rewrite_fetch(text).to_bstring(alloc)?;
     let pushed = rules.rewrite_push(text, false).to_bstring(alloc);

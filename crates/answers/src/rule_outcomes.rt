@@ -1,5 +1,4 @@
-//! Outcomes of calls of `git_rules` as JSON: entries, normal forms, ranks, permissions and words, and their
-//! errors.
+//! Results of calls of `git_rules` as JSON: entries, normal forms, ranks, permissions and words, and their errors.
 
 use crate::report::{Out, Report, report_member, report_name, report_pair};
 use bstr::{BStr, BString};
@@ -77,7 +76,7 @@ fn report_list<T: Report>(out: &mut Out, items: &[T]) -> io::Result<()> {
     out.write_all(if items.is_empty() { b"[]" } else { b"]" })
 }
 
-/// Reports what a reader gives in turn, as a list.
+/// Reports the items of a reader, as a list.
 pub fn report_items(out: &mut Out, reader: Reader<'_>) -> io::Result<()> {
     out.write_all(b"[")?;
     let mut is_first = true;

@@ -1,4 +1,5 @@
-//! What the errors of `git_rules` and `git_modules` show: each error is made by its name, and by a place where it has one.
+//! Shows the errors of `git_rules` and `git_modules`. Each error is built from its name, and from a position if it has
+//! one.
 
 use crate::halt::Halt;
 use crate::order::{Order, unknown};
@@ -56,7 +57,7 @@ pub fn show(order: Order<'_>, out: &mut Out) -> Result<(), Halt> {
     }
 }
 
-/// Shows the error of an order, which may have a place.
+/// Shows the error of an order, which may have a position.
 fn show_placed(order: Order<'_>, name: &str, at: usize, out: &mut Out) -> Result<(), Halt> {
     match (order.call(), name) {
         ("CredentialsError:fmt", "Memory") => show_display(out, &CredentialsError::Memory),
@@ -78,7 +79,7 @@ fn show_placed(order: Order<'_>, name: &str, at: usize, out: &mut Out) -> Result
     }
 }
 
-/// The reason for which a text has no transport, by its name.
+/// The reason why a text has no transport, by its name.
 fn no_transport(name: &str) -> Result<NoTransport, Halt> {
     match name {
         "ByteZero" => Ok(NoTransport::ByteZero),
@@ -89,7 +90,7 @@ fn no_transport(name: &str) -> Result<NoTransport, Halt> {
     }
 }
 
-/// The reason for which a text has no normal form, by its name.
+/// The reason why a text has no normal form, by its name.
 fn normal_error(name: &str) -> Result<NormalError, Halt> {
     match name {
         "NoRoom" => Ok(NormalError::NoRoom),
@@ -103,7 +104,7 @@ fn normal_error(name: &str) -> Result<NormalError, Halt> {
     }
 }
 
-/// The reason for which a location has no place, by its name.
+/// The reason why a location has no place, by its name.
 fn place_error(name: &str) -> Result<PlaceError, Halt> {
     match name {
         "Fault" => Ok(PlaceError::Fault(WriteFault::RelativeSsh)),
@@ -111,7 +112,7 @@ fn place_error(name: &str) -> Result<PlaceError, Halt> {
     }
 }
 
-/// The reason for which a location has no command of Secure Shell, by its name.
+/// The reason why a location has no command of Secure Shell, by its name.
 fn ssh_refusal(name: &str) -> Result<SshRefusal, Halt> {
     match name {
         "NotSecureShell" => Ok(SshRefusal::NotSecureShell),
@@ -134,7 +135,7 @@ fn ssh_refusal(name: &str) -> Result<SshRefusal, Halt> {
     }
 }
 
-/// Why there are no words of a command, by the name.
+/// The reason why there are no words of a command, by its name.
 fn ssh_error(name: &str) -> Result<SshError, Halt> {
     match name {
         "Memory" => Ok(SshError::Memory),
@@ -142,7 +143,7 @@ fn ssh_error(name: &str) -> Result<SshError, Halt> {
     }
 }
 
-/// The reason for which fsck refuses an entry of `.gitmodules`, by its name.
+/// The reason why fsck refuses an entry of `.gitmodules`, by its name.
 fn refused(name: &str) -> Result<Refused, Halt> {
     match name {
         "Name" => Ok(Refused::Name),
@@ -153,7 +154,7 @@ fn refused(name: &str) -> Result<Refused, Halt> {
     }
 }
 
-/// The reason for which Git stops at an entry, by its name.
+/// The reason why Git stops at an entry, by its name.
 fn stop(name: &str) -> Result<Stop, Halt> {
     match name {
         "NoValue" => Ok(Stop::NoValue),

@@ -1,8 +1,7 @@
-//! Calls of `git_rules`: what Git does with a location by its configuration.
+//! Calls of `git_rules`: Git's rules for a location by its configuration.
 //!
-//! `config` is the text that `git config --list -z` writes. Calls that rewrite are in `rewriting`, those over
-//! a remote in `remotes`, over a place in `places`, those of Secure Shell in `commands`, and `rule_outcomes`
-//! reports what calls return.
+//! `config` is the output of `git config --list -z`. Calls that rewrite are in `rewriting`, those over a remote in
+//! `remotes`, over a place in `places`, those of Secure Shell in `commands`, and `rule_outcomes` reports the results.
 
 use crate::halt::Halt;
 use crate::order::{Order, unknown};
@@ -34,7 +33,7 @@ use git_rules::stops::{self, stop_at};
 use gix_url::Url;
 use std::alloc::Global;
 
-/// Whether a call is one of `git_rules`, by the module or the type that it is named with.
+/// Whether a call is in `git_rules`, by the module or the type in its name.
 pub fn has(name: &str) -> bool {
     match name.split_once("::") {
         Some((owner, _)) => is_of_configuration(owner)
@@ -44,7 +43,7 @@ pub fn has(name: &str) -> bool {
     }
 }
 
-/// Whether these are calls over a configuration, a transport or a boolean value.
+/// Whether calls are over a configuration, a transport or a boolean value.
 fn is_of_configuration(owner: &str) -> bool {
     matches!(
         owner,
@@ -69,7 +68,7 @@ fn is_of_configuration(owner: &str) -> bool {
     )
 }
 
-/// Whether these are calls over a place, or over two locations.
+/// Whether calls are over a place, or over two locations.
 fn is_of_places(owner: &str) -> bool {
     matches!(
         owner,
@@ -85,7 +84,7 @@ fn is_of_places(owner: &str) -> bool {
     )
 }
 
-/// Makes the call of an order, by what it is over.
+/// Makes the call of an order, by the type of its input.
 pub fn make(alloc: Global, order: Order<'_>, out: &mut Out) -> Result<(), Halt> {
     if let Some(len) = order.number("len") {
         places::over_len(order, len, out)
@@ -118,7 +117,7 @@ fn over_config(alloc: Global, order: Order<'_>, out: &mut Out) -> Result<(), Hal
     outcome
 }
 
-/// Calls that read the text of a configuration.
+/// Calls that parse the text of a configuration.
 fn over_reader(alloc: Global, order: Order<'_>, text: &[u8], out: &mut Out) -> Result<(), Halt> {
     match order.call() {
         "config::entries" => report_owned(out, config::entries(alloc, text)),
@@ -128,7 +127,7 @@ fn over_reader(alloc: Global, order: Order<'_>, text: &[u8], out: &mut Out) -> R
     }
 }
 
-/// Reads the entries of a configuration, and makes a call over them.
+/// Parses the entries of a configuration, and makes a call over them.
 fn read_entries(alloc: Global, order: Order<'_>, text: &[u8], out: &mut Out) -> Result<(), Halt> {
     let entries = config::entries(alloc, text)?;
     let outcome = match order.name() {
@@ -178,7 +177,7 @@ fn over_section(
     }
 }
 
-/// Calls that look at the first entry.
+/// Calls that inspect the first entry.
 fn over_entry(order: Order<'_>, entries: &[Entry<'_>], out: &mut Out) -> Result<(), Halt> {
     let Some(entry) = entries.first() else {
         return Err(Halt::Unprepared);
@@ -196,7 +195,7 @@ fn over_entry(order: Order<'_>, entries: &[Entry<'_>], out: &mut Out) -> Result<
     }
 }
 
-/// Calls over what decides which transports may be used.
+/// Calls over the settings that determine which transports may be used.
 fn over_protocols(
     alloc: Global,
     order: Order<'_>,
@@ -211,7 +210,7 @@ fn over_protocols(
     outcome
 }
 
-/// Reports what Git does about a transport by these entries and variables.
+/// Reports whether Git allows a transport by these entries and variables.
 fn permit_by<'a>(
     order: Order<'_>,
     entries: &'a [Entry<'a>],
@@ -232,7 +231,7 @@ fn bytes_of(value: &Option<Vec<u8>>) -> Option<&[u8]> {
     value.as_ref().map(|bytes| bytes.as_slice())
 }
 
-/// Reports what Git does about a transport: by the name of that alone, or with what decides it.
+/// Reports whether Git allows a transport: by the name of the permission alone, or with the setting that decides.
 fn permit(order: Order<'_>, protocols: &Protocols<'_>, out: &mut Out) -> Result<(), Halt> {
     let name = order.needed("name")?;
     match (order.call(), order.style()) {
@@ -243,7 +242,7 @@ fn permit(order: Order<'_>, protocols: &Protocols<'_>, out: &mut Out) -> Result<
     }
 }
 
-/// Calls over a location, and over another one beside it.
+/// Calls over a location, or over two locations.
 fn over_url(alloc: Global, order: Order<'_>, out: &mut Out) -> Result<(), Halt> {
     let url = build::url(alloc, order, "url")?;
     let outcome = match order.name() {
@@ -264,7 +263,7 @@ fn over_transport(order: Order<'_>, url: &Url, out: &mut Out) -> Result<(), Halt
     }
 }
 
-/// Compares the hosts of a location and another one.
+/// Compares the hosts of two locations.
 fn over_hosts(alloc: Global, order: Order<'_>, url: &Url, out: &mut Out) -> Result<(), Halt> {
     let other = build::url(alloc, order, "other")?;
     let outcome = match order.call() {
@@ -306,7 +305,7 @@ fn over_boolean(order: Order<'_>, text: &[u8], out: &mut Out) -> Result<(), Halt
     }
 }
 
-/// Reports the size of the number that a text is.
+/// Reports the size of the number that a text encodes.
 fn over_number(order: Order<'_>, text: &[u8], out: &mut Out) -> Result<(), Halt> {
     let Some(greatest) = order.number("greatest") else {
         return Err(Halt::Unprepared);
@@ -333,7 +332,7 @@ fn over_form(order: Order<'_>, text: &[u8], out: &mut Out) -> Result<(), Halt> {
     }
 }
 
-/// Compares two hosts, or the hosts of two texts, each of which is read into a buffer as long as it is.
+/// Compares two hosts, or the hosts of two texts, each of which is parsed with a buffer of its length.
 fn over_two_texts(alloc: Global, order: Order<'_>, text: &[u8], out: &mut Out) -> Result<(), Halt> {
     let mut buffer = order.bytes(alloc, "text")?;
     let other = order.bytes(alloc, "other")?;
@@ -352,7 +351,7 @@ fn over_two_texts(alloc: Global, order: Order<'_>, text: &[u8], out: &mut Out) -
     outcome
 }
 
-/// Laws of `git_rules`, which hold of all values, and whose calls do nothing.
+/// Laws of `git_rules`, which hold for all values, and whose calls do nothing.
 pub fn over_nothing(order: Order<'_>, out: &mut Out) -> Result<(), Halt> {
     match order.call() {
         "laws::law_credentials" => report_lent(out, &law_credentials()),

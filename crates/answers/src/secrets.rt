@@ -1,6 +1,6 @@
-//! Calls of `git_audit` over what of a text is hidden.
+//! Calls of `git_audit` over the parts of a text that are hidden.
 //!
-//! `text` is the text. The outcome is its pieces in their order, each `shown` or `hidden`; pieces of one kind are
+//! `text` is the text. The result is its pieces in their order, each `shown` or `hidden`. Neighbours of one kind are
 //! joined.
 
 use crate::bytes::write_inside;
@@ -11,7 +11,7 @@ use git_audit::secret::{Piece, secrets};
 use std::alloc::Global;
 use std::io::{self, Write};
 
-/// Whether a call is one over what is hidden, by the module that it is named with.
+/// Whether a call is over hidden parts, by the module in its name.
 pub fn has(name: &str) -> bool {
     name.starts_with("secret::")
 }

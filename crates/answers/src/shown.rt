@@ -1,4 +1,4 @@
-//! What is shown of values, as JSON: `shown`, and `failed` where the formatter failed.
+//! Values as they are shown, as JSON: `shown`, and `failed` if the formatter failed.
 
 use crate::bytes::write_inside;
 use crate::halt::Halt;
@@ -6,7 +6,7 @@ use crate::report::Out;
 use std::fmt::{self, Write};
 use std::io;
 
-/// A formatter that reports what it gets as the inside of a text of JSON.
+/// A formatter that reports its input as the inside of a JSON string.
 #[derive(Drop)]
 struct Inside<'a> {
     out: &'a mut Out,
@@ -18,7 +18,7 @@ impl Write for Inside<'_> {
     }
 }
 
-/// Reports what is shown of a value in a style, and whether that failed.
+/// Reports a value as it is shown in a style, and whether that failed.
 pub fn show<T: fmt::Display + fmt::Debug>(
     out: &mut Out,
     style: &str,
@@ -29,21 +29,21 @@ pub fn show<T: fmt::Display + fmt::Debug>(
     end_shown(out, shown)
 }
 
-/// Reports what `Display` shows of a value, and whether that failed.
+/// Reports a value as `Display` shows it, and whether that failed.
 pub fn show_display<T: fmt::Display>(out: &mut Out, value: &T) -> Result<(), Halt> {
     io::Write::write_all(out, b"{\"shown\":\"")?;
     let shown = write!(Inside { out }, "{value}");
     end_shown(out, shown)
 }
 
-/// Reports what `Debug` shows of a value, and whether that failed.
+/// Reports a value as `Debug` shows it, and whether that failed.
 pub fn show_debug<T: fmt::Debug>(out: &mut Out, value: &T) -> Result<(), Halt> {
     io::Write::write_all(out, b"{\"shown\":\"")?;
     let shown = write!(Inside { out }, "{value:?}");
     end_shown(out, shown)
 }
 
-/// Ends what is reported of a value that was shown.
+/// Ends the report of a value that was shown.
 fn end_shown(out: &mut Out, shown: fmt::Result) -> Result<(), Halt> {
     let end: &[u8] = if shown.is_ok() {
         b"\"}"

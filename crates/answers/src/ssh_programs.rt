@@ -1,6 +1,6 @@
-//! Calls of `git_rules` over what decides which program is run for Secure Shell.
+//! Calls of `git_rules` over the settings that determine the program for Secure Shell.
 //!
-//! `git_ssh_command`, `git_ssh` and `git_ssh_variant` are the values of the variables, where these are set.
+//! `git_ssh_command`, `git_ssh` and `git_ssh_variant` are the values of the variables, if these are set.
 
 use crate::halt::Halt;
 use crate::order::{Order, unknown};
@@ -28,7 +28,7 @@ pub fn over_entries(
     outcome
 }
 
-/// Makes the settings, and a call over them.
+/// Builds the settings, and makes a call over them.
 fn over_settings<'a>(
     order: Order<'_>,
     entries: &'a [Entry<'a>],

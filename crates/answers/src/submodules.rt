@@ -66,7 +66,7 @@ fn risk_named(name: &str) -> Result<Risk, Halt> {
     }
 }
 
-/// Reports what fsck refuses, by Git's names and in the order of the entries.
+/// Reports the reasons why fsck refuses entries, by Git's names and in the order of the entries.
 fn report_refusals(entries: &[Entry<'_>], out: &mut Out) -> io::Result<()> {
     out.write_all(b"[")?;
     let mut is_first = true;
@@ -86,7 +86,7 @@ fn report_refusals(entries: &[Entry<'_>], out: &mut Out) -> io::Result<()> {
 }
 
 impl Report for Vec<Submodule<'_>> {
-    /// Reports those that have a path and a URL, each with its URL and how it is updated.
+    /// Reports the submodules that have a path and a URL, each with its URL and how it is updated.
     fn report(&self, out: &mut Out) -> io::Result<()> {
         let mut before = "{";
         for it in self {
@@ -105,7 +105,7 @@ impl Report for Vec<Submodule<'_>> {
 }
 
 impl Report for Vec<Defects> {
-    /// Reports the names of the defects of each.
+    /// Reports the names of the defects of each submodule.
     fn report(&self, out: &mut Out) -> io::Result<()> {
         out.write_all(b"[")?;
         let mut is_first = true;

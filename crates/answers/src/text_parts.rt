@@ -1,4 +1,5 @@
-//! Where in a text the parts of its location are, as JSON: each a pair of what is before it and its length.
+//! The positions of a location's parts in a text, as JSON: each is a pair of the number of bytes before it and its
+//! length.
 
 use crate::report::{Out, Report, report_member};
 use gix_url::{Parts, Span};

@@ -1,7 +1,7 @@
-//! One call of the library in each function, so that the instructions of the call alone can be counted.
+//! One call of the library in each function, so that the instructions of this call alone can be counted.
 //!
-//! None is compiled into its caller: the count begins where it is entered and ends where it is left. What the
-//! call makes is dropped there, so that it counts too.
+//! No function is inlined into its caller: the count begins when it is entered and ends when it returns. The function
+//! drops the values that the call builds, so dropping them is counted too.
 
 ghost use Rattle.std.specs.Prelude.{◌≡◌, ◌<◌, ◌↔◌, ◌++◌, ℕ, List, IfSome, IsTrue, Ok, fold, option_map, string_bytes};
 ghost use Rattle.std.specs.Hash.DefaultHasher.{finish, initial, write};
@@ -24,7 +24,7 @@ use std::alloc::Global;
 use std::cmp::Ordering;
 use std::hash::{DefaultHasher, Hash, Hasher};
 
-/// The length of the text, without the text; 0 where there is none.
+/// The length of the text, without building the text; 0 if there is none.
 #[inline(never)]
 pub fn text_len(url: &Url) -> usize
     ensures { 0 < result → IsTextLength url.now result }
@@ -35,7 +35,7 @@ pub fn text_len(url: &Url) -> usize
     }
 }
 
-/// The length of the text in memory; 0 where there is none.
+/// The length of the text in memory; 0 if there is none.
 #[inline(never)]
 pub fn to_bstring(alloc: Global, url: &Url) -> usize
     ensures { 0 < result → IsTextLength url.now result }
@@ -46,7 +46,7 @@ pub fn to_bstring(alloc: Global, url: &Url) -> usize
     }
 }
 
-/// Appends the text, and reports whether that was done.
+/// Appends the text, and returns whether it was appended.
 #[inline(never)]
 pub fn write_to(url: &Url, out: &mut Vec<u8>) -> bool
     ensures { IsTrue result → (t : List ℕ) × (spec.text url.now ≡ Ok t) × (out.new.items
@@ -55,7 +55,7 @@ pub fn write_to(url: &Url, out: &mut Vec<u8>) -> bool
     url.write_to(out).is_ok()
 }
 
-/// The length of what is shown; 0 where nothing is.
+/// The length of the text that shows the location; 0 if there is none.
 #[inline(never)]
 pub fn to_string(alloc: Global, url: &Url) -> usize
     ensures { 0 < result → IsShownLength url.now result }
@@ -74,7 +74,7 @@ pub fn is_settled(url: &Url) -> bool
     url.is_settled()
 }
 
-/// Whether Git reads the same.
+/// Whether Git finds the same place.
 #[inline(never)]
 pub fn agrees_with_git(url: &Url) -> bool
     ensures { IsTrue result ↔ AgreesWithGit url.now }
@@ -90,7 +90,7 @@ pub fn is_unambiguous(url: &Url) -> bool
     url.is_unambiguous()
 }
 
-/// The length of the path without query and fragment; 0 where memory is refused.
+/// The length of the path without query and fragment; 0 if memory is refused.
 #[inline(never)]
 pub fn path_query_fragment(alloc: Global, url: &Url) -> usize
     ensures { 0 < result → IsComponentLength url.now result }
@@ -101,8 +101,8 @@ pub fn path_query_fragment(alloc: Global, url: &Url) -> usize
     }
 }
 
-/// The length of the path of this user, expanded by the home folder `/home/ann` of the current user; 0 where
-/// it isn't.
+/// The length of the path of this user, expanded by the home folder `/home/ann` of the current user; 0 if it isn't
+/// expanded.
 #[inline(never)]
 pub fn expand_path(alloc: Global, user: Option<&ForUser>, path: BStr<'_>) -> usize
     ensures { 0 < result → IsExpansionLength (option_map user_of (option_copied user.entry))
@@ -114,7 +114,7 @@ pub fn expand_path(alloc: Global, user: Option<&ForUser>, path: BStr<'_>) -> usi
     }
 }
 
-/// The length of the path of a copy; 0 where memory is refused.
+/// The length of the path of a copy; 0 if memory is refused.
 #[inline(never)]
 pub fn clone(alloc: Global, url: &Url) -> usize
     ensures { 0 < result → IsPathLength url.now result }
@@ -141,7 +141,7 @@ pub fn cmp(a: &Url, b: &Url) -> Ordering
     a.cmp(b)
 }
 
-/// What the default hasher makes of the location.
+/// The hash of the location by the default hasher.
 #[inline(never)]
 pub fn hash(url: &Url) -> u64
     ensures { result ≡ finish (fold write initial (fed_location url.now)) }
@@ -151,7 +151,7 @@ pub fn hash(url: &Url) -> u64
     hasher.finish()
 }
 
-/// The length of the path of a record; 0 where memory is refused.
+/// The length of the path of a record; 0 if memory is refused.
 #[inline(never)]
 pub fn to_stored(alloc: Global, url: &Url) -> usize
     ensures { 0 < result → IsPathLength url.now result }
@@ -162,7 +162,7 @@ pub fn to_stored(alloc: Global, url: &Url) -> usize
     }
 }
 
-/// The length of the JSON of its record; 0 where memory is refused.
+/// The length of the JSON of its record; 0 if memory is refused.
 #[inline(never)]
 pub fn to_json(alloc: Global, url: &Url) -> usize
     ensures { 0 < result → IsCompactLength result }
@@ -181,7 +181,7 @@ pub fn json_of(alloc: Global, url: &Url) -> Option<String>
     serde_json::to_string(alloc, &stored).ok()
 }
 
-/// The length of the path of the location that is restored of JSON; 0 where there is none.
+/// The length of the path of the location that is restored from JSON; 0 if there is none.
 #[inline(never)]
 pub fn from_json(alloc: Global, json: &str) -> usize
     ensures { 0 < result → IsRestoredLength result }
@@ -195,7 +195,7 @@ pub fn from_json(alloc: Global, json: &str) -> usize
     }
 }
 
-/// The length of the path of what the text is read as; 0 where there is none.
+/// The length of the path of the location that the text is parsed as; 0 if there is none.
 #[inline(never)]
 pub fn reread(alloc: Global, url: &Url) -> usize
     ensures { 0 < result → IsRereadLength url.now result }
@@ -206,7 +206,7 @@ pub fn reread(alloc: Global, url: &Url) -> usize
     }
 }
 
-/// The length of the path of what the parts make; 0 where they make nothing.
+/// The length of the path of the location that the parts mean; 0 if they mean none.
 #[inline(never)]
 pub fn from_parts(alloc: Global, url: Url) -> usize
     ensures { 0 < result → IsMadeLength url result }
@@ -227,7 +227,7 @@ pub fn from_parts(alloc: Global, url: Url) -> usize
     }
 }
 
-/// The length of the text that is fetched from in place of a text; 0 where memory is refused.
+/// The length of the text that Git fetches from in place of a text; 0 if memory is refused.
 #[inline(never)]
 pub fn rewrite_fetch(alloc: Global, rules: &Rewrites<'_>, text: &[u8]) -> usize
     ensures { 0 < result → IsRewrittenLength rules.now text.now result }

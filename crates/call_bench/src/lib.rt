@@ -1,9 +1,9 @@
-//! Calls for programs in C, each of which makes one call of the library over a location, or over a text and
-//! the rules of a configuration, so that the instructions of that call alone can be counted.
+//! Exports for programs in C, each of which makes one call of the library over a location, or over a text and the rules
+//! of a configuration, so that the instructions of that call alone can be counted.
 //!
-//! It is a library beside `url_bench`, whose calls are compiled as in a program that makes no others.
-//! `counted` has the counted calls, and here each is made over what a text is read as. The program that makes
-//! the calls is `driver.c` of `url_bench`, and `scripts/instructions` counts.
+//! This library is separate from `url_bench`, so that the calls of that are compiled as in a program without others.
+//! `counted` has the counted calls; the exports make them over the location of a text. The program that calls the
+//! exports is `driver.c` of `url_bench`, and `scripts/instructions` counts.
 #![tactic(auto)]
 
 ghost use Rattle.std.specs.Prelude.{◌≡◌, ◌<◌, ◌↔◌, IsTrue, fold};
@@ -26,7 +26,7 @@ use gix_url::{ParseError, RefusalKind, Url, UrlRef, expand_path};
 use std::alloc::Global;
 use std::cmp::Ordering;
 
-/// The length of the text of the location, without the text.
+/// The length of the text of the location, without building the text.
 #[unsafe(no_mangle)]
 pub extern "C" fn call_bench_text_len(alloc: Global, bytes: &[u8]) -> usize
     ensures { SaysOf IsTextLength bytes.now result }
@@ -37,7 +37,7 @@ pub extern "C" fn call_bench_text_len(alloc: Global, bytes: &[u8]) -> usize
     }
 }
 
-/// The length of the text of the location, written to memory that is there.
+/// The length of the text of the location, which is written into existing memory.
 #[unsafe(no_mangle)]
 pub extern "C" fn call_bench_write_to(alloc: Global, bytes: &[u8]) -> usize
     ensures { SaysOf IsTextLength bytes.now result }
@@ -66,7 +66,7 @@ pub extern "C" fn call_bench_to_bstring(alloc: Global, bytes: &[u8]) -> usize
     }
 }
 
-/// The length of what is shown of the location.
+/// The length of the text that shows the location.
 #[unsafe(no_mangle)]
 pub extern "C" fn call_bench_to_string(alloc: Global, bytes: &[u8]) -> usize
     ensures { SaysOf IsShownLength bytes.now result }
@@ -77,7 +77,7 @@ pub extern "C" fn call_bench_to_string(alloc: Global, bytes: &[u8]) -> usize
     }
 }
 
-/// Whether the location is settled, where the bytes are one.
+/// Whether the bytes are a settled location.
 #[unsafe(no_mangle)]
 pub extern "C" fn call_bench_is_settled(alloc: Global, bytes: &[u8], settled: &mut bool) -> bool
     ensures { IsTrue result → (v : Location) × Spells bytes.now v
@@ -92,7 +92,7 @@ pub extern "C" fn call_bench_is_settled(alloc: Global, bytes: &[u8], settled: &m
     }
 }
 
-/// Whether Git reads the same, where the bytes are a location.
+/// Whether the bytes are a location in whose text Git finds the same place.
 #[unsafe(no_mangle)]
 pub extern "C" fn call_bench_agrees_with_git(alloc: Global, bytes: &[u8], agrees: &mut bool) -> bool
     ensures { IsTrue result → (v : Location) × Spells bytes.now v
@@ -107,7 +107,7 @@ pub extern "C" fn call_bench_agrees_with_git(alloc: Global, bytes: &[u8], agrees
     }
 }
 
-/// Whether every reader of a family finds the same parts, where the bytes are a location.
+/// Whether the bytes are a location in whose text every reader of a family finds the same parts.
 #[unsafe(no_mangle)]
 pub extern "C" fn call_bench_is_unambiguous(
     alloc: Global,
@@ -148,7 +148,7 @@ pub extern "C" fn call_bench_expand_path(alloc: Global, bytes: &[u8]) -> usize
     }
 }
 
-/// The same of a location, whose path is cut first.
+/// The length of the path of a location, which is split first and then expanded by a home folder.
 fn expand(alloc: Global, url: &Url) -> usize
     ensures { 0 < result → IsExpandedLength url.now result }
 {
@@ -169,7 +169,7 @@ pub extern "C" fn call_bench_clone(alloc: Global, bytes: &[u8]) -> usize
     }
 }
 
-/// Whether the location is equal to what the bytes are read as once more.
+/// Whether the location is equal to the location that the bytes are parsed as again.
 #[unsafe(no_mangle)]
 pub extern "C" fn call_bench_eq(alloc: Global, bytes: &[u8]) -> bool
     ensures { IsTrue result → (v : Location) × (w : Location) × Spells bytes.now v
@@ -185,7 +185,7 @@ pub extern "C" fn call_bench_eq(alloc: Global, bytes: &[u8]) -> bool
     }
 }
 
-/// Whether the location has no order to what the bytes are read as once more.
+/// Whether the location has no order relative to the location that the bytes are parsed as again.
 #[unsafe(no_mangle)]
 pub extern "C" fn call_bench_cmp(alloc: Global, bytes: &[u8]) -> bool
     ensures { IsTrue result → (v : Location) × (w : Location) × Spells bytes.now v
@@ -201,7 +201,7 @@ pub extern "C" fn call_bench_cmp(alloc: Global, bytes: &[u8]) -> bool
     }
 }
 
-/// What the default hasher makes of the location, where the bytes are one.
+/// The hash of the location by the default hasher, if the bytes are a location.
 #[unsafe(no_mangle)]
 pub extern "C" fn call_bench_hash(alloc: Global, bytes: &[u8], hash: &mut u64) -> bool
     ensures { IsTrue result → (v : Location) × Spells bytes.now v
@@ -238,7 +238,7 @@ pub extern "C" fn call_bench_to_json(alloc: Global, bytes: &[u8]) -> usize
     }
 }
 
-/// The length of the path that is restored of the JSON of the location's record.
+/// The length of the path that is restored from the JSON of the location's record.
 #[unsafe(no_mangle)]
 pub extern "C" fn call_bench_from_json(alloc: Global, bytes: &[u8]) -> usize
     ensures { 0 < result → IsRestoredLength result }
@@ -252,7 +252,7 @@ pub extern "C" fn call_bench_from_json(alloc: Global, bytes: &[u8]) -> usize
     }
 }
 
-/// The length of the path of what the text of the location is read as.
+/// The length of the path of the location that the text of the location is parsed as.
 #[unsafe(no_mangle)]
 pub extern "C" fn call_bench_reread(alloc: Global, bytes: &[u8]) -> usize
     ensures { SaysOf IsRereadLength bytes.now result }
@@ -263,7 +263,7 @@ pub extern "C" fn call_bench_reread(alloc: Global, bytes: &[u8]) -> usize
     }
 }
 
-/// The length of the path of what the parts of the location make.
+/// The length of the path of the location that the parts of the location mean.
 #[unsafe(no_mangle)]
 pub extern "C" fn call_bench_from_parts(alloc: Global, bytes: &[u8]) -> usize
     ensures { SaysOf IsMadeLength bytes.now result }
@@ -274,7 +274,7 @@ pub extern "C" fn call_bench_from_parts(alloc: Global, bytes: &[u8]) -> usize
     }
 }
 
-/// Whether the bytes are refused without memory for the length of their scheme or their authority.
+/// Whether the bytes are refused, without allocation, because their scheme or their authority is too long.
 #[unsafe(no_mangle)]
 pub extern "C" fn call_bench_refuse_in(bytes: &[u8], room: &mut [u8]) -> bool
     ensures { IsTrue result → (v : Location) → ¬ Spells bytes.now v }

@@ -1,4 +1,4 @@
-//! Examples of locations that are borrowed.
+//! Examples of borrowed locations.
 
 use bstr::{BStr, BString};
 use gix_url::unambiguous::{Condition, is_unambiguous, unmet_condition};

@@ -1,4 +1,4 @@
-//! Examples of copies, of order, and of stored locations.
+//! Examples of copies, of sorting, and of stored locations.
 
 use gix_url::{Error, Scheme, Url};
 use std::alloc::{AllocError, Global};

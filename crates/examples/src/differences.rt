@@ -1,4 +1,4 @@
-//! Uses of the Rust crate as they are written here: the examples of `docs/DIFFERENCES.md`.
+//! Uses of the Rust crate in the form that this library needs: the examples of `docs/DIFFERENCES.md`.
 
 use bstr::BStr;
 use gix_url::{Error, Url, UrlFault, expand_path};

@@ -1,4 +1,4 @@
-//! Programs that print the host that each line of standard input names, and each argument: examples of `docs/FIRST_HOUR.md`.
+//! Programs that print the host of each line of standard input, and of each argument: examples of `docs/FIRST_HOUR.md`.
 
 use gix_url::{Error, Url};
 use std::alloc::Global;
@@ -24,7 +24,7 @@ fn main(rt: HostRuntime) -> io::Result<()> {
     Ok(())
 }
 
-/// The program of arguments.
+/// The program that reads arguments.
 mod of_arguments {
     use super::host_of;
     use std::{env, io};

@@ -1,4 +1,4 @@
-//! Examples of texts that are read into a room.
+//! Examples of texts that are parsed into a buffer.
 
 use gix_url::{ParseError, UrlRef};
 

@@ -1,4 +1,4 @@
-//! Examples of hosts that other programs take from a text.
+//! Examples of hosts that other programs find in a text.
 
 use git_audit::misreading::{GROUPS, is_misread, other_host};
 use gix_url::UrlRef;

@@ -1,4 +1,4 @@
-//! Examples of parts: looked at, exchanged, and given to commands.
+//! Examples of parts: read, replaced, and passed to commands.
 
 use bstr::{BStr, BString};
 use gix_url::{ArgumentSafety, Error, Url};
@@ -50,7 +50,7 @@ fn as_path(alloc: Global) -> Result<BString, Error> {
     url.to_bstring(alloc) // `/path`
 }
 
-/// A user that may not be given to a command.
+/// A user that must not be passed to a command.
 #[derive(Clone, Copy, Debug)]
 struct Refused;
 

@@ -1,4 +1,4 @@
-//! Examples of what a path means: a query, a home folder, a place in the file system.
+//! Examples of a path's meaning: a query, a home folder, a place in the file system.
 
 use bstr::{BStr, BString};
 use gix_url::expand_path::{self, ForUser, for_shell};

@@ -1,4 +1,4 @@
-//! Examples of patterns of places, by which Git picks settings and credentials.
+//! Examples of patterns of places, by which Git chooses settings and credentials.
 
 use git_rules::config::{self, Entry};
 use git_rules::normal::{NormalError, NormalUrl};

@@ -1,4 +1,4 @@
-//! Examples of what Git runs for Secure Shell.
+//! Examples of the program that Git runs for Secure Shell.
 
 use git_rules::config::Entry;
 use git_rules::ssh::program::{ProgramVariant, SshProgram, SshProgramError, SshSettings};

@@ -1,4 +1,4 @@
-//! Examples of texts and bytes that are read, of what is read again, and of a location made of parts.
+//! Examples of texts and bytes that are parsed, of texts that are parsed again, and of a location built from parts.
 
 use bstr::{BStr, BString};
 use gix_url::{Error, Scheme, Url};

@@ -1,4 +1,4 @@
-//! Examples of what is refused, for which reason and where, and of where the parts of a text are.
+//! Examples of the reasons and positions of parse errors, and of the positions of a text's parts.
 
 use gix_url::{Error, Parts, Reason, Refusal, RefusalKind, UrlFault, parts_of};
 

@@ -1,4 +1,5 @@
-//! Examples of what Git does with a location by its configuration: its entries, its transports, and the places of settings.
+//! Examples of Git's rules for a location by its configuration: its entries, its transports, and the places of
+//! settings.
 
 use bstr::BString;
 use git_rules::boolean::read_boolean;

@@ -1,4 +1,4 @@
-//! Examples of what of a text is hidden.
+//! Examples of texts with hidden parts.
 
 use git_audit::secret::{Piece, secrets};
 use std::alloc::{AllocError, Global};

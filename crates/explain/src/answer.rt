@@ -1,10 +1,10 @@
-//! The answer to a line: what it is read as or why it is refused, in the layout that is asked for.
+//! The report about a line, in the layout that is asked for: the location that the line is parsed as, or why it is
+//! refused.
 //!
-//! `explain_report` finds what of the line may be shown, what is reported of a location or why a line is
-//! refused, what people may have got wrong, and what Git does with it by a configuration. `shown` lays that
-//! out for people, `only` one part of it, and with `--json` it goes out as one object, which `--html` adds to the page
-//! with the row of the line. It has no contract but
-//! that it can't abort: the stored run and `scripts/hostile` show its answers.
+//! `explain_report` finds which parts of the line may be shown, the facts about a location or the reason of a parse
+//! error, likely mistakes, and what Git does with the line by a configuration. `shown` lays these out for people, and
+//! `only` prints one part; with `--json` the report is one object, and `--html` adds the object and the row of the line
+//! to the page. `scripts/hostile` and the stored run test the reports.
 
 use crate::results::Origin;
 use crate::style::{Layout, Style};
@@ -31,58 +31,58 @@ use gix_url::{Error, Url};
 use serde::Serialize;
 use std::alloc::{AllocError, Global};
 
-/// A line, and how it is answered.
+/// A line, and the options for its report.
 #[derive(Clone, Copy)]
 pub struct Line<'a, 'e: 'a> {
     /// The number of the line, from 1.
     pub number: u64,
     /// The line without its end.
     pub bytes: &'a [u8],
-    /// Where it is from.
+    /// The origin of the line.
     pub origin: &'a Origin,
     pub style: Style<'a, 'e>,
 }
 
-/// What is answered to a line: a location or why there is none.
+/// The report about a line: a location, or why there is none.
 #[derive(Clone, Copy, Serialize)]
 struct Answer<'b, 'a: 'b> {
     /// The number of the line, from 1.
     line: u64,
     /// The line as it may be shown.
     input: &'b str,
-    /// What the line is read as.
+    /// The location that the line is parsed as.
     location: Option<&'b Report<'a>>,
-    /// Why it is read as nothing.
+    /// Why the line isn't a location.
     refusal: Option<&'b Refusal>,
-    /// Who may read it otherwise.
+    /// Programs that may read the line differently.
     readers: Option<&'b Readers>,
-    /// The names of what is dangerous in it.
+    /// The names of the dangers in the line.
     dangers: &'b [&'static str],
-    /// The names of what was found in it, for which a run may fail.
+    /// The names of the findings in the line, for which a run may fail.
     findings: &'b [&'static str],
-    /// What may be wrong with the line.
+    /// Likely mistakes in the line.
     hints: &'b [Hint],
-    /// What Git does with it by the configuration, if one is given.
+    /// What Git does with the line by the configuration, if one is given.
     rules: Option<&'b Rules>,
 }
 
-/// What is reported beside what a line is read as.
+/// The parts of a report besides the location or the refusal.
 #[derive(Clone, Copy)]
 pub struct Notes<'b> {
-    /// What is dangerous in the line, and in the location that is read in it.
+    /// The dangers in the line, and in the location that it is parsed as.
     pub dangers: &'b [Danger],
-    /// What was found in the line, for which a run may fail.
+    /// The findings in the line, for which a run may fail.
     pub found: Findings,
-    /// Who may read the line otherwise.
+    /// Programs that may read the line differently.
     pub readers: Option<&'b Readers>,
-    /// What may be wrong with the line.
+    /// Likely mistakes in the line.
     pub hints: &'b [Hint],
-    /// What Git does with it by the configuration, if one is given.
+    /// What Git does with the line by the configuration, if one is given.
     pub rules: Option<&'b Rules>,
 }
 
 impl<'b> Notes<'b> {
-    /// What is reported beside what a line is read as, without readers and hints.
+    /// Notes without readers and hints.
     fn of(dangers: &'b [Danger], found: Findings, rules: Option<&'b Rules>) -> Notes<'b> {
         Notes {
             dangers,
@@ -95,7 +95,7 @@ impl<'b> Notes<'b> {
 }
 
 impl Line<'_, '_> {
-    /// The answer, and what is found in the line. For a page it is added there, and the answer is empty.
+    /// The report, and the findings in the line. For a page the report is added there, and the returned text is empty.
     pub fn answer(self, alloc: Global, page: &mut Page) -> Result<(String, Findings), AllocError> {
         let read = parse(alloc, BStr::new(self.bytes));
         let answer = match &read {
@@ -106,7 +106,7 @@ impl Line<'_, '_> {
         answer
     }
 
-    /// What is reported of a location, and what is found in it.
+    /// The report about a location, and the findings in it.
     fn of_location(
         self,
         alloc: Global,
@@ -128,7 +128,7 @@ impl Line<'_, '_> {
         Ok((answer?, findings))
     }
 
-    /// What is reported of a location, without its hints and its readers so far.
+    /// The report about a location. The notes have no hints and no readers yet.
     fn location(
         self,
         alloc: Global,
@@ -148,7 +148,7 @@ impl Line<'_, '_> {
         answer
     }
 
-    /// What is reported of a location whose line is shown so, with who may read it otherwise.
+    /// The report about a location whose line is shown as these bytes, with the programs that may read it differently.
     fn shown_so(
         self,
         alloc: Global,
@@ -185,7 +185,7 @@ impl Line<'_, '_> {
         answer
     }
 
-    /// What is reported of a location of which nothing is shown, as its parts may be secrets.
+    /// The report about a location that isn't shown, because its parts may be secrets.
     fn withheld(
         self,
         alloc: Global,
@@ -206,14 +206,13 @@ impl Line<'_, '_> {
         answer
     }
 
-    /// What Git does with the line, which is read as this location unless it is refused, by the configuration
-    /// that is given.
+    /// What Git does with the line by the configuration that is given. The line is parsed as this location, or is
+    /// refused.
     fn rules(self, alloc: Global, url: Option<&Url>) -> Result<Option<Rules>, AllocError> {
         Rules::of_given(alloc, self.style.config, self.bytes, url)
     }
 
-    /// What is reported of a line that is read as no location, and what is found in it, unless memory is
-    /// refused.
+    /// The report about a line that isn't a location, and the findings in it. The error may be that memory was refused.
     fn error(
         self,
         alloc: Global,
@@ -235,7 +234,7 @@ impl Line<'_, '_> {
         Ok((answer?, findings))
     }
 
-    /// What is reported of a line that is refused.
+    /// The report about a line that is refused.
     fn refusal(
         self,
         alloc: Global,
@@ -270,7 +269,7 @@ impl Line<'_, '_> {
         answer
     }
 
-    /// What the row of a page and an object have of the line.
+    /// The facts about the line that its row on a page and its object have.
     fn row<'x, 'a: 'x>(
         self,
         seen: &'x SeenLine<'a>,
@@ -288,7 +287,7 @@ impl Line<'_, '_> {
         }
     }
 
-    /// The object of the line; for a page it is added there with the row.
+    /// The object of the line. For a page it is added there with the row, and the returned text is empty.
     fn object(
         self,
         alloc: Global,
@@ -329,8 +328,7 @@ fn object_of(alloc: Global, row: &Row<'_, '_>, notes: Notes<'_>) -> Result<Strin
     object
 }
 
-/// The answer as one line of JSON. Each part of an answer has a JSON, so it fails only where memory is
-/// refused.
+/// The report as one line of JSON. Each part of a report has a JSON form, so the call fails only if memory is refused.
 pub fn json<T: Serialize>(alloc: Global, answer: &T) -> Result<String, AllocError> {
     match serde_json::to_string(alloc, answer) {
         Ok(mut line) => {

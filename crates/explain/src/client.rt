@@ -1,30 +1,29 @@
-//! What Git runs for Secure Shell: by a configuration and the variables of the environment, or where nothing is set.
+//! The program that Git runs for Secure Shell: by a configuration and variables of the environment, or by default.
 //!
-//! It uses `ssh` of `git_rules`. It has no contract but that it can't abort: `scripts/hostile commands` compares the
-//! commands with those that Git runs.
+//! `scripts/hostile commands` compares the commands with those that Git runs.
 
 use git_rules::config::Entry;
 use git_rules::protocols::Protocols;
 use git_rules::ssh::program::{ProgramVariant, SshProgram, SshProgramError, SshSettings};
 use git_rules::ssh::{ProtocolVersion, SshVariant};
 
-/// What Git runs for Secure Shell.
+/// The program that Git runs for Secure Shell.
 #[derive(Clone, Copy)]
 pub struct Client<'c> {
-    /// The program, or a command line.
+    /// The path or name of the program, or a command line.
     pub text: &'c [u8],
     /// Whether a shell runs the text.
     pub is_command_line: bool,
-    /// Which variant Git takes it for.
+    /// The variant of the program.
     pub variant: ProgramVariant,
-    /// The version of Git's protocol that is asked for.
+    /// The version of Git's protocol that Git requests.
     pub version: ProtocolVersion,
     /// Whether Git uses the transport.
     pub is_allowed: bool,
 }
 
 impl<'c> Client<'c> {
-    /// What Git runs where nothing is set.
+    /// The program that Git runs if nothing is set.
     pub fn usual() -> Client<'c> {
         Client {
             text: b"ssh",
@@ -35,7 +34,8 @@ impl<'c> Client<'c> {
         }
     }
 
-    /// What Git runs by these settings and rules for transports; or the place of the entry at which it stops.
+    /// The program that Git runs by these settings and rules for transports; or the position of the entry at which Git
+    /// stops.
     pub fn of(settings: &SshSettings<'c>, protocols: &Protocols<'_>) -> Result<Client<'c>, usize> {
         let version = version_of(settings.entries)?;
         match SshProgram::of(settings) {
@@ -51,8 +51,8 @@ impl<'c> Client<'c> {
     }
 }
 
-/// The version of the protocol that these entries ask for; or the place of the last one of them, if Git knows no
-/// version of its value.
+/// The version of the protocol that these entries set; or the position of the last of them, if Git doesn't know its
+/// value.
 fn version_of(entries: &[Entry<'_>]) -> Result<ProtocolVersion, usize> {
     let Some(entry) = last_version(entries) else {
         return Ok(ProtocolVersion::V2);
@@ -74,7 +74,7 @@ fn last_version<'b, 'e>(entries: &'b [Entry<'e>]) -> Option<&'b Entry<'e>> {
     found
 }
 
-/// The version that Git knows by this value.
+/// The version with this value.
 fn version_named(value: &[u8]) -> Option<ProtocolVersion> {
     if value == b"0".as_slice() {
         Some(ProtocolVersion::V0)

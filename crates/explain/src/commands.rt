@@ -1,8 +1,8 @@
 //! The command with which Git fetches from a location of Secure Shell, as a line for a POSIX shell; or why there is
 //! none.
 //!
-//! It uses `ssh` of `git_rules`, whose contract has the words, and `client`, which says what is run with them. It has
-//! no contract but that it can't abort: `scripts/hostile commands` compares the commands with those that Git runs.
+//! The contract of `git_rules::ssh` specifies the words, and `client` finds the program. `scripts/hostile commands`
+//! compares the commands with those that Git runs.
 
 use crate::answer::Line;
 use crate::client::Client;
@@ -24,19 +24,19 @@ use std::io::Write;
 /// Why there is no command for a line.
 #[derive(Clone, Copy)]
 enum Lack {
-    /// The line is read as no location.
+    /// The line isn't a location.
     NoLocation,
-    /// There is none for the location.
+    /// The location has none.
     Refused(SshRefusal),
     /// Git doesn't use Secure Shell.
     NotAllowed,
-    /// Git runs the program to find out which variant it is.
+    /// Git has to run the program to find its variant.
     Asked,
-    /// A part of the text or of what Git runs may be a secret.
+    /// A part of the text or of the command may be a secret.
     Secret,
 }
 
-/// Why no command is returned.
+/// Why the call returns no command.
 #[derive(Clone, Copy)]
 enum NoCommand {
     Memory,
@@ -63,8 +63,8 @@ impl fmt::Display for Lack {
     }
 }
 
-/// Writes the command for a line; where there is none an empty line, and on standard error why. Returns what is found
-/// in the line, and whether a command is missing without a reason for which the run fails.
+/// Writes the command for a line. If there is none, writes an empty line, and the reason on standard error. Returns the
+/// findings in the line, and whether a command is missing although the run doesn't fail for a finding.
 pub fn answer_line<W: Write>(
     rt: &HostRuntime,
     line: Line<'_, '_>,
@@ -97,8 +97,8 @@ fn report(rt: &impl Eprint, number: u64, lack: Lack) {
     let _ = eprintln!(rt; "explain: line {number}: {lack}");
 }
 
-/// Whether a line that lacks a command for this reason ends the run as if it couldn't be read: it isn't of Secure
-/// Shell, or the run doesn't fail for what is found in it.
+/// Whether the run has to end as if the line couldn't be read: the line isn't of Secure Shell, or the run doesn't fail
+/// for its findings.
 fn is_missing(lack: Lack, fails: bool) -> bool {
     match lack {
         Lack::NoLocation | Lack::Refused(SshRefusal::NotSecureShell) => true,
@@ -106,7 +106,7 @@ fn is_missing(lack: Lack, fails: bool) -> bool {
     }
 }
 
-/// What is found in a line.
+/// The findings in a line.
 fn found_in(alloc: Global, line: Line<'_, '_>) -> Result<Findings, AllocError> {
     let quiet = Line {
         number: line.number,
@@ -129,7 +129,7 @@ fn found_in(alloc: Global, line: Line<'_, '_>) -> Result<Findings, AllocError> {
     Ok(found)
 }
 
-/// The command for a line, which is rewritten by the configuration, if one is given.
+/// The command for a line. The configuration rewrites the line, if one is given.
 fn command_for(alloc: Global, line: Line<'_, '_>) -> Result<String, NoCommand> {
     let Some(config) = line.style.config else {
         return command_of(alloc, line.bytes, line.style.client);
@@ -156,7 +156,7 @@ fn command_of(alloc: Global, text: &[u8], client: Client<'_>) -> Result<String, 
     }
 }
 
-/// The command for a location, which is read in this text.
+/// The command for the location that this text is parsed as.
 fn of_location(
     alloc: Global,
     text: &[u8],
@@ -170,7 +170,7 @@ fn of_location(
     }
 }
 
-/// The variant that the program is taken for; OpenSSH where Git has to run it first.
+/// The variant of the program; OpenSSH if Git has to run the program first.
 fn variant_of(client: Client<'_>) -> SshVariant {
     match client.variant {
         ProgramVariant::Known(variant) => variant,
@@ -178,7 +178,8 @@ fn variant_of(client: Client<'_>) -> SshVariant {
     }
 }
 
-/// The line of a command for a text, unless Git runs none, or another program first, or a part of it may be a secret.
+/// The line of a command for a text, unless Git runs none, or has to run another program first, or a part of the
+/// command may be a secret.
 fn of_command(
     alloc: Global,
     text: &[u8],

@@ -1,7 +1,7 @@
-//! The lines of the input, and the answer to each of them.
+//! The lines of the input, and the report about each of them.
 //!
-//! Lines are from files, from arguments or from standard input, and each is answered as soon as it is read. It has no
-//! contract but that it can't abort: `scripts/hostile arguments` shows which lines are read.
+//! The lines are those of files, of arguments or of standard input. Each report is written as soon as the line is read.
+//! `scripts/hostile arguments` tests which lines are read.
 
 use crate::answer::Line;
 use crate::commands;
@@ -13,7 +13,8 @@ use std::alloc::Global;
 use std::fs::{self, File};
 use std::io::{BufRead, BufReader, IsTerminal, Read, Write};
 
-/// Answers the lines of each file, then each text; or the lines of standard input where neither is given.
+/// Reports about the lines of each file, then about each text; or about the lines of standard input if neither is
+/// given.
 pub fn answer_all<W: Write>(
     rt: &HostRuntime,
     given: &ArgMatches<'_>,
@@ -52,7 +53,7 @@ pub fn answer_all<W: Write>(
     Ok(())
 }
 
-/// Whether the text is the name of a file that is there, and `-` is none.
+/// Whether the text is the name of an existing file. `-` isn't one.
 fn is_file(rt: &HostRuntime, text: &str) -> bool {
     match fs::metadata(rt, text) {
         Ok(found) => found.is_file(),
@@ -74,15 +75,15 @@ fn is_folder(rt: &HostRuntime, name: &str) -> bool {
     }
 }
 
-/// Reports on standard error that a text is the name of a file, whose lines aren't looked at.
+/// Reports on standard error that a text is the name of a file, whose lines aren't read.
 fn report_file(rt: &impl Eprint, text: &str) {
     let _ = eprintln!(rt;
         "explain: {text} is a file; to read it: -f {text}; for its name alone give that as a line of standard input"
     );
 }
 
-/// Answers the lines of a file; `-` is standard input. A folder, or a file that can't be opened, is reported, and the
-/// rest goes on.
+/// Reports about the lines of a file; `-` is standard input. If the name is that of a folder, or the file can't be
+/// opened, prints that and continues.
 fn answer_file<W: Write>(
     rt: &HostRuntime,
     file: &str,
@@ -109,7 +110,7 @@ fn answer_file<W: Write>(
     }
 }
 
-/// Answers the lines of a reader.
+/// Reports about the lines of a reader.
 fn answer_reader<R: Read + Drop, W: Write>(
     rt: &HostRuntime,
     reader: R,
@@ -123,9 +124,9 @@ fn answer_reader<R: Read + Drop, W: Write>(
     }
 }
 
-/// Answers all lines of the input, each as soon as it is read.
+/// Reports about all lines of the input, each as soon as it is read.
 ///
-/// Nothing is read after the end of the input, which a terminal would otherwise have to give twice.
+/// Nothing is read after the end of the input. A terminal would have to signal the end twice otherwise.
 fn answer_lines<B: BufRead, W: Write>(
     rt: &HostRuntime,
     input: &mut B,
@@ -147,7 +148,7 @@ fn answer_lines<B: BufRead, W: Write>(
     Ok(())
 }
 
-/// The bytes to the end of the line, which is the last of them if the line has one.
+/// The bytes up to the end of the line, which is included if the line has one.
 fn next_line<B: BufRead>(alloc: Global, input: &mut B, end: u8) -> Result<Vec<u8>, RunError> {
     let mut line = Vec::new(alloc);
     match input.read_until(end, &mut line) {
@@ -156,7 +157,7 @@ fn next_line<B: BufRead>(alloc: Global, input: &mut B, end: u8) -> Result<Vec<u8
     }
 }
 
-/// Writes the answer to a line, and notes what is found in it.
+/// Writes the report about a line, and records the findings in it.
 fn answer_line<W: Write>(
     rt: &HostRuntime,
     line: &[u8],

@@ -1,15 +1,15 @@
-//! How a line of the input ends, and the line without its end.
+//! The end of a line of the input.
 //!
-//! It has no contract but that it can't abort: `scripts/hostile arguments` shows which lines are read.
+//! `scripts/hostile arguments` tests which lines are read.
 
-/// How a line of the input ends.
+/// The end of a line of the input.
 #[derive(Clone, Copy)]
 pub enum LineEnd {
-    /// With a line feed.
+    /// A line feed.
     Feed,
-    /// With a line feed; a carriage return before it is a part of the end.
+    /// A line feed, and a carriage return before it if there is one.
     ReturnAndFeed,
-    /// With byte 0.
+    /// A byte 0.
     Null,
 }
 

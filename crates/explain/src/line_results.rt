@@ -1,7 +1,6 @@
-//! The results of a log in SARIF about lines and remotes.
+//! The results about lines and remotes in a SARIF log.
 //!
-//! It uses `item` of `explain_audit`, and the words that people are shown. It has no contract: `scripts/hostile
-//! arguments` shows logs.
+//! The messages are the words that people see. `scripts/hostile arguments` tests logs.
 
 use crate::answer::{Line, Notes};
 use crate::results::{Origin, push_items};
@@ -19,7 +18,7 @@ use gix_url::{Error, Url};
 use std::alloc::{AllocError, Global};
 use std::fmt::Write;
 
-/// The results about a line that is read as this location.
+/// The results about a line that is parsed as this location.
 pub fn location(
     alloc: Global,
     line: Line<'_, '_>,
@@ -94,7 +93,7 @@ fn push_named(
     pushed
 }
 
-/// All of a line.
+/// The whole line.
 fn whole(line: Line<'_, '_>) -> Region {
     Region {
         start_line: line.origin.line(),
@@ -103,7 +102,7 @@ fn whole(line: Line<'_, '_>) -> Region {
     }
 }
 
-/// The part of a line that is refused; all of it where that isn't known.
+/// The part of a line that is refused, or the whole line if the part isn't known.
 fn region_of(line: Line<'_, '_>, refusal: &Refusal) -> Region {
     let (Some(at), Some(len)) = (refusal.at, refusal.len) else {
         return whole(line);
@@ -118,7 +117,7 @@ fn region_of(line: Line<'_, '_>, refusal: &Refusal) -> Region {
     }
 }
 
-/// Adds what is found by a configuration: the transports, and what the texts have that a rule has rewritten.
+/// Adds the findings by a configuration: about the transports, and about texts that a rule has rewritten.
 fn add_rules(
     alloc: Global,
     items: &mut Vec<Item>,
@@ -137,7 +136,7 @@ fn add_rules(
     add_route(alloc, items, Way::Push, &rules.push, rules.push.rewritten)
 }
 
-/// Adds what is found of a text that Git goes to: its transport, and what the text has if that is asked for.
+/// Adds the findings about a text that Git connects to: about its transport, and with `with_text` about the text.
 pub fn add_route(
     alloc: Global,
     items: &mut Vec<Item>,
@@ -166,7 +165,7 @@ pub fn add_route(
     add_reading_of(alloc, items, way, route)
 }
 
-/// Adds how the text that Git goes to is read.
+/// Adds the findings about how the text is parsed.
 fn add_reading_of(
     alloc: Global,
     items: &mut Vec<Item>,
@@ -186,7 +185,7 @@ fn add_reading_of(
     Ok(())
 }
 
-/// Adds what is found of a text that Git goes to, after the text itself.
+/// Adds a finding about a text that Git connects to, with the text before the words.
 fn add(
     alloc: Global,
     items: &mut Vec<Item>,
@@ -223,7 +222,7 @@ pub fn remote(alloc: Global, remote: &RemoteReport, origin: &Origin) -> Result<S
     Ok(out)
 }
 
-/// Adds that Git stops at an entry.
+/// Adds a finding that Git stops at an entry.
 fn add_stop(alloc: Global, items: &mut Vec<Item>, at: usize) -> Result<(), AllocError> {
     let mut words = String::new(alloc);
     write!(

@@ -1,11 +1,13 @@
-//! The program `explain`: reports to a person, or to another program, what texts mean as Git locations.
+//! The program `explain` reports what texts mean as Git locations, to people and to other programs.
 //!
-//! It uses the public calls of `gix_url` and `git_rules` alone, by the crates below: `explain_report` finds
-//! what is reported of a line, and `explain_page` writes the page. `options` reads the command line, `source` a
-//! configuration, `input` the lines; `answer` finds the answer to a line and `style` says how it is laid out. Each
-//! answer is written as soon as its line is read, except for a page or a summary, which is collected.
-//! The status is 0 if nothing is found in a line that the run fails for, 1 if something is, and 2 if the run was cut
-//! short, a file can't be opened or the options are wrong.
+//! It calls only the public functions of `gix_url` and `git_rules`, directly or in the crates below: `explain_report`
+//! finds the facts about a line, and `explain_page` writes the page. `options` parses the command line, `source` reads
+//! a configuration, `input` reads the lines, `answer` builds the report about a line and `style` describes its layout.
+//! Each report is written as soon as its line is read, except for a page or a summary, which is collected. No function
+//! here has a contract, except that it can't abort.
+//!
+//! The status is 0 if no line has a finding that the run fails for, 1 if one has, and 2 if the run was cut short, a
+//! file can't be opened or the options are wrong.
 #![tactic(auto)]
 
 mod answer;
@@ -48,7 +50,7 @@ use std::process::ExitCode;
 use std::rt::Env;
 use style::{Seen, Style};
 
-/// Answers what the command line names. Returns the status to end with.
+/// Writes the reports that the command line requests. Returns the exit status.
 fn explain(rt: &HostRuntime, given: &ArgMatches<'_>) -> u8 {
     let style = options::style(given, colors_of(rt));
     let mut output = rt.stdout();
@@ -65,7 +67,7 @@ fn explain(rt: &HostRuntime, given: &ArgMatches<'_>) -> u8 {
     seen.status(style.fail_on, &outcome)
 }
 
-/// Answers about submodules, by a configuration, or about lines.
+/// Reports about submodules, by a configuration, or about lines.
 fn answer_input<W: Write>(
     rt: &HostRuntime,
     given: &ArgMatches<'_>,
@@ -82,8 +84,7 @@ fn answer_input<W: Write>(
     }
 }
 
-/// Answers what the command line names, by the configuration in a file. Where that can't be read it is
-/// reported, and nothing is answered.
+/// Writes the requested reports by the configuration in a file. If the file can't be read, prints that, and no reports.
 fn answer_by_file<W: Write>(
     rt: &HostRuntime,
     given: &ArgMatches<'_>,
@@ -112,7 +113,7 @@ fn answer_by_file<W: Write>(
     }
 }
 
-/// Answers what the command line names, by a configuration. What isn't understood of it is reported once.
+/// Writes the requested reports by a configuration. Prints once which part of the configuration isn't understood.
 fn answer_by_source<W: Write>(
     rt: &HostRuntime,
     given: &ArgMatches<'_>,
@@ -145,8 +146,8 @@ fn answer_by_source<W: Write>(
     answer_by_config(rt, given, &config, style.client, output, style, seen)
 }
 
-/// Answers what the command line names, with the program for Secure Shell by a configuration and the variables of the
-/// environment. If Git stops at an entry that decides on the program it is reported, and nothing is answered.
+/// Writes the requested reports, with the program for Secure Shell by a configuration and the variables of the
+/// environment. If Git stops at an entry that determines the program, prints that, and no reports.
 fn answer_commands<W: Write>(
     rt: &HostRuntime,
     given: &ArgMatches<'_>,
@@ -185,7 +186,7 @@ fn report_stop(rt: &impl Eprint, at: usize) {
     );
 }
 
-/// What Git runs by a configuration and these variables; or the place of the entry at which it stops.
+/// The program that Git runs by a configuration and these variables; or the position of the entry at which Git stops.
 fn client_of<'e>(
     entries: &'e [Entry<'e>],
     config: &Config<'_>,
@@ -202,7 +203,8 @@ fn client_of<'e>(
     client
 }
 
-/// What these entries and the variables of the environment say. Those of `protocol.*` are given apart too.
+/// The configuration of these entries and of the variables of the environment. `of_protocols` has the entries of
+/// `protocol.*` alone.
 fn config_of<'e>(
     alloc: Global,
     source: &'e Source,
@@ -217,7 +219,7 @@ fn config_of<'e>(
     Config::of(alloc, entries, protocols)
 }
 
-/// Answers about each remote of the configuration.
+/// Reports about each remote of the configuration.
 fn answer_remotes<W: Write>(
     alloc: Global,
     config: &Config<'_>,
@@ -239,7 +241,7 @@ fn answer_remotes<W: Write>(
     Ok(())
 }
 
-/// Answers what the command line names, with what Git does by a configuration and runs for Secure Shell.
+/// Writes the requested reports, with what Git does by a configuration and the program that it runs for Secure Shell.
 fn answer_by_config<W: Write>(
     rt: &HostRuntime,
     given: &ArgMatches<'_>,
@@ -260,13 +262,13 @@ fn answer_by_config<W: Write>(
     answer_all(rt, given, output, style, seen)
 }
 
-/// Reports on standard error what isn't understood of a configuration.
+/// Reports on standard error which part of a configuration isn't understood.
 fn report_fault(rt: &impl Eprint, fault: Fault) {
     let Fault { at, words } = fault;
     let _ = eprintln!(rt; "explain: the entry at byte {at} of the configuration {words}");
 }
 
-/// Whether answers are coloured where the command line leaves it open.
+/// Whether reports are coloured if the command line doesn't say it.
 fn colors_of(rt: &HostRuntime) -> Colors {
     let (no_color, term) = (env::var(rt, "NO_COLOR").ok(), env::var(rt, "TERM").ok());
     let is_terminal = rt.stdout().is_terminal();
@@ -281,7 +283,7 @@ fn bytes_of(value: &Option<String>) -> Option<&[u8]> {
 
 fn main(rt: HostRuntime) -> ExitCode {
     let Ok(words) = options::words(&rt) else {
-        // Where standard error takes no line, the status still reports the fault.
+        // If standard error accepts no line, the status still reports the fault.
         let _ = rt.eprintln("explain: an argument is not UTF-8, or memory is refused");
         return ExitCode::from(2);
     };
@@ -294,8 +296,7 @@ fn main(rt: HostRuntime) -> ExitCode {
     })
 }
 
-/// Reports on standard error what cut the run short, except that nobody reads the output any more, as behind
-/// `head`.
+/// Reports on standard error why the run was cut short, unless the reader of the output has closed it, as `head` does.
 fn report(rt: &impl Eprint, outcome: &Result<(), RunError>) {
     match outcome {
         Ok(()) => {}

@@ -1,6 +1,6 @@
-//! What is printed of a submodule of a file: rows for people, one JSON object for programs, results of a log.
+//! The output for a submodule of a file: rows for people, a JSON object for programs, results of a log.
 //!
-//! It uses what `explain_audit` found, and has no contract: `scripts/hostile arguments` shows its answers.
+//! `scripts/hostile arguments` tests the output.
 
 use crate::line_results::add_route;
 use crate::remote_rows::{routed, value};
@@ -14,7 +14,7 @@ use explain_report::text::line::Quoted;
 use std::alloc::{AllocError, Global};
 use std::fmt::Write;
 
-/// The answer about a submodule, in the layout that is asked for.
+/// The report about a submodule, in the layout that is asked for.
 pub fn answer(
     alloc: Global,
     report: &ModuleReport,
@@ -50,7 +50,7 @@ fn rows(alloc: Global, report: &ModuleReport) -> Result<String, AllocError> {
     Ok(out)
 }
 
-/// The row of the URL, unless it is that of where Git fetches from.
+/// The row of the URL, unless Git fetches from the URL itself.
 fn url(out: &mut String, report: &ModuleReport) -> Result<(), AllocError> {
     if report.fetch.iter().any(|way| !way.rewritten) {
         return Ok(());
@@ -58,7 +58,7 @@ fn url(out: &mut String, report: &ModuleReport) -> Result<(), AllocError> {
     value(out, "url", &report.url)
 }
 
-/// The row of what was found at an entry: the place, the key, the name that fsck has for it, and the words.
+/// The row of a finding at an entry: the position, the key, the name that fsck has for it, and the words.
 fn place_row(out: &mut String, place: &Place) -> Result<(), AllocError> {
     let (name, words) = (row_name(place.kind), place.words.as_str());
     write!(out, "    {name:<12}")?;
@@ -73,7 +73,7 @@ fn place_row(out: &mut String, place: &Place) -> Result<(), AllocError> {
     writeln!(out, "{words}")
 }
 
-/// What a row of what was found begins with.
+/// The name at the front of a finding's row.
 fn row_name(kind: Kind) -> &'static str {
     match kind {
         Kind::Danger(_) | Kind::ParentHost | Kind::SamePath => "danger",
@@ -110,7 +110,7 @@ fn results(alloc: Global, report: &ModuleReport, origin: &Origin) -> Result<Stri
     Ok(out)
 }
 
-/// The columns of the entry at which something was found, if it is of a file.
+/// The columns of the entry that has the finding, if it is in a file.
 fn region_of(place: &Place) -> Option<Region> {
     match (place.line, place.column, place.end_column) {
         (Some(line), Some(start_column), Some(end_column)) => Some(Region {

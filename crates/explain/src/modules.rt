@@ -1,7 +1,6 @@
-//! Answers about the submodules of a file: the file is read and each of its submodules is answered.
+//! Reports about the submodules of a file.
 //!
-//! It uses `module` of `explain_audit`. It has no contract but that it can't abort: `scripts/hostile arguments` shows
-//! its answers, and what isn't answered.
+//! `scripts/hostile arguments` tests the output, and the files that are refused.
 
 use crate::results::Origin;
 use crate::source::text_of;
@@ -18,8 +17,8 @@ use gix_url::parse::parse;
 use std::alloc::Global;
 use std::io::Write;
 
-/// Answers about the submodules of a file; `-` is standard input. One that can't be read, or is no configuration, is
-/// reported, and nothing is answered.
+/// Reports about the submodules of a file; `-` is standard input. If the file can't be read or isn't a configuration,
+/// prints that, and no reports.
 pub fn answer_file<W: Write>(
     rt: &HostRuntime,
     given: &ArgMatches<'_>,
@@ -43,7 +42,7 @@ pub fn answer_file<W: Write>(
     }
 }
 
-/// Answers about the submodules of a text, with the superproject that is named, if one is.
+/// Reports about the submodules of a text, with the superproject that is named, if one is.
 fn answer_text<W: Write>(
     rt: &HostRuntime,
     given: &ArgMatches<'_>,
@@ -76,7 +75,7 @@ fn answer_text<W: Write>(
     }
 }
 
-/// Answers about the submodules of a text, below a superproject.
+/// Reports about the submodules of a text, below a superproject.
 fn answer_below<W: Write>(
     rt: &HostRuntime,
     file: &str,
@@ -101,7 +100,7 @@ fn answer_below<W: Write>(
     }
 }
 
-/// Writes the answers about submodules, and notes what was found.
+/// Writes the reports about submodules, and records the findings.
 pub fn answer_reports<W: Write>(
     alloc: Global,
     reports: &[ModuleReport],

@@ -1,7 +1,7 @@
 //! One part of each location on a line of its own, for scripts.
 //!
-//! It uses the public calls of `gix_url`, and has no contract but that it can't abort: `scripts/hostile
-//! golden` shows its answers. A password is no part that can be asked for, and a part is that of the line as it is shown.
+//! A password can't be requested. A part is taken from the line as it is shown. `scripts/hostile golden` tests the
+//! output.
 
 use bstr::ByteSlice;
 use explain_report::memory::no_memory;
@@ -46,8 +46,9 @@ impl Part {
     }
 }
 
-/// The line with a part of the location that is read in a text, as it is shown; empty where it has none, or nothing is
-/// shown of it. Control characters, backslashes and bytes that are not UTF-8 are escaped, so it is one line.
+/// A line with a part of the location that a text is parsed as. The part is shown as in the report about the text, and
+/// is empty if it is missing or isn't shown. Control characters, backslashes and bytes that are not UTF-8 are escaped,
+/// so the result is one line.
 pub fn line(alloc: Global, text: &[u8], url: &Url, part: Part) -> Result<String, AllocError> {
     let seen = Seen::of(alloc, text, url)?;
     let line = match seen.shown(text, url) {
@@ -112,12 +113,12 @@ fn fragment(alloc: Global, out: &mut String, url: &Url) -> Result<(), AllocError
     fragment
 }
 
-/// Path, query and fragment. The call fails only where memory is refused.
+/// The path, the query and the fragment. The call fails only if memory is refused.
 fn components(alloc: Global, url: &Url) -> Result<PathComponents<'_>, AllocError> {
     url.path_query_fragment(alloc).map_err(no_memory)
 }
 
-/// The query as it is spelled, percent-encoding included.
+/// The query as it is written, with its escapes.
 fn query(url: &Url) -> Option<&[u8]> {
     if !matches!(&url.scheme, Scheme::Http | Scheme::Https) {
         return None;

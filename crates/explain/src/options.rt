@@ -1,4 +1,4 @@
-//! The command line of `explain`, read by `clap`. It has no contract but that it can't abort.
+//! The command line of `explain`, which `clap` parses.
 
 use crate::client::Client;
 use crate::line_end::LineEnd;
@@ -11,7 +11,7 @@ use std::alloc::{AllocError, Global};
 use std::rt::Env;
 use std::{env, io};
 
-/// What `--help` says behind the options.
+/// The text after the options in the output of `--help`.
 const MORE: &str = "\
 A location is settled if its own text is read as the same location again: what is written then names the same host.
 
@@ -27,22 +27,23 @@ These can't be given together:
 
 Exit status: 0 if nothing was found, 1 if something was, 2 for wrong arguments, a run that was cut short or, with --ssh, a line that is not of Secure Shell. What can be found: a danger, a location that is not settled, a refused line, a text that Git is not known to read the same (git-differs), and with --config a transport that Git does not use (policy).";
 
-/// The version of the library and the program, as the title of the last changes has it.
+/// The version of the library and the program, as in the last title of the changes.
 pub const VERSION: &str = "0.40.1+10";
-/// What `--version` prints: that, the version of the Rust crate whose behaviour the library has, and where the commit is.
+/// The output of `--version`: that version, the version of the Rust crate whose behaviour the library has, and where
+/// the commit is recorded.
 const VERSIONS: &str = "0.40.1+10 (gix-url 0.40.1)
 The file receipt of a bundle (share/gix_url/receipt) or of a Debian package has the commit and the toolchain.";
 
-/// What excludes each other: answers are laid out in one way.
+/// Options that exclude each other: each is a layout of its own.
 const LAYOUTS: [&str; 7] = ["json", "sarif", "html", "only", "ssh", "summary", "quiet"];
-/// What is excluded by what is answered in place of lines.
+/// Options that exclude a report about something other than lines.
 const OF_LINES: [&str; 6] = ["text", "file", "html", "only", "ssh", "summary"];
-/// What is excluded by a file of submodules.
+/// Options that exclude a file of submodules.
 const NOT_OF_MODULES: [&str; 4] = ["config", "remotes", "null", "crlf"];
-/// What excludes that lines end with a NUL byte.
+/// Options that exclude a NUL byte as the end of lines.
 const NOT_OF_NULL: [&str; 2] = ["sarif", "crlf"];
 
-/// The title of a page that is given none.
+/// The title of a page if none is given.
 const TITLE: &str = "Git remotes";
 
 /// The words of the command line, the program's name first.
@@ -50,7 +51,7 @@ pub fn words(rt: &(impl Env + AllocGlobal)) -> io::Result<Vec<String>> {
     Ok(env::args(rt)?.collect(rt.alloc())?)
 }
 
-/// The options of the command line, or what is printed in place of an answer.
+/// The options of the command line, or the text to print in place of reports.
 pub fn parse_options<'a>(
     alloc: Global,
     words: &'a [String],
@@ -58,7 +59,7 @@ pub fn parse_options<'a>(
     command(alloc)?.try_get_matches_from(words)
 }
 
-/// How answers are to be laid out. `auto` decides on colours where the command line leaves that open.
+/// The layout and options of reports. `auto` says whether they are coloured if the command line doesn't.
 pub fn style<'c, 'e: 'c>(given: &ArgMatches<'_>, auto: Colors) -> Style<'c, 'e> {
     Style {
         layout: layout(given),
@@ -74,7 +75,7 @@ pub fn style<'c, 'e: 'c>(given: &ArgMatches<'_>, auto: Colors) -> Style<'c, 'e> 
     }
 }
 
-/// How a line of the input ends.
+/// The end of a line of the input.
 fn line_end(given: &ArgMatches<'_>) -> LineEnd {
     if given.get_flag("null") {
         LineEnd::Null
@@ -85,7 +86,7 @@ fn line_end(given: &ArgMatches<'_>) -> LineEnd {
     }
 }
 
-/// What the run fails for: all that can be found, unless the command line says it.
+/// The findings that the run fails for: all of them, unless the command line names some.
 fn fail_on(given: &ArgMatches<'_>) -> Findings {
     let Some(names) = given.get_strs("fail-on") else {
         return Findings::all();
@@ -97,12 +98,12 @@ fn fail_on(given: &ArgMatches<'_>) -> Findings {
     wanted
 }
 
-/// Whether the commands of Secure Shell are asked for.
+/// Whether commands of Secure Shell are requested.
 pub fn asks_for_commands(given: &ArgMatches<'_>) -> bool {
     given.get_flag("ssh")
 }
 
-/// The file of the configuration, if there is one: `--remotes` reads it from standard input unless it is named.
+/// The file of the configuration, if there is one. With `--remotes` it is standard input unless a file is named.
 pub fn config_file<'a>(given: &ArgMatches<'a>) -> Option<&'a str> {
     match given.get_str("config") {
         None if given.get_flag("remotes") => Some("-"),
@@ -120,7 +121,7 @@ pub fn parent<'a>(given: &ArgMatches<'a>) -> Option<&'a str> {
     given.get_str("parent")
 }
 
-/// Whether standard input is read for lines.
+/// Whether lines are read from standard input.
 pub fn reads_input(given: &ArgMatches<'_>) -> bool {
     let files = given.get_strs("file").unwrap_or(&[]);
     let texts = given.get_strs("text").unwrap_or(&[]);
@@ -138,7 +139,7 @@ pub fn title<'a>(given: &ArgMatches<'a>) -> &'a str {
     }
 }
 
-/// The layout that the options ask for.
+/// The layout that the options request.
 fn layout(given: &ArgMatches<'_>) -> Layout {
     if given.get_flag("json") {
         return Layout::Json;
@@ -164,7 +165,7 @@ fn layout(given: &ArgMatches<'_>) -> Layout {
     }
 }
 
-/// What the program is and takes on its command line.
+/// The description of the program and of its command line.
 fn command<'a>(alloc: Global) -> Result<Command<'a>, AllocError> {
     Command::new(alloc, "explain")
         .version(VERSIONS)
@@ -192,22 +193,22 @@ fn command<'a>(alloc: Global) -> Result<Command<'a>, AllocError> {
         .group(of_layouts(ArgGroup::new(alloc, "layout"))?)
 }
 
-/// A group of the options that lay out answers.
+/// Adds the options of layouts to a group.
 fn of_layouts<'a>(group: ArgGroup<'a>) -> Result<ArgGroup<'a>, AllocError> {
     group.args(LAYOUTS.as_slice())
 }
 
-/// The option about the remotes of a configuration.
+/// Completes the option for the remotes of a configuration.
 fn of_remotes<'a>(option: Arg<'a>) -> Result<Arg<'a>, AllocError> {
     option.conflicts_with_all(OF_LINES.as_slice())
 }
 
-/// The option by which a NUL byte ends a line.
+/// Completes the option for a NUL byte as the end of a line.
 fn of_null<'a>(option: Arg<'a>) -> Result<Arg<'a>, AllocError> {
     option.conflicts_with_all(NOT_OF_NULL.as_slice())
 }
 
-/// An option that is about a file of submodules.
+/// Completes an option for a file of submodules.
 fn of_modules<'a>(option: Arg<'a>) -> Result<Arg<'a>, AllocError> {
     option
         .conflicts_with_all(OF_LINES.as_slice())?

@@ -1,8 +1,6 @@
-//! A line shown on a terminal: its pieces, coloured if wanted, with their names underneath, or a caret under
-//! what is wrong.
+//! Shows a line on a terminal: its pieces, coloured if wanted, with their names underneath, or a caret under the fault.
 //!
-//! A line over 200 columns is shown by the ends of its pieces. It uses `line` and `cut`, `names` for what
-//! is underneath, `marks` for carets and `short` for the ends, and has no contract but that it can't abort.
+//! If a line has more than 200 columns, only the ends of its pieces are shown.
 
 pub mod marks;
 mod names;
@@ -21,13 +19,13 @@ pub enum Colors {
     Off,
 }
 
-/// The end of what is coloured.
+/// The escape sequence that ends a colour.
 pub(crate) const PLAIN: &str = "\x1b[0m";
 
-/// The colour of what is dangerous, and of carets.
+/// The colour of dangers and of carets.
 pub(crate) const DANGER: &str = "\x1b[1;31m";
 
-/// Whether colours are shown where nothing is said of them: on a terminal that isn't `dumb`, if `NO_COLOR` is
+/// Whether colours are shown if the command line doesn't say it: on a terminal that isn't `dumb`, if `NO_COLOR` is
 /// unset or empty.
 pub fn is_colored(is_terminal: bool, no_color: Option<&[u8]>, term: Option<&[u8]>) -> bool {
     let is_wanted = match no_color {
@@ -41,7 +39,7 @@ pub fn is_colored(is_terminal: bool, no_color: Option<&[u8]>, term: Option<&[u8]
     is_terminal && is_wanted && is_able
 }
 
-/// Appends the line alone; nothing where it is empty.
+/// Appends the line alone, or nothing if it is empty.
 pub fn line(out: &mut String, cut: &Cut<'_>, colors: Colors) -> Result<(), AllocError> {
     if is_empty(cut) {
         return Ok(());
@@ -62,7 +60,7 @@ pub fn named(out: &mut String, cut: &Cut<'_>, colors: Colors) -> Result<(), Allo
     write_names(out, &spans)
 }
 
-/// Appends the line, and says where its named pieces are.
+/// Appends the line, and stores the columns of its named pieces.
 fn write_pieces(
     out: &mut String,
     cut: &Cut<'_>,
@@ -96,12 +94,12 @@ fn runs_command(cut: &Cut<'_>) -> bool {
     }
 }
 
-/// Whether the piece names a program, or is the address that does.
+/// Whether the piece names a program, or is an address whose helper names one.
 fn is_program(part: Part) -> bool {
     matches!(part, Part::Scheme | Part::Helper | Part::Address)
 }
 
-/// Appends a text in a colour, in short where it is to be kept in part, and returns the columns that it
+/// Appends a text in a colour, shortened to the ends that `keep` names if it is too long. Returns the columns that it
 /// takes.
 fn write_part(
     out: &mut String,
@@ -141,7 +139,7 @@ fn color(piece: &Piece<'_>, is_command: bool) -> &'static str {
     }
 }
 
-/// Whether a piece begins as an option of a command does, also by an escape; a path also behind a `/`.
+/// Whether a piece begins as an option of a command does, also with an escape; a path may have a `/` before that.
 fn is_option(piece: &Piece<'_>) -> bool {
     let text = match (piece.part(), piece.shown()) {
         (Part::Mark | Part::Query | Part::Fragment, _) => return false,

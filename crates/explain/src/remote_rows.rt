@@ -1,6 +1,6 @@
-//! What is printed of a remote of a configuration: rows for people, one JSON object for programs.
+//! The output for a remote of a configuration: rows for people, a JSON object for programs.
 //!
-//! It uses what `remotes` found, and has no contract: `scripts/hostile rules` shows its answers.
+//! `scripts/hostile rules` tests the output.
 
 use crate::results::Origin;
 use crate::shown::row;
@@ -15,7 +15,7 @@ use serde::Serialize;
 use std::alloc::{AllocError, Global};
 use std::fmt::Write;
 
-/// The answer about a remote, in the layout that is asked for.
+/// The report about a remote, in the layout that is asked for.
 pub fn answer(
     alloc: Global,
     remote: &RemoteReport,
@@ -30,7 +30,7 @@ pub fn answer(
     }
 }
 
-/// A remote, and the names of what was found in it.
+/// A remote, and the names of the findings in it.
 #[derive(Clone, Copy, Serialize)]
 struct FoundRemote<'a> {
     #[serde(flatten)]
@@ -77,7 +77,7 @@ fn rows(alloc: Global, remote: &RemoteReport) -> Result<String, AllocError> {
     Ok(out)
 }
 
-/// The rows of a text that Git goes to.
+/// The rows of a text that Git connects to.
 pub fn routed(alloc: Global, out: &mut String, way: Way, route: &Route) -> Result<(), AllocError> {
     let rows = of_route(alloc, way, route)?;
     let pushed = rule_rows::push(out, rows.as_slice());

@@ -1,7 +1,7 @@
-//! A log in SARIF: its beginning with the tool and its rules, its results, and its end.
+//! A SARIF log: its beginning with the tool and its rules, its results, and its end.
 //!
-//! The objects are those of `sarif` of `explain_audit`. Each result begins with a comma, which the first one loses
-//! where it is written, so a log is written as it grows. It has no contract: `scripts/hostile arguments` shows logs.
+//! Each result begins with a comma, which is omitted when the first one is written, so the log is written result by
+//! result. `scripts/hostile arguments` tests logs.
 
 use crate::options::VERSION;
 use crate::style::{Layout, Style};
@@ -15,23 +15,23 @@ use gix_url::lines::RunError;
 use std::alloc::{AllocError, Global};
 use std::io::Write;
 
-/// What precedes the tool.
+/// The text before the tool.
 const BEFORE_TOOL: &str =
     "{\"$schema\":\"https://json.schemastore.org/sarif-2.1.0.json\",\"version\":\"2.1.0\",\"runs\":[{\"tool\":";
-/// What is between the tool and the results.
+/// The text between the tool and the results.
 const BEFORE_RESULTS: &str = ",\"columnKind\":\"unicodeCodePoints\",\"results\":[";
 
-/// Where lines are from.
+/// The origin of lines.
 #[derive(Drop)]
 pub struct Origin {
-    /// The URI of the file; none for an argument, and where no log is written.
+    /// The URI of the file; `None` for an argument, and if no log is written.
     uri: Option<String>,
     /// The number of the line of the file, or of the argument, from 1.
     line: u64,
 }
 
 impl Origin {
-    /// No place. It takes no memory.
+    /// No known origin. Allocates nothing.
     pub fn unknown() -> Origin {
         Origin { uri: None, line: 0 }
     }
@@ -45,7 +45,7 @@ impl Origin {
         Ok(Origin { uri, line: 0 })
     }
 
-    /// An argument, of which so many are before it.
+    /// An argument that follows this number of arguments.
     pub fn argument(before: usize) -> Origin {
         Origin {
             uri: None,
@@ -69,7 +69,7 @@ impl Origin {
     }
 }
 
-/// Writes what precedes the results, where a log is asked for.
+/// Writes the text before the results, if a log is requested.
 pub fn write_head<W: Write>(
     alloc: Global,
     style: Style<'_, '_>,
@@ -84,7 +84,7 @@ pub fn write_head<W: Write>(
         .map_err(RunError::Write)
 }
 
-/// What precedes the results.
+/// The text before the results.
 fn head(alloc: Global) -> Result<String, AllocError> {
     let rules = rules(alloc)?;
     let tool = tool(alloc, rules.as_slice());
@@ -106,7 +106,7 @@ fn tool(alloc: Global, rules: &[Rule]) -> Result<String, AllocError> {
     text_of(serde_json::to_string(alloc, &tool))
 }
 
-/// What follows the results, and says whether all input was looked at.
+/// The text after the results, which records whether all input was read.
 pub fn tail(is_whole: bool) -> &'static str {
     if is_whole {
         "\n],\"invocations\":[{\"executionSuccessful\":true}]}]}\n"
@@ -115,7 +115,7 @@ pub fn tail(is_whole: bool) -> &'static str {
     }
 }
 
-/// Appends a result for each thing that was found at a spot.
+/// Appends a result for each finding at a spot.
 pub fn push_items(
     alloc: Global,
     out: &mut String,
@@ -128,7 +128,7 @@ pub fn push_items(
     Ok(())
 }
 
-/// Appends a result: what was found, in words, and where.
+/// Appends a result: the finding, its words, and its place.
 pub fn push(
     alloc: Global,
     out: &mut String,
@@ -155,7 +155,7 @@ pub fn push(
     out.push_str(text.as_str())
 }
 
-/// The place in a file, if a spot is in one.
+/// The place of a spot in a file, if it is in one.
 fn physical(spot: Spot<'_>) -> Option<Physical<'_>> {
     let uri = spot.uri?;
     Some(Physical {
@@ -164,7 +164,7 @@ fn physical(spot: Spot<'_>) -> Option<Physical<'_>> {
     })
 }
 
-/// The text of an object, which fails only where memory is refused.
+/// The text of an object. The call fails only if memory is refused.
 fn text_of<E: Drop>(written: Result<String, E>) -> Result<String, AllocError> {
     match written {
         Ok(text) => Ok(text),

@@ -1,7 +1,6 @@
-//! The rows for people of what Git does by a configuration, as a terminal shows them.
+//! The rows for people about what Git does by a configuration, for a terminal.
 //!
-//! It lays out the rows that `explain_report` has of that, and has no contract: `scripts/hostile rules` shows its
-//! answers.
+//! `explain_report` has the rows. `scripts/hostile rules` tests the output.
 
 use crate::shown::row;
 use explain_report::rules::rows::{Piece, Row};
@@ -18,7 +17,7 @@ pub fn push(out: &mut String, rows: &[Row<'_>]) -> Result<(), AllocError> {
     Ok(())
 }
 
-/// Pieces one behind the other, with the texts in quotes.
+/// Pieces one after the other, with texts in quotes.
 #[derive(Clone, Copy)]
 pub struct Pieces<'b, 'a: 'b>(pub &'b [Piece<'a>]);
 
@@ -36,7 +35,7 @@ impl fmt::Display for Pieces<'_, '_> {
     }
 }
 
-/// Writes an entry in words.
+/// Writes the key and the value of an entry.
 fn write_entry<W: fmt::Write>(f: &mut fmt::Formatter<W>, setting: &Setting) -> fmt::Result {
     let (key, link) = (Quoted(setting.key.as_str().as_bytes()), setting.link());
     write!(f, "{key}{link}")?;

@@ -1,7 +1,6 @@
-//! A command as a line for a POSIX shell: a variable, a program and words, each in quotes where a shell needs them.
+//! A command as a line for a POSIX shell: a variable, a program and words, each in quotes if a shell needs them.
 //!
-//! It uses `ShellWord` of `explain_report`. It has no contract but that it can't abort: `scripts/hostile commands`
-//! gives the lines to a shell.
+//! `scripts/hostile commands` runs the lines in a shell.
 
 use crate::client::Client;
 use bstr::BString;
@@ -9,7 +8,7 @@ use explain_report::text::line::{ShellWord, Shown};
 use std::alloc::{AllocError, Global};
 use std::fmt::{self, Write};
 
-/// The line of a command: the value of `GIT_PROTOCOL`, if it has one, what is run, and the words.
+/// The line of a command: the value of `GIT_PROTOCOL` if there is one, the program, and the words.
 pub fn line_of(
     alloc: Global,
     client: Client<'_>,
@@ -35,7 +34,7 @@ fn push_variable(out: &mut String, value: Option<&str>) -> Result<(), AllocError
     }
 }
 
-/// Appends what is run: a program, or a command line as Git has a shell run it, with the words behind it.
+/// Appends the program, or a command line in the form in which Git has a shell run it, with the words after it.
 fn push_program(alloc: Global, out: &mut String, client: Client<'_>) -> Result<(), AllocError> {
     if client.text == b"ssh".as_slice() {
         return out.push_str("ssh");
@@ -51,7 +50,7 @@ fn push_program(alloc: Global, out: &mut String, client: Client<'_>) -> Result<(
     written
 }
 
-/// A command line, and behind it the words that a shell gets.
+/// A command line, followed by the words that a shell gets.
 fn with_words(alloc: Global, line: &[u8]) -> Result<Vec<u8>, AllocError> {
     let mut script = Vec::new(alloc);
     script.extend_from_slice(line)?;
@@ -59,7 +58,7 @@ fn with_words(alloc: Global, line: &[u8]) -> Result<Vec<u8>, AllocError> {
     Ok(script)
 }
 
-/// A word for a shell: as it is where each of its bytes is plain, and else in quotes.
+/// A word for a shell: unquoted if each of its bytes is plain, otherwise in quotes.
 #[derive(Clone, Copy)]
 struct Word<'a>(&'a [u8]);
 
@@ -72,12 +71,12 @@ impl fmt::Display for Word<'_> {
     }
 }
 
-/// Whether a word has a byte, and each of its bytes stands for itself to a shell.
+/// Whether a word isn't empty, and a shell takes each of its bytes literally.
 fn is_plain(word: &[u8]) -> bool {
     !word.is_empty() && word.iter().all(|byte| is_plain_byte(*byte))
 }
 
-/// Whether a byte stands for itself in each word of a shell but its first.
+/// Whether a shell takes a byte literally in each word except the first.
 fn is_plain_byte(byte: u8) -> bool {
     matches!(byte, b'0'..=b'9' | b'A'..=b'Z' | b'a'..=b'z')
         || matches!(

@@ -1,8 +1,7 @@
-//! Answers laid out for people: a heading, and a row for each thing that is reported.
+//! Reports for people: a heading, and a row for each fact.
 //!
-//! Texts are in quotes with their control characters escaped, each byte in one way, so that no line of input
-//! can speak to a terminal. It uses what `explain_report` found, and has no contract: `scripts/hostile
-//! golden` shows its answers.
+//! Texts are in quotes with their control characters escaped, each byte in one way, so that no line of input can send
+//! control sequences to a terminal. `scripts/hostile golden` tests the output.
 
 use crate::answer::{Line, Notes};
 use crate::paint::short::is_long;
@@ -25,7 +24,7 @@ use gix_url::Url;
 use std::alloc::{AllocError, Global};
 use std::fmt::{Display, Write};
 
-/// A location: its heading and its rows.
+/// The report about a location: a heading and rows.
 pub fn location(
     alloc: Global,
     line: Line<'_, '_>,
@@ -62,7 +61,7 @@ fn heading(
     out.push('\n')
 }
 
-/// The rows of the text, unless it is the line as it was shown, and of what Git and curl read in it.
+/// The rows of the text, unless it is the line as it was shown, and of what Git and curl find in it.
 fn text(
     out: &mut String,
     url: &Url,
@@ -83,12 +82,12 @@ fn text(
     curl(out, url, &report.curl)
 }
 
-/// Whether the line was shown whole, and is this text.
+/// Whether the line was shown in full, and is this text.
 fn is_shown(seen: &SeenLine<'_>, text: &str) -> bool {
     seen.input.as_str() == text && !is_long(&seen.cut)
 }
 
-/// A refusal: its heading, the line with the fault marked, what Git and others read in it, and its hints.
+/// The report about a refusal: a heading, the line with the fault marked, what Git and others find in it, and hints.
 pub fn refusal(
     alloc: Global,
     line: Line<'_, '_>,
@@ -107,7 +106,7 @@ pub fn refusal(
     Ok(out)
 }
 
-/// A location of which nothing is shown: its heading, the line, and what Git does by the configuration.
+/// The report about a location that isn't shown: a heading, the line, and what Git does by the configuration.
 pub fn withheld(
     alloc: Global,
     line: Line<'_, '_>,
@@ -126,7 +125,7 @@ pub fn withheld(
     Ok(out)
 }
 
-/// A refused line, with a mark under the fault where its place is known.
+/// A refused line, with a mark under the fault if its position is known.
 fn refused_line(
     out: &mut String,
     cut: &Cut<'_>,
@@ -139,7 +138,7 @@ fn refused_line(
     }
 }
 
-/// The rows of the rules, where a configuration is given, and of the hints.
+/// The rows of the rules, if a configuration is given, and of the hints.
 fn noted(alloc: Global, out: &mut String, notes: Notes<'_>) -> Result<(), AllocError> {
     if let Some(rules) = notes.rules {
         let rows = rows::of_line(alloc, rules)?;
@@ -161,13 +160,13 @@ fn hints(out: &mut String, found: &[Hint], instead: Option<&str>) -> Result<(), 
     Ok(())
 }
 
-/// The row of the hint that gives a URL of the same place.
+/// The row of a hint with a URL for the same place.
 fn instead_row(out: &mut String, text: &str) -> Result<(), AllocError> {
     let (words, text) = (Hint::WriteInstead.sentence(), Quoted(text.as_bytes()));
     row(out, "hint", format_args!("{words} {text}"))
 }
 
-/// A row: a name, and what it is.
+/// A row: a name and its value.
 pub fn row<D: Display + Drop>(out: &mut String, name: &str, what: D) -> Result<(), AllocError> {
     writeln!(out, "    {name:<12}{what}")
 }
@@ -193,7 +192,7 @@ fn parts(out: &mut String, url: &Url, report: &Report<'_>) -> Result<(), AllocEr
     paths(out, url)
 }
 
-/// The row of the port, or of the one that the scheme stands for.
+/// The row of the port, or of the scheme's default port.
 fn port(out: &mut String, report: &Report<'_>) -> Result<(), AllocError> {
     match (report.port, report.port_or_default) {
         (Some(port), _) => row(out, "port", port),
@@ -202,7 +201,7 @@ fn port(out: &mut String, report: &Report<'_>) -> Result<(), AllocError> {
     }
 }
 
-/// The rows of the path, and of how it was spelled where that is another text.
+/// The rows of the path, and of the escaped path if that differs.
 fn paths(out: &mut String, url: &Url) -> Result<(), AllocError> {
     let (path, spelled) = (url.path.as_bstr(), url.original_path());
     row(out, "path", Quoted(path.as_bytes()))?;
@@ -212,8 +211,7 @@ fn paths(out: &mut String, url: &Url) -> Result<(), AllocError> {
     row(out, "spelled", Quoted(spelled.as_bytes()))
 }
 
-/// The rows of what Git's credential code asks helpers for in a text of HTTP, where that is not the
-/// location's own.
+/// The rows of the request that Git's credential code makes for a text of HTTP, if it differs from the location.
 fn helpers(out: &mut String, url: &Url, report: &Report<'_>) -> Result<(), AllocError> {
     let Some(asked) = &report.credential else {
         return row(
@@ -241,7 +239,7 @@ fn helpers(out: &mut String, url: &Url, report: &Report<'_>) -> Result<(), Alloc
     )
 }
 
-/// The rows of what curl reads in a text of HTTP, where that is not the location's own.
+/// The rows of what curl finds in a text of HTTP, if it differs from the location.
 fn curl(out: &mut String, url: &Url, read: &Option<Curl>) -> Result<(), AllocError> {
     let Some(read) = read else {
         return row(out, "curl", "refuses its text");
@@ -264,7 +262,7 @@ fn curl(out: &mut String, url: &Url, read: &Option<Curl>) -> Result<(), AllocErr
     row(out, "curl", format_args!("asks for the path {path}"))
 }
 
-/// The rows of readers that take another host from the line.
+/// The rows of readers that find another host in the line.
 fn readers(out: &mut String, found: Option<&Readers>) -> Result<(), AllocError> {
     let Some(found) = found else {
         return Ok(());
@@ -303,7 +301,7 @@ fn query(out: &mut String, fields: &[Field]) -> Result<(), AllocError> {
     Ok(())
 }
 
-/// The rows of what a path means on a system of files.
+/// The rows of a path's meaning on a file system.
 fn on_files(out: &mut String, report: &Report<'_>) -> Result<(), AllocError> {
     if let Some(home) = &report.home {
         home_folder(out, home)?;

@@ -1,6 +1,6 @@
-//! Where the configuration comes from: the file that `--config` names, or standard input, and five variables.
+//! Reads the configuration: the file that `--config` names, or standard input, and five variables.
 //!
-//! It has no contract but that it can't abort: `scripts/hostile rules` shows what is read, and what isn't.
+//! `scripts/hostile rules` tests which files are read and which are refused.
 
 use git_rules::config::is_listing;
 use std::alloc::AllocError;
@@ -8,10 +8,10 @@ use std::env::{self, VarError};
 use std::io::{self, Read};
 use std::{fmt, fs};
 
-/// The configuration of a run, and the variables that Git looks at.
+/// The configuration of a run, and the variables that Git reads.
 #[derive(Drop)]
 pub struct Source {
-    /// What `git config --list -z` wrote.
+    /// The output of `git config --list -z`.
     pub text: Vec<u8>,
     /// `GIT_ALLOW_PROTOCOL`, if it is set.
     pub allow_list: Option<String>,
@@ -19,7 +19,7 @@ pub struct Source {
     pub from_user: Option<String>,
 }
 
-/// The variables by which Git decides on the program for Secure Shell, each if it is set.
+/// The variables by which Git chooses the program for Secure Shell, each if it is set.
 #[derive(Drop)]
 pub struct SshVariables {
     /// `GIT_SSH_COMMAND`.
@@ -36,7 +36,7 @@ pub enum SourceError {
     Memory,
     /// The file can't be read.
     Unread(io::Error),
-    /// The text isn't what `git config --list -z` writes.
+    /// The text isn't output of `git config --list -z`.
     NoListing,
     /// A variable isn't UTF-8.
     NotUtf8(&'static str),

@@ -1,4 +1,4 @@
-//! How answers are laid out, and what was seen while they were given.
+//! The layout of reports, and the state of a run.
 
 use crate::client::Client;
 use crate::line_end::LineEnd;
@@ -13,26 +13,26 @@ use gix_url::lines::RunError;
 use std::alloc::Global;
 use std::io::Write;
 
-/// How lines are read and answers laid out.
+/// The format of the lines and the layout of the reports.
 #[derive(Clone, Copy)]
 pub struct Style<'c, 'e: 'c> {
     pub layout: Layout,
-    /// Whether answers for people are coloured.
+    /// Whether reports for people are coloured.
     pub colors: Colors,
     /// How a line of the input ends.
     pub end: LineEnd,
-    /// The configuration by which it is shown what Git does, if one is given.
+    /// The configuration, if one is given, for rows about what Git does by it.
     pub config: Option<&'c Config<'e>>,
-    /// What Git runs for Secure Shell.
+    /// The program that Git runs for Secure Shell.
     pub client: Client<'c>,
-    /// What the run fails for.
+    /// The findings that the run fails for.
     pub fail_on: Findings,
 }
 
-/// What is printed of a line.
+/// The layout of the report about a line.
 #[derive(Clone, Copy)]
 pub enum Layout {
-    /// A heading, and a row for each thing that is reported.
+    /// A heading, and a row for each fact.
     People,
     /// One JSON object.
     Json,
@@ -58,35 +58,35 @@ impl Layout {
 }
 
 impl Style<'_, '_> {
-    /// Whether nothing that follows can change what the run reports.
+    /// Whether the rest of the input can't change the result of the run.
     pub fn is_over(&self, seen: &Seen) -> bool {
         matches!(self.layout, Layout::Quiet) && seen.found.meets(self.fail_on)
     }
 }
 
-/// What a run has seen so far.
+/// The state of a run.
 #[derive(Drop)]
 pub struct Seen {
     /// The number of lines.
     pub lines: u64,
-    /// What was found in one of them.
+    /// The findings in all lines.
     pub found: Findings,
-    /// Whether a file could not be opened.
+    /// Whether a file couldn't be opened.
     pub lacks_file: bool,
-    /// Whether a command that is asked for is missing, and no finding says why.
+    /// Whether a command is missing, and no finding is the reason.
     pub lacks_command: bool,
-    /// The page, where one is asked for.
+    /// The page, if one is requested.
     pub page: Page,
-    /// The summary, where one is asked for.
+    /// The summary, if one is requested.
     pub summary: Summary,
-    /// Where the line is from.
+    /// The origin of the line.
     pub origin: Origin,
-    /// Whether a result was written of a log in SARIF.
+    /// Whether a result of a SARIF log was written.
     pub has_results: bool,
 }
 
 impl Seen {
-    /// Nothing yet. It takes no memory.
+    /// The state before the first line. Allocates nothing.
     pub fn nothing(alloc: Global) -> Seen {
         Seen {
             lines: 0,
@@ -100,7 +100,7 @@ impl Seen {
         }
     }
 
-    /// Writes an answer, and before each result of a log but the first the comma that it begins with.
+    /// Writes a report. The first result of a log loses the comma at its front.
     pub fn write<W: Write>(
         &mut self,
         style: Style<'_, '_>,
@@ -120,8 +120,8 @@ impl Seen {
         .map_err(RunError::Write)
     }
 
-    /// Writes what follows all answers: the page with this title or the summary, unless nothing could be read, or the
-    /// end of a log in SARIF.
+    /// Writes the text after all reports: the page with this title or the summary, unless nothing could be read, or the
+    /// end of a SARIF log.
     pub fn write_end<W: Write>(
         &self,
         style: Style<'_, '_>,
@@ -139,8 +139,8 @@ impl Seen {
         }
     }
 
-    /// The status to end with: 0 where nothing was found that the run fails for, 1 where something was, 2 where
-    /// something could not be read or written, or a command is missing.
+    /// The exit status: 0 if there is no finding that the run fails for, 1 if there is one, 2 if something couldn't be
+    /// read or written, or a command is missing.
     pub fn status(&self, fail_on: Findings, outcome: &Result<(), RunError>) -> u8 {
         if outcome.is_err() || self.lacks_file || self.lacks_command {
             2

@@ -1,7 +1,7 @@
-//! The summary of all lines: how many there are of each form, verdict, danger and host.
+//! The summary of all lines: how many lines there are of each form, verdict, danger and host.
 //!
-//! The memory that it takes grows with the hosts that differ, and not with the lines. `danger_counts` counts dangers,
-//! and `table` lays it out. It has no contract but that it can't abort: `scripts/hostile arguments` shows summaries.
+//! The memory of a summary grows with the number of different hosts, not with the number of lines.
+//! `scripts/hostile arguments` tests summaries.
 
 mod danger_counts;
 mod table;
@@ -23,7 +23,7 @@ use std::alloc::{AllocError, Global};
 use std::collections::BTreeMap;
 use std::io::Write;
 
-/// What was seen in all lines. Each number is one of lines.
+/// The counts of all lines.
 #[derive(Drop)]
 pub struct Summary {
     alloc: Global,
@@ -43,7 +43,7 @@ struct Forms {
     helpers: u64,
 }
 
-/// How many lines there are of which something is found, or nothing.
+/// How many lines have a finding, or none.
 #[derive(Clone, Copy)]
 struct Verdicts {
     settled: u64,
@@ -54,12 +54,12 @@ struct Verdicts {
     policy: u64,
 }
 
-/// One more line.
+/// Adds 1 to a count, which saturates.
 fn bump(count: &mut u64) {
     *count = count.saturating_add(1);
 }
 
-/// Counts a line where it is one of those that are counted.
+/// Adds 1 to a count if the line is counted in it.
 fn bump_if(count: &mut u64, is_counted: bool) {
     if is_counted {
         bump(count);
@@ -113,7 +113,7 @@ impl Verdicts {
         }
     }
 
-    /// Counts a location that is settled or not.
+    /// Counts a settled or an unsettled location.
     fn add_location(&mut self, is_settled: bool) {
         if is_settled {
             bump(&mut self.settled);
@@ -122,14 +122,14 @@ impl Verdicts {
         }
     }
 
-    /// Counts what else is found in a line.
+    /// Counts the other findings in a line.
     fn add(&mut self, found: Findings) {
         bump_if(&mut self.dangerous, found.danger);
         bump_if(&mut self.git_differs, found.git_differs);
         bump_if(&mut self.policy, found.policy);
     }
 
-    /// How many lines there are.
+    /// The number of lines.
     fn lines(self) -> u64 {
         self.settled
             .saturating_add(self.unsettled)
@@ -150,7 +150,7 @@ impl Summary {
         }
     }
 
-    /// Counts a line, with what Git does with it by the configuration, if one is given. Returns what is found in it.
+    /// Counts a line, with what Git does with it by the configuration, if one is given. Returns the findings in it.
     pub fn add(
         &mut self,
         line: &[u8],
@@ -166,7 +166,7 @@ impl Summary {
         added
     }
 
-    /// Counts a line that is read as this location.
+    /// Counts a line that is parsed as this location.
     fn add_location(
         &mut self,
         line: &[u8],
@@ -187,7 +187,7 @@ impl Summary {
         Ok(findings)
     }
 
-    /// Counts the host of a line that is read as this location, as it is shown.
+    /// Counts the host of a line that is parsed as this location, in the form in which it is shown.
     fn add_host(&mut self, line: &[u8], url: &Url) -> Result<(), AllocError> {
         let Some(_) = url.host() else {
             bump(&mut self.without_host);

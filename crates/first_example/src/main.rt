@@ -1,4 +1,4 @@
-//! Says which host each of three texts names: the first example of README.md.
+//! Prints the host of each of three texts: the first example of README.md.
 #![tactic(auto)]
 
 use gix_url::{Error, Url};

@@ -1,4 +1,4 @@
--- What is dangerous in a text that is used as a remote, and in the location that is read in it.
+-- The dangers in a text that is used as a remote, and in the location that is parsed from it.
 use Rattle.std.specs.Prelude.{◌≡◌, ◌↔◌, ℕ, Bool, true, false, not, ◌&&◌, ◌||◌, ◌==◌, nat_le, IsTrue, ◌⊎◌, List, [], ◌∷◌, ◌++◌, codes, length, Option, Some, None, option_map}
 use Rattle.std.specs.List.{filter, list_any, list_all, slice_split, starts_with}
 use Rattle.std.specs.Option.{is_some}
@@ -19,17 +19,17 @@ use Rattle.git_audit.specs.declared.danger.Danger.TheVariants as danger
 abbrev pub underscore : ℕ
 underscore = 95
 
--- what the tokens of GitHub, GitLab and Bitbucket begin with
+-- the prefixes of the tokens of GitHub, GitLab and Bitbucket
 abbrev pub token_fronts : List (List ℕ)
 token_fronts = codes "ghp_" ∷ codes "gho_" ∷ codes "ghu_" ∷ codes "ghs_" ∷ codes "ghr_" ∷ codes "github_pat_"
     ∷ codes "glpat-" ∷ codes "gldt-" ∷ codes "glrt-" ∷ codes "glcbt-" ∷ codes "glptt-" ∷ codes "glft-"
     ∷ codes "glimt-" ∷ codes "glagent-" ∷ codes "gloas-" ∷ codes "glsoat-" ∷ codes "ATBB" ∷ codes "ATCTT3" ∷ []
 
--- the text begins with this front
+-- the text begins with this prefix
 abbrev pub has_front : List ℕ → List ℕ → Bool
 has_front text front = starts_with (λ a b. a == b) text front
 
--- the text begins as a token does
+-- the text begins with the prefix of a token
 abbrev pub begins_as_token : List ℕ → Bool
 begins_as_token text = list_any (has_front text) token_fronts
 
@@ -37,19 +37,19 @@ begins_as_token text = list_any (has_front text) token_fronts
 abbrev pub is_token_byte : ℕ → Bool
 is_token_byte b = is_ascii_alphanumeric b || b == underscore || b == hyphen
 
--- the bytes of a token in a path, at least: a shorter word may be the name of a repository
+-- the least length of a token in a path: a shorter word may be the name of a repository
 abbrev pub least_token : ℕ
 least_token = 24
 
--- the word begins as a token does, and is as long as one
+-- the word begins as a token, and is as long as one
 unfoldable pub is_token_word : List ℕ → Bool
 is_token_word word = nat_le least_token (length word) && begins_as_token word
 
--- a byte that no token has
+-- a byte that no token contains
 abbrev pub is_gap : ℕ → Bool
 is_gap b = not (is_token_byte b)
 
--- a word of the text, between bytes that no token has, is a token
+-- a word of the text, between bytes that no token contains, is a token
 abbrev pub holds_token : List ℕ → Bool
 holds_token text = list_any is_token_word (slice_split is_gap text)
 
@@ -58,17 +58,17 @@ abbrev pub is_ext : Scheme → Bool
 is_ext ext = true
 is_ext _ = false
 
--- the scheme is one of HTTP
+-- the scheme is `http` or `https`
 abbrev pub is_of_http : Scheme → Bool
 is_of_http http = true
 is_of_http https = true
 is_of_http _ = false
 
--- the bytes of a user that may be a token whatever it begins with
+-- the least length of a user that may be a token whatever its prefix
 abbrev pub least_user : ℕ
 least_user = 20
 
--- HTTP gets the user without a password, and the user is long
+-- the user of an HTTP location without a password is long
 abbrev pub is_long_user : Scheme → List ℕ → Bool → Bool
 is_long_user s user has_password = is_of_http s && not has_password && nat_le least_user (length user)
 
@@ -83,7 +83,7 @@ has_token_user s (Some user) password = is_token_user s user (is_some password)
 
 -- ---- parts
 
--- the part is there, and passes the test
+-- the part is present, and passes the test
 abbrev pub is_some_with : (List ℕ → Bool) → Option (List ℕ) → Bool
 is_some_with test None = false
 is_some_with test (Some part) = test part
@@ -97,15 +97,15 @@ is_option_path (b ∷ bs) = is_option_like (b ∷ bs) || (b == slash && is_optio
 abbrev pub is_control_or_space : ℕ → Bool
 is_control_or_space b = nat_le b space || b == delete
 
--- what ends a line, or a text of C
+-- a byte that ends a line, or a C string
 abbrev pub is_end : ℕ → Bool
 is_end b = b == newline || b == 13 || b == 0
 
--- the text holds what ends a line, or a text of C
+-- the text contains a byte that ends a line, or a C string
 abbrev pub holds_end : List ℕ → Bool
 holds_end text = list_any is_end text
 
--- the user, the password, the host or the path holds such an end
+-- the user, the password, the host or the path contains a byte that ends a line, or a C string
 abbrev pub has_end : Location → Bool
 has_end v = is_some_with holds_end v.user || is_some_with holds_end v.password || is_some_with holds_end v.host
     || holds_end v.path
@@ -121,7 +121,7 @@ abbrev pub NamesOwnPort : Location → List ℕ → Type 0
 NamesOwnPort v named = (host : List ℕ) × (digits : List ℕ) × (named ≡ host ++ colon ∷ digits)
     × (list_all is_ascii_digit digits ≡ true) × HasHostName v (host_name host)
 
--- the text names the location's host, whole or with a port
+-- the text names the location's host, alone or with a port
 abbrev pub NamesOwnHost : Location → List ℕ → Type 0
 NamesOwnHost v named = HasHostName v (host_name named) ⊎ NamesOwnPort v named
 
@@ -139,16 +139,16 @@ abbrev pub AsksForOtherHost : List ℕ → Location → Type 0
 AsksForOtherHost t v = (reading : CredentialReading) × CredentialReads t reading
     × ¬ NamesOwnHost v reading.host
 
--- Git takes another host from the text than the location's: of HTTP its credential code does, and of other
--- texts one of its transports
+-- Git reads another host in the text than the location's: its credential code for an HTTP location, one of its
+-- transports for any other
 abbrev pub ReadsOtherHost : Bool → List ℕ → Location → Type 0
 ReadsOtherHost true t v = AsksForOtherHost t v
 ReadsOtherHost false t v = ReachesOtherHost t v
 
 -- ---- dangers
 
--- the location has the danger; `other` says whether Git takes another host from the text, and `misread`
--- whether other programs do
+-- the location has the danger; `other` is whether Git reads another host in the text, `misread` whether other
+-- programs do
 abbrev pub has_danger : Bool → Bool → Location → Danger → Bool
 has_danger other misread v danger.Command = is_ext v.scheme
 has_danger other misread v danger.OptionLikeUser = is_some_with is_option_like v.user
@@ -161,13 +161,13 @@ has_danger other misread v danger.LineEnd = is_some v.host && has_end v
 has_danger other misread v danger.OtherHost = other
 has_danger other misread v danger.MisreadHost = misread
 
--- every danger, in the order in which they are returned
+-- every danger, in the order of the result
 abbrev pub every_danger : List Danger
 every_danger = danger.Command ∷ danger.OptionLikeUser ∷ danger.OptionLikeHost ∷ danger.OptionLikePath
     ∷ danger.Password ∷ danger.Token ∷ danger.HostCharacter ∷ danger.LineEnd ∷ danger.OtherHost
     ∷ danger.MisreadHost ∷ []
 
--- these are the dangers of the text, and of the location that is read in it
+-- these are the dangers of the text, and of the location that is parsed from it
 abbrev pub AreDangers : List ℕ → Location → List Danger → Type 0
 AreDangers t v found = (other : Bool) × (IsTrue other ↔ ReadsOtherHost (is_of_http v.scheme) t v)
     × (found ≡ filter (has_danger other (is_misread t v) v) every_danger)

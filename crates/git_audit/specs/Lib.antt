@@ -1,4 +1,4 @@
--- What a user reads.
+-- The definitions of the public contracts.
 pub mod Misreadings
 pub mod Dangers
 pub mod Secrets

@@ -1,4 +1,4 @@
--- What is promised of the pieces of a text.
+-- The law on the pieces of a text.
 use Rattle.std.specs.Prelude.{◌≡◌, ℕ, List}
 use Rattle.git_audit.specs.Secrets.{joined, parts_of}
 

@@ -1,7 +1,9 @@
-//! What is dangerous in a remote that a program takes from a stranger, and what of a text is hidden.
+//! The dangers of a remote from an untrusted source, and the secrets of a text that are hidden.
 //!
-//! It uses borrowed locations, what Git and other programs read in a text, and `git_rules` for hosts. It opens no
-//! file and runs no program.
+//! The crate builds on `git_location` for parsed locations, on `git_reads` and `git_readers` for the readings of
+//! Git and of other programs, and on `git_rules` to compare hosts. No function here opens a file or runs a
+//! program. No public function allocates, except those that take a `Global`. How often a function allocates, and
+//! how long it takes, is tested, not proved.
 #![tactic(auto)]
 
 pub mod danger;

@@ -1,7 +1,6 @@
-//! Hosts that other programs take from a text than the location has that is read in it.
+//! Hosts that other programs read in a text, if they differ from the host of the location that is parsed from it.
 //!
-//! It uses the groups of readers of `git_readers`, and takes no memory. Its contract: the host that a group takes is
-//! returned exactly if it isn't the location's, by one definition (`specs/Misreadings.antt`).
+//! A host is returned exactly if it isn't the location's, by one definition (`specs/Misreadings.antt`).
 
 ghost use Rattle.std.specs.Prelude.{◌≡◌, bytes_eq, option_map};
 ghost use Rattle.std.specs.List.{list_any};
@@ -23,12 +22,12 @@ pub const GROUPS: [Group; 7] = [
     Group::FourNumbers,
 ];
 
-/// The host that the readers of a group take from a text, if it isn't the host of the location that is read in it.
-/// It is a part of the text, as [`Group::host_in`] returns it.
+/// Returns the host that the readers of a group find in a text, if it isn't the host of the location that is parsed
+/// from it. It is a slice of the text, as [`Group::host_in`] returns it.
 ///
-/// Hosts are compared as `git_rules::rewrite::host::is_same_host` does it: without letter case, and without brackets
-/// around them. Beside a location without a host, as a local path, each host that a group takes is another one. Of
-/// [`Group::DigitsArePort`] the port is in the host. It takes no memory.
+/// Hosts are compared by `git_rules::rewrite::host::is_same_host`: ignoring letter case, and brackets around them.
+/// If the location has no host, like a local path, every host that a group finds is another one. For
+/// [`Group::DigitsArePort`] the port is part of the host.
 ///
 /// ```
 /// /// The readers that take another host from a text, each group with a line feed after it.
@@ -49,10 +48,10 @@ pub fn other_host<'a>(text: &'a [u8], url: &UrlRef<'_>, group: Group) -> Option<
     unless_own(url, group.host_in(text))
 }
 
-/// Whether the readers of some group take another host from a text than that of the location that is read in it.
+/// Whether the readers of some group find another host in a text than that of the location that is parsed from it.
 ///
-/// That no group does is no promise that all programs find the host: the groups have the cuts that are known.
-/// `gix_url::Url::is_unambiguous` decides the texts that all readers of a family read alike. It takes no memory.
+/// If no group does, other programs may still read another host: the groups only cover the known readings.
+/// `gix_url::Url::is_unambiguous` decides whether all readers of a family agree on a text.
 ///
 /// ```
 /// /// Whether a forge may pass a text on: it is read, and no known reader takes another host from it.
@@ -81,14 +80,14 @@ pub fn is_misread(text: &[u8], url: &UrlRef<'_>) -> bool
     )
 }
 
-/// Whether the readers of one of these groups take another host.
+/// Whether the readers of one of these groups find another host.
 fn is_misread_by(text: &[u8], url: &UrlRef<'_>, some: &[Group]) -> bool
     ensures { result ≡ list_any (has_other_host text.now url.now) some.now }
 {
     some.iter().any(|group| takes_other_host(text, url, *group))
 }
 
-/// Whether the readers of the group take another host.
+/// Whether the readers of the group find another host.
 fn takes_other_host(text: &[u8], url: &UrlRef<'_>, group: Group) -> bool
     ensures { result ≡ has_other_host text.now url.now group }
 {
@@ -124,7 +123,7 @@ fn names_own_host(url: &UrlRef<'_>, named: &[u8]) -> bool
     }
 }
 
-/// Whether both texts name one host.
+/// Whether both texts name the same host.
 fn is_same(own: &[u8], named: &[u8]) -> bool
     ensures { result ≡ bytes_eq (host_name own.now) (host_name named.now) }
 {

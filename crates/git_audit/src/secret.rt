@@ -1,7 +1,6 @@
-//! What of a text is hidden where it is shown.
+//! The secrets in a text, which are hidden when it is shown.
 //!
-//! It uses the words of `danger` for tokens, and takes no memory. Its contract: the pieces of a text are those of one
-//! definition (`specs/Secrets.antt`), and joined they are the text.
+//! The pieces of a text are those of one definition (`specs/Secrets.antt`), and joined they are the text.
 
 ghost use Rattle.std.specs.Prelude.{◌≡◌};
 ghost use Rattle.git_audit.specs.Secrets.{parts_of};
@@ -23,7 +22,7 @@ pub enum Piece<'a> {
     Hidden(&'a [u8]),
 }
 
-/// The pieces of a text in their order. [`secrets`] has an example.
+/// An iterator over the pieces of a text, in their order. [`secrets`] has an example.
 #[derive(Drop)]
 pub struct Pieces<'a> {
     left: Left<'a>,
@@ -40,15 +39,21 @@ impl<'a> Model for Pieces<'a> {
     ghost view = { pieces_left };
 }
 
-/// The pieces of a text, of which some may be secrets; joined they are the text. The text may be a location or none,
-/// or a key or a value of a configuration.
+/// Splits a text into pieces, some of which may be secrets. Joined, the pieces are the text. The text may be any
+/// text, for example a location, or a key or a value of a configuration.
 ///
-/// Hidden is, between bytes at which a path may start (`/`, and of HTTP `?` and `#`), all between the first `:` and
-/// the last `@`; where the authority behind the first `://` has a `:` that begins neither a port nor a password that
-/// ends in it, all from there to the last `@` of the text but such bytes; and each word of letters, digits, `_` and
-/// `-` that begins as a token of GitHub, GitLab or Bitbucket and has 24 bytes or more. Escapes of `:` and `@` count as
-/// they do. The name of a remote helper is cut off first, with its `::`. It takes no memory, and its time grows as the
-/// text does.
+/// These parts are hidden:
+///
+/// - In each run between bytes at which a path may start (`/`, and in an HTTP URL also `?` and `#`): everything
+///   between the first `:` and the last `@`.
+/// - If the authority after the first `://` isn't in brackets, and its first `:` begins neither a port nor a
+///   password that ends in the authority: everything from there to the last `@` of the text, except the bytes at
+///   which a path may start.
+/// - Each word of letters, digits, `_` and `-` that begins as a token of GitHub, GitLab or Bitbucket and has at
+///   least 24 bytes.
+///
+/// The escapes of `:` and `@` count as these bytes. The name of a remote helper and its `::` are split off first.
+/// Allocates nothing, and takes time linear in the length of the text.
 ///
 /// ```
 /// /// A text with a word in place of what may be a secret.

@@ -1,4 +1,5 @@
--- Equality of components: part by part, names and values by their bytes. What is equal is one value.
+-- Equality of components: component by component, names and values by their bytes. Equal components are one
+-- value.
 use Rattle.std.specs.Prelude.{◌≡◌, ℕ, Bool, ◌&&◌, List, Option, bytes_eq}
 use mathlib.Core.Path.{refl, ap}
 use Rattle.std.specs.Bool.{Decides}
@@ -10,24 +11,24 @@ use Rattle.std.specs.Cmp.Lexicographic.{pointwise, bytes_decides}
 use Rattle.git_laws.specs.OrderLaws.{options_decide}
 use Rattle.git_laws.specs.Components.{Components}
 
--- pairs of a name and a value are equal where both have the same bytes
+-- pairs of a name and a value are equal if both have the same bytes
 abbrev pub pair_eq : List ℕ × List ℕ → List ℕ × List ℕ → Bool
 pair_eq p q = bytes_eq p.0 q.0 && bytes_eq p.1 q.1
 
--- queries are equal where both are missing, or both are there with equal pairs in the same order
+-- queries are equal if both are missing, or both are there with equal pairs in the same order
 abbrev pub query_eq : Option (List (List ℕ × List ℕ)) → Option (List (List ℕ × List ℕ)) → Bool
 query_eq = option_eq (pointwise pair_eq)
 
--- fragments are equal where both are missing, or both are there with the same bytes
+-- fragments are equal if both are missing, or both are there with the same bytes
 abbrev pub fragment_eq : Option (List ℕ) → Option (List ℕ) → Bool
 fragment_eq = option_eq bytes_eq
 
--- components are equal where path, query and fragment are
+-- components are equal if path, query and fragment are
 abbrev pub components_eq : Components → Components → Bool
 components_eq c d = bytes_eq c.path d.path
     && (query_eq c.query d.query && fragment_eq c.fragment d.fragment)
 
--- ---- what is equal is one value
+-- ---- equal values are one value
 
 pair_decides : (p q : List ℕ × List ℕ) → Decides (pair_eq p q) (p ≡ q)
 pair_decides p q =
@@ -53,5 +54,6 @@ components_decide c d =
       λ e. reported.1 (ap (λ u. u.path) e, (ap (λ u. u.query) e, ap (λ u. u.fragment) e)),
     )
 
+-- equality of components is an equivalence
 pub components_equiv : IsEquivalence components_eq
 components_equiv = decided components_eq components_decide

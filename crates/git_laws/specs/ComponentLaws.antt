@@ -4,7 +4,7 @@ use Rattle.git_syntax.specs.Location.{Location}
 use Rattle.git_laws.specs.Components.{Components, ComponentsOf}
 use Rattle.git_laws.specs.ComponentEquality.{components_eq}
 
--- every location has components, and no two
+-- every location has exactly one value of components
 abbrev pub OneComponents : Type 0
 OneComponents = (v : Location)
     → (components : Components) × ComponentsOf v components

@@ -1,5 +1,4 @@
--- The law on the locations that a careful user hands to Git: in the text of each Git reads what this library
--- reads.
+-- The law on the class of locations in whose texts Git reads the same as this library.
 use Rattle.std.specs.Prelude.{◌≡◌, ℕ, List, Option, Some, None, Ok}
 use Rattle.git_syntax.specs.Location.{Scheme, Location}
 use Rattle.git_syntax.specs.Location.Scheme.{git, http, https}
@@ -10,13 +9,13 @@ use Rattle.git_reads.specs.Git.{GitReading, GitReads}
 use Rattle.git_laws.specs.GitWeb.{ReadsOwnOverWeb}
 pub use Rattle.git_location.specs.GitClass.{is_contested, IsPlainHost, HasPlainParts, HasNoOption, is_tilde_second, IsRsync, SuitsTransport, AgreesByTransport, AgreesWithGit}
 
--- the host that Git has of a location's host: of `git://` it is without the brackets around it
+-- the host that Git reads, for a location's host: with `git://` it has no brackets around it
 abbrev pub HostForGit : Scheme → Option (List ℕ) → Option (List ℕ) → Type 0
 HostForGit git None host = host ≡ None
 HostForGit git (Some own) host = (inner : List ℕ) × Unbrackets own inner × (host ≡ Some inner)
 HostForGit _ own host = host ≡ own
 
--- the location's own protocol, user, port and path, with this host
+-- the location's own scheme, user, port and path, with this host
 abbrev pub own_reading : Location → Option (List ℕ) → GitReading
 own_reading v place = record {
   protocol = v.scheme;
@@ -26,29 +25,29 @@ own_reading v place = record {
   path = v.path;
 }
 
--- Git reads the location's own protocol, user, host, port and path in the text
+-- Git reads the location's own scheme, user, host, port and path in the text
 pub record ReadsOwnPlace (t : List ℕ) (v : Location) : Type 0 where
   pub host : Option (List ℕ)
   pub own : HostForGit v.scheme v.host host
   pub reads : GitReads t (own_reading v host)
 
--- Git reads the location's own parts in the text, by the scheme: of HTTP its credential code does, and a
--- reader of URIs
+-- Git reads the location's own fields in the text, by the scheme: with HTTP, its credential code and a reader
+-- of URIs do
 abbrev pub ReadsOwnBy : Scheme → List ℕ → Location → Type 0
 ReadsOwnBy http t v = ReadsOwnOverWeb t v
 ReadsOwnBy https t v = ReadsOwnOverWeb t v
 ReadsOwnBy _ t v = ReadsOwnPlace t v
 
--- Git reads the location's own parts in the text
+-- Git reads the location's own fields in the text
 abbrev pub ReadsOwn : List ℕ → Location → Type 0
 ReadsOwn t v = ReadsOwnBy v.scheme t v
 
--- the location has a text, and Git reads whatever its text is as the location's own parts
+-- the location has a text, and in any text of it Git reads the location's own fields
 pub record IsReadAlike (v : Location) : Type 0 where
   pub written : List ℕ
   pub has_text : text v ≡ Ok written
   pub read : (t : List ℕ) → text v ≡ Ok t → ReadsOwn t v
 
--- so it is with each location of the class
+-- a location that `AgreesWithGit` has a text, and Git reads the location's own fields in it
 abbrev pub ReadAlike : Type 0
 ReadAlike = (v : Location) → IsValue v → AgreesWithGit v → IsReadAlike v

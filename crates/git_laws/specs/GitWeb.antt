@@ -1,6 +1,6 @@
--- What two other readers read in the text of a location of HTTP: Git's credential code, and a reader of URIs
--- as RFC 3986 has them, as libcurl is in texts of the normal form. No proof says that libcurl keeps to it:
--- `scripts/web_witness` compares.
+-- The readings of the text of a location of HTTP by two other readers: Git's credential code, and a reader of
+-- URIs of RFC 3986, like libcurl for texts in the normal form. This is a model of libcurl, not proved of it:
+-- `scripts/web_witness` compares the two.
 use Rattle.std.specs.Prelude.{◌≡◌, ℕ, ◌<◌, Bool, true, false, ◌||◌, ◌==◌, ◌⊎◌, List, [], ◌∷◌, ◌++◌, decimal, codes, Option, Some, None, IfSome, option_map, if◌then◌else◌}
 use Rattle.std.specs.List.{list_all}
 use Rattle.std.specs.Char.{is_ascii_alphanumeric, is_ascii_digit}
@@ -17,7 +17,7 @@ use Rattle.git_reads.specs.Credentials.{CredentialReading, CredentialReads, trim
 
 -- ---- URIs
 
--- the components of a URI, as they are written (RFC 3986, section 3)
+-- the components of a URI, undecoded (RFC 3986, section 3)
 pub record UriReading : Type 0 where
   pub scheme : List ℕ
   pub information : Option (List ℕ)
@@ -27,7 +27,7 @@ pub record UriReading : Type 0 where
   pub query : Option (List ℕ)
   pub fragment : Option (List ℕ)
 
--- an authority holds user information before its only `@`, and what names host and port
+-- an authority consists of user information before its only `@`, and a host with its port
 pub data UriAuthority (authority : List ℕ) (information : Option (List ℕ))
     (named : List ℕ) : Type 0 where
   host_alone : FreeOf at_sign authority → named ≡ authority → information ≡ None
@@ -36,13 +36,13 @@ pub data UriAuthority (authority : List ℕ) (information : Option (List ℕ))
       → authority ≡ i ++ at_sign ∷ named → information ≡ Some i
       → UriAuthority authority information named
 
--- nothing, or a colon and the digits of a port
+-- the empty text, or a colon and the digits of a port
 pub data UriPort (behind : List ℕ) (port : Option (List ℕ)) : Type 0 where
   absent : behind ≡ [] → port ≡ None → UriPort behind port
   there : (digits : List ℕ) → behind ≡ colon ∷ digits → list_all is_ascii_digit digits ≡ true
       → port ≡ Some digits → UriPort behind port
 
--- a host and what follows it: an IPv6 address in brackets, or a name or an IPv4 address
+-- a host and the text after it: an IPv6 address in brackets, or a name or an IPv4 address
 pub data UriHost (named host behind : List ℕ) : Type 0 where
   bracketed : (inside : List ℕ) → IsIpv6Text inside
       → host ≡ left_bracket ∷ (inside ++ right_bracket ∷ [])
@@ -50,15 +50,15 @@ pub data UriHost (named host behind : List ℕ) : Type 0 where
   unbracketed : FreeOf colon host → begins_with left_bracket host ≡ false → named ≡ host ++ behind
       → UriHost named host behind
 
--- a letter, a digit, a mark that is no delimiter of a URI, or the `%` of an escape
+-- a letter, a digit, a mark that is not a delimiter of a URI, or the `%` of an escape
 abbrev pub is_host_byte : ℕ → Bool
 is_host_byte b = is_ascii_alphanumeric b || is_one_of (codes "-._~!$&'()*+,;=%") b
 
--- the text is of such bytes, and each `%` begins an escape
+-- each byte of the text passes the test, and each `%` begins an escape
 abbrev pub IsEscaped : (ℕ → Bool) → List ℕ → Type 0
 IsEscaped test t = (list_all test t ≡ true) × (is_sound t ≡ true)
 
--- the components have the bytes that RFC 3986 allows them
+-- the components have only bytes that RFC 3986 allows
 pub record HasUriBytes (r : UriReading) : Type 0 where
   pub scheme : is_scheme_text r.scheme ≡ true
   pub information : IfSome r.information (IsEscaped (λ b. is_host_byte b || b == colon))
@@ -67,7 +67,7 @@ pub record HasUriBytes (r : UriReading) : Type 0 where
   pub query : IfSome r.query (IsEscaped is_uri_byte)
   pub fragment : IfSome r.fragment (IsEscaped is_uri_byte)
 
--- the text is a URI with an authority, and these are its components
+-- the text is a URI with an authority, and has these components
 pub record UriReads (t : List ℕ) (r : UriReading) : Type 0 where
   pub authority : List ℕ
   pub behind : List ℕ
@@ -82,26 +82,26 @@ pub record UriReads (t : List ℕ) (r : UriReading) : Type 0 where
   pub path : CutsPath behind r.path r.query r.fragment
   pub bytes : HasUriBytes r
 
--- a text is a URI in one way
+-- a text has at most one reading as a URI
 abbrev pub OneUriReading : Type 0
 OneUriReading = (t : List ℕ) (r other : UriReading) → UriReads t r → UriReads t other → r ≡ other
 
--- the URI is in the normal form, as far as readers change it: scheme and host in lower case, and no segment
--- `.` or `..`, be it escaped
+-- the URI is in the normal form, as far as readers normalize it: scheme and host in lower case, and no segment
+-- `.` or `..`, escaped or not
 pub record IsNormalUri (r : UriReading) : Type 0 where
   pub scheme : IsLowercase r.scheme
   pub host : IsLowercase r.host
   pub path : ¬ HasDotSegment r.path
   pub escaped : ¬ HasDotSegment (percent_decode r.path)
 
--- ---- the location's own
+-- ---- the location's own fields
 
--- a path without its first byte, as Git's credential code has it
+-- a path without its first byte, as Git's credential code reads it
 abbrev pub below_root : List ℕ → Option (List ℕ)
 below_root [] = None
 below_root (b ∷ bs) = trimmed_path bs
 
--- the location's own parts, as Git's credential code has them: the host with its port, and the path without
+-- the location's own fields, as Git's credential code reads them: the host with its port, and the path without
 -- the slashes around it
 abbrev pub own_credential : Location → List ℕ → CredentialReading
 own_credential v host_text = record {
@@ -112,7 +112,7 @@ own_credential v host_text = record {
   path = below_root v.path;
 }
 
--- user information that decodes to a user and, behind its colon, to a password
+-- user information that decodes to a user and, after its colon, to a password
 pub data IsOwnInformation (user password information : Option (List ℕ)) : Type 0 where
   absent : user ≡ None → password ≡ None → information ≡ None
       → IsOwnInformation user password information
@@ -122,12 +122,12 @@ pub data IsOwnInformation (user password information : Option (List ℕ)) : Type
       → information ≡ Some (a ++ colon ∷ b) → FreeOf colon a
       → percent_decode a ≡ u → percent_decode b ≡ p → IsOwnInformation user password information
 
--- a path with the query behind it, as it is written
+-- a path with the query after it, undecoded
 abbrev pub with_query : List ℕ → Option (List ℕ) → List ℕ
 with_query path None = path
 with_query path (Some query) = path ++ question_mark ∷ query
 
--- the components of the URI are the location's own: they decode to its parts, and there is no fragment
+-- the components of the URI are the location's own: they decode to its fields, and there is no fragment
 pub record IsOwnUri (v : Location) (r : UriReading) : Type 0 where
   pub scheme : r.scheme ≡ scheme_text v.scheme
   pub information : IsOwnInformation v.user v.password r.information
@@ -136,7 +136,7 @@ pub record IsOwnUri (v : Location) (r : UriReading) : Type 0 where
   pub path : percent_decode (with_query r.path r.query) ≡ v.path
   pub fragment : r.fragment ≡ None
 
--- both readers read the location's own in the text
+-- both readers read the location's own fields in the text
 pub record ReadsOwnOverWeb (t : List ℕ) (v : Location) : Type 0 where
   pub host : List ℕ
   pub there : v.host ≡ Some host

@@ -22,7 +22,7 @@ use Rattle.git_laws.specs.Order.{text_cmp, location_cmp, fed_scheme, fed_locatio
 abbrev pub Unique : Type 0
 Unique = (b : List ℕ) (v w : Location) → Spells b v → Spells b w → v ≡ w
 
--- the location has a text, and what that text spells has the same fields and the same text
+-- the location has a text, and a location that this text spells has the same fields and the same text
 pub record ComesBack (v : Location) : Type 0 where
   pub written : List ℕ
   pub reread : Location
@@ -31,12 +31,12 @@ pub record ComesBack (v : Location) : Type 0 where
   pub same_fields : fields reread ≡ fields v
   pub same_text : text reread ≡ Ok written
 
--- a settled location comes back as a settled one
+-- the text of a settled location spells a settled one
 abbrev pub SettledAgain : Type 0
 SettledAgain = (v : Location) → IsValue v → IsSettled v
     → (back : ComesBack v) × IsSettled back.reread
 
--- what is read of a settled location's text, whatever it is, is the location again
+-- any location that a settled location's text spells is the location again
 abbrev pub ReadAgain : Type 0
 ReadAgain = (v w : Location) (t : List ℕ) → IsValue v → IsSettled v → text v ≡ Ok t → Spells t w
     → IsAgain v w
@@ -46,7 +46,7 @@ abbrev pub TextDecides : Type 0
 TextDecides = (v w : Location) → IsValue v → IsValue w → IsSettled v → IsSettled w → text v ≡ text w
     → fields v ≡ fields w
 
--- what is read of a settled location of HTTP has the same components
+-- a location that the text of a settled location of HTTP spells has the same components
 abbrev pub SameComponents : Type 0
 SameComponents = (v w : Location) (t : List ℕ) → IsValue v → IsWeb v → IsSettled v → text v ≡ Ok t
     → Spells t w
@@ -54,7 +54,7 @@ SameComponents = (v w : Location) (t : List ℕ) → IsValue v → IsWeb v → I
 
 -- ---- closure
 
--- the schemes of which all that is read is settled, with exceptions
+-- the schemes for which every spelled location is settled, with exceptions
 abbrev pub is_closed : Scheme → Bool
 is_closed git = false
 is_closed ssh = false
@@ -74,61 +74,62 @@ pub data IsException (v : Location) : Type 0 where
   -- a location of HTTP whose text is too long
   web_length : IsWeb v → ¬ HasFittingText v → IsException v
 
--- what is spelled is settled, or is an exception
+-- a spelled location of local files, HTTP, `ext` or a remote helper is settled or an exception
 abbrev pub Closed : Type 0
 Closed = (b : List ℕ) (v : Location) → Spells b v → is_closed v.scheme ≡ true
     → IsSettled v ⊎ IsException v
 
--- no exception is settled
+-- an exception, as `IsException` defines it, is not settled
 abbrev pub Apart : Type 0
 Apart = (v : Location) → IsException v → ¬ IsSettled v
 
--- of these schemes a value whose spelling isn't its path is settled exactly where it comes back
+-- a value of local files, HTTP, `ext` or a remote helper whose spelling isn't its path is settled exactly if it
+-- comes back
 abbrev pub Exact : Type 0
 Exact = (v : Location) → IsValue v → is_closed v.scheme ≡ true → ¬ (v.spelling ≡ Some v.path)
     → IsSettled v ↔ ComesBack v
 
 -- ---- kinds that keep every byte
 
--- remote helpers and local paths: their text holds the path as it is
+-- remote helpers and local paths: their text has the path unchanged
 abbrev pub keeps_bytes : Scheme → Bool → Bool
 keeps_bytes file flag = flag
 keeps_bytes ext flag = true
 keeps_bytes (helper name) flag = true
 keeps_bytes _ flag = false
 
--- the location is of such a kind
+-- the location is a remote helper or a local path, whose text has the path unchanged
 abbrev pub KeepsBytes : Location → Type 0
 KeepsBytes v = keeps_bytes v.scheme v.flag ≡ true
 
--- a location of such a kind that isn't settled has the fields of nothing that is spelled
+-- no bytes spell a location with the fields of an unsettled remote helper, `ext` location or local path
 abbrev pub ExactByFields : Type 0
 ExactByFields = (v : Location) → KeepsBytes v → (b : List ℕ) (w : Location) → Spells b w
     → fields w ≡ fields v → IsSettled v
 
--- what a remote helper's form or a local path spells is settled, and is written as the bytes that it was read
--- from
+-- a location that a remote helper's form or a local path spells is settled, and is written as the bytes that it
+-- was read from
 abbrev pub Unchanged : Type 0
 Unchanged = (b : List ℕ) (v : Location) → SpellsHelper b v ⊎ SpellsLocal b v
     → IsSettled v × (text v ≡ Ok b)
 
--- ---- what is read
+-- ---- spelled locations
 
--- what is spelled has a text, and is itself when it was stored: its spelling isn't its path
+-- a spelled location has a text, and migration doesn't change it: its spelling isn't its path
 abbrev pub Writable : Type 0
 Writable = (b : List ℕ) (v : Location) → Spells b v
     → ((t : List ℕ) × (text v ≡ Ok t)) × ¬ (v.spelling ≡ Some v.path) × (migrated v ≡ v)
 
 -- ---- the earlier grammar
 
--- a local path, as the earlier grammar had it
+-- a local path in the earlier grammar
 pub record SpellsLocalBefore (b : List ℕ) (v : Location) : Type 0 where
   pub nonempty : 0 < length b
   pub neither : IsNeither b
   pub no_scp : (front path : List ℕ) → ¬ ScpForm b front path
   pub value : v ≡ path_alone file true b
 
--- the bytes spell the location in the earlier grammar, whose scp form has nothing of its own for that form
+-- the bytes spell the location in the earlier grammar, which lacks the form `user@[address]:path`
 pub data SpellsBefore (b : List ℕ) (v : Location) : Type 0 where
   url : SpellsUrl b v → SpellsBefore b v
   file_url : SpellsFile b v → SpellsBefore b v
@@ -136,35 +137,36 @@ pub data SpellsBefore (b : List ℕ) (v : Location) : Type 0 where
   scp_form : SpellsScpBefore b v → SpellsBefore b v
   local_path : SpellsLocalBefore b v → SpellsBefore b v
 
--- what the earlier grammar spelled is spelled; bytes without that form spell nothing else
+-- bytes spell what they spelled in the grammar without `user@[address]:path`; bytes without that form spell nothing
+-- else
 abbrev pub KeepsEarlier : Type 0
 KeepsEarlier = (b : List ℕ) (v : Location)
     → (SpellsBefore b v → Spells b v) × (¬ IsAddressed b → Spells b v → SpellsBefore b v)
 
 -- ---- equality, order and hash
 
--- what is equal is one value
+-- equal values are one value
 abbrev pub EqualIsSame : {K : Type 0} → (K → K → Bool) → Type 0
 EqualIsSame {K} equal = (x y : K) → IsTrue (equal x y) ↔ (x ≡ y)
 
--- the order leaves two values open exactly where they are equal
+-- the order returns `Equal` exactly for equal values
 abbrev pub TiedIsEqual : {K : Type 0} → (K → K → Bool) → (K → K → Ordering) → Type 0
 TiedIsEqual {K} equal order = (x y : K) → (order x y ≡ Equal) ↔ IsTrue (equal x y)
 
--- what is equal is fed to a hasher alike
+-- equal values feed a hasher alike
 abbrev pub FedAlike : {K : Type 0} → (K → K → Bool) → (K → HashWrites) → Type 0
 FedAlike {K} equal fed = (x y : K) → IsTrue (equal x y) → fed x ≡ fed y
 
--- what is fed to a hasher alike is one location
+-- locations that feed a hasher alike are one location
 abbrev pub LocationsFedApart : Type 0
 LocationsFedApart = (v w : Location) → IsValue v → IsValue w → fed_location v ≡ fed_location w
     → v ≡ w
 
--- what is fed to a hasher alike is one scheme
+-- schemes that feed a hasher alike are one scheme
 abbrev pub SchemesFedApart : Type 0
 SchemesFedApart = (p q : Scheme) → fed_scheme p ≡ fed_scheme q → p ≡ q
 
--- the public fields decide the order, and the spelling only where they are equal
+-- the public fields decide the order, and the spelling decides only if they are equal
 abbrev pub SpellingLast : Type 0
 SpellingLast = (v w : Location)
     → location_cmp v w ≡ ordering_then (location_cmp (fields v) (fields w))

@@ -1,4 +1,4 @@
--- What a user reads.
+-- Public definitions.
 pub mod GitWeb
 pub mod GitClass
 pub mod Components

@@ -1,4 +1,4 @@
--- Equality, order and hash of schemes and of locations: part by part in declared order, texts by their bytes.
+-- Equality, order and hash of schemes and of locations: field by field in declared order, texts by their bytes.
 use Rattle.std.specs.Prelude.{ℕ, Bool, cond, ◌&&◌, nat_eq, List, [], ◌∷◌, ◌++◌, length, bytes_eq, Option, Some, None, is_some}
 use Rattle.std.specs.Option.{option_eq, option_cmp}
 use Rattle.std.specs.declared.cmp.Ordering.{Ordering}
@@ -10,7 +10,7 @@ use mathlib.Core.Bool.{beq}
 use Rattle.git_syntax.specs.Location.{Scheme, Location}
 use Rattle.git_syntax.specs.Location.Scheme.{file, git, ssh, http, https, ext, helper, helper_url}
 
--- where a scheme is among the kinds of them, as they are declared
+-- the index of a scheme's kind in the order of declaration
 abbrev pub rank : Scheme → ℕ
 rank file = 0
 rank git = 1
@@ -21,7 +21,7 @@ rank ext = 5
 rank (helper name) = 6
 rank (helper_url name) = 7
 
--- the name that a scheme brings with it, where its kind alone doesn't say which it is
+-- the name in a scheme, if its kind has one
 abbrev pub held_name : Scheme → Option (List ℕ)
 held_name (helper name) = Some name
 held_name (helper_url name) = Some name
@@ -29,15 +29,15 @@ held_name _ = None
 
 -- ---- equality
 
--- texts that may be missing are equal where both are missing, or both are there with the same bytes
+-- texts that may be missing are equal if both are missing, or both are there with the same bytes
 abbrev pub text_eq : Option (List ℕ) → Option (List ℕ) → Bool
 text_eq = option_eq bytes_eq
 
--- schemes are equal where their kinds and their names are
+-- schemes are equal if their kinds and their names are
 abbrev pub scheme_eq : Scheme → Scheme → Bool
 scheme_eq p q = nat_eq (rank p) (rank q) && text_eq (held_name p) (held_name q)
 
--- locations are equal where all eight parts are
+-- locations are equal if all eight fields are
 abbrev pub location_eq : Location → Location → Bool
 location_eq v w =
     scheme_eq v.scheme w.scheme
@@ -48,11 +48,11 @@ location_eq v w =
 
 -- ---- order
 
--- bytes are ordered by the first that differs, and a text comes behind its own front
+-- bytes are ordered by the first that differs, and a text comes after its own front
 abbrev pub bytes_cmp : List ℕ → List ℕ → Ordering
 bytes_cmp = slice_cmp nat_cmp
 
--- a text that is missing comes before each that is there
+-- a missing text comes before any other
 abbrev pub text_cmp : Option (List ℕ) → Option (List ℕ) → Ordering
 text_cmp = option_cmp bytes_cmp
 
@@ -60,7 +60,7 @@ text_cmp = option_cmp bytes_cmp
 abbrev pub scheme_cmp : Scheme → Scheme → Ordering
 scheme_cmp = then_cmp (on rank nat_cmp) (on held_name text_cmp)
 
--- locations are ordered by the first part that differs, in declared order, the retained spelling last
+-- locations are ordered by the first field that differs, in declared order, the retained spelling last
 abbrev pub location_cmp : Location → Location → Ordering
 location_cmp =
     then_cmp (on (λ v. v.scheme) scheme_cmp)
@@ -75,35 +75,35 @@ location_cmp =
 abbrev pub as_byte : Bool → ℕ
 as_byte b = cond b 1 0
 
--- whether a part is there, as a byte
+-- whether a field is there, as a byte
 abbrev pub there : {K : Type 0} → Option K → ℕ
 there p = as_byte (is_some p)
 
--- of bytes a hasher is fed the length, and then all of them at once
+-- bytes feed a hasher their length, and then all bytes at once
 abbrev pub fed_bytes : List ℕ → HashWrites
 fed_bytes bs = fed.usize (length bs) ++ (bs ∷ [])
 
--- of what may be missing it is fed what is there
+-- an optional value feeds a hasher like the value itself, or nothing
 abbrev pub fed_part : {K : Type 0} → (K → HashWrites) → Option K → HashWrites
 fed_part feed None = []
 fed_part feed (Some x) = feed x
 
--- of a text the bytes, and 255 behind them, which no UTF-8 has
+-- an optional text feeds a hasher its bytes, and then 255, which is not in UTF-8
 abbrev pub fed_text : Option (List ℕ) → HashWrites
 fed_text = fed_part fed.str
 
--- of a scheme it is fed the kind, and the name of a kind that has one
+-- a scheme feeds a hasher its kind, and its name if the kind has one
 abbrev pub fed_scheme : Scheme → HashWrites
 fed_scheme p = fed.u8 (rank p) ++ fed_text (held_name p)
 
--- a byte for each of the eight parts: the kind of the scheme, the flag, and whether each other part is there,
+-- a byte for each of the eight fields: the kind of the scheme, the flag, and whether each other field is there,
 -- as the path always is
 abbrev pub outline : Location → List ℕ
 outline v =
     rank v.scheme ∷ there v.user ∷ there v.password ∷ there v.host
     ∷ as_byte v.flag ∷ there v.port ∷ 1 ∷ there v.spelling ∷ []
 
--- of a location it is fed the outline, and then what the parts hold, in declared order
+-- a location feeds a hasher its outline, and then the contents of its fields, in declared order
 abbrev pub fed_location : Location → HashWrites
 fed_location v =
     outline v ∷ (fed_text (held_name v.scheme) ++ (fed_text v.user ++ (fed_text v.password

@@ -1,9 +1,8 @@
 //! Laws of the library, over the definitions of its contracts alone.
 //!
-//! The functions have no code and answer nothing: the contract of each is its laws. (`law_value` looks at the
-//! fields of a location, and changes nothing.) Those that are named here from other modules are beside what
-//! they are laws of. Users rely on them together with the contracts of `parse`, of the writer, of the settled
-//! test and of `lines`, which name the same definitions.
+//! The functions have no effect: the contract of each is its laws. (`law_value` reads the fields of a
+//! location.) Laws from other modules are in the modules that they are about. Users combine them with the
+//! contracts of `parse`, of the writer, of the settled test and of `lines`, which name the same definitions.
 
 ghost use Rattle.std.specs.Cmp.{IsTotalOrder};
 ghost use Rattle.git_laws.specs.AnswerLaws.{LineForLine, OneLine, OneSplit};
@@ -19,20 +18,20 @@ ghost use Rattle.git_laws.specs.Safeguards.{SettledWithoutPassword, SettledWitho
 
 /// Texts distinguish locations.
 ///
-/// - `unique`: no bytes spell two locations, the retained spelling included. So what `parse` answers is the
-///   one location of its input.
+/// - `unique`: no bytes spell two locations, the retained spelling included. So `parse` returns the only
+///   location of its input.
 /// - `settled_again`: the text of a settled location spells a location with the same public fields, which is
-///   settled and has that text. Rewriters of remotes read back what they wrote. (Each `Url` is such a value:
-///   `law_value`.)
-/// - `read_again`: whatever is read of that text, by any reader that keeps to the grammar, is that location
-///   again.
-/// - `text_decides`: two settled locations whose texts are equal have equal public fields. Matchers of
-///   credentials compare texts.
-/// - `components`: what is read of a settled location of HTTP has the same path, query and fragment.
-/// - `before`: each location that bytes spelled before the scp form took `user@[address]:path` is still what
-///   they spell, and bytes without that form spell nothing else. Who stored such texts reads them as before.
+///   settled and has that text. Programs that rewrite remotes read back what they wrote. (Each `Url` is such a
+///   value: `law_value`.)
+/// - `read_again`: any reader that implements the grammar reads that location again in the text.
+/// - `text_decides`: two settled locations whose texts are equal have equal public fields. So credential
+///   matchers may compare texts.
+/// - `components`: the location that is read from the text of a settled location of HTTP has the same path,
+///   query and fragment.
+/// - `before`: bytes that spelled a location before the scp form accepted `user@[address]:path` still spell it,
+///   and bytes without that form spell nothing else. Stored texts are read as before.
 ///
-/// A law is a call with an empty body. A proof cites it where it was made:
+/// A law is a call with an empty body. A proof cites it after the call:
 ///
 /// ```
 /// /// Whether two remotes are written alike. Then they have the same public fields.
@@ -59,15 +58,15 @@ pub fn law_separation()
     ensures before { KeepsEarlier }
 {}
 
-/// Records of the legacy form, whose spelling is their path, stand for the same bytes after migration.
+/// Legacy records, whose spelling is their path, mean the same bytes after migration.
 ///
-/// - `respelled`: each path has one new spelling, in which its escapes stay and every other byte is written
-///   as in a path.
-/// - `keeps_meaning`: a path and its new spelling decode to the same bytes, so the new spelling belongs to
-///   the decoded path. Who migrates old records loses nothing by it.
-/// - `migrates`: a record of the legacy form stands for the location with its path decoded, and with that new
-///   spelling; every other record stands for the location with its own parts.
-/// - `once`: what was migrated comes back as it is when it is stored and restored again.
+/// - `respelled`: each path has one new spelling, in which its escapes stay and every other byte is written as
+///   in a path.
+/// - `keeps_meaning`: a path and its new spelling decode to the same bytes, so the new spelling belongs to the
+///   decoded path. Migration loses nothing.
+/// - `migrates`: a legacy record represents the location with its path decoded, and with that new spelling;
+///   every other record represents the location with its own fields.
+/// - `once`: a migrated location is unchanged when it is stored and restored again.
 pub fn law_stored()
     ensures respelled { RespelledOnce }
     ensures keeps_meaning { KeepsMeaning }
@@ -75,22 +74,23 @@ pub fn law_stored()
     ensures once { MigratedOnce }
 {}
 
-/// What is read is settled, and the settled class is exact: of local files, HTTP, `ext` and remote helpers.
+/// Locations that were read are settled, and the settled class is exact: for local files, HTTP, `ext` and
+/// remote helpers.
 ///
 /// - `closed`: a location of these kinds is settled if any bytes spell it, with three exceptions: a host of a
-///   file URL with `:` and `%`, a host of HTTP with `%` and a `:` at its end (both only where it doesn't
-///   begin with `[`), and a location of HTTP whose text is too long to be read again. Who only reads meets no
-///   other unsettled one.
-/// - `apart`: no exception is settled, so what is read is one or the other.
-/// - `exact`: such a location is settled exactly where its text is read as its public fields and written the
-///   same again, if its spelling isn't its path. So of these the class leaves none out.
-/// - `unchanged`: what bytes spell as a remote helper or a local path is settled, and its text is those
-///   bytes. Tools that read and write lists of remotes keep such lines to the byte. (A URL of the scheme
-///   `ext` is settled too, but is written behind `ext::`.)
-/// - `exact_by_fields`: an unsettled remote helper or local path has the public fields of nothing that any
-///   bytes spell.
-/// - `writable`: of every kind, what is spelled has a text, and its spelling isn't its path, so a record of
-///   it isn't taken for one of the legacy form. Who stores what was read gets it back.
+///   file URL with `:` and `%`, a host of HTTP with `%` and a `:` at its end (both only if it doesn't begin
+///   with `[`), and a location of HTTP whose text is too long to be read again. A program that only reads gets
+///   no other unsettled one.
+/// - `apart`: no exception is settled, so a location that was read is one or the other.
+/// - `exact`: such a location is settled exactly if its text is read as its public fields and written the same
+///   again, provided that its spelling isn't its path. So the class leaves out none of them.
+/// - `unchanged`: a location that bytes spell as a remote helper or a local path is settled, and its text is
+///   those bytes. Programs that read and write lists of remotes keep such lines to the byte. (A URL of the
+///   scheme `ext` is settled too, but is written after `ext::`.)
+/// - `exact_by_fields`: no bytes spell a location with the public fields of an unsettled remote helper or local
+///   path.
+/// - `writable`: for every kind, a spelled location has a text, and its spelling isn't its path, so its record
+///   isn't read as a legacy one. A location that was read and stored is restored unchanged.
 pub fn law_closed()
     ensures closed { Closed }
     ensures apart { Apart }
@@ -102,20 +102,19 @@ pub fn law_closed()
 
 /// Equality, order and hash of locations agree.
 ///
-/// - `same`: two locations are equal exactly where they are one value, the retained spelling included. So
-///   what holds of one holds of the other: matchers and caches need no more than `==`.
-/// - `tied`: the order answers `Equal` exactly of equal locations. So a sorted list and a `BTreeMap` keep any
-///   two apart that `==` does.
-/// - `total`: the order is total. Of two locations one comes first or they are equal, whatever is between
-///   them.
-/// - `hashed`: equal locations feed a hasher the same. So a `HashMap` finds what `==` does.
-/// - `hashed_apart`: and no others do. No part is left out, so a good hasher distinguishes any two locations.
+/// - `same`: two locations are equal exactly if they are one value, the retained spelling included. So a fact
+///   about one holds for the other: matchers and caches need only `==`.
+/// - `tied`: the order returns `Equal` exactly for equal locations. So a sorted list and a `BTreeMap`
+///   distinguish the same locations as `==`.
+/// - `total`: the order is total: one of two locations comes first, or they are equal.
+/// - `hashed`: equal locations feed a hasher alike. So a `HashMap` finds the same locations as `==`.
+/// - `hashed_apart`: no others do. No field is left out, so a good hasher distinguishes any two locations.
 ///   (Each `Url` is such a value: `law_value`.)
-/// - `spelling_last`: the public fields decide the order, and the retained spelling only where they are all
-///   equal. So those with equal public fields are side by side in a sorted list.
+/// - `spelling_last`: the public fields decide the order, and the retained spelling decides only if they are
+///   all equal. So locations with equal public fields are adjacent in a sorted list.
 ///
-/// Equality is no test for one repository: it knows nothing of default ports, of letter case in paths or of
-/// how two texts of one location differ.
+/// Equality doesn't decide whether two locations name one repository: it takes no account of default ports, of
+/// letter case in paths or of different texts of one location.
 pub fn law_order()
     ensures same { EqualIsSame location_eq }
     ensures tied { TiedIsEqual location_eq location_cmp }
@@ -125,14 +124,8 @@ pub fn law_order()
     ensures spelling_last { SpellingLast }
 {}
 
-/// Equality, order and hash of schemes agree, as those of locations do. A scheme counts as the value that it
-/// stands for.
-///
-/// - `same`: two schemes are equal exactly where they stand for one value.
-/// - `tied`: the order answers `Equal` exactly of equal schemes.
-/// - `total`: the order is total.
-/// - `hashed`: equal schemes feed a hasher the same.
-/// - `hashed_apart`: and no others do.
+/// Equality, order and hash of schemes agree: each clause states for schemes the fact that the clause of this name
+/// in [`law_order`] states for locations. A scheme is compared as the value that it represents.
 pub fn law_scheme_order()
     ensures same { EqualIsSame scheme_eq }
     ensures tied { TiedIsEqual scheme_eq scheme_cmp }
@@ -141,43 +134,41 @@ pub fn law_scheme_order()
     ensures hashed_apart { SchemesFedApart }
 {}
 
-/// A line is answered by a line.
+/// Each line has one line as its answer.
 ///
-/// - `one_line`: the answer to a line without byte 10 is one text without it, and byte 10. A settled
-///   location's text holds none, though its path or its user may: where it is written raw it was in the line,
-///   and else it is escaped or the location isn't settled.
-/// - `line_for_line`: so what [`run`](git_lines::lines::run) writes splits at byte 10 into as many lines as
-///   its input does, each the answer to the one at its place. Who pairs them takes no answer for that to
-///   another line.
-/// - `one_split`: a text is split into lines in one way, so these are the lines that anyone gets who splits
-///   it.
+/// - `one_line`: the answer to a line without byte 10 is a text without it, and byte 10. The text of a settled
+///   location doesn't have it either, though its path or its user may: a field that is written unescaped is from
+///   the line, and in another one the byte is escaped, or the location isn't settled.
+/// - `line_for_line`: so the output of [`run`](git_lines::lines::run) splits at byte 10 into as many lines as
+///   its input, each the answer to the line at the same index. Answers can be matched to lines by position.
+/// - `one_split`: a text has only one split into lines, so every program that splits it gets these lines.
 pub fn law_lines()
     ensures one_line { OneLine }
     ensures line_for_line { LineForLine }
     ensures one_split { OneSplit }
 {}
 
-/// What the path of a location is made of is determined, and equality distinguishes it.
+/// The components of a location's path are determined by the location, and equality distinguishes them.
 ///
-/// - `one`: each location has a path, a query and a fragment by the definition, and no two values of them. So
-///   what `path_query_fragment` answers is said by the location alone.
-/// - `equal`: components that compare equal are one value, and one value compares equal to itself. Who finds
-///   two locations with equal components knows that no byte of path, query or fragment differs.
+/// - `one`: each location has exactly one path, query and fragment by the definition. So the result of
+///   `path_query_fragment` depends only on the location.
+/// - `equal`: components that compare equal are one value, and one value compares equal to itself. So two
+///   locations with equal components have the same bytes in path, query and fragment.
 pub fn law_components()
     ensures one { OneComponents }
     ensures equal { EqualComponents }
 {}
 
-/// A settled location stays settled where a part of it is left out.
+/// A settled location stays settled without some of its fields.
 ///
-/// - `password`: without its password it is settled exactly where it has none, or its user isn't empty. An
-///   empty user is written only before a password, so `http://:secret@host/` isn't settled without it. Who
-///   hides passwords from logs and from other programs keeps a location that comes back.
-/// - `web_spelling`: a settled location of HTTP is settled without its spelling. Who keeps the public fields
-///   alone, and makes a location of them by [`Url::from_parts`](gix_url::Url::from_parts), loses no settled
-///   one.
-/// - `spelling`: so it is with each kind but the URLs of Secure Shell, of Git and of other schemes. One of
-///   these is settled without its spelling exactly where its path has neither `%` nor white space, and, if it
+/// - `password`: without its password it is settled exactly if it has none, or its user isn't empty. An empty
+///   user is written only before a password, so `http://:secret@host/` isn't settled without it. Hiding
+///   passwords from logs and from other programs keeps all other locations settled.
+/// - `web_spelling`: a settled location of HTTP is settled without its spelling. A program that keeps only its
+///   public fields, and makes a location of them by [`Url::from_parts`](gix_url::Url::from_parts), gets a
+///   settled one again.
+/// - `spelling`: the same holds for each kind except the URLs of Secure Shell, of Git and of other schemes. One
+///   of these is settled without its spelling exactly if its path has neither `%` nor white space, and, if it
 ///   has no host, the text of its public fields is short enough.
 pub fn law_stripped()
     ensures password { SettledWithoutPassword }
@@ -188,16 +179,18 @@ pub fn law_stripped()
 /// Git reads the same place.
 ///
 /// - `alike`: a location that [`Url::agrees_with_git`](gix_url::Url::agrees_with_git) accepts has a text, and
-///   Git reads in it the location's own protocol, user, host, port and path; of `git://` the host without
-///   brackets around it. So where credentials are picked by the host that is read here, and the text is then
-///   given to Git, Git reads that host. Over HTTP two readers do: Git's credential code, which asks helpers
-///   for a password, reads the location's own protocol, user, password, host and port, and its path without
-///   the slashes around it; and a reader of URIs, which opens the connection, reads components that decode to
-///   the location's own parts, without a fragment, and finds nothing to change in them. So a helper is asked
-///   for the host that is connected to.
-/// - `one`: Git reads one thing in a text, whatever the text is. So it reads nothing else in that one.
-/// - `one_credential`: so it is with its credential code, whatever the text is.
-/// - `one_uri`: so it is with a reader of URIs.
+///   Git reads in it the location's own scheme, user, host, port and path; with `git://`, the host without
+///   brackets around it. So if credentials are chosen by the host that is read here, and the text is then
+///   passed to Git, Git reads that host. Over HTTP two readers do: Git's credential code, which asks helpers
+///   for a password, reads the location's own scheme, user, password, host and port, and its path without the
+///   slashes around it; and a reader of URIs, which opens the connection, reads components that decode to the
+///   location's own fields, without a fragment, and finds nothing to normalize. So a helper is asked for the
+///   host to which Git connects.
+/// - `one`: by the definition, Git has at most one reading of any text, so it reads nothing else in that one.
+/// - `one_credential`: Git's credential code has at most one reading of any text.
+/// - `one_uri`: a reader of URIs has at most one reading of any text.
+///
+/// The law is about the definitions of these readers. That Git and libcurl keep to them is tested.
 pub fn law_git()
     ensures alike { ReadAlike }
     ensures one { OneGitReading }

@@ -1,6 +1,5 @@
-//! Rows: that the definitions say of written-out texts and values what they should.
-//!
-//! It has no code and uses nothing: the contract of each function is a group of rows.
+//! Examples of the definitions, for texts and values that are written out. The contract of each function is a
+//! group of rows.
 
 ghost use Rattle.git_laws.specs.Examples.ByteRows.{EscapeSetRows, EscapedByteRows, GitByteRows, HostByteRows, NameByteRows, QuickByteRows, WhiteSpaceRows};
 ghost use Rattle.git_laws.specs.Examples.OtherRows.{ExceptionRows, NoExceptionRows, SlipRows};
@@ -17,7 +16,7 @@ fn law_bytes()
     ensures sets { EscapeSetRows }
 {}
 
-/// What Git reads.
+/// Texts that Git reads, and some that it doesn't read.
 fn law_git()
     ensures urls { GitUrlRows }
     ensures others { GitTextRows }
@@ -25,7 +24,7 @@ fn law_git()
     ensures credentials { CredentialRows }
 {}
 
-/// Corners of what is read, and slips in definitions.
+/// Exceptions, and errors in definitions that the laws would not detect.
 fn law_others()
     ensures slips { SlipRows }
     ensures inside { ExceptionRows }

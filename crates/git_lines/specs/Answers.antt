@@ -1,4 +1,4 @@
--- What `lines::run` answers: a line for each line.
+-- The result of `lines::run`: an answer for each line.
 use Rattle.std.specs.Prelude.{◌≡◌, ℕ, Bool, true, false, List, ◌++◌, codes, Option, Result, Ok, Err, IfSome, ◌≤◌, ◌&&◌, [], ◌∷◌, All, length, flat_map}
 use Rattle.std.specs.Io.KnownBytes.{Appends, IsAtEnd}
 use Rattle.git_refusals.specs.declared.reason.RefusalKind.{RefusalKind}
@@ -18,16 +18,16 @@ use Rattle.git_location.specs.Settled.{IsSettled}
 use Rattle.git_refusals.specs.Kinds.{kind_of}
 use Rattle.git_refusals.specs.Reasons.{Refused}
 
--- lines, each with the line end behind it
+-- lines, each followed by its line end
 abbrev pub ended_lines : List (List ℕ) → List ℕ
 ended_lines lines = flat_map (λ line. line ++ newline ∷ []) lines
 
--- a last line without a line end counts where it isn't empty
+-- a last line without a line end counts if it isn't empty
 abbrev pub last_line : List ℕ → List (List ℕ)
 last_line [] = []
 last_line (b ∷ bs) = (b ∷ bs) ∷ []
 
--- the text is these lines
+-- the text consists of these lines
 pub record SplitsLines (b : List ℕ) (lines : List (List ℕ)) : Type 0 where
   pub full : List (List ℕ)
   pub last : List ℕ
@@ -36,12 +36,12 @@ pub record SplitsLines (b : List ℕ) (lines : List (List ℕ)) : Type 0 where
   pub joined : b ≡ ended_lines full ++ last
   pub counted : lines ≡ full ++ last_line last
 
--- no line of the text is longer than this: nothing that is in it without a line end is
+-- no line of the text is longer than this: no part of it without a line end is
 abbrev pub HasLinesWithin : ℕ → List ℕ → Type 0
 HasLinesWithin most b = (before line behind : List ℕ) → FreeOf newline line
     → b ≡ before ++ (line ++ behind) → length line ≤ most
 
--- the name of a fault
+-- the name of a fault of a URL
 abbrev pub fault_name : UrlFault → List ℕ
 fault_name fault.NoScheme = codes "NoScheme"
 fault_name fault.BadPort = codes "BadPort"
@@ -56,20 +56,20 @@ error_name kind.NotUtf8 = codes "NotUtf8"
 error_name kind.TooLong = codes "TooLong"
 error_name (kind.BadUrl named) = codes "BadUrl " ++ fault_name named
 
--- the name of what a text is refused for
+-- the name of the error of a refusal
 abbrev pub refusal_name : Refusal → List ℕ
 refusal_name r = error_name (kind_of r.reason)
 
--- a word and what it is said of, on a line
+-- a line: a word, a tab and a text
 abbrev pub reported_line : List ℕ → List ℕ → List ℕ
 reported_line word of_what = word ++ (tab ∷ (of_what ++ newline ∷ []))
 
--- what is reported of a location, and whether it is settled
+-- the report on a location, and whether it is settled
 pub data IsReported (v : Location) (answer : List ℕ) (good : Bool) : Type 0 where
   -- a settled location: its text
   settled : (t : List ℕ) → text v ≡ Ok t → IsSettled v → answer ≡ reported_line (codes "settled") t
       → good ≡ true → IsReported v answer good
-  -- another that has a text: its scheme
+  -- another location with a text: its scheme
   unsettled : (t : List ℕ) → text v ≡ Ok t → ¬ IsSettled v
       → answer ≡ reported_line (codes "unsettled") (scheme_text v.scheme) → good ≡ false
       → IsReported v answer good
@@ -78,11 +78,11 @@ pub data IsReported (v : Location) (answer : List ℕ) (good : Bool) : Type 0 wh
       → answer ≡ reported_line (codes "unwritable") (scheme_text v.scheme) → good ≡ false
       → IsReported v answer good
 
--- the answer to a line, and whether the line is settled
+-- the answer to a line, and whether the line is a settled location
 pub data IsAnswer (line answer : List ℕ) (good : Bool) : Type 0 where
-  -- what is reported of the one location that it spells
+  -- the report on the one location that it spells
   reported : (v : Location) → Spells line v → IsReported v answer good → IsAnswer line answer good
-  -- its one refusal, so that it spells none (`RefusedUnspelled`)
+  -- the name of its one refusal; it spells no location then (`RefusedUnspelled`)
   refused : (r : Refusal) → Refused line r → answer ≡ reported_line (codes "refused") (refusal_name r)
       → good ≡ false → IsAnswer line answer good
 
@@ -98,7 +98,8 @@ AnswersEach (line ∷ lines) out good =
 abbrev pub Answers : List ℕ → List ℕ → Bool → Type 0
 Answers b out good = (lines : List (List ℕ)) × SplitsLines b lines × AnswersEach lines out good
 
--- what a run left: on `Ok` all of the input is answered; where memory or the reader failed nothing is written
+-- the effect of a run: on `Ok` all of the input is answered; if an allocation or the reader failed, nothing is
+-- written
 abbrev pub Ran : {W : Type 0} → (W → Option (List ℕ)) → Option (List ℕ) → W → W
     → Result Bool RunError → Type 0
 Ran contents input old new (Ok good) = IfSome input
@@ -107,43 +108,43 @@ Ran contents input old new (Err run.Memory) = new ≡ old
 Ran contents input old new (Err (run.Read e)) = new ≡ old
 Ran contents input old new (Err (run.Write e)) = Unit {0}
 
--- what a run left of its input: nothing on `Ok`, and nothing where the writer failed
+-- the rest of the input after a run: nothing on `Ok`, and nothing if the writer failed
 abbrev pub RanToEnd : Option (List ℕ) → Result Bool RunError → Type 0
 RanToEnd rest (Ok good) = IsAtEnd rest
 RanToEnd rest (Err run.Memory) = Unit {0}
 RanToEnd rest (Err (run.Read e)) = Unit {0}
 RanToEnd rest (Err (run.Write e)) = IsAtEnd rest
 
--- memory or the reader failed, and not the writer
+-- an allocation or the reader failed, and not the writer
 abbrev pub IsBeforeWriting : RunError → Type 0
 IsBeforeWriting run.Memory = Unit {0}
 IsBeforeWriting (run.Read e) = Unit {0}
 IsBeforeWriting (run.Write e) = ⊥
 
--- the call appended the answer to the line, and reported whether it is settled, or memory was refused
+-- the call appended the answer to the line and returned whether the line is settled, or an allocation failed
 abbrev pub AppendsAnswer : List ℕ → List ℕ → List ℕ → Result Bool RunError → Type 0
 AppendsAnswer line old new (Ok good) = (answer : List ℕ) × IsAnswer line answer good
     × (new ≡ old ++ answer)
 AppendsAnswer line old new (Err fault) = fault ≡ run.Memory
 
--- the call appended what is reported of the location, and returned whether it is settled, or memory was
--- refused
+-- the call appended the report on the location and returned whether the location is settled, or an allocation
+-- failed
 abbrev pub Reports : Location → List ℕ → List ℕ → Result Bool RunError → Type 0
 Reports v old new (Ok good) = (answer : List ℕ) × IsReported v answer good × (new ≡ old ++ answer)
 Reports v old new (Err fault) = fault ≡ run.Memory
 
--- the call appended the answer to a line that is refused so, or memory was refused
+-- the call appended the answer to a line with this refusal, or an allocation failed
 abbrev pub ReportsRefusal : Refusal → List ℕ → List ℕ → Result Bool RunError → Type 0
 ReportsRefusal r old new (Ok good) = (good ≡ false)
     × (new ≡ old ++ reported_line (codes "refused") (refusal_name r))
 ReportsRefusal r old new (Err fault) = fault ≡ run.Memory
 
--- the call appended these bytes, or memory was refused
+-- the call appended these bytes, or an allocation failed
 abbrev pub Puts : List ℕ → List ℕ → List ℕ → Result (Unit {0}) RunError → Type 0
 Puts bytes old new (Ok u) = new ≡ old ++ bytes
 Puts bytes old new (Err fault) = fault ≡ run.Memory
 
--- what the program says of a fault
+-- the program's message for a fault
 abbrev pub fault_text : RunError → List ℕ
 fault_text run.Memory = codes "locations: out of memory"
 fault_text (run.Read e) = codes "locations: cannot read"

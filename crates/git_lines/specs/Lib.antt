@@ -1,4 +1,4 @@
--- What a user reads.
+-- Public definitions.
 pub mod Answers
 -- Examples of the definitions: each row is proved.
 pub mod Examples

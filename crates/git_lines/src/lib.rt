@@ -1,6 +1,5 @@
-//! Lists of locations, a line each: what the program `locations` does.
-//!
-//! [`lines::run`] reads and answers them. Each line is read into one room, by `git_location`.
+//! The work of the program `locations`: [`lines::run`] reads a list of locations and writes an answer to each
+//! line. How often a function allocates, and how long it takes, is tested, not proved.
 #![tactic(auto)]
 
 pub mod lines;

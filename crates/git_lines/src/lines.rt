@@ -1,9 +1,8 @@
-//! The program's work: reads locations, a line each, and answers a line for each.
+//! Reads locations, one a line, and writes an answer to each line.
 //!
-//! It uses reading into a room, the settled test, the writer, and `bytes` to cut lines. Its contract: all of
-//! the input is answered, line by line, as the definitions have it; where memory or the reader fails nothing
-//! is written, and a fault of the writer comes only once all is read. Memory is asked for to hold the input,
-//! a room as long as its longest line, and the answers; no line asks for memory of its own.
+//! All of the input is answered, line by line. If an allocation or the reader fails, nothing is written; a
+//! fault of the writer occurs only after all input was read. Allocates the input, a buffer as long as its
+//! longest line, and the answers; no line allocates a buffer of its own.
 
 ghost use Rattle.std.specs.Prelude.{◌≡◌, ℕ, ◌≤◌, ◌^◌, ◌++◌, List, None, Ok, codes, length, IfErr, IfOk, IfSome, OnOk};
 ghost use Rattle.std.specs.Io.KnownBytes.{IsAtEnd};
@@ -26,17 +25,17 @@ use std::alloc::{AllocError, Global};
 use std::io::{self, ErrorKind, Read, Write};
 use thiserror::Error as ThisError;
 
-/// Why a run ended without an answer.
+/// Why a run failed.
 #[derive(Debug, Drop, ThisError)]
 pub enum RunError {
-    /// Memory was refused. Nothing was written.
+    /// An allocation failed. Nothing was written.
     #[error("out of memory")]
     Memory,
-    /// The input can't be read to its end. Nothing was written.
+    /// The input couldn't be read to its end. Nothing was written.
     #[error("cannot read: {0}")]
     Read(io::Error),
-    /// The answer can't be written. All of the input was read; nothing is said of how much of the answer went
-    /// out.
+    /// The answer couldn't be written. All of the input was read; how much of the answer was written is
+    /// unspecified.
     #[error("cannot write: {0}")]
     Write(io::Error),
 }
@@ -51,11 +50,11 @@ impl From<AllocError> for RunError {
     }
 }
 
-/// How often the input is read at most: a reader that hasn't ended by then is given up.
+/// The maximal number of reads. A reader that hasn't ended by then is given up.
 const MOST_READS: u64 = 1 << 40;
 
-/// The line, without its end, that the program `locations` says of a fault on standard error. It takes no
-/// memory.
+/// The message of the program `locations` for a fault, without the line end, which goes to standard error.
+/// Allocates nothing.
 ///
 /// ```
 /// /// What a program of one's own says of a run, and the status that it ends with.
@@ -76,8 +75,8 @@ pub fn fault_line(fault: &RunError) -> &'static str
     }
 }
 
-/// The exit status of the program: 0 where every line was settled, 1 where one was not, 2 for a fault. It
-/// takes no memory. [`fault_line`] has an example.
+/// The exit status of the program: 0 if every line was settled, 1 if one was not, 2 for a fault. Allocates
+/// nothing. [`fault_line`] has an example.
 pub fn status(outcome: &Result<bool, RunError>) -> u8
     ensures { result ≡ status_of outcome.now }
 {
@@ -88,19 +87,17 @@ pub fn status(outcome: &Result<bool, RunError>) -> u8
     }
 }
 
-/// Reads all of the input, answers each of its lines by a line, and writes the answers. Byte 10 ends a line
-/// and byte 13 is nothing special; a last line may lack its end, and counts unless it is empty.
+/// Reads all of the input and writes an answer to each of its lines. Byte 10 ends a line and byte 13 has no
+/// special meaning; a last line may lack its end, and counts unless it is empty.
 ///
-/// The answer is `settled`, a tab and the location's text, where it is settled; `unsettled`, a tab and its
-/// scheme, where it isn't; `refused`, a tab and the error's name, where the line is no location. What is read
-/// always has a text: [`law_closed`](git_laws::laws::law_closed). Each answer is one line, whatever the
-/// location holds:
-/// [`law_lines`](git_laws::laws::law_lines).
+/// The answer is `settled`, a tab and the location's text if the location is settled; `unsettled`, a tab and
+/// its scheme if it isn't; `refused`, a tab and the error's name if the line is not a location. A location that
+/// was read always has a text: [`law_closed`](git_laws::laws::law_closed). Each answer is one line, whatever
+/// the location contains: [`law_lines`](git_laws::laws::law_lines).
 ///
-/// `Ok(true)` says that every line was settled. The errors are those of [`RunError`]; a reader that hasn't
-/// ended after 2^40 calls is answered `Read`. The whole answer is built in memory before it is written. Lines
-/// ask for no memory of their own: beside the input and the answer there is one room, as long as the longest
-/// line.
+/// `Ok(true)` means that every line was settled. The errors are those of [`RunError`]; a reader that hasn't
+/// ended after 2^40 calls gives `Read`. Allocates the input, a buffer as long as the longest line, and the
+/// whole answer, which is written at the end.
 ///
 /// ```
 /// /// The answers to lines in memory.
@@ -139,9 +136,9 @@ fn read_all<R: Read>(alloc: Global, input: &mut R) -> Result<Vec<u8>, RunError>
     }
 }
 
-/// All bytes of a reader, or none where it hasn't ended after the most reads, each of which gave a byte at
-/// least. No clause outside can say so: what a reader of any type fails by is open, so nothing distinguishes
-/// its faults from giving up.
+/// All bytes of a reader, or `None` if it hasn't ended after the maximal number of reads, each of which
+/// returned at least one byte. A contract of a caller can't say so: the faults of a reader of any type are
+/// unspecified, so they can't be distinguished from giving up.
 fn read_to_end<R: Read>(alloc: Global, input: &mut R) -> Result<Option<Vec<u8>>, RunError>
     ensures bytes { IfOk result
         (λ found. IfSome found (λ all. IfSome (R.remaining input.old) (λ b. all.items ≡ b))) }
@@ -185,7 +182,7 @@ fn longest_line(text: &[u8]) -> usize
     longest.max(rest.len())
 }
 
-/// The answers to all lines of a text, each of which is read into the room.
+/// The answers to all lines of a text, each of which is read into the buffer.
 fn answers_in(alloc: Global, text: &[u8], room: &mut [u8]) -> Result<(Vec<u8>, bool), RunError>
     requires { HasLinesWithin (length room.old) text.now }
     ensures answered { IfOk result (λ found. Answers text.now found.0.items found.1) }
@@ -206,7 +203,7 @@ fn answers_in(alloc: Global, text: &[u8], room: &mut [u8]) -> Result<(Vec<u8>, b
     Ok((out, all & settled))
 }
 
-/// Appends the answer to a line, which is read into the room, and says whether the line is settled.
+/// Appends the answer to a line, which is read into the buffer, and returns whether the line is settled.
 fn answer(line: &[u8], room: &mut [u8], out: &mut Vec<u8>) -> Result<bool, RunError>
     requires { length line.now ≤ length room.old }
     ensures { AppendsAnswer line.now out.old.items out.new.items result }
@@ -218,7 +215,7 @@ fn answer(line: &[u8], room: &mut [u8], out: &mut Vec<u8>) -> Result<bool, RunEr
     }
 }
 
-/// Appends what is reported of a location, and says whether it is settled. Its text is laid out once.
+/// Appends the report on a location, and returns whether it is settled. Its text is laid out once.
 fn report(url: UrlRef<'_>, out: &mut Vec<u8>) -> Result<bool, RunError>
     ensures { Reports url.entry out.old.items out.new.items result }
 {
@@ -232,7 +229,7 @@ fn report(url: UrlRef<'_>, out: &mut Vec<u8>) -> Result<bool, RunError>
     }
 }
 
-/// The same of a location whose text these pieces make up.
+/// Appends the report on a location whose text these pieces make up, and returns whether it is settled.
 fn report_written(
     url: &UrlRef<'_>,
     pieces: &Pieces<'_>,
@@ -249,7 +246,7 @@ fn report_written(
     Ok(false)
 }
 
-/// Appends the answer for a line that is refused.
+/// Appends the answer to a line that is refused.
 fn refuse(refusal: &Refusal, out: &mut Vec<u8>) -> Result<bool, RunError>
     ensures { ReportsRefusal refusal.now out.old.items out.new.items result }
 {
@@ -257,7 +254,7 @@ fn refuse(refusal: &Refusal, out: &mut Vec<u8>) -> Result<bool, RunError>
     Ok(false)
 }
 
-/// The name of what a line is refused for.
+/// The name of the error of a refusal.
 fn refusal_name(refusal: &Refusal) -> &'static str
     ensures { result.now ≡ refusal_name refusal.now }
 {
@@ -270,7 +267,7 @@ fn refusal_name(refusal: &Refusal) -> &'static str
     }
 }
 
-/// The words for a fault of a URL.
+/// The name of the error for a fault of a URL.
 fn bad_url_name(fault: UrlFault) -> &'static str
     ensures { result.now ≡ codes "BadUrl " ++ fault_name fault }
 {
@@ -290,7 +287,7 @@ fn put_scheme(out: &mut Vec<u8>, word: &str, url: &UrlRef<'_>) -> Result<(), Run
     put_line(out, word, url.scheme.as_str().as_bytes())
 }
 
-/// Appends a line: a word, a tab, and what it is said of.
+/// Appends a line: a word, a tab and a text.
 fn put_line(out: &mut Vec<u8>, word: &str, of_what: &[u8]) -> Result<(), RunError>
     ensures { Puts (reported_line word.now of_what.now) out.old.items out.new.items result }
 {

@@ -1,10 +1,8 @@
-//! Rows: what runs leave as it was where something failed.
-//!
-//! It has no code and uses nothing: the contract of the function is a group of rows.
+//! Examples of the definitions of failed runs.
 
 ghost use Rattle.git_lines.specs.Examples.RunRows.{ReadRow, UnwrittenRow};
 
-/// What runs hold on to where something failed.
+/// The reader and the writer after failed runs.
 fn law_runs()
     ensures unwritten { UnwrittenRow }
     ensures read { ReadRow }

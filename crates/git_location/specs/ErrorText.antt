@@ -1,4 +1,4 @@
--- The words that people read of forms and faults.
+-- The words of write faults in error messages.
 use Rattle.std.specs.Prelude.{ℕ, List, codes}
 use Rattle.git_location.specs.declared.write_error.WriteFault.{WriteFault}
 use Rattle.git_location.specs.declared.write_error.WriteFault.TheVariants as write

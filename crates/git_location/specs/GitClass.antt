@@ -1,5 +1,5 @@
--- The locations that a careful user hands to Git: in the text of each Git reads what this library reads.
--- Those of HTTP are in `WebClass`.
+-- The class of locations in whose texts Git reads the same as this library. Its locations of HTTP are in
+-- `WebClass`.
 use Rattle.std.specs.Prelude.{◌≡◌, ℕ, Bool, true, false, ◌||◌, ◌==◌, ◌⊎◌, List, [], ◌∷◌, codes, Some, None, IfSome}
 use Rattle.percent_encoding.specs.declared.ascii_set.AsciiSet.{AsciiSet}
 use Rattle.percent_encoding.specs.AsciiSet.{should_percent_encode}
@@ -10,27 +10,27 @@ use Rattle.git_syntax.specs.Escapes.{password_set, user_set}
 use Rattle.git_location.specs.Settled.{IsSettled}
 use Rattle.git_location.specs.WebClass.{AgreesOverWeb}
 
--- a byte by which Git cuts a text otherwise: byte 0, `[` or `]`
+-- a byte at which Git cuts a text differently: byte 0, `[` or `]`
 abbrev pub is_contested : ℕ → Bool
 is_contested b = b == 0 || (b == left_bracket || b == right_bracket)
 
--- a user or a host has none of them. Git decodes a URL before it cuts it, so there no byte of it is written
--- as an escape
+-- a user or a host without a byte 0, `[` or `]`. Git decodes a URL before it cuts it, so in a URL no byte of it is
+-- written as an escape
 abbrev pub IsPlainPart : Bool → AsciiSet → List ℕ → Type 0
 IsPlainPart true set part = Lacks is_contested part
 IsPlainPart false set part = Lacks (should_percent_encode set) part
 
--- the host of `git://` has brackets of its own: all of it is written as escapes where the location is
--- settled, and they are decoded to an address in its brackets before Git cuts
+-- the host of `git://` has brackets of its own: if the location is settled, the host is escaped as a whole, and
+-- Git decodes it to an address in brackets before it cuts
 abbrev pub IsBracketedOfGit : Location → List ℕ → Type 0
 IsBracketedOfGit v host = (v.scheme ≡ git) × (begins_with left_bracket host ≡ true)
 
--- a plain host, or such a one of `git://`
+-- a plain host, or one of `git://` with brackets of its own
 abbrev pub IsPlainHost : Location → List ℕ → Type 0
 IsPlainHost v host = IsPlainPart v.flag password_set host ⊎ IsBracketedOfGit v host
 
--- Git cuts the location's own parts out of its text: of a URL it decodes the path as this library does. The
--- brackets that are written around an address are none of its bytes, and Git takes them off
+-- Git cuts the location's own fields out of its text and decodes the path of a URL like this library. The
+-- brackets that are written around an address are not part of the host, and Git removes them
 pub record HasPlainParts (v : Location) : Type 0 where
   pub user : IfSome v.user (IsPlainPart v.flag user_set)
   pub host : IfSome v.host (IsPlainHost v)
@@ -48,16 +48,16 @@ is_tilde_second [] = false
 is_tilde_second (a ∷ []) = false
 is_tilde_second (a ∷ b ∷ rest) = b == tilde
 
--- the scp form with the host `rsync` alone: the text of such a settled location of Secure Shell begins with
--- `rsync:`, which Git refuses
+-- the scp form without a user and with the host `rsync`: the text of such a settled location of Secure Shell
+-- begins with `rsync:`, which Git refuses
 pub record IsRsync (v : Location) : Type 0 where
   pub scp : v.flag ≡ true
   pub no_user : v.user ≡ None
   pub host : v.host ≡ Some (codes "rsync")
 
--- what Git's own transports ask besides: a path and a user of Secure Shell, and not the host `rsync` alone;
--- no user for `git://`, and no end of a line in the path; no host for a file, a path that doesn't begin with
--- `~`, and in a URL no `%`, which Git alone decodes
+-- the conditions of Git's own transports: for `ssh`, the path's second byte is not `~`, the host is not `rsync`
+-- without a user, and the user is not empty; for `git`, no user and no end of a line in the path; for `file`,
+-- no host, a path that doesn't begin with `~`, and in a URL no `%`, which Git decodes and this library doesn't
 abbrev pub SuitsTransport : Scheme → Location → Type 0
 SuitsTransport ssh v = (is_tilde_second v.path ≡ false) × (¬ IsRsync v) × ¬ (v.user ≡ Some [])
 SuitsTransport git v = (v.user ≡ None) × FreeOf newline v.path
@@ -79,6 +79,6 @@ AgreesBy http v = AgreesOverWeb v
 AgreesBy https v = AgreesOverWeb v
 AgreesBy _ v = AgreesByTransport v
 
--- the location is of the class
+-- the location is in the class of locations in whose texts Git reads the same place as this library
 abbrev pub AgreesWithGit : Location → Type 0
 AgreesWithGit v = AgreesBy v.scheme v

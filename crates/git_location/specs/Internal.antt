@@ -1,4 +1,4 @@
--- Definitions that serve the proofs of this crate and of those above it alone.
+-- Definitions for the proofs of this crate and of those above it.
 pub mod KeptBytes
 pub mod Pieces
 pub mod Sinks

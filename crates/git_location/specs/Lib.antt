@@ -1,4 +1,4 @@
--- What a user reads.
+-- Public definitions.
 pub mod Text
 pub mod Settled
 pub mod Readings
@@ -11,5 +11,5 @@ pub mod GitClass
 pub mod Safeguards
 pub mod Views
 pub mod UrlRef
--- Definitions that serve the proofs of this crate and of those above it alone.
+-- Definitions for the proofs of this crate and of those above it.
 pub mod Internal

@@ -1,4 +1,4 @@
--- What a call answers: words for results that name the errors of the code.
+-- The results of calls.
 use Rattle.std.specs.Prelude.{◌≡◌, ◌<◌, ◌≤◌, ◌↔◌, ℕ, length, List, [], Option, Result, Ok, Err, IfOk, IfErr}
 use Rattle.std.specs.Io.KnownBytes.{Appends}
 use Rattle.git_location.specs.declared.parse_error.ParseError.{ParseError}
@@ -13,24 +13,24 @@ use Rattle.git_location.specs.Settled.{IsSettled}
 use Rattle.git_refusals.specs.Kinds.{empty_refusal}
 use Rattle.git_refusals.specs.Reasons.{Refused}
 
--- the bytes spell a location, and the room is shorter than they are; or they spell none, and this is their
+-- the bytes spell a location and the buffer is shorter than they are; or they spell none, and this is their
 -- refusal
 abbrev pub RefusesIn : List ℕ → ℕ → ParseError → Type 0
 RefusesIn b room unread.NoRoom = ((v : Location) × Spells b v) × (room < length b)
 RefusesIn b room (unread.Refused why) = ((v : Location) → ¬ Spells b v) × Refused b why
 
--- what reading the bytes answers where there is room for so many: no premise speaks of memory
+-- the result of reading the bytes with a buffer of this length
 pub record ReadsIn (b : List ℕ) (room : ℕ) (result : Result Location ParseError) : Type 0 where
-  -- a location that they spell
+  -- a location that is returned is one that the bytes spell
   pub found : IfOk result (Spells b)
-  -- or an error, and then they spell none, or the room is shorter than they are
+  -- an error is returned only if the bytes spell none, or the buffer is shorter than the bytes
   pub refused : IfErr result (RefusesIn b room)
   -- the empty text is refused as such
   pub empty : b ≡ [] → result ≡ Err (unread.Refused empty_refusal)
-  -- where there is room for as many bytes, it is answered exactly where they spell it
+  -- if the buffer is at least as long as the bytes, a location is returned exactly if the bytes spell it
   pub exact : length b ≤ room → (v : Location) → (result ≡ Ok v) ↔ Spells b v
 
--- the location has the public fields and the text of the other, and is settled
+-- `again` has the public fields and the text of `v`, and is settled
 pub record IsAgain (v again : Location) : Type 0 where
   pub same_fields : fields again ≡ fields v
   pub same_text : text again ≡ text v
@@ -42,8 +42,8 @@ pub record SpellsAgain (v : Location) (b : List ℕ) : Type 0 where
   pub spelled : Spells b back
   pub again : IsAgain v back
 
--- what a call left that wrote a text to a writer: on `Ok` the text is appended; where there is none the fault
--- is reported and the writer is as it was
+-- the effect of writing a text to a writer: on `Ok` the text is appended; if there is no text, the fault is
+-- returned and the writer is unchanged
 abbrev pub Written : {W : Type 0} → (W → Option (List ℕ)) → W → W → Result (List ℕ) WriteFault
     → Result (Unit {0}) WriteError → Type 0
 Written contents old new (Ok t) (Ok u) = Appends (contents old) (contents new) t

@@ -1,5 +1,5 @@
--- The settled class, one definition for each kind. The text of each location in it is read as the same public
--- fields and is written the same again; some locations outside come back too.
+-- The settled class, one definition for each kind. The text of each of its locations is read as the same public
+-- fields and is written the same again. Some other locations have this property too.
 use Rattle.std.specs.Prelude.{◌≡◌, ◌≢◌, ℕ, ◌<◌, Bool, true, false, ◌&&◌, ◌==◌, ◌⊎◌, List, [], ◌∷◌, ◌++◌, length, codes, bytes_eq, Option, Some, None, IsSome, IfSome, Ok, IsUtf8, All}
 use Rattle.std.specs.List.{list_all}
 use Rattle.git_syntax.specs.Location.{Scheme, Location}
@@ -13,7 +13,8 @@ use Rattle.git_syntax.specs.Authority.{FitsText}
 use Rattle.git_syntax.specs.Grammar.{begins_at_home, LocalForm}
 use Rattle.git_location.specs.Text.{text}
 
--- what holds of every value of the code: its texts are UTF-8, its bytes are bytes and its port is one
+-- facts about every value of the code: its texts are UTF-8, its bytes are below 256 and its port is below
+-- 65,536
 pub record IsValue (v : Location) : Type 0 where
   pub user : IfSome v.user IsUtf8
   pub password : IfSome v.password IsUtf8
@@ -22,7 +23,7 @@ pub record IsValue (v : Location) : Type 0 where
   pub path : All (λ b. b < 256) v.path
   pub spelling : IfSome v.spelling (λ s. All (λ b. b < 256) s)
 
--- ---- what the URL forms have in common
+-- ---- the conditions that the URL forms have in common
 
 -- the spelling of the path is retained, and decodes to it
 abbrev pub HasMatch : Location → Type 0
@@ -33,7 +34,7 @@ abbrev pub first_byte : List ℕ → Option ℕ
 first_byte [] = None
 first_byte (b ∷ bs) = Some b
 
--- a spelling that is written and read again as itself
+-- a spelling that is written and read again unchanged
 pub record IsFairSpelling (spelling path : List ℕ) : Type 0 where
   pub text : IsUtf8 spelling
   pub sound : is_sound spelling ≡ true
@@ -41,18 +42,18 @@ pub record IsFairSpelling (spelling path : List ℕ) : Type 0 where
   pub no_white_space : LacksWhiteSpace spelling
   pub front : first_byte spelling ≡ first_byte path
 
--- the text is not empty, and free of `:`, `[` and `]`
+-- the text is not empty and lacks `:`, `[` and `]`
 pub record IsOpenName (host : List ℕ) : Type 0 where
   pub nonempty : 0 < length host
   pub no_colon : FreeOf colon host
   pub no_left_bracket : FreeOf left_bracket host
   pub no_right_bracket : FreeOf right_bracket host
 
--- the location has neither user nor password nor port, so that before its path there is at most a host
+-- the location has neither user nor password nor port, so at most a host precedes its path
 abbrev pub HasAtMostHost : Location → Type 0
 HasAtMostHost v = (v.user ≡ None) × (v.password ≡ None) × (v.port ≡ None)
 
--- it has nothing but a path, and the flag
+-- it has the flag and a path only
 abbrev pub IsFlaggedPath : Location → Type 0
 IsFlaggedPath v = (v.flag ≡ true) × HasAtMostHost v × (v.host ≡ None)
 
@@ -60,26 +61,26 @@ IsFlaggedPath v = (v.flag ≡ true) × HasAtMostHost v × (v.host ≡ None)
 abbrev pub HasFittingText : Location → Type 0
 HasFittingText v = (t : List ℕ) × (text v ≡ Ok t) × FitsText t
 
--- a password comes with a user and isn't empty, and an empty user comes with a password
+-- a password has a user and isn't empty, and an empty user has a password
 abbrev pub HasCredentials : Location → Type 0
 HasCredentials v = IfSome v.password (λ p. (0 < length p) × IsSome v.user)
     × (v.user ≡ Some [] → IsSome v.password)
 
--- a user and a port come with a host
+-- a location with a user or a port has a host
 abbrev pub IsHosted : Location → Type 0
 IsHosted v = (IsSome v.user → IsSome v.host) × (IsSome v.port → IsSome v.host)
 
--- a matching spelling is fair
+-- a spelling that matches is fair
 abbrev pub HasFairSpelling : Location → Type 0
 HasFairSpelling v = (s : List ℕ) → v.spelling ≡ Some s → DecodesTo s v.path
     → IsFairSpelling s v.path
 
--- the path is text, and a matching spelling is fair
+-- the path is text, and a spelling that matches it is fair
 pub record HasUrlPath (v : Location) : Type 0 where
   pub path_text : IsUtf8 v.path
   pub spelling : HasFairSpelling v
 
--- common to the URLs of HTTP, of Git's own transports and of helpers
+-- conditions on the URLs of HTTP, of Git's own transports and of helpers
 pub record IsSettledUrl (v : Location) : Type 0 where
   pub unflagged : v.flag ≡ false
   pub credentials : HasCredentials v
@@ -89,18 +90,18 @@ pub record IsSettledUrl (v : Location) : Type 0 where
 
 -- ---- HTTP
 
--- the location is one of HTTP
+-- the location has a scheme of HTTP
 abbrev pub IsWeb : Location → Type 0
 IsWeb v = (v.scheme ≡ http) ⊎ (v.scheme ≡ https)
 
--- a host of HTTP outside brackets that stays as it is
+-- a host of HTTP outside brackets that is read unchanged
 pub record IsWebName (host : List ℕ) : Type 0 where
   pub nonempty : 0 < length host
   pub bytes : list_all is_http_host_byte host ≡ true
   pub sound : is_sound host ≡ true
   pub normal : normal_host host ≡ host
 
--- a settled host of HTTP: a literal in brackets or a name, and a colon behind it only without a port
+-- a settled host of HTTP: a literal in brackets or a name, followed by a colon only if there is no port
 pub data IsWebHost (port : Option ℕ) (host : List ℕ) : Type 0 where
   literal : (n : List ℕ) → Literal n n → host ≡ left_bracket ∷ (n ++ right_bracket ∷ [])
       → IsWebHost port host
@@ -110,7 +111,7 @@ pub data IsWebHost (port : Option ℕ) (host : List ℕ) : Type 0 where
   named_colon : (n : List ℕ) → IsWebName n → has_percent n ≡ false → port ≡ None
       → host ≡ n ++ colon ∷ [] → IsWebHost port host
 
--- a host is there, and settled for HTTP
+-- there is a host, and it is settled for HTTP
 abbrev pub HasWebHost : Location → Type 0
 HasWebHost v = (h : List ℕ) × (v.host ≡ Some h) × IsWebHost v.port h
 
@@ -137,40 +138,40 @@ pub record IsNormalAddress (host : List ℕ) : Type 0 where
 abbrev pub IsBareHost : List ℕ → Type 0
 IsBareHost host = IsNormalName host ⊎ IsNormalAddress host
 
--- brackets around a lowercase IPv6 text
+-- an IPv6 text in lower case, in brackets
 abbrev pub IsBracketedAddress : List ℕ → Type 0
 IsBracketedAddress host = (address : List ℕ) × IsNormalAddress address
     × (host ≡ left_bracket ∷ (address ++ right_bracket ∷ []))
 
--- a settled host with brackets around an address
+-- a settled host whose addresses are in brackets
 abbrev pub IsBracketedHost : List ℕ → Type 0
 IsBracketedHost host = IsNormalName host ⊎ IsBracketedAddress host
 
--- neither `%` nor white space
+-- the path has neither `%` nor white space
 abbrev pub IsRaw : List ℕ → Type 0
 IsRaw path = (has_percent path ≡ false) × LacksWhiteSpace path
 
--- the path, which is UTF-8, is raw where no spelling matches it
+-- the path, which is UTF-8, is raw if no spelling matches it
 abbrev pub IsRawPath : Location → Type 0
 IsRawPath v = ¬ HasMatch v → IsRaw v.path
 
--- a rooted path, and none below a home folder
+-- a rooted path that isn't below a home folder
 abbrev pub IsHomeless : List ℕ → Type 0
 IsHomeless path = (begins_with slash path ≡ true) × (begins_at_home path ≡ false)
 
--- a rooted path, or one below a home folder, which has no spelling that matches
+-- a rooted path, or one below a home folder without a spelling that matches it
 abbrev pub IsTransportPath : Location → Type 0
 IsTransportPath v = IsHomeless v.path ⊎ ((begins_with tilde v.path ≡ true) × (¬ HasMatch v))
 
--- a host is there, and settled for Secure Shell
+-- there is a host, and it is settled for Secure Shell
 abbrev pub HasBareHost : Location → Type 0
 HasBareHost v = (h : List ℕ) × (v.host ≡ Some h) × IsBareHost h
 
--- a host is there, and settled with brackets around an address
+-- there is a host, and it is settled with its addresses in brackets
 abbrev pub HasBracketedHost : Location → Type 0
 HasBracketedHost v = (h : List ℕ) × (v.host ≡ Some h) × IsBracketedHost h
 
--- what settled URLs have in common, and a path that is raw where no spelling matches it
+-- the common conditions on settled URLs, and a path that is raw if no spelling matches it
 pub record IsSettledRaw (v : Location) : Type 0 where
   pub common : IsSettledUrl v
   pub raw : IsRawPath v
@@ -202,7 +203,7 @@ pub record IsSettledHelperUrl (name : List ℕ) (v : Location) : Type 0 where
 
 -- ---- the local file system
 
--- a host of a file URL that stays as it is
+-- a host of a file URL that is read unchanged
 pub record IsFileHost (host : List ℕ) : Type 0 where
   pub nonempty : 0 < length host
   pub no_slash : FreeOf slash host
@@ -225,8 +226,8 @@ pub record IsSettledLocal (v : Location) : Type 0 where
 
 -- ---- the scp form
 
--- a settled name of a host in the scp form; a host is UTF-8 in every value (`IsValue`), so white space means
--- something of it
+-- a settled name of a host in the scp form; a host is UTF-8 in every value (`IsValue`), so the test for white
+-- space is meaningful
 pub record IsScpName (host : List ℕ) : Type 0 where
   pub normal : IsNormalName host
   pub no_at : FreeOf at_sign host
@@ -246,7 +247,7 @@ begins_with_slashes [] = false
 begins_with_slashes (a ∷ []) = false
 begins_with_slashes (a ∷ b ∷ rest) = a == slash && b == slash
 
--- without a user the text of host and path would be that of a remote helper
+-- without a user, the text of host and path would be that of a remote helper
 abbrev pub LooksLikeHelper : Location → List ℕ → Type 0
 LooksLikeHelper v host = (v.user ≡ None) × (is_helper_name host ≡ true)
     × (begins_with colon v.path ≡ true)
@@ -263,7 +264,7 @@ pub record IsScpPath (path : List ℕ) : Type 0 where
 abbrev pub IsScpHost : List ℕ → Type 0
 IsScpHost host = IsScpName host ⊎ IsNormalAddress host
 
--- a host is there, and settled in the scp form
+-- there is a host, and it is settled in the scp form
 abbrev pub HasScpHost : Location → Type 0
 HasScpHost v = (h : List ℕ) × (v.host ≡ Some h) × IsScpHost h × ¬ LooksLikeHelper v h
 
@@ -296,6 +297,7 @@ IsSettledBy ext v = IsSettledHelper (codes "ext") v
 IsSettledBy (helper name) v = IsSettledHelper name v × (bytes_eq name (codes "ext") ≡ false)
 IsSettledBy (helper_url name) v = IsSettledHelperUrl name v
 
--- the location is settled
+-- the location meets the conditions of its scheme, so its text is read as its public fields and written the same
+-- again (`law_separation`)
 abbrev pub IsSettled : Location → Type 0
 IsSettled v = IsSettledBy v.scheme v

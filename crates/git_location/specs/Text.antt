@@ -1,4 +1,4 @@
--- The text of a location: first the choice of its form, then one concatenation for each form.
+-- The text of a location: the choice of its form, then one concatenation for each form.
 use Rattle.std.specs.Prelude.{ℕ, Bool, true, false, not, ◌&&◌, ◌||◌, ◌==◌, List, [], ◌∷◌, ◌++◌, codes, decimal, Option, Some, None, is_some, is_none, Result, Ok, Err, if◌then◌else◌}
 use Rattle.std.specs.List.{list_any}
 use Rattle.percent_encoding.specs.Percent.{percent_encode}
@@ -18,7 +18,7 @@ pub data Form : Type 0 where
   scp_form : Form
   canonical_form : Form
 
--- a form in which a user comes only with a host
+-- a form in which a user needs a host
 abbrev pub with_host : Location → Form → Result Form WriteFault
 with_host v form = if is_some v.user && is_none v.host then Err UserWithoutHost else Ok form
 
@@ -31,11 +31,11 @@ abbrev pub helper_choice : List ℕ → Location → Result Form WriteFault
 helper_choice name v = if is_helper_name name
     then (if has_authority v then Err HelperParts else Ok helper_form) else Err HelperName
 
--- the location asks for the form that is no URL, and can have it
+-- the location requests the alternative form, which is not a URL, and can have it
 abbrev pub is_alternative : Location → Bool
 is_alternative v = v.flag && (is_none v.password && is_none v.port)
 
--- the path is neither empty nor rooted nor below a home folder
+-- the path is not empty, not rooted and not below a home folder
 abbrev pub is_relative : List ℕ → Bool
 is_relative [] = false
 is_relative (b ∷ bs) = not (b == slash) && not (b == tilde)
@@ -56,7 +56,7 @@ choice_by ssh v = ssh_choice v
 choice_by file v = if is_alternative v then with_host v path_form else with_host v canonical_form
 choice_by _ v = with_host v canonical_form
 
--- the form of a location, or the fault for which it has none
+-- the form of a location, or the fault if it has none
 abbrev pub choice : Location → Result Form WriteFault
 choice v = choice_by v.scheme v
 
@@ -68,36 +68,36 @@ helper_text v = scheme_text v.scheme ++ (colon ∷ (colon ∷ v.path))
 
 -- ---- path and scp form
 
--- the text holds a colon
+-- the text has a colon
 abbrev pub has_colon : List ℕ → Bool
 has_colon text = list_any (λ b. b == colon) text
 
--- colons are in the host, and no bracket at its front
+-- the host has a colon and doesn't begin with a bracket
 abbrev pub wants_brackets : List ℕ → Bool
 wants_brackets host = has_colon host && not (begins_with left_bracket host)
 
--- the user and `@`, raw
+-- the user and `@`, unescaped
 abbrev pub raw_user : Option (List ℕ) → List ℕ
 raw_user None = []
 raw_user (Some user) = user ++ at_sign ∷ []
 
--- the host, raw, in brackets where it needs them
+-- the host, unescaped, in brackets if it needs them
 abbrev pub raw_host : Option (List ℕ) → List ℕ
 raw_host None = []
 raw_host (Some host) = if wants_brackets host then left_bracket ∷ (host ++ right_bracket ∷ [])
     else host
 
--- the user and the host, raw, and the path behind them
+-- the user, the host and the path, unescaped
 abbrev pub path_form_text : Location → List ℕ
 path_form_text v = raw_user v.user ++ (raw_host v.host ++ v.path)
 
--- the user and the host, raw, and the path behind a colon
+-- the user, the host, a colon and the path, unescaped
 abbrev pub scp_text : Location → List ℕ
 scp_text v = raw_user v.user ++ (raw_host v.host ++ colon ∷ v.path)
 
 -- ---- the canonical form
 
--- the password behind its colon, escaped
+-- the password after its colon, escaped
 abbrev pub escaped_password : Option (List ℕ) → List ℕ
 escaped_password None = []
 escaped_password (Some password) = colon ∷ percent_encode password_set password
@@ -108,20 +108,20 @@ user_information None password = []
 user_information (Some user) password = percent_encode user_set user
     ++ (escaped_password password ++ at_sign ∷ [])
 
--- outside brackets the scheme's hosts are written as they are
+-- the scheme's hosts are written unescaped outside brackets
 abbrev pub keeps_host : Scheme → Bool
 keeps_host file = true
 keeps_host http = true
 keeps_host https = true
 keeps_host _ = false
 
--- a host outside brackets: as it is, or escaped, except for the colons of an address
+-- a host outside brackets: unescaped, or escaped except for the colons of an address
 abbrev pub open_host : Scheme → List ℕ → List ℕ
 open_host scheme host = if keeps_host scheme then host
     else (if is_ipv6_text host then percent_encode password_set host
     else percent_encode user_set host)
 
--- the host goes between brackets: it needs them, and there is a port, or a `%` in it
+-- the host is written in brackets: it needs them, and there is a port or the host has a `%`
 abbrev pub needs_brackets : Option ℕ → List ℕ → Bool
 needs_brackets port host = wants_brackets host && (is_some port || has_percent host)
 
@@ -130,32 +130,32 @@ abbrev pub canonical_host : Location → List ℕ → List ℕ
 canonical_host v host = if needs_brackets v.port host
     then left_bracket ∷ (escaped_percents host ++ right_bracket ∷ []) else open_host v.scheme host
 
--- the host of a URL, where there is one
+-- the host of a URL, if there is one
 abbrev pub host_part : Location → Option (List ℕ) → List ℕ
 host_part v None = []
 host_part v (Some host) = canonical_host v host
 
--- the port behind its colon
+-- the port after its colon
 abbrev pub port_part : Option ℕ → List ℕ
 port_part None = []
 port_part (Some port) = colon ∷ decimal port
 
--- the `/` before a path that has none, where one is needed
+-- the `/` before a path that lacks it, if one is needed
 abbrev pub root_part : Location → List ℕ
 root_part v = if requires_path v.scheme && not (begins_with slash v.path) then slash ∷ [] else []
 
--- the path as it is written without a spelling: escaped for HTTP, raw else
+-- the path as it is written without a spelling: escaped for HTTP, unescaped for any other scheme
 abbrev pub plain_path : Scheme → List ℕ → List ℕ
 plain_path http path = percent_encode path_set path
 plain_path https path = percent_encode path_set path
 plain_path _ path = path
 
--- the spelling where it matches the path, and else what replaces it
+-- the spelling if it decodes to the path, and else `other`
 abbrev pub matching_or : Option (List ℕ) → List ℕ → List ℕ → List ℕ
 matching_or None path other = other
 matching_or (Some spelling) path other = if matches (Some spelling) path then spelling else other
 
--- the spelling of the path where it matches, and else the path
+-- the spelling of the path if it decodes to the path, and else the path
 abbrev pub original_path : Location → List ℕ
 original_path v = matching_or v.spelling v.path v.path
 
@@ -183,6 +183,6 @@ abbrev pub in_form : Result Form WriteFault → Location → Result (List ℕ) W
 in_form (Ok form) v = Ok (text_in form v)
 in_form (Err fault) v = Err fault
 
--- the text of a location, or why it has none
+-- the text of a location, or the fault if it has none
 abbrev pub text : Location → Result (List ℕ) WriteFault
 text v = in_form (choice v) v

@@ -1,10 +1,10 @@
--- The location that a `UrlRef` stands for.
+-- The location that a `UrlRef` represents.
 use Rattle.std.specs.Prelude.{option_map}
 use Rattle.git_location.specs.declared.url_ref.UrlRef.TheInside.{Inside}
 use Rattle.git_syntax.specs.Location.{Location}
 use Rattle.git_syntax.specs.Views.{lent_scheme}
 
--- the eight parts of a `UrlRef`, as plain values
+-- the eight fields of a `UrlRef`, as plain values
 abbrev pub lent_location : Inside → Location
 lent_location u = record {
   scheme = lent_scheme u.scheme;

@@ -1,11 +1,11 @@
--- What a scheme of the code, and a judgement of an argument, stand for.
+-- The judgement of the definitions for that of the code.
 use Rattle.git_location.specs.declared.argument.ArgumentSafety.{ArgumentSafety}
 use Rattle.git_location.specs.declared.argument.ArgumentSafety.TheVariants.{Absent, Usable, Dangerous}
 use Rattle.git_location.specs.Arguments.{Judgement}
 use Rattle.git_location.specs.Arguments.Judgement.{absent, usable, dangerous}
 pub use Rattle.git_syntax.specs.Views.{lent_scheme}
 
--- the judgement that an answer of the code stands for
+-- the judgement that a value of the code represents
 abbrev pub judgement : ArgumentSafety → Judgement
 judgement Absent = absent
 judgement (Usable text) = usable text.now

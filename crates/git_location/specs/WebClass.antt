@@ -1,5 +1,5 @@
--- The locations of HTTP in whose texts all readers agree: this library, Git's credential code, and a reader
--- of URIs.
+-- The class of locations of HTTP in whose texts all readers read the same: this library, Git's credential code,
+-- and a reader of URIs.
 use Rattle.std.specs.Prelude.{◌≡◌, ℕ, Bool, true, false, ◌||◌, ◌==◌, nat_lt, ◌⊎◌, List, [], ◌∷◌, ◌++◌, codes, Some, IfSome}
 use Rattle.std.specs.List.{list_all}
 use Rattle.std.specs.Char.{is_ascii_alphanumeric, is_ascii_lowercase, is_ascii_digit}
@@ -15,8 +15,8 @@ use Rattle.git_location.specs.Settled.{begins_with_slashes, IsBracketedAddress, 
 abbrev pub is_control : ℕ → Bool
 is_control b = nat_lt b space || b == delete
 
--- Git's credential code decodes the whole of a written piece, because no colon precedes an escape: the piece
--- has none of the one or none of the other
+-- Git's credential code decodes all of a written piece, because no colon precedes an escape: the piece has no
+-- colon or no escape
 abbrev pub IsDecodedWhole : List ℕ → Type 0
 IsDecodedWhole piece = FreeOf colon piece ⊎ FreeOf percent_sign piece
 
@@ -26,33 +26,34 @@ IsDecodedWhole piece = FreeOf colon piece ⊎ FreeOf percent_sign piece
 abbrev pub is_plain_host_byte : ℕ → Bool
 is_plain_host_byte b = is_ascii_lowercase b || (is_ascii_digit b || is_one_of (codes "-._") b)
 
--- what follows the last `.` of a name, or the whole name
+-- the text after the last `.` of a name, or the whole name
 abbrev pub IsLastLabel : List ℕ → List ℕ → Type 0
 IsLastLabel name label = (FreeOf dot name × (label ≡ name))
     ⊎ ((front : List ℕ) × FreeOf dot label × (name ≡ front ++ dot ∷ label))
 
--- a name of such bytes that no reader takes for a number, because its last label begins with a letter
+-- a name of plain host bytes that no reader reads as a number, because its last label begins with a letter
 pub record IsPlainName (name : List ℕ) : Type 0 where
   pub bytes : list_all is_plain_host_byte name ≡ true
   pub label : List ℕ
   pub last : IsLastLabel name label
   pub letter : begins_by is_ascii_lowercase label ≡ true
 
--- a host that all readers take for the same: a plain name, an IPv4 address, or an IPv6 address in brackets
+-- a host that all readers read alike: a plain name, an IPv4 address, or an IPv6 address in brackets
 abbrev pub IsUnambiguousHost : List ℕ → Type 0
 IsUnambiguousHost host = IsPlainName host ⊎ (IsIpv4Text host ⊎ IsBracketedAddress host)
 
--- a host is there, and it is such a host
+-- there is a host, and it is unambiguous
 abbrev pub HasUnambiguousHost : Location → Type 0
 HasUnambiguousHost v = (h : List ℕ) × (v.host ≡ Some h) × IsUnambiguousHost h
 
 -- ---- user and password
 
--- a user without a colon, which would end it in the header of a request (RFC 7617)
+-- a user without a control character and without a colon, which would end it in the header of a request (RFC
+-- 7617)
 abbrev pub IsUnambiguousUser : List ℕ → Type 0
 IsUnambiguousUser user = Lacks is_control user × FreeOf colon user
 
--- a password that Git decodes whole
+-- a password without a control character that Git decodes whole
 abbrev pub IsUnambiguousPassword : List ℕ → Type 0
 IsUnambiguousPassword password = Lacks is_control password
     × IsDecodedWhole (percent_encode password_set password)
@@ -67,7 +68,7 @@ is_uri_byte b = is_ascii_alphanumeric b || is_one_of (codes "-._~!$&'()*+,;=:@/?
 abbrev pub is_segment_end : ℕ → Bool
 is_segment_end b = b == slash || b == question_mark
 
--- a segment `.` or `..` follows a `/`; readers take such segments out
+-- a segment `.` or `..` follows a `/`; readers remove such segments
 pub record HasDotSegment (path : List ℕ) : Type 0 where
   pub front : List ℕ
   pub dots : List ℕ
@@ -76,8 +77,8 @@ pub record HasDotSegment (path : List ℕ) : Type 0 where
   pub segment : (dots ≡ codes ".") ⊎ (dots ≡ codes "..")
   pub end : (behind ≡ []) ⊎ (begins_by is_segment_end behind ≡ true)
 
--- a path that all readers cut and decode alike: one `/` begins it, nothing of it is left out or taken out,
--- and it is written in the bytes of a URI
+-- a path that all readers cut and decode alike: it begins with one `/`, no reader drops a part of it, and it is
+-- written in the bytes of a URI
 pub record HasUnambiguousPath (v : Location) : Type 0 where
   pub rooted : begins_with slash v.path ≡ true
   pub one_slash : begins_with_slashes v.path ≡ false
@@ -90,7 +91,8 @@ pub record HasUnambiguousPath (v : Location) : Type 0 where
 
 -- ---- locations
 
--- the location of HTTP is of the class
+-- the HTTP location is in the class of locations in whose texts this library, Git's credential code and a reader of
+-- URIs read the same
 pub record AgreesOverWeb (v : Location) : Type 0 where
   pub settled : IsSettled v
   pub host : HasUnambiguousHost v

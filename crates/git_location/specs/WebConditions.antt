@@ -1,5 +1,4 @@
--- The conditions of the class of HTTP, one by one: which of them a location doesn't meet, and which is the
--- first.
+-- The conditions of the class of HTTP, one by one: those that a location doesn't meet, and the first of them.
 use Rattle.std.specs.Prelude.{◌≡◌, ℕ, ◌<◌, true, false, List, [], ◌∷◌, ◌++◌, Option, Some}
 use Rattle.std.specs.List.{list_all}
 use Rattle.percent_encoding.specs.Percent.{percent_encode}
@@ -12,7 +11,7 @@ use Rattle.git_location.specs.Text.{canonical_path}
 use Rattle.git_location.specs.Settled.{begins_with_slashes, IsSettled}
 use Rattle.git_location.specs.WebClass.{is_control, is_plain_host_byte, is_uri_byte, HasDotSegment, HasUnambiguousHost, IsDecodedWhole}
 
--- the part is there, and this is so of it
+-- the field is there and has the property
 abbrev pub HasPart : Option (List ℕ) → (List ℕ → Type 0) → Type 0
 HasPart part test = (text : List ℕ) × (part ≡ Some text) × test text
 
@@ -37,7 +36,7 @@ IsUnmet condition.NoEmptyQuery v = (front : List ℕ) × (v.path ≡ front ++ qu
 IsUnmet condition.PathBytes v = list_all is_uri_byte (canonical_path v) ≡ false
 IsUnmet condition.PathColon v = ¬ IsDecodedWhole (canonical_path v)
 
--- the place of the condition in the order in which the conditions are declared
+-- the index of the condition in the order of declaration
 abbrev pub place : WebCondition → ℕ
 place condition.Settled = 0
 place condition.NoZone = 1

@@ -1,7 +1,4 @@
-//! The parts of a borrowed location that follow from its scheme or its path: the port, and whether the path
-//! is the root.
-//!
-//! It uses `url_ref` alone, and takes no memory. Its contract: the answers are those of the fields.
+//! Methods on the port and the path of a borrowed location.
 
 ghost use Rattle.std.specs.Prelude.{◌≡◌, ◌↔◌, IsTrue, [], ◌∷◌};
 ghost use Rattle.std.specs.Option.{option_or};
@@ -11,8 +8,7 @@ ghost use Rattle.git_syntax.specs.Schemes.{default_port_of};
 use crate::url_ref::UrlRef;
 
 impl UrlRef<'_> {
-    /// The port, or else the one that the scheme stands for, as [`Url::port_or_default`] has it. It takes no
-    /// memory.
+    /// The port, or the default port of the scheme, like [`Url::port_or_default`]. Allocates nothing.
     ///
     /// ```
     /// fn is_same_service(one: &UrlRef<'_>, other: &UrlRef<'_>) -> bool {
@@ -30,7 +26,7 @@ impl UrlRef<'_> {
         }
     }
 
-    /// Whether the path is `/`, as [`Url::path_is_root`] reports. It takes no memory.
+    /// Whether the path is `/`, like [`Url::path_is_root`]. Allocates nothing.
     ///
     /// ```
     /// fn names_a_repository(url: &UrlRef<'_>) -> bool {

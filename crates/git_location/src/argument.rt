@@ -1,9 +1,8 @@
-//! Which parts of a location may be given to a command as arguments.
+//! Tests for the fields of a location that are passed to a command as arguments.
 //!
-//! A user, a host or a path that begins with `-` is taken for an option by the command that gets it, and
-//! options can run programs: `ssh://-oProxyCommand=..@host/repo` is such an attempt. It uses `bytes`, looks
-//! at fields and takes no memory. Its contract: each answer is the judgement of the definitions, and no text
-//! that begins with `-` is ever returned as usable.
+//! A command reads a user, a host or a path that begins with `-` as an option, and options can run programs:
+//! `ssh://-oProxyCommand=..@host/repo` is such an attempt. No function here returns a text that begins with `-`
+//! as usable.
 
 ghost use Rattle.std.specs.Prelude.{◌≡◌, Some, IfSome, false, option_map};
 ghost use Rattle.bstr.specs.BStr.{bstr_bytes};
@@ -16,10 +15,10 @@ use crate::url_ref::UrlRef;
 use bstr::BStr;
 use git_syntax::bytes::{after, starts_with_byte};
 
-/// What a part of a location is to a command line.
+/// Whether a field of a location can be an argument of a command.
 ///
-/// Two are equal where they are the same variant with the same text. It is borrowed from the location, and
-/// copies take no memory.
+/// Two values are equal if they are the same variant with the same text. The text is borrowed from the
+/// location. Copying a value allocates nothing.
 ///
 /// ```
 /// fn ssh_user<'a>(url: &'a Url) -> Result<Option<&'a str>, Refused> {
@@ -32,18 +31,17 @@ use git_syntax::bytes::{after, starts_with_byte};
 /// ```
 #[derive(Clone, Copy, Debug, PartialEq, Eq)]
 pub enum ArgumentSafety<'a> {
-    /// The location has no such part.
+    /// The location has no such field.
     Absent,
-    /// The part, which doesn't begin with `-`. Nothing more is said of it: quoting for a shell is another
-    /// matter.
+    /// The field, which doesn't begin with `-`. Whether a shell needs it quoted is not decided.
     Usable(&'a str),
-    /// The part, which begins with `-`. As an argument it may be taken for an option.
+    /// The field, which begins with `-`. A command may read it as an option.
     Dangerous(&'a str),
 }
 
 impl<'a> UrlRef<'a> {
-    /// The user as an argument of a command, as [`Url::user_as_argument`] judges it. It takes no memory, and
-    /// lives as long as what lends the location.
+    /// The user as an argument of a command, like [`Url::user_as_argument`]. Allocates nothing. The result
+    /// lives for `'a`.
     ///
     /// ```
     /// fn is_refused(url: &UrlRef<'_>) -> bool {
@@ -58,8 +56,8 @@ impl<'a> UrlRef<'a> {
         judge(self.user)
     }
 
-    /// The host as an argument of a command, as [`Url::host_as_argument`] judges it. It takes no memory, and
-    /// lives as long as what lends the location.
+    /// The host as an argument of a command, like [`Url::host_as_argument`]. Allocates nothing. The result
+    /// lives for `'a`.
     ///
     /// ```
     /// fn is_refused_host(url: &UrlRef<'_>) -> bool {
@@ -74,8 +72,7 @@ impl<'a> UrlRef<'a> {
         judge(self.host)
     }
 
-    /// The user, where there is one that doesn't begin with `-`. It takes no memory, and lives as long as
-    /// what lends the location.
+    /// The user, if there is one that doesn't begin with `-`. Allocates nothing. The result lives for `'a`.
     ///
     /// ```
     /// fn user_or_git<'a>(url: &UrlRef<'a>) -> &'a str {
@@ -90,8 +87,7 @@ impl<'a> UrlRef<'a> {
         usable_text(self.user_as_argument())
     }
 
-    /// The host, where there is one that doesn't begin with `-`. It takes no memory, and lives as long as
-    /// what lends the location.
+    /// The host, if there is one that doesn't begin with `-`. Allocates nothing. The result lives for `'a`.
     ///
     /// ```
     /// fn can_connect(url: &UrlRef<'_>) -> bool {
@@ -106,8 +102,8 @@ impl<'a> UrlRef<'a> {
         usable_text(self.host_as_argument())
     }
 
-    /// The whole path, where it begins with `/` and the byte behind that isn't `-`. It takes no memory, and
-    /// lives as long as what lends the location.
+    /// The whole path, if it begins with `/` and the next byte isn't `-`. Allocates nothing. The result lives
+    /// for `'a`.
     ///
     /// ```
     /// fn served<'a>(url: &UrlRef<'a>) -> Option<BStr<'a>> {
@@ -127,7 +123,7 @@ impl<'a> UrlRef<'a> {
     }
 }
 
-/// What the part is to a command line.
+/// Whether the field can be an argument of a command.
 fn judge(part: Option<&str>) -> ArgumentSafety<'_>
     ensures judged { judgement result ≡ judgement_of (option_map (λ t. t.now) part.entry) }
     ensures safe { IsNoOption (judgement result) }
@@ -138,7 +134,7 @@ fn judge(part: Option<&str>) -> ArgumentSafety<'_>
     }
 }
 
-/// What the text is to a command line.
+/// Whether the text can be an argument of a command.
 fn judge_text(text: &str) -> ArgumentSafety<'_>
     ensures judged { judgement result ≡ judgement_of_text text.now }
     ensures safe { IsNoOption (judgement result) }
@@ -150,7 +146,7 @@ fn judge_text(text: &str) -> ArgumentSafety<'_>
     }
 }
 
-/// The text that was judged usable.
+/// The text, if it was classified as usable.
 fn usable_text(part: ArgumentSafety<'_>) -> Option<&str>
     ensures { option_map (λ t. t.now) result ≡ usable_text (judgement part.entry) }
 {
@@ -160,13 +156,12 @@ fn usable_text(part: ArgumentSafety<'_>) -> Option<&str>
     }
 }
 
-/// No text that may be taken for an option is returned as an argument.
+/// No text that may be read as an option is returned as an argument.
 ///
-/// - `usable`: what is judged usable is the part itself, and doesn't begin with `-`.
+/// - `usable`: a text that is classified as usable is the field itself, and doesn't begin with `-`.
 /// - `path`: the path that is returned is the location's own, and doesn't begin with `-`.
 ///
-/// Users who choose a transport by [`ArgumentSafety`] know by this law that a command gets no option from a
-/// location.
+/// By this law, users who choose a transport by [`ArgumentSafety`] pass no option to a command.
 pub fn law_arguments()
     ensures usable { UsableIsNoOption }
     ensures path { PathIsNoOption }

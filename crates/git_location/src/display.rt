@@ -1,13 +1,11 @@
-//! Showing a location to people: its text, with the field `password` hidden.
+//! `Display` of borrowed locations: the text, with the field `password` hidden.
 //!
-//! It uses `writer`. Its contract: where showing succeeds, what was shown is the text with another password
-//! in place of the location's own, whatever width, precision and flags are asked for, so that two locations
-//! that differ in nothing but their passwords look alike; where there is no text it fails, and nothing is
-//! shown. It takes no memory.
+//! If formatting succeeds, the output is the location's text with another password in place of its own, whatever
+//! width, precision and flags the formatter has, if it doesn't indent. Two locations that differ only in their
+//! passwords have the same output. If the location has no text, formatting fails and writes nothing.
 //!
-//! What a formatter was given before it failed is in no contract: `fmt::Write` says what a call of a writer
-//! did only where it returned `Ok`, so no clause can speak of the others. Tests show that it is a front of
-//! the right text.
+//! No contract says how much was written before a formatter failed: `fmt::Write` specifies a call only if it
+//! returns `Ok`. Tests check that the output is a front of the right text.
 
 ghost use Rattle.std.specs.Prelude.{◌≡◌, None, IsErr, option_map};
 ghost use Rattle.std.specs.Fmt.{DisplaysOnOk, DisplaysStyledOnOk};
@@ -24,8 +22,7 @@ impl fmt::Display for UrlRef<'_> {
 
     ghost styled_output = { λ url _. display url };
 
-    /// Shows what the `Display` of [`Url`] shows of the location, and fails where that does. It takes no
-    /// memory.
+    /// Writes the output of `Display` of [`Url`], and fails if that does. Allocates nothing.
     ///
     /// ```
     /// fn log_line(alloc: Global, url: &UrlRef<'_>) -> Result<String, AllocError> {
@@ -48,7 +45,7 @@ impl fmt::Display for UrlRef<'_> {
     }
 }
 
-/// What is shown in place of a password.
+/// The text that is written in place of a password, or `None` if there is no password.
 pub fn hidden_password(password: Option<&str>) -> Option<&str>
     ensures { option_map (λ p. p.now) result
         ≡ hidden_password (option_map (λ p. p.now) password.entry) }
@@ -59,9 +56,9 @@ pub fn hidden_password(password: Option<&str>) -> Option<&str>
     }
 }
 
-/// Locations that differ in nothing but what their fields `password` hold have the same text to be shown, so
-/// nobody learns what is in that field from what was shown where `Display` returned `Ok`. Of other fields,
-/// which may hold a secret too, it says nothing.
+/// Locations that differ only in their fields `password` have the same output, so if `Display` returns `Ok`,
+/// the output says nothing about that field. The law says nothing about other fields, which may contain a
+/// secret too.
 pub fn law_hidden_password()
     ensures hidden { HidesPassword }
 {}

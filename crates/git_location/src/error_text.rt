@@ -1,7 +1,6 @@
-//! The words of the faults of writing, as errors say them to people.
+//! The words of write faults in error messages.
 //!
-//! It uses `write_error` alone and takes no memory. Its contract: the words are those of the definitions,
-//! whatever width, precision and flags are asked for, so they depend on nothing but the fault.
+//! The words are those of the definitions, whatever width, precision and flags the formatter has.
 
 ghost use Rattle.std.specs.Prelude.{Some};
 ghost use Rattle.git_location.specs.ErrorText.{write_fault_words};
@@ -14,7 +13,7 @@ impl fmt::Display for WriteFault {
 
     ghost styled_output = { λ fault _. Some (write_fault_words fault) };
 
-    /// Which parts of the location don't go together.
+    /// Writes which fields of the location don't go together.
     fn fmt<W: fmt::Write>(&self, f: &mut fmt::Formatter<W>) -> fmt::Result {
         match self {
             WriteFault::HelperName => f.write_str("the remote helper has no valid name"),

@@ -1,9 +1,8 @@
-//! Locations in whose texts Git reads the same place.
+//! The class of locations in whose texts Git reads the same place.
 //!
-//! It uses the settled test, the tests of bytes and the sets of escapes, and takes no memory. Inside: `web`
-//! decides the class of HTTP. Its contract: the answer is yes exactly for the class of the definitions, and
-//! in the text of each location of that class Git reads the location's own protocol, user, host, port and
-//! path (`law_git`).
+//! In the text of each location of the class, Git reads the location's own scheme, user, host, port and path
+//! (`law_git`); of `git://` the host without brackets. Over HTTP its credential code reads the path without the
+//! slashes around it. The module `web` decides the class of HTTP.
 
 ghost use Rattle.std.specs.Prelude.{◌≡◌, ◌↔◌, IsTrue, IfSome, None, Some, false, option_map};
 ghost use Rattle.std.specs.List.{list_any};
@@ -22,8 +21,8 @@ use percent_encoding::AsciiSet;
 use web::agrees_over_web;
 
 impl UrlRef<'_> {
-    /// Whether Git reads this very place in the text of the location, as [`Url::agrees_with_git`] reports. It
-    /// takes no memory.
+    /// Whether Git reads this very place in the text of the location, like [`Url::agrees_with_git`]. Allocates
+    /// nothing.
     ///
     /// ```
     /// /// Writes the text for Git, if Git reads the same place in it.
@@ -50,11 +49,11 @@ impl UrlRef<'_> {
     }
 }
 
-/// Whether the location is one of Git's own transports, and of their class.
+/// Whether the location has one of Git's own transports, and is of their class.
 fn agrees_by_transport(url: &UrlRef<'_>) -> bool
     ensures { IsTrue result ↔ AgreesByTransport url.now }
 {
-    // The scheme comes first: for some of them it is the whole answer.
+    // The scheme comes first: some schemes decide the result.
     suits_transport(url)
         && url.password.is_none()
         && has_no_option(url)
@@ -69,7 +68,7 @@ fn has_no_option(url: &UrlRef<'_>) -> bool
     is_no_option(url.user) && is_no_option(url.host) && !starts_with_byte(url.path, b'-')
 }
 
-/// Whether the text, where there is one, doesn't begin with `-`.
+/// Whether the text is missing or doesn't begin with `-`.
 fn is_no_option(part: Option<&str>) -> bool
     ensures { IsTrue result
         ↔ IfSome (option_map (λ t. t.now) part.entry) (λ t. is_option_like t ≡ false) }
@@ -80,7 +79,7 @@ fn is_no_option(part: Option<&str>) -> bool
     }
 }
 
-/// Whether the location has what Git's transport of its scheme asks, where Git has one.
+/// Whether the location meets the conditions of Git's transport for its scheme, if Git has one.
 fn suits_transport(url: &UrlRef<'_>) -> bool
     ensures { IsTrue result ↔ SuitsTransport url.now.scheme url.now }
 {
@@ -115,7 +114,7 @@ fn is_tilde_second(text: &[u8]) -> bool
     }
 }
 
-/// Whether the location has the scp form and the host `rsync` alone. Of Secure Shell such a text begins with
+/// Whether the location has the scp form, no user and the host `rsync`. With Secure Shell its text begins with
 /// `rsync:`.
 fn is_rsync(url: &UrlRef<'_>) -> bool
     ensures { IsTrue result ↔ IsRsync url.now }
@@ -133,7 +132,7 @@ fn has_host(url: &UrlRef<'_>, name: &[u8]) -> bool
     }
 }
 
-/// Whether user, host and path are such that Git cuts them out of the text.
+/// Whether Git cuts user, host and path out of the text as they are.
 fn has_plain_parts(url: &UrlRef<'_>) -> bool
     ensures { IsTrue result ↔ HasPlainParts url.now }
 {
@@ -142,8 +141,7 @@ fn has_plain_parts(url: &UrlRef<'_>) -> bool
         && !holds_contested(url.path)
 }
 
-/// Whether the user or host, where there is one, is in the text as it is, without a byte by which Git cuts
-/// it.
+/// Whether the user or host is missing or is in the text as it is, without a byte at which Git cuts it.
 fn is_plain_part(part: Option<&str>, is_no_url: bool, escaped: AsciiSet) -> bool
     ensures { IsTrue result
         ↔ IfSome (option_map (λ t. t.now) part.entry) (IsPlainPart is_no_url escaped) }
@@ -160,8 +158,7 @@ fn is_plain_part(part: Option<&str>, is_no_url: bool, escaped: AsciiSet) -> bool
     }
 }
 
-/// Whether the host, where there is one, is such a part, or has brackets of its own, as `git://` alone has
-/// them.
+/// Whether the host is missing, is such a text, or has brackets of its own, as only hosts of `git://` have.
 fn has_plain_host(url: &UrlRef<'_>) -> bool
     ensures { IsTrue result ↔ IfSome url.now.host (IsPlainHost url.now) }
 {
@@ -174,21 +171,21 @@ fn has_plain_host(url: &UrlRef<'_>) -> bool
     }
 }
 
-/// Whether the location is one of `git://`, and a bracket is at the front of this host.
+/// Whether the location has the scheme `git` and this host begins with a bracket.
 fn is_bracketed_of_git(url: &UrlRef<'_>, host: &str) -> bool
     ensures { IsTrue result ↔ IsBracketedOfGit url.now host.now }
 {
     matches!(url.scheme, SchemeRef::Git) && starts_with_byte(host.as_bytes(), b'[')
 }
 
-/// Whether the byte is one by which Git cuts a text otherwise.
+/// Whether the byte is one at which Git cuts a text differently.
 fn is_contested(byte: u8) -> bool
     ensures { result ≡ is_contested byte }
 {
     byte == 0 || byte == b'[' || byte == b']'
 }
 
-/// Whether such a byte is in the text.
+/// Whether the text has such a byte.
 fn holds_contested(text: &[u8]) -> bool
     ensures { result ≡ list_any is_contested text.now }
 {

@@ -1,8 +1,5 @@
-//! Lending: the location that found slices mean, in slices of the text and of a room.
-//!
-//! It may use `found`, `room`, `ssh_host`, `home`, `host`, `rules`, `scheme`, `url_syntax`, `text` and the
-//! type of borrowed locations. Its contract: the location is the one that the slices mean. It takes no
-//! memory: what has other bytes than the text is written into the room.
+//! Makes the borrowed location that found slices mean. Fields that differ from the text are written into the
+//! caller's buffer.
 
 ghost use Rattle.std.specs.Prelude.{◌≡◌, ◌≤◌, List, ℕ, IfSome, IsUtf8, false, length, option_map};
 ghost use Rattle.std.specs.Option.{option_copied};
@@ -45,7 +42,7 @@ pub fn lend<'a>(found: Found<'a>, room: &'a mut [u8]) -> UrlRef<'a>
     }
 }
 
-/// A path with this scheme and this flag, and nothing else.
+/// A location of this scheme, flag and path only.
 fn path_alone<'a>(scheme: SchemeRef<'a>, flag: bool, path: &'a [u8]) -> UrlRef<'a>
     ensures { result ≡ path_alone (lent_scheme scheme.entry) flag path.now }
 {
@@ -84,7 +81,7 @@ fn file_location<'a>(host: &'a [u8], path: &'a [u8]) -> UrlRef<'a>
     url
 }
 
-/// The location of a URL with these parts, of whose scheme these are the rules.
+/// The location of a URL with these fields, by the rules of its scheme.
 fn url_location<'a>(rules: Rules, url: ParsedUrl<'a>, room: &'a mut [u8]) -> UrlRef<'a>
     requires ready { IsReadyUrl rules url }
     requires room { parts_length (syntax_of url) ≤ length room.old }
@@ -106,7 +103,7 @@ fn url_location<'a>(rules: Rules, url: ParsedUrl<'a>, room: &'a mut [u8]) -> Url
     }
 }
 
-/// The text of bytes that may be missing.
+/// The bytes, which may be missing, as text.
 fn text_of(bytes: Option<&[u8]>) -> Option<&str>
     requires { IfSome (option_copied bytes) IsUtf8 }
     ensures { option_map (λ t. t.now) result ≡ option_copied bytes.entry }
@@ -117,7 +114,7 @@ fn text_of(bytes: Option<&[u8]>) -> Option<&str>
     }
 }
 
-/// The host of a location: Secure Shell takes it without marks, any other scheme as it is.
+/// The host of a location: without brackets and colon for Secure Shell, unchanged for any other scheme.
 fn host_for(known: KnownScheme, host: Option<&[u8]>) -> Option<&[u8]>
     ensures { (scheme : List ℕ)
         → option_copied result
@@ -129,7 +126,7 @@ fn host_for(known: KnownScheme, host: Option<&[u8]>) -> Option<&[u8]>
     }
 }
 
-/// The path of a location, of the decoded one of its URL.
+/// The path of a location, from the decoded path of its URL.
 fn path_for<'a>(rules: Rules, scheme: &[u8], path: &'a [u8]) -> &'a [u8]
     requires { AreRulesOf scheme.now rules }
     ensures { result.now ≡ path_for (scheme_of scheme.now) path.now }
@@ -157,7 +154,7 @@ fn path_in<'a>(url: ParsedUrl<'a>, room: &'a mut [u8]) -> &'a [u8]
     path
 }
 
-/// The spelling of the path of a URL, where it holds an escape.
+/// The spelling of the path of a URL, if it has an escape.
 fn retained_spelling<'a>(url: ParsedUrl<'a>) -> Option<&'a [u8]>
     requires { url.escaped ≡ has_percent url.path.now }
     ensures { option_copied result ≡ retained_spelling url.entry.path.now }
@@ -165,7 +162,7 @@ fn retained_spelling<'a>(url: ParsedUrl<'a>) -> Option<&'a [u8]>
     if url.escaped { Some(url.path) } else { None }
 }
 
-/// A location that Secure Shell reaches, with this user and this host.
+/// A location of Secure Shell with this user, this host and this path.
 fn scp_location<'a>(
     user: Option<&'a [u8]>,
     host: ScpHost<'a>,

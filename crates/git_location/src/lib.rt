@@ -1,8 +1,8 @@
-//! Git locations that are borrowed: [`url_ref::UrlRef`], whose parts are slices of whoever lends them.
+//! Borrowed Git locations: [`url_ref::UrlRef`], whose fields are slices of other texts.
 //!
-//! What only looks at a location is defined here, once: reading into a room that the caller lends, writing,
-//! the settled class, the class in whose texts Git reads the same, and the judgement of arguments. Nothing
-//! here asks for memory.
+//! Everything that only reads a location is defined here, once: reading into a caller's buffer, writing, the
+//! settled class, the class in whose texts Git reads the same, and the test of arguments. No function here
+//! allocates.
 #![tactic(auto)]
 
 mod accessors;

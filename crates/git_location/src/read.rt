@@ -1,9 +1,4 @@
-//! Reading into a room that the caller lends: the location that a text spells, without memory.
-//!
-//! It uses `git_syntax::find`, which finds slices of the text, and `lend`, which makes the location of them; of
-//! a text without a location `git_refusals` has the refusal.
-//! Its contract: the answer is the one location that the definitions spell with the bytes, a refusal comes
-//! only where they spell none, and is the one refusal of the bytes.
+//! Reads a location into a caller's buffer.
 
 ghost use Rattle.std.specs.Prelude.{length};
 ghost use Rattle.git_location.specs.Readings.{ReadsIn};
@@ -15,17 +10,18 @@ use git_refusals::read::refusal;
 use git_syntax::find::find;
 
 impl<'a> UrlRef<'a> {
-    /// The one location that the bytes spell, read as [`parse`] reads it, but without memory: its parts are
-    /// slices of the text, and where they have other bytes, as an escape or a capital of a host, slices of
-    /// the room.
+    /// Reads the one location that the bytes spell, like [`parse`]. Allocates nothing. The fields of the result
+    /// are slices of the text or of the buffer `room`; no clause says which. The code copies a field to the buffer
+    /// only if its bytes differ from the text, as with an escape or with a capital letter in a host.
     ///
-    /// Room for as many bytes as the text has is enough for every text; of less room there is no answer for a
-    /// text that spells a location. A refusal needs no room. What is in the room behind the call is not said.
+    /// A buffer as long as the text always suffices; with a shorter one every text that spells a location gives
+    /// `NoRoom`. Errors need no buffer. The contents of the buffer after the call are unspecified; that it is
+    /// unchanged after an error is tested, not proved.
     ///
     /// # Errors
     ///
-    /// [`ParseError::Refused`] where the bytes spell no location, with the first flaw in the order of checks, and
-    /// [`ParseError::NoRoom`] where they spell one and the room is shorter than they are.
+    /// - [`ParseError::Refused`] if the bytes spell no location, with the first flaw in the order of checks.
+    /// - [`ParseError::NoRoom`] if they spell one and the buffer is shorter than they are.
     ///
     /// ```
     /// /// The host that a line names, in a room that is used for line after line.

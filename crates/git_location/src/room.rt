@@ -1,8 +1,7 @@
-//! Texts in a room: what stands for other bytes than those of the text, in memory that the caller lends.
+//! Texts that are decoded into a caller's buffer.
 //!
-//! It may use `host`, `found`, `bytes` and `escape`. Its contract: each call answers the text that a slice
-//! stands for, which is the slice itself where that has its bytes, and else the front of the room; and it
-//! answers the room behind. It takes no memory.
+//! Each function returns the text that a slice denotes: the slice itself if it has the same bytes, and else the
+//! front of the buffer. It also returns the unused rest of the buffer.
 
 ghost use Rattle.std.specs.Prelude.{◌≡◌, ◌+◌, ◌≤◌, IfSome, length};
 ghost use Rattle.std.specs.Option.{option_copied};
@@ -88,7 +87,7 @@ fn named_in<'a>(host: HostPort<'a>, room: &'a mut [u8]) -> (&'a [u8], &'a mut [u
     (text, left)
 }
 
-/// The slice of a host, where it is the host's text as it is.
+/// The slice of a host, if it is the host's text unchanged.
 #[inline(always)]
 fn own_slice(host: HostPort<'_>) -> Option<&[u8]>
     ensures { IfSome result (λ text. text.now ≡ named_text host.entry) }
@@ -103,7 +102,7 @@ fn own_slice(host: HostPort<'_>) -> Option<&[u8]>
     if is_lowercase(text) { Some(text) } else { None }
 }
 
-/// The slice of a host without brackets that holds no escape, or whose escapes stay.
+/// The slice of a host without brackets that has no escape, or whose escapes stay.
 fn unescaped_slice(piece: HostPiece<'_>) -> Option<&[u8]>
     ensures { IfSome result
         (λ text. IsLowercase text.now → text.now ≡ meant_host piece.entry) }
@@ -115,7 +114,7 @@ fn unescaped_slice(piece: HostPiece<'_>) -> Option<&[u8]>
     }
 }
 
-/// A copy of the text in the front of the room.
+/// A copy of the text at the front of the buffer.
 fn copied_in<'a>(text: &[u8], room: &'a mut [u8]) -> &'a mut [u8]
     requires { length text.now ≤ length room.old }
     ensures { result.now ≡ text.now }

@@ -1,9 +1,5 @@
-//! The settled class, decided. What is in it comes back: its text reads as the same fields and is written the
-//! same again.
-//!
-//! It may use every test of bytes, of addresses, of lengths and of forms, and the pieces of the writer. Its
-//! contract: the answer is yes exactly for the settled class, and so is the answer for each kind of location;
-//! and the location is a value of which the laws speak. It takes no memory.
+//! The test of the settled class. The text of a location of this class is read as the same fields and is
+//! written the same again.
 
 ghost use Rattle.std.specs.Prelude.{◌↔◌, IsTrue};
 ghost use Rattle.git_syntax.specs.Location.Scheme.{helper};
@@ -26,7 +22,7 @@ use scp::is_settled_scp;
 use url::{is_settled_git, is_settled_helper_url, is_settled_secure, is_settled_web};
 
 impl UrlRef<'_> {
-    /// Whether the location is of the settled class, as [`Url::is_settled`] reports. It takes no memory.
+    /// Whether the location is of the settled class, like [`Url::is_settled`]. Allocates nothing.
     ///
     /// ```
     /// /// Writes the location if others read it as the same.
@@ -46,7 +42,8 @@ impl UrlRef<'_> {
         self.is_settled_as(None)
     }
 
-    /// The same, where the pieces of the location's text may be at hand: they aren't laid out again then.
+    /// Whether the location is of the settled class. `laid` is the pieces of its text, if the caller has them;
+    /// they aren't laid out again then.
     pub fn is_settled_as(&self, laid: Option<&Pieces<'_>>) -> bool
         requires { AreOwn laid self.now }
         ensures { IsTrue result ↔ IsSettled self.now }
@@ -63,7 +60,7 @@ impl UrlRef<'_> {
     }
 }
 
-/// Whether the location is a settled remote helper of this name, which isn't that of `ext`.
+/// Whether the location is a settled remote helper of this name, which isn't `ext`.
 fn is_settled_named(url: &UrlRef<'_>, name: &[u8]) -> bool
     ensures { IsTrue result ↔ IsSettledBy (helper name.now) url.now }
 {

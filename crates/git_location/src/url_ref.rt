@@ -1,21 +1,17 @@
-//! A location that is borrowed: a [`UrlRef`], whose parts are slices of whoever lends them.
-//!
-//! It uses the schemes of `git_syntax`. Its contract: to all others a borrowed location is one value of eight
-//! parts, as the [`Url`] is that lends it. What only looks at a location is defined on it, and takes no
-//! memory.
+//! The type of borrowed locations, [`UrlRef`]. To contracts it is the same value of eight fields as a [`Url`].
 
 ghost use Rattle.std.specs.Prelude.{◌≡◌, ◌↔◌, [], IsTrue, Some};
 
 use git_syntax::scheme::SchemeRef;
 use std::marker::Model;
 
-/// A Git location whose parts are borrowed, from a [`Url`] or from texts that a program has.
+/// A Git location whose fields are borrowed, from a [`Url`] or from any other texts.
 ///
-/// Contracts see the same value in it as in a `Url`: eight parts, the retained spelling of its path among
-/// them. The fields are those of `Url`, and may be put together by hand; [`UrlRef::is_settled`] reports
-/// whether the location comes back from its own text. It owns nothing: making one, writing it and asking it
-/// takes no memory. `Display` shows `redacted` in place of the field `password`, as that of `Url` does; it
-/// has no `Debug`.
+/// Contracts see the same value in it as in a `Url`: eight fields, among them the retained spelling of the
+/// path. The fields are those of `Url`, and a program may set them itself; [`UrlRef::is_settled`] reports
+/// whether the location's text is read as the same location. It owns nothing, and none of its methods
+/// allocates. Slices that they return live for `'a`. `Display` writes `redacted` in place of the field
+/// `password`, like that of `Url`; it has no `Debug`.
 ///
 /// ```
 /// /// Writes the location of a repository on a host, without a copy of either.
@@ -35,7 +31,7 @@ use std::marker::Model;
 /// ```
 #[derive(Drop)]
 pub struct UrlRef<'a> {
-    /// What the location is reached by.
+    /// The scheme.
     pub scheme: SchemeRef<'a>,
     /// The user, decoded.
     pub user: Option<&'a str>,
@@ -43,13 +39,13 @@ pub struct UrlRef<'a> {
     pub password: Option<&'a str>,
     /// The host, with or without brackets as in a `Url`.
     pub host: Option<&'a str>,
-    /// Whether the form that is no URL is asked for.
+    /// Whether to write the alternative form, which is not a URL.
     pub serialize_alternative_form: bool,
     /// The port.
     pub port: Option<u16>,
     /// The path, decoded. It may be any bytes.
     pub path: &'a [u8],
-    /// The escaped spelling of the path, where there is one. It counts while it decodes to the path.
+    /// The escaped spelling of the path, if there is one. It is used while it decodes to the path.
     pub spelling: Option<&'a [u8]>,
 }
 

@@ -1,14 +1,14 @@
-//! Every location is a value of which the laws speak.
+//! Every location is a value in the sense of the laws.
 //!
-//! It uses `url_ref`. The functions look at fields and change nothing, and their contracts are what the types
-//! of those fields say: a text is UTF-8, a byte is below 256, and a port is one of 65,536 numbers.
+//! The functions have no effect. Their contracts are the facts that the types of the fields imply: a text is
+//! UTF-8, a byte is below 256, and a port is below 65,536.
 
 ghost use Rattle.std.specs.Prelude.{◌<◌, All, IfSome, IsUtf8, option_map};
 ghost use Rattle.git_location.specs.Settled.{IsValue};
 
 use crate::url_ref::UrlRef;
 
-/// Every borrowed location is such a value.
+/// Every borrowed location is a value in the sense of the laws.
 pub fn law_lent_value(url: &UrlRef<'_>)
     ensures value { IsValue url.now }
 {
@@ -20,7 +20,7 @@ pub fn law_lent_value(url: &UrlRef<'_>)
     law_spelling(url.spelling);
 }
 
-/// A text is UTF-8, where there is one.
+/// A text, if it is there, is UTF-8.
 fn law_text(text: Option<&str>)
     ensures { IfSome (option_map (λ t. t.now) text.entry) IsUtf8 }
 {
@@ -45,7 +45,7 @@ fn law_bytes(bytes: &[u8])
     ensures { All (λ b. b < 256) bytes.now }
 {}
 
-/// So is each byte of a spelling.
+/// Each byte of a spelling is below 256.
 fn law_spelling(spelling: Option<&[u8]>)
     ensures { IfSome (option_map (λ t. t.now) spelling.entry) (λ s. All (λ b. b < 256) s) }
 {

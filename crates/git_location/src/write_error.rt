@@ -1,12 +1,10 @@
 //! The errors of writing: why a location has no text, and why it was not written to a writer.
-//!
-//! It uses nothing. `error_text` says the faults to people.
 
 use std::io;
 use thiserror::Error;
 
-/// Why a location has no text. What is read always has one: it is a location made of parts, or changed by
-/// hand, that can lack it.
+/// Why a location has no text. A location that was read always has one; a location made of fields, or changed
+/// by a program, can lack it.
 ///
 /// ```
 /// fn lacks_host(error: &WriteError) -> bool {
@@ -15,13 +13,13 @@ use thiserror::Error;
 /// ```
 #[derive(Clone, Copy, Debug, PartialEq, Eq)]
 pub enum WriteFault {
-    /// The name of the remote helper is no such name.
+    /// The name of the remote helper isn't valid.
     HelperName,
     /// A remote helper has a user, a password, a host or a port.
     HelperParts,
-    /// A relative path of Secure Shell comes without a host, or with a password or a port.
+    /// A relative path of Secure Shell has no host, or has a password or a port.
     RelativeSsh,
-    /// A user comes without a host.
+    /// A user has no host.
     UserWithoutHost,
 }
 
@@ -37,7 +35,7 @@ pub enum WriteError {
     /// The location has no text. Nothing was written.
     #[error("the location can't be written: {0}")]
     Fault(WriteFault),
-    /// The writer failed. Nothing is said of how much it took.
+    /// The writer failed. How much it wrote is unspecified.
     #[error("the writer failed: {0}")]
     Io(io::Error),
 }

@@ -1,9 +1,8 @@
-//! Writing: the text of a location, its length, and the spelling of its path.
+//! Writes a location: its text, the text's length, and the spelling of its path.
 //!
-//! The text is laid out once, as pieces: slices of the location with the way that each is written. `form`
-//! chooses the form, `layout` the pieces, `piece` adds up their lengths and puts them into a sink,
-//! `unescaped` finds texts that need no escape, and `sink`, `fill` and `show` are the sinks. The contract of
-//! each public call is the text of the definitions.
+//! The text is laid out once, as pieces: slices of the location, each with the way that it is written. `form`
+//! chooses the form, `layout` the pieces, `piece` adds up their lengths and puts them into a sink, `unescaped`
+//! finds texts that need no escape, and `sink`, `fill` and `show` are the sinks.
 
 ghost use Rattle.std.specs.Prelude.{◌≡◌, [], Ok, Err, IsOk, IfOk, IfErr, length};
 ghost use Rattle.bstr.specs.BStr.{bstr_bytes};
@@ -32,7 +31,7 @@ use itoa::Buffer;
 use std::io::Write;
 
 impl<'a> UrlRef<'a> {
-    /// Writes the text of the location, as [`Url::write_to`] does. It takes no memory.
+    /// Writes the text of the location, like [`Url::write_to`]. Allocates nothing.
     ///
     /// ```
     /// fn append(out: &mut Vec<u8>, url: &UrlRef<'_>) -> Result<(), WriteError> {
@@ -42,8 +41,8 @@ impl<'a> UrlRef<'a> {
     ///
     /// # Errors
     ///
-    /// [`WriteError::Fault`] exactly where the location has no text; nothing was written then.
-    /// [`WriteError::Io`] where the writer failed; nothing is said of how much it took.
+    /// - [`WriteError::Fault`] exactly if the location has no text. Nothing was written then.
+    /// - [`WriteError::Io`] if the writer failed. How much it wrote is unspecified.
     pub fn write_to<W: Write>(&self, out: &mut W) -> Result<(), WriteError>
         ensures { Written W.contents out.old out.new (text self.now) result }
     {
@@ -57,7 +56,7 @@ impl<'a> UrlRef<'a> {
         }
     }
 
-    /// The length of the text of the location, in bytes. It takes no memory.
+    /// The length of the text of the location, in bytes. Allocates nothing.
     ///
     /// ```
     /// /// Whether the text fits into a field of so many bytes.
@@ -68,7 +67,7 @@ impl<'a> UrlRef<'a> {
     ///
     /// # Errors
     ///
-    /// The fault, exactly where the location has no text.
+    /// The fault, exactly if the location has no text.
     pub fn text_len(&self) -> Result<u128, WriteFault>
         ensures { result ≡ text_length (text self.now) }
     {
@@ -77,9 +76,9 @@ impl<'a> UrlRef<'a> {
         Ok(pieces.len())
     }
 
-    /// Puts the text of the location at the front of the room, if it fits, and answers its length. The rest
-    /// of the room is as it was; so is all of it where the text doesn't fit, which the length shows, or where
-    /// there is none. It takes no memory.
+    /// Writes the text of the location to the front of the buffer, if it fits, and returns its length. The rest
+    /// of the buffer is unchanged. If the text doesn't fit, which the length shows, or the location has none,
+    /// all of the buffer is unchanged. Allocates nothing.
     ///
     /// ```
     /// /// The text of a location in room that is at hand, if it fits.
@@ -91,7 +90,7 @@ impl<'a> UrlRef<'a> {
     ///
     /// # Errors
     ///
-    /// The fault, exactly where the location has no text.
+    /// The fault, exactly if the location has no text.
     pub fn write_into(&self, room: &mut [u8]) -> Result<u128, WriteFault>
         ensures length { result ≡ text_length (text self.now) }
         ensures placed { Placed (text self.now) room.old room.new }
@@ -102,8 +101,8 @@ impl<'a> UrlRef<'a> {
         }
     }
 
-    /// The path as it was spelled, with its escapes: the spelling where it stands for the path, and else the
-    /// path itself. It takes no memory, and lives as long as what lends the location.
+    /// The escaped path as it was written, if it still decodes to `path`; otherwise `path`. Allocates nothing.
+    /// The result lives for `'a`.
     ///
     /// ```
     /// fn spelled<'a>(url: &UrlRef<'a>) -> BStr<'a> {
@@ -119,15 +118,15 @@ impl<'a> UrlRef<'a> {
         }
     }
 
-    /// The form of the text, or why there is none.
+    /// The form of the text, or the fault if the location has none.
     pub fn own_form(&self) -> Result<Form, WriteFault>
         ensures { in_form (form_chosen result) self.now ≡ text self.now }
     {
         self.form(self.password)
     }
 
-    /// Puts the text in this form into the room, if it fits, and answers its length. Each form is put by
-    /// itself, as it is collected.
+    /// Writes the text in this form to the buffer, if it fits, and returns its length. A URL is written by
+    /// another function.
     fn place_in(&self, form: Form, room: &mut [u8]) -> u128
         ensures length { result ≡ length (text_in (form_of form) self.now) }
         ensures placed { Placed (Ok (text_in (form_of form) self.now)) room.old room.new }
@@ -140,7 +139,7 @@ impl<'a> UrlRef<'a> {
         }
     }
 
-    /// Puts the text as a URL into the room, if it fits, and answers its length.
+    /// Writes the text as a URL to the buffer, if it fits, and returns its length.
     #[inline(never)]
     fn place_canonical(&self, room: &mut [u8]) -> u128
         ensures length { result ≡ length (canonical_text self.now) }
@@ -150,7 +149,8 @@ impl<'a> UrlRef<'a> {
         place(&self.canonical_pieces(self.password, &mut digits), room)
     }
 
-    /// The pieces of the text, or why there is none. The digits of the port are in the buffer.
+    /// The pieces of the text, or the fault if the location has none. `digits` is the buffer for the digits of the
+    /// port.
     pub fn own_pieces<'b>(&'b self, digits: &'b mut Buffer) -> Result<Pieces<'b>, WriteFault>
         ensures { text_of_pieces result ≡ text self.now }
     {
@@ -158,7 +158,7 @@ impl<'a> UrlRef<'a> {
     }
 }
 
-/// Puts the text of the pieces at the front of the room, if it fits, and answers its length.
+/// Writes the text of the pieces to the front of the buffer, if it fits, and returns its length.
 #[inline(always)]
 fn place(pieces: &Pieces<'_>, room: &mut [u8]) -> u128
     ensures length { result ≡ length (pieces_text pieces.now) }

@@ -5,7 +5,7 @@ use Rattle.git_modules.specs.declared.config_file.flaw.Flaw.TheVariants.{NoSecti
 use Rattle.git_modules.specs.ConfigFileBytes.{quote_mark, is_blank, is_section_byte, word, past_word}
 use Rattle.git_modules.specs.ConfigFileFlaws.{Read, refused, refused_late, behind}
 
--- a subsection up to its last quote, and what follows that; the byte behind a `\` stands for itself
+-- a subsection up to its closing quote, and the text after that; a `\` makes the next byte literal
 abbrev pub quoted_text : Bool → List ℕ → Read
 quoted_text escaped [] = refused OpenSubsection []
 quoted_text escaped (c ∷ rest) =
@@ -16,7 +16,7 @@ quoted_text escaped (c ∷ rest) =
     else if c == backslash then quoted_text true rest
     else behind (c ∷ []) (quoted_text false rest)
 
--- the `]` behind a subsection
+-- the `]` after a subsection
 abbrev pub header_end : List ℕ → List ℕ → Read
 header_end stem [] = refused_late OpenHeader []
 header_end stem (c ∷ rest) =
@@ -24,19 +24,19 @@ header_end stem (c ∷ rest) =
     else if c == newline then refused_late OpenHeader (c ∷ rest)
     else refused OpenHeader (c ∷ rest)
 
--- what was read up to the last quote, and the `]` behind it
+-- the result up to the closing quote, and the `]` after it
 abbrev pub ended : Read → Read
 ended (Ok p) = header_end p.0 p.1
 ended (Err e) = Err e
 
--- the subsection of a header behind its section and white space
+-- the subsection of a header after its section and white space
 abbrev pub subsection_of : List ℕ → List ℕ → Read
 subsection_of section [] = refused NoQuote []
 subsection_of section (c ∷ rest) =
     if c == quote_mark then ended (behind (section ++ dot ∷ []) (quoted_text false rest))
     else refused NoQuote (c ∷ rest)
 
--- what stands behind the `[` and the section of a header
+-- the part of a header after the `[` and the section
 abbrev pub behind_section : List ℕ → List ℕ → Read
 behind_section section [] = refused_late BadSection []
 behind_section [] (c ∷ rest) =
@@ -50,7 +50,7 @@ behind_section (b ∷ bs) (c ∷ rest) =
     else if is_blank c then subsection_of (b ∷ bs) (past_word is_blank rest)
     else refused BadSection (c ∷ rest)
 
--- what the keys below a header begin with: its section in lower case, and a dot and its subsection if it has
--- one; and what follows the header. The text is that behind the `[`
+-- the prefix of the keys below a header: its section in lower case, and a dot and its subsection if it has one; and
+-- the text after the header. The given text is that after the `[`
 abbrev pub header_of : List ℕ → Read
 header_of text = behind_section (lowercase (word is_section_byte text)) (past_word is_section_byte text)

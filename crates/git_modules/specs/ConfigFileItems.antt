@@ -1,4 +1,4 @@
--- What a configuration file is made of: white space, comments, headers and settings, one after another.
+-- The items of a configuration file: white space, comments, headers and settings, one after another.
 use Rattle.std.specs.Prelude.{ℕ, ◌==◌, ◌||◌, List, [], ◌∷◌, Option, Some, None, Result, Ok, Err, if◌then◌else◌}
 use Rattle.std.specs.Char.{is_ascii_alphabetic}
 use Rattle.git_syntax.specs.Bytes.{newline, number_sign, equals_sign, left_bracket, lowercase}
@@ -8,27 +8,27 @@ use Rattle.git_modules.specs.ConfigFileFlaws.{Read, Refusal, refused, refused_la
 use Rattle.git_modules.specs.ConfigFileValues.{value_of}
 use Rattle.git_modules.specs.ConfigFileHeaders.{header_of}
 
--- what stands at a place
+-- an item
 pub data Item : Type 0 where
   gap : Item
   header : List ℕ → Item
   setting : List ℕ → Option (List ℕ) → Item
 
--- an item and what follows it, or why there is none
+-- an item and the text after it, or an error
 abbrev pub ItemRead : Type 0
 ItemRead = Result (Item × List ℕ) Refusal
 
--- what was read is a header
+-- a result as a header
 abbrev pub as_header : Read → ItemRead
 as_header (Ok p) = Ok (header p.0, p.1)
 as_header (Err e) = Err e
 
--- what was read is the value of a setting of this name
+-- a result as the value of a setting of this name
 abbrev pub as_setting : List ℕ → Read → ItemRead
 as_setting key (Ok p) = Ok (setting key (Some p.0), p.1)
 as_setting key (Err e) = Err e
 
--- what stands behind the name of a setting: the end of the line, or `=` and its value
+-- the part of a setting after its name: the end of the line, or `=` and its value
 abbrev pub behind_name : List ℕ → List ℕ → ItemRead
 behind_name key [] = Ok (setting key None, [])
 behind_name key (c ∷ rest) =
@@ -41,7 +41,7 @@ abbrev pub setting_of : List ℕ → ItemRead
 setting_of text = behind_name (lowercase (word is_key_byte text))
     (past_word is_gap (past_word is_key_byte text))
 
--- the item that a text begins with
+-- the item at the front of a text
 abbrev pub item_of : List ℕ → ItemRead
 item_of [] = Ok (gap, [])
 item_of (c ∷ rest) =
@@ -51,7 +51,7 @@ item_of (c ∷ rest) =
     else if is_ascii_alphabetic c then setting_of (c ∷ rest)
     else refused NoStart (c ∷ rest)
 
--- what follows the first two bytes of a byte order mark: its third
+-- the text after the third byte of a byte order mark; the given text is that after its second byte
 abbrev pub mark_end : List ℕ → Result (List ℕ) Refusal
 mark_end [] = refused_late PartialMark []
 mark_end (c ∷ rest) =
@@ -59,7 +59,7 @@ mark_end (c ∷ rest) =
     else if c == newline then refused_late PartialMark (c ∷ rest)
     else refused PartialMark (c ∷ rest)
 
--- what follows the first byte of a byte order mark: its other two
+-- the text after a byte order mark; the given text is that after its first byte
 abbrev pub mark_rest : List ℕ → Result (List ℕ) Refusal
 mark_rest [] = refused_late PartialMark []
 mark_rest (c ∷ rest) =
@@ -67,7 +67,7 @@ mark_rest (c ∷ rest) =
     else if c == newline then refused_late PartialMark (c ∷ rest)
     else refused PartialMark (c ∷ rest)
 
--- what follows the byte order mark of a text, if it has one
+-- the text after its byte order mark, if it has one
 abbrev pub start_of : List ℕ → Result (List ℕ) Refusal
 start_of [] = Ok []
 start_of (c ∷ rest) = if c == 0xef then mark_rest rest else Ok (c ∷ rest)

@@ -1,4 +1,4 @@
--- How entries are kept while the items of a configuration file are read.
+-- How entries are stored while the items of a configuration file are read.
 use Rattle.std.specs.Prelude.{◌≡◌, ℕ, List, [], ◌∷◌, ◌++◌, Option, option_map}
 use Rattle.git_modules.specs.declared.config_file.FileEntry.{FileEntry}
 use Rattle.git_modules.specs.declared.config_file.keep.Owner.{Owner}
@@ -10,14 +10,14 @@ use Rattle.git_modules.specs.ConfigFiles.{SpellsStem}
 abbrev pub Owns : List ℕ → Owner → Type 0
 Owns stem owner = SpellsStem stem owner.section.now (option_map (λ t. t.now) owner.subsection)
 
--- the entry is made of an owner, a name and a value
+-- the entry consists of an owner, a name and a value
 abbrev pub IsMadeOf : Owner → List ℕ → Option (List ℕ) → ℕ → ℕ → FileEntry → Type 0
 IsMadeOf owner key value at line e = (e.entry.section ≡ owner.section.now)
     × (e.entry.subsection ≡ option_map (λ t. t.now) owner.subsection) × (e.entry.name ≡ key)
     × (e.entry.value ≡ value)
     × (e.entry.at ≡ at) × (e.line ≡ line)
 
--- a header is the next owner, a setting is one more entry, and nothing else changes
+-- a header sets the next owner, a setting appends one entry, and nothing else changes
 abbrev pub Keeps : Step → Owner → ℕ → ℕ → List FileEntry → List FileEntry → Owner → Type 0
 Keeps Nothing owner at line old new next = (new ≡ old) × (next ≡ owner)
 Keeps (Header stem) owner at line old new next = (new ≡ old) × Owns stem.now next

@@ -1,19 +1,19 @@
--- What holds of reading a configuration file, whatever its text.
+-- Laws of reading a configuration file.
 use Rattle.std.specs.Prelude.{◌≡◌, ℕ, List, []}
 use Rattle.git_modules.specs.ConfigFileFlaws.{Refusal}
 use Rattle.git_modules.specs.ConfigFiles.{Turn, AreItems, HasFileEntries, StopsAt}
 use Rattle.git_modules.specs.declared.config_file.FileEntry.{FileEntry}
 
--- a text is read to its end in one way
+-- a text that is read to its end has one list of items
 abbrev pub OneListOfItems : Type 0
 OneListOfItems = (text : List ℕ) (a b : List Turn) → AreItems text a [] → AreItems text b [] → a ≡ b
 
--- a text that is read to its end stops nowhere
+-- a text that is read to its end has no error
 abbrev pub NoEntriesAndStop : Type 0
 NoEntriesAndStop = (text : List ℕ) (found : List FileEntry) (refusal : Refusal)
     → HasFileEntries text found → ¬ StopsAt text refusal
 
--- a text stops at one place, for one reason
+-- a text has at most one error
 abbrev pub OneStop : Type 0
 OneStop = (text : List ℕ) (a b : Refusal) → StopsAt text a → StopsAt text b → a ≡ b
 

@@ -1,4 +1,4 @@
--- What the functions that read the pieces of a configuration file return.
+-- The results of the functions that read the parts of a configuration file.
 use Rattle.std.specs.Prelude.{◌≡◌, ℕ, ◌+◌, ◌<◌, ◌≤◌, ◌&&◌, ◌==◌, not, Bool, true, false, List, [], ◌∷◌, Option, Result, Ok, Err, MatchOption, length, take}
 use Rattle.git_syntax.specs.Bytes.{begins_with, newline}
 use Rattle.git_modules.specs.declared.config_file.place.Wrong.{Wrong}
@@ -8,12 +8,12 @@ use Rattle.git_modules.specs.ConfigFileBytes.{left_at, is_gap, is_blank, is_key_
 use Rattle.git_modules.specs.ConfigFileFlaws.{Read, Refusal, behind}
 use Rattle.git_modules.specs.ConfigFileHeaders.{header_end, quoted_text}
 
--- the first byte that is left at a place, and the place behind it
+-- the first byte at an offset, and the offset after it
 abbrev pub GivesByte : List ℕ → ℕ → Option (ℕ × ℕ) → Type 0
 GivesByte text at r = MatchOption r (left_at text at ≡ [])
     (λ p. (left_at text at ≡ p.0 ∷ left_at text p.1) × (at < p.1) × (p.1 ≤ length text))
 
--- what is left is empty or begins with a line feed
+-- the rest is empty or begins with a line feed
 abbrev pub ends_line : List ℕ → Bool
 ends_line [] = true
 ends_line (c ∷ rest) = begins_with newline (c ∷ rest)
@@ -25,26 +25,27 @@ is_of Section = is_section_byte
 is_of AfterName = is_gap
 is_of AfterSection = is_blank
 
--- why a text can't be read, as definitions have it
+-- an error in the form of the definitions
 abbrev pub refusal_of : List ℕ → Wrong → Refusal
 refusal_of text w = record { flaw = w.flaw; rest = left_at text w.at; is_late = w.is_late }
 
--- what was written into the front of a room, and what is left behind the place that was reached
+-- the bytes that were written to the front of a buffer, and the text from the offset that was reached
 abbrev pub read_as : List ℕ → List ℕ → Result (ℕ × ℕ) Wrong → Read
 read_as text room (Ok p) = Ok (take p.0 room, left_at text p.1)
 read_as text room (Err w) = Err (refusal_of text w)
 
--- the place that was reached is within the text, and no more was written than was read since the place `at`
+-- the offset that was reached is within the text, and at most as many bytes were written as were read since the
+-- offset `at`
 abbrev pub IsWithin : List ℕ → ℕ → ℕ → Result (ℕ × ℕ) Wrong → Type 0
 IsWithin text at front (Ok p) = (at ≤ p.1) × (p.1 ≤ length text) × (p.0 + at ≤ front + p.1)
 IsWithin text at front (Err w) = (at ≤ w.at) × (w.at ≤ length text)
 
--- the place that was reached within the text, and what is left there, as a definition has it
+-- the offset that was reached is within the text, and the text from there on is as a definition has it
 abbrev pub IsReached : List ℕ → Result (List ℕ) Refusal → Result ℕ Wrong → Type 0
 IsReached text expected (Ok at) = (at ≤ length text) × (expected ≡ Ok (left_at text at))
 IsReached text expected (Err w) = (w.at ≤ length text) × (expected ≡ Err (refusal_of text w))
 
--- the `]` behind a subsection is read, whatever what was read before it
+-- the `]` after a subsection is read, whatever was read before it
 abbrev pub ReadsEnd : List ℕ → ℕ → ℕ → Result (ℕ × ℕ) Wrong → Type 0
 ReadsEnd text at len (Ok p) = (p.0 ≡ len) × (at < p.1) × (p.1 ≤ length text)
     × ((stem : List ℕ) → header_end stem (left_at text at) ≡ Ok (stem, left_at text p.1))

@@ -1,4 +1,4 @@
--- What is written of a value while it is read.
+-- The bytes of a value that are written while it is read.
 use Rattle.std.specs.Prelude.{◌≡◌, ℕ, ◌+◌, ◌-◌, ◌≤◌, List, [], ◌∷◌, ◌++◌, Result, Ok, Err, take, nat_lt}
 use Rattle.git_modules.specs.declared.config_file.value.Part.{Part}
 use Rattle.git_modules.specs.declared.config_file.value.Part.TheVariants as part
@@ -9,15 +9,15 @@ use Rattle.git_modules.specs.declared.config_file.place.Wrong.{Wrong}
 use Rattle.git_modules.specs.ConfigFileFlaws.{Read, behind}
 use Rattle.git_modules.specs.ConfigFileValues.{part_of, value_text, value_end, spaces}
 
--- what is written ends in spaces that count only if something follows them
+-- the written bytes end in spaces that only count if another byte follows them
 abbrev pub HasTail : List ℕ → Written → Type 0
 HasTail room w = (w.kept ≤ w.end) × (take w.end room ≡ take w.kept room ++ spaces (w.end - w.kept))
 
--- the value of what is written and what is left
+-- the value of the written bytes and of the rest of the text
 abbrev pub value_on : List ℕ → Written → List ℕ → Read
 value_on room w left = behind (take w.kept room) (value_text w.mode (nat_lt 0 w.end) (w.end - w.kept) left)
 
--- the part of the next byte is written: the value stays the same, and one more byte is written at most
+-- the part of the next byte is written: the value stays the same, and at most one more byte is written
 abbrev pub Goes : Part → List ℕ → Written → List ℕ → Written → Type 0
 Goes p old w new v = ((c : ℕ) (left : List ℕ) → part_of w.mode c ≡ p
     → value_on old w (c ∷ left) ≡ value_on new v left)
@@ -33,7 +33,7 @@ PutsPart p old w new (Err (ending.Flaw flaw)) = p ≡ part.Flaw flaw
 abbrev pub PutsBlank : List ℕ → Written → List ℕ → Written → Type 0
 PutsBlank old w new v = Goes part.Blank old w new v
 
--- where the text ends the value ends, unless a quote is open
+-- the value ends at the end of the text, unless a quote is open
 abbrev pub EndsValue : Written → ℕ → Result (ℕ × ℕ) Wrong → Type 0
 EndsValue w at (Ok p) = (p ≡ (w.kept, at)) × (value_end w.mode ≡ Ok ([], []))
 EndsValue w at (Err e) = (e.at ≡ at)

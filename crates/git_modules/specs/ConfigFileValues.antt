@@ -1,4 +1,4 @@
--- Values: what their bytes stand for. A value is read from its left to its right, in one of five modes.
+-- Values: the meaning of their bytes. A value is read from left to right, in one of five modes.
 use Rattle.std.specs.Prelude.{ℕ, ◌+◌, Bool, true, false, ◌||◌, ◌==◌, List, [], ◌∷◌, ◌++◌, Ok, if◌then◌else◌}
 use Rattle.std.specs.Prelude.{replicate}
 use Rattle.git_syntax.specs.Bytes.{newline, tab, space, number_sign, backslash}
@@ -10,7 +10,7 @@ use Rattle.git_modules.specs.declared.config_file.value.Part.TheVariants as part
 use Rattle.git_modules.specs.ConfigFileBytes.{backspace, quote_mark, semicolon, is_blank}
 use Rattle.git_modules.specs.ConfigFileFlaws.{Read, refused, refused_late, behind}
 
--- outside quotes: white space, comments, quotes and escapes, and other bytes as they are
+-- a byte outside quotes: white space, a comment, a quote or an escape, or any other byte, which is literal
 abbrev pub plain_part : ℕ → Part
 plain_part c =
     if c == newline then part.End
@@ -21,7 +21,7 @@ plain_part c =
     else if c == 0 then part.Flaw ZeroByte
     else part.Byte c Plain
 
--- within quotes: the last quote and escapes, and other bytes as they are
+-- a byte within quotes: the closing quote or an escape, or any other byte, which is literal
 abbrev pub quoted_part : ℕ → Part
 quoted_part c =
     if c == newline then part.Flaw OpenQuote
@@ -30,7 +30,7 @@ quoted_part c =
     else if c == 0 then part.Flaw ZeroByte
     else part.Byte c Quoted
 
--- behind a `\`: a line that goes on, `\t`, `\b`, `\n`, `\\` and `\"`
+-- a byte after a `\`: the end of a continued line, `\t`, `\b`, `\n`, `\\` and `\"`
 abbrev pub escaped_part : ℕ → Mode → Part
 escaped_part c mode =
     if c == newline then part.Mark mode
@@ -40,7 +40,7 @@ escaped_part c mode =
     else if c == backslash || c == quote_mark then part.Byte c mode
     else part.Flaw BadEscape
 
--- what a byte stands for
+-- the meaning of a byte
 abbrev pub part_of : Mode → ℕ → Part
 part_of Plain c = plain_part c
 part_of Quoted c = quoted_part c
@@ -48,7 +48,8 @@ part_of Escape c = escaped_part c Plain
 part_of QuotedEscape c = escaped_part c Quoted
 part_of Comment c = if c == newline then part.End else part.Nothing
 
--- where the text ends: as where a line ends, but that Git counts one more line behind a `\` in quotes
+-- the result at the end of the text: as at the end of a line, except that Git counts one more line after a `\` in
+-- quotes
 abbrev pub value_end : Mode → Read
 value_end Plain = Ok ([], [])
 value_end Quoted = refused OpenQuote []
@@ -56,12 +57,12 @@ value_end Escape = Ok ([], [])
 value_end QuotedEscape = refused_late OpenQuote []
 value_end Comment = Ok ([], [])
 
--- spaces
+-- a number of spaces
 abbrev pub spaces : ℕ → List ℕ
 spaces n = replicate n space
 
--- the value that a text spells from within it, in a mode. White space outside quotes is left out until the
--- value has a byte; so many spaces as there are white-space bytes stand for it where something follows it
+-- the rest of the value that a text spells, in a mode. White space outside quotes is skipped until the value has a
+-- byte; later it counts as equally many spaces if another byte follows it
 abbrev pub value_text : Mode → Bool → ℕ → List ℕ → Read
 value_text mode has_byte blanks [] = value_end mode
 value_text mode has_byte blanks (c ∷ rest) = elim (part_of mode c) as (λ _. Read) [
@@ -73,6 +74,6 @@ value_text mode has_byte blanks (c ∷ rest) = elim (part_of mode c) as (λ _. R
   | part.Byte b next ↦ behind (spaces blanks ++ b ∷ []) (value_text next true 0 rest)
 ]
 
--- the value behind an `=`, and what follows its last line
+-- the value after an `=`, and the text after its last line
 abbrev pub value_of : List ℕ → Read
 value_of text = value_text Plain false 0 text

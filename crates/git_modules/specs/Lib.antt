@@ -1,4 +1,4 @@
--- What a user reads.
+-- The definitions of the public contracts.
 pub mod ConfigFileBytes
 pub mod ConfigFileFlaws
 pub mod ConfigFileValues
@@ -18,7 +18,7 @@ pub mod Resolve
 pub mod ResolveRoots
 pub mod ResolveViews
 pub mod ResolveLaws
--- Definitions that serve the proofs of this crate alone.
+-- Definitions that only the proofs of this crate use.
 pub mod ConfigFilePieces
 pub mod ConfigFileValuePieces
 pub mod ConfigFileSteps

@@ -1,4 +1,4 @@
--- What Git stores for the URL of a submodule.
+-- The URL of a submodule that Git stores.
 use Rattle.std.specs.Prelude.{ℕ, Bool, true, false, if◌then◌else◌, List, [], ◌∷◌, ◌++◌, Option, Some, None, Result, Ok, Err}
 use Rattle.git_syntax.specs.Bytes.{colon, dot, slash}
 use Rattle.git_rules.specs.Patterns.{without_last_slash}
@@ -17,15 +17,15 @@ pub record Resolution : Type 0 where
 abbrev pub resolved_text : Resolution → List ℕ
 resolved_text r = r.front ++ (r.separator ++ r.rest)
 
--- the front and the separator before a rest: `/`, or `:` where one was taken off. Where nothing is left of
--- the parent, there is no front, but a `.` where a `:` was taken off
+-- the front and the separator before a rest: `/`, or `:` if one was removed. If nothing is left of the parent, the
+-- front is empty, or `.` if a `:` was removed
 abbrev pub join : Option (List ℕ) → Bool → List ℕ → Resolution
 join (Some front) false rest = record { front = front; separator = slash ∷ []; rest = rest }
 join (Some front) true rest = record { front = front; separator = colon ∷ []; rest = rest }
 join None false rest = record { front = []; separator = []; rest = rest }
 join None true rest = record { front = dot ∷ []; separator = colon ∷ []; rest = rest }
 
--- what is left of the parent before the rest of the URL, of which one `/` at the end doesn't count
+-- the rest of the parent, joined with the rest of the URL without one trailing `/`
 abbrev pub joined : Option LeftOver → List ℕ → Result Resolution ResolveError
 joined None rest = Err NothingLeft
 joined (Some left) rest = Ok (join left.text left.by_colon (without_last_slash rest))
@@ -35,7 +35,8 @@ abbrev pub against : List ℕ → List ℕ → Result Resolution ResolveError
 against [] url = Err EmptyParent
 against (b ∷ bs) url = joined (left_of (b ∷ bs) (ups url)) (behind_steps url)
 
--- a URL that isn't relative stays as it is
+-- the URL that Git stores for a submodule with this parent and this URL, or why it stores none; a URL that isn't
+-- relative is unchanged
 abbrev pub resolution : List ℕ → List ℕ → Result Resolution ResolveError
 resolution parent url = if is_relative url then against parent url
     else Ok (record { front = []; separator = []; rest = url })

@@ -1,4 +1,4 @@
--- What each `../` takes off the URL of a superproject's remote, which is the parent.
+-- The part of the URL of a superproject's remote, the parent, that each `../` removes.
 use Rattle.std.specs.Prelude.{ℕ, zero, suc, Bool, true, false, ◌||◌, ◌==◌, if◌then◌else◌, bytes_eq, List, [], ◌∷◌, Option, Some, None, option_and_then, unwrap_or}
 use Rattle.std.specs.Option.{is_some}
 use Rattle.git_syntax.specs.Bytes.{colon, dot, slash, begins_with}
@@ -7,66 +7,67 @@ use Rattle.git_modules.specs.declared.resolve.left.ParentForm.{ParentForm}
 use Rattle.git_modules.specs.declared.resolve.left.ParentForm.TheVariants.{Rooted, Upward, Downward}
 use Rattle.git_modules.specs.ResolveSteps.{behind_here, behind_up}
 
--- what is left of a parent: its text, or none where all of it is taken off; and whether a `:` was taken off
+-- the rest of a parent: its text, or none if all of it is removed; and whether a `:` was removed
 pub record LeftOver : Type 0 where
   pub text : Option (List ℕ)
   pub by_colon : Bool
 
--- a colon is in the text before each `/`
+-- the text has a colon before each `/`
 abbrev pub is_remote : List ℕ → Bool
 is_remote [] = false
 is_remote (b ∷ bs) = if b == colon then true else (if b == slash then false else is_remote bs)
 
--- a URL, a remote in the scp form or an absolute path; else a relative path, which may begin with `../`
+-- a URL, a remote in the scp form or an absolute path; otherwise a relative path, which may begin with `../`
 abbrev pub form_of : List ℕ → ParentForm
 form_of parent = if is_remote parent || begins_with slash parent then Rooted
     else (if is_some (behind_up parent) then Upward else Downward)
 
--- the whole parent: one `/` at its end doesn't count, and neither does a `./` at its front
+-- the whole parent, without one trailing `/` and without a leading `./`
 abbrev pub whole_of : List ℕ → LeftOver
 whole_of trimmed = record { text = Some (unwrap_or (behind_here trimmed) trimmed); by_colon = false }
 
--- the front before a last c of the text behind it, if there is one; else before the byte, if that is c
+-- the front before the last `c` of the rest, if there is one; otherwise the front before the byte, if that is `c`
 abbrev pub or_before : ℕ → ℕ → Option (List ℕ) → Option (List ℕ)
 or_before c b (Some front) = Some (b ∷ front)
 or_before c b None = if b == c then Some [] else None
 
--- what precedes the last c of the text, if it has one
+-- the text before its last `c`, if it has one
 abbrev pub before_last : ℕ → List ℕ → Option (List ℕ)
 before_last c [] = None
 before_last c (b ∷ bs) = or_before c b (before_last c bs)
 
--- the last `:` and what follows it are taken off; without one all is, but Git doesn't take a `.` off
+-- the last `:` and the text after it are removed; without a `:` all of the text is removed, but Git doesn't remove
+-- a `.`
 abbrev pub without_colon : Option (List ℕ) → List ℕ → Bool → Option LeftOver
 without_colon (Some front) text by_colon = Some (record { text = Some front; by_colon = true })
 without_colon None text by_colon =
     if bytes_eq text (dot ∷ []) then None else Some (record { text = None; by_colon = by_colon })
 
--- what a `../` leaves of a text without a `/`: nothing of a relative path, unless that begins with `../`
+-- the rest after a `../` of a text without a `/`: nothing of a relative path, unless that begins with `../`
 abbrev pub chop_element : ParentForm → List ℕ → Bool → Option LeftOver
 chop_element Upward text by_colon = None
 chop_element Downward text by_colon = Some (record { text = None; by_colon = by_colon })
 chop_element Rooted text by_colon = without_colon (before_last colon text) text by_colon
 
--- the last `/` and what follows it are taken off, if there is one
+-- the last `/` and the text after it are removed, if there is one
 abbrev pub chop_by : ParentForm → List ℕ → Bool → Option (List ℕ) → Option LeftOver
 chop_by form text by_colon (Some front) = Some (record { text = Some front; by_colon = by_colon })
 chop_by form text by_colon None = chop_element form text by_colon
 
--- what a `../` leaves of a text
+-- the rest after a `../` of a text
 abbrev pub chop_text : ParentForm → Option (List ℕ) → Bool → Option LeftOver
 chop_text form None by_colon = None
 chop_text form (Some text) by_colon = chop_by form text by_colon (before_last slash text)
 
--- what a `../` leaves of what is left, if Git doesn't stop at it
+-- the rest after a `../`, if Git doesn't stop there
 abbrev pub chop : ParentForm → LeftOver → Option LeftOver
 chop form left = chop_text form left.text left.by_colon
 
--- what this many `../` leave of what is left
+-- the rest after this many `../`
 abbrev pub chopped : ParentForm → ℕ → LeftOver → Option LeftOver
 chopped form zero left = Some left
 chopped form (suc n) left = option_and_then (chopped form n) (chop form left)
 
--- what this many `../` leave of a parent
+-- the rest of a parent after this many `../`
 abbrev pub left_of : List ℕ → ℕ → Option LeftOver
 left_of parent n = let trimmed = without_last_slash parent in chopped (form_of trimmed) n (whole_of trimmed)

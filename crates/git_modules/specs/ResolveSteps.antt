@@ -3,16 +3,16 @@ use Rattle.std.specs.Prelude.{ℕ, suc, Bool, ◌||◌, ◌==◌, if◌then◌el
 use Rattle.std.specs.Option.{is_some}
 use Rattle.git_syntax.specs.Bytes.{dot, slash}
 
--- what follows the byte at the front of the text, if it begins with it
+-- the text after its first byte, if that is `c`
 abbrev pub behind_byte : ℕ → List ℕ → Option (List ℕ)
 behind_byte c [] = None
 behind_byte c (b ∷ bs) = if b == c then Some bs else None
 
--- what follows a `./` at the front of the text, if it begins so
+-- the text after a leading `./`, if it begins so
 abbrev pub behind_here : List ℕ → Option (List ℕ)
 behind_here text = option_and_then (behind_byte slash) (behind_byte dot text)
 
--- what follows a `../` at the front of the text, if it begins so
+-- the text after a leading `../`, if it begins so
 abbrev pub behind_up : List ℕ → Option (List ℕ)
 behind_up text = option_and_then behind_here (behind_byte dot text)
 
@@ -20,7 +20,7 @@ behind_up text = option_and_then behind_here (behind_byte dot text)
 abbrev pub is_relative : List ℕ → Bool
 is_relative url = is_some (behind_here url) || is_some (behind_up url)
 
--- how many of the steps at the front of the text are `../`
+-- the number of `../` among the leading steps of the text
 abbrev pub ups : List ℕ → ℕ
 ups [] = 0
 ups (a ∷ []) = 0
@@ -29,7 +29,7 @@ ups (a ∷ b ∷ c ∷ rest) =
     if is_some (behind_up (a ∷ b ∷ c ∷ rest)) then suc (ups rest)
     else (if is_some (behind_here (a ∷ b ∷ c ∷ rest)) then ups (c ∷ rest) else 0)
 
--- what follows the steps at the front of the text
+-- the text after its leading steps
 abbrev pub behind_steps : List ℕ → List ℕ
 behind_steps [] = []
 behind_steps (a ∷ []) = a ∷ []

@@ -1,5 +1,4 @@
--- What Git's fsck refuses of an entry of a `.gitmodules` file (`fsck_gitmodules_fn` in `fsck.c` of Git
--- 2.39.5).
+-- The entries of a `.gitmodules` file that Git's fsck refuses (`fsck_gitmodules_fn` in `fsck.c` of Git 2.39.5).
 use Rattle.std.specs.Prelude.{◌≡◌, ℕ, Bool, true, codes, IsSomeAnd, List}
 use Rattle.git_syntax.specs.Bytes.{begins_with, is_option_like}
 use Rattle.git_rules.specs.Config.{ConfigEntry}
@@ -19,7 +18,7 @@ IsRefused e refused.Url = IsSomeAnd (value_by (codes "url") e) IsRefusedUrl
 IsRefused e refused.Path = IsSomeAnd (value_by (codes "path") e) (λ path. is_option_like path ≡ true)
 IsRefused e refused.Update = IsSomeAnd (value_by (codes "update") e) (λ update. is_command update ≡ true)
 
--- the reason by Git's own name
+-- Git's name of the reason
 abbrev pub git_name : Refused → List ℕ
 git_name refused.Name = codes "gitmodulesName"
 git_name refused.Url = codes "gitmodulesUrl"

@@ -1,4 +1,4 @@
--- What is dangerous in an entry of a `.gitmodules` file, or broken, beyond what Git's fsck refuses.
+-- The dangers and errors in an entry of a `.gitmodules` file beyond those that Git's fsck refuses.
 use Rattle.std.specs.Prelude.{ℕ, Bool, false, ◌&&◌, ◌||◌, ◌==◌, nat_lt, codes, List, is_none, is_some}
 use Rattle.std.specs.Option.{option_map_or}
 use Rattle.std.specs.List.{list_any, slice_split}
@@ -9,7 +9,7 @@ use Rattle.git_modules.specs.declared.submodules.risk.Risk.{Risk}
 use Rattle.git_modules.specs.declared.submodules.risk.Risk.TheVariants as risk
 use Rattle.git_modules.specs.Submodules.{has_component, is_separator, submodule_of, value_by}
 
--- one of the components of the text is the word, without letter case
+-- a component of the text is the word, ignoring letter case
 abbrev pub has_component_word : List ℕ → List ℕ → Bool
 has_component_word word t = list_any (λ part. is_word part word) (slice_split is_separator t)
 
@@ -17,16 +17,16 @@ has_component_word word t = list_any (λ part. is_word part word) (slice_split i
 abbrev pub git_folder : List ℕ
 git_folder = codes ".git"
 
--- a control character: below space, or the one past `~`
+-- a control character: a byte below the space, or the byte 127
 abbrev pub is_control : ℕ → Bool
 is_control b = nat_lt b 32 || b == delete
 
--- the entry has one of the names of which Git needs a value
+-- the entry has one of the names for which Git needs a value
 abbrev pub has_valued_name : ConfigEntry → Bool
 has_valued_name e = has_name (codes "path") e || (has_name (codes "url") e || (has_name (codes "update") e
     || (has_name (codes "branch") e || has_name (codes "ignore") e)))
 
--- the value that the entry gives by this key passes the test
+-- the value that the entry sets for this key passes the test
 abbrev pub gives : List ℕ → (List ℕ → Bool) → ConfigEntry → Bool
 gives key test e = option_map_or test (value_by key e) false
 

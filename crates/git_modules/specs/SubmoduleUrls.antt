@@ -1,5 +1,5 @@
--- URLs of submodules that Git's fsck refuses. No proof says that Git keeps to it: `scripts/rules_witness`
--- compares.
+-- URLs of submodules that Git's fsck refuses. No proof shows that Git follows this definition:
+-- `scripts/rules_witness` compares them.
 use Rattle.std.specs.Prelude.{◌≡◌, ℕ, ◌<◌, ◌⊎◌, Bool, true, false, ◌||◌, ◌==◌, bytes_eq, codes, List, ◌++◌, length, Option, Some, None}
 use Rattle.std.specs.List.{concat, list_any, list_all}
 use Rattle.git_syntax.specs.Bytes.{newline, slash, colon, FreeOf, Lacks, Holds, begins_by, is_option_like, is_path_start, StartsPath}
@@ -7,16 +7,16 @@ use Rattle.git_reads.specs.Credentials.{CredentialDecodes, CredentialReading, Re
 
 -- ---- line feeds
 
--- a line feed is in the text
+-- the text contains a line feed
 abbrev pub has_feed : List ℕ → Bool
 has_feed bs = list_any (λ b. b == newline) bs
 
--- the same of a part that may be missing
+-- there is a part, and it contains a line feed
 abbrev pub part_has_feed : Option (List ℕ) → Bool
 part_has_feed None = false
 part_has_feed (Some bs) = has_feed bs
 
--- the text is of several lines once Git decoded it, which leaves what precedes the first colon as it is
+-- the text that Git decodes has a line feed; Git leaves the part before the first colon unchanged
 abbrev pub DecodesToLines : List ℕ → Type 0
 DecodesToLines t = (decoded : List ℕ) × CredentialDecodes t decoded × (has_feed decoded ≡ true)
 
@@ -38,8 +38,8 @@ IsRelative t = (step : List ℕ) × (rest : List ℕ) × (is_step step ≡ true)
 abbrev pub is_colon_or_slash : ℕ → Bool
 is_colon_or_slash b = b == colon || b == slash
 
--- a `:` or a `/` follows the steps of the URL, and one of them goes up: appended to another URL, it may
--- replace the host of that
+-- a `:` or a `/` follows the steps of the URL, at least one of which goes up: appended to another URL, it may
+-- replace its host
 pub record ReplacesHost (t : List ℕ) : Type 0 where
   pub steps : List (List ℕ)
   pub rest : List ℕ
@@ -59,14 +59,15 @@ abbrev pub is_curl_scheme : List ℕ → Bool
 is_curl_scheme s = bytes_eq s (codes "http") || (bytes_eq s (codes "https")
     || (bytes_eq s (codes "ftp") || bytes_eq s (codes "ftps")))
 
--- Git gives the helper for curl this text: what follows `http::` and the like, or a whole URL
+-- Git passes this text to the helper for curl: the text after `http::` and the like, or a whole URL
 pub data IsForCurl (t text : List ℕ) : Type 0 where
   named : (scheme : List ℕ) → is_curl_scheme scheme ≡ true → t ≡ scheme ++ (codes "::" ++ text)
       → IsForCurl t text
   whole : (scheme rest : List ℕ) → is_curl_scheme scheme ≡ true → t ≡ scheme ++ (codes "://" ++ rest)
       → text ≡ t → IsForCurl t text
 
--- what Git's credential code finds in a text: as it reads the text, but any part may hold the end of a line
+-- the parts that Git's credential code finds in a text: as it reads the text, except that a part may contain the
+-- end of a line
 pub record FindsParts (t : List ℕ) (r : CredentialReading) : Type 0 where
   pub authority : List ℕ
   pub behind : List ℕ
@@ -78,27 +79,26 @@ pub record FindsParts (t : List ℕ) (r : CredentialReading) : Type 0 where
   pub path_start : StartsPath true behind
   pub pieces : ReadsPieces authority behind r
 
--- a line feed is in one of the parts
+-- one of the parts contains a line feed
 abbrev pub parts_have_feed : CredentialReading → Bool
 parts_have_feed r = has_feed r.protocol || (part_has_feed r.user || (part_has_feed r.password
     || (has_feed r.host || part_has_feed r.path)))
 
--- the credential code finds a host in the text, and no line feed: unlike for a helper, it takes a carriage
--- return
+-- the credential code finds a host in the text, and no line feed: unlike for a helper, it accepts a carriage return
 pub record FindsHost (t : List ℕ) : Type 0 where
   pub parts : CredentialReading
   pub found : FindsParts t parts
   pub lines : parts_have_feed parts ≡ false
   pub host : 0 < length parts.host
 
--- the URL is for curl, and there is no host in what curl would be given, or a line feed
+-- the URL is for curl, and the text for curl has no host, or has a line feed
 abbrev pub LacksHost : List ℕ → Type 0
 LacksHost t = (text : List ℕ) × IsForCurl t text × ¬ FindsHost text
 
--- ---- what fsck refuses
+-- ---- refused URLs
 
--- fsck refuses the URL of a submodule: it looks like an option; it is relative or of Git's own protocol, and
--- of several lines once decoded; it is relative and may replace a host; or curl would get no host by it
+-- fsck refuses the URL of a submodule: it looks like an option; it is relative or of Git's own protocol, and has
+-- several lines once decoded; it is relative and may replace a host; or it is for curl and has no host
 pub data IsRefusedUrl (t : List ℕ) : Type 0 where
   option : is_option_like t ≡ true → IsRefusedUrl t
   several_lines : IsRelative t ⊎ IsOwnUrl t → DecodesToLines t → IsRefusedUrl t

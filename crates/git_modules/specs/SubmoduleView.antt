@@ -4,11 +4,11 @@ use Rattle.git_modules.specs.declared.submodules.Submodule.TheInside.{Inside}
 use Rattle.git_modules.specs.declared.submodules.Used.{Used}
 use Rattle.git_modules.specs.Submodules.{GitSubmodule, UsedValue}
 
--- what contracts see of a `Used`
+-- the view of a `Used`
 abbrev pub used_value : Used → UsedValue
 used_value u = record { value = u.value.now; index = u.index }
 
--- what contracts see of a `Submodule`
+-- the view of a `Submodule`
 abbrev pub git_submodule : Inside → GitSubmodule
 git_submodule s = record {
   name = s.name.now;

@@ -1,8 +1,7 @@
-//! The entries of a configuration file, as Git reads the text of one (`config.c` of Git 2.39.5).
+//! The entries of a configuration file, as Git reads its text (`config.c` of Git 2.39.5).
 //!
-//! It uses `step`, which reads what begins at a place, and `flaw`, which has the reasons why a text is
-//! refused. Its contract: a text is a list of items, white space, comments, headers and settings, and each
-//! setting is an entry below the last header before it.
+//! A text is a list of items: white space, comments, headers and settings. Each setting is an entry below the last
+//! header before it.
 
 ghost use Rattle.std.specs.Prelude.{◌≡◌, ◌+◌, ◌<◌, ◌≤◌, IfErr, IfOk, length};
 ghost use Rattle.git_modules.specs.ConfigFileBytes as spec;
@@ -27,29 +26,28 @@ use crate::config_file::step::{Step, read_step};
 use git_rules::config::Entry;
 use std::alloc::Global;
 
-/// An entry of a configuration file, and the line that it begins in. [`entries`] has an example.
+/// An entry of a configuration file, and the number of its line. [`entries`] has an example.
 #[derive(Clone, Drop)]
 pub struct FileEntry<'a> {
-    /// The entry: its section and its name in lower case, its subsection and its value as they are meant, and
-    /// the byte offset in the text at which its name begins. An entry before any header has an empty section
-    /// and no subsection.
+    /// The entry: its section and its name in lower case, its subsection and its value decoded, and the byte offset
+    /// of its name in the text. An entry before any header has an empty section and no subsection.
     pub entry: Entry<'a>,
     /// The number of the line, counted from 1, in which the name begins.
     pub line: usize,
 }
 
-/// The entries of the text of a configuration file or of a `.gitmodules` file, in its order: what
-/// `git config --file FILE --list -z` lists. `include.path` and `includeIf` are entries like others: no other
-/// file is read.
+/// Returns the entries of the text of a configuration file or of a `.gitmodules` file, in its order: those that
+/// `git config --file FILE --list -z` lists. `include.path` and `includeIf` are ordinary entries: no other file is
+/// read.
 ///
-/// What the entries hold is written into the buffer, which must be as long as the text: sections, subsections
-/// and values without their quotes, escapes and comments. The entries borrow from the buffer, and not from
-/// the text; a section is written once for all of its entries. The list of entries grows, and nothing else
-/// takes memory. The time is linear in the length of the text.
+/// The sections, subsections and values, without their quotes, escapes and comments, are written to the buffer,
+/// which must be at least as long as the text. The entries borrow from the buffer, not from the text; a section is
+/// written once for all of its entries. Allocates only the list of entries, as it grows. The time is linear in the
+/// length of the text.
 ///
-/// A byte 0 in a subsection or a value is an error: Git takes it for the end of the text that it stands in,
-/// so that `[a "b\0c"] d` is read as a variable `b` of the section `a`. Git reads no more than 2,147,483,647
-/// bytes of a file; a longer text is read here to its end.
+/// A byte 0 in a subsection or a value is an error: Git takes it for the end of the subsection or the value, so
+/// that `[a "b\0c"] d` is read as a variable `b` of the section `a`. Git reads at most 2,147,483,647 bytes of a
+/// file; this function reads a longer text to its end.
 ///
 /// ```
 /// /// The first line of a `.gitmodules` file that sets a URL.
@@ -69,9 +67,8 @@ pub struct FileEntry<'a> {
 ///
 /// # Errors
 ///
-/// [`FileError::ShortBuffer`] where the buffer is shorter than the text, [`FileError::Refused`] where the
-/// text is no configuration, with the first place at which it is none, and [`FileError::Memory`] where memory
-/// is refused.
+/// [`FileError::ShortBuffer`] if the buffer is shorter than the text. [`FileError::Refused`] if the text isn't a
+/// configuration, with the offset of the first error. [`FileError::Memory`] if an allocation fails.
 pub fn entries<'a>(
     alloc: Global,
     text: &[u8],
@@ -100,7 +97,7 @@ pub fn entries<'a>(
     Ok(found)
 }
 
-/// The place behind the byte order mark of a text, if it has one.
+/// Returns the offset after the byte order mark of a text, if it has one, otherwise 0.
 fn read_mark(text: &[u8]) -> Result<usize, FileError>
     ensures { file.ReadsMark text.now result }
 {
@@ -110,7 +107,7 @@ fn read_mark(text: &[u8]) -> Result<usize, FileError>
     }
 }
 
-/// Reads what begins at a place, in a line.
+/// Reads the item at an offset, in a line.
 fn read_item<'a>(
     text: &[u8],
     at: usize,

@@ -1,7 +1,9 @@
-//! What Git does with submodules: the entries of a configuration file, as `.gitmodules` is one, the submodules in
-//! them, what `git fsck` refuses of them, and where their relative URLs lead.
+//! Git's rules for submodules: the entries of a configuration file such as `.gitmodules`, its submodules, the
+//! entries that `git fsck` refuses, and the resolution of relative URLs.
 //!
-//! It uses `config` of `git_rules` for entries. It opens no file and runs no program.
+//! Entries are those of `config` of `git_rules`. No function here opens a file or runs a program. No public
+//! function allocates, except those that take a `Global`. How often a function allocates, and how long it takes,
+//! is tested, not proved.
 #![tactic(auto)]
 
 pub mod config_file;

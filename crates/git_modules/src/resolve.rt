@@ -1,9 +1,8 @@
-//! A submodule's URL, resolved against the URL of the superproject's remote.
+//! Resolution of a submodule's URL against the URL of the superproject's remote.
 //!
-//! It uses the cuts of `git_syntax`. Its contract: the resolved URL is the text that Git stores, there is an
-//! error exactly where Git stops, and `climbs` is true exactly if the URL leaves the path of its parent. Only
-//! `to_bstring` takes memory. Inside: `step` has the steps `./` and `../`, `left` what they leave of a
-//! parent, and `root` what a URL keeps that doesn't climb.
+//! The resolved URL is the text that Git stores, and there is an error exactly if Git stops. `climbs` is true
+//! exactly if the URL leaves the path of its parent. `step` reads the steps `./` and `../`, `left` computes the
+//! rest of a parent after them, and `root` the part of a parent that a URL keeps unless it climbs.
 
 ghost use Rattle.std.specs.Prelude.{◌≡◌, option_map};
 ghost use Rattle.git_rules.specs.Patterns as pattern;
@@ -25,18 +24,18 @@ use crate::resolve::step::{behind_here, behind_up};
 use git_syntax::bytes::before;
 use thiserror::Error;
 
-/// Why Git resolves no URL. [`resolve`] has an example.
+/// The reason why Git doesn't resolve a URL. [`resolve`] has an example.
 #[derive(Clone, Copy, Debug, PartialEq, Eq, Error)]
 pub enum ResolveError {
     /// The URL is relative, and the parent is empty.
     #[error("the URL of the remote is empty")]
     EmptyParent,
-    /// The URL has more `../` than Git can take elements off the parent.
+    /// The URL has more `../` than the parent has elements that Git can remove.
     #[error("the URL of the remote has too few elements")]
     NothingLeft,
 }
 
-/// Whether Git resolves a URL: whether it begins with `./` or `../`. It takes no memory.
+/// Whether Git resolves a URL: whether it begins with `./` or `../`.
 ///
 /// ```
 /// /// How many of the URLs depend on where the superproject is fetched from.
@@ -56,27 +55,27 @@ pub fn is_relative(url: &[u8]) -> bool
     behind_here(url).is_some() || behind_up(url).is_some()
 }
 
-/// The URL that `git submodule init` stores for a submodule, in `submodule.<name>.url`.
+/// Returns the URL that `git submodule init` stores for a submodule, in `submodule.<name>.url`.
 ///
-/// `url` is the URL of the submodule in `.gitmodules`. `parent` is the URL of the superproject's remote as it
-/// is configured: the last value of `remote.<name>.url`, to which no `url.<base>.insteadOf` is applied. The
-/// name is that of the remote of the current branch, or `origin`. Where the remote has no URL, Git takes the
-/// path of the superproject's folder. The rules are those of `relative_url` in `remote.c` of Git 2.39.5:
+/// `url` is the URL of the submodule in `.gitmodules`. `parent` is the configured URL of the superproject's remote:
+/// the last value of `remote.<name>.url`, to which no `url.<base>.insteadOf` is applied. The name is that of the
+/// remote of the current branch, or `origin`. If the remote has no URL, Git takes the path of the superproject's
+/// folder. The rules are those of `relative_url` in `remote.c` of Git 2.39.5:
 ///
-/// 1. A URL that begins with neither `./` nor `../` stays as it is, whatever the parent is.
-/// 2. One `/` at the end of the parent doesn't count. It is then a relative path if it doesn't begin with `/`
-///    and has no colon before its first `/`. A `./` at the front of a relative path doesn't count either.
-/// 3. Each `../` at the front of the URL takes the last `/` of the parent off, with what follows it. Where
-///    there is no `/`, it takes the last `:` off in the same way, and the URL is then joined by `:`. Where
-///    there is neither, it takes all of the parent, unless that is a `.`. A relative path has no such colon:
-///    its last element is all of it. Each `./` among the `../` is left out.
-/// 4. The resolved URL is what is left of the parent, the `/` or `:`, and what follows the steps in the URL,
-///    without one `/` at its end. Where nothing is left of the parent, it is what follows the steps, with a
-///    `.:` before it if a colon was taken off.
+/// 1. A URL that begins with neither `./` nor `../` stays unchanged, whatever the parent is.
+/// 2. One trailing `/` of the parent is ignored. The parent is then a relative path if it doesn't begin with `/`
+///    and has no colon before its first `/`. A leading `./` of a relative path is also ignored.
+/// 3. Each leading `../` of the URL removes the last `/` of the parent and the text after it. If there is no `/`,
+///    it removes the last `:` and the text after it, and the URL is then joined by `:`. If there is neither, it
+///    removes all of the parent, unless that is `.`. A relative path isn't split at a colon: its last element is
+///    all of it. Each `./` among the `../` is skipped.
+/// 4. The resolved URL is the rest of the parent, the `/` or `:`, and the text after the steps in the URL, without
+///    one trailing `/`. If nothing is left of the parent, it is the text after the steps, with `.:` before it if a
+///    colon was removed.
 ///
 /// So `./c` against the parent `./a:b`, a path, is `a:b/c`, which is a remote in the scp form.
 ///
-/// This call takes no memory. Its time grows at most with the number of `../` times the length of the parent.
+/// Allocates nothing. The time is at most proportional to the number of `../` times the length of the parent.
 ///
 /// ```
 /// /// Whether a submodule is fetched from the host of the superproject; none where Git stores no URL, or a
@@ -95,9 +94,9 @@ pub fn is_relative(url: &[u8]) -> bool
 /// # Errors
 ///
 /// - [`ResolveError::EmptyParent`]: the URL is relative, and the parent is empty. Git aborts.
-/// - [`ResolveError::NothingLeft`]: a `../` finds nothing that it can take off. All of the parent is taken
-///   off already, or a `.` is left of a parent that is no relative path, or no `/` of one that begins with
-///   `../`. Git stops with "cannot strip one component off url".
+/// - [`ResolveError::NothingLeft`]: a `../` finds nothing to remove. All of the parent is already removed, or `.`
+///   is left of a parent that isn't a relative path, or no `/` is left in one that begins with `../`. Git stops
+///   with "cannot strip one component off url".
 pub fn resolve<'a>(parent: &'a [u8], url: &'a [u8]) -> Result<Resolved<'a>, ResolveError>
     ensures { result ≡ resolution parent.now url.now }
 {
@@ -117,7 +116,7 @@ pub fn resolve<'a>(parent: &'a [u8], url: &'a [u8]) -> Result<Resolved<'a>, Reso
     }
 }
 
-/// What is left of a parent, and the rest of a URL.
+/// Joins the rest of a parent and the rest of a URL.
 fn join<'a>(left: &Left<'a>, rest: &'a [u8]) -> Resolved<'a>
     ensures { result ≡ join left.now.text left.now.by_colon rest.now }
 {
@@ -145,7 +144,7 @@ fn join<'a>(left: &Left<'a>, rest: &'a [u8]) -> Resolved<'a>
     }
 }
 
-/// The text without one `/` at its end.
+/// The text without one trailing `/`.
 fn without_last_slash(text: &[u8]) -> &[u8]
     ensures { result.now ≡ pattern.without_last_slash text.now }
 {
@@ -155,14 +154,14 @@ fn without_last_slash(text: &[u8]) -> &[u8]
     }
 }
 
-/// Whether a relative URL leaves the path of its parent: what is left of the parent doesn't begin with its
-/// root, or nothing is left. It takes no memory.
+/// Whether a relative URL leaves the path of its parent: the rest of the parent doesn't begin with the parent's
+/// root, or nothing is left.
 ///
-/// The root is `scheme://authority` of a URL, and in the scp form what precedes the colon of its host, with
-/// the colon where the path is absolute. That colon is the first one outside brackets. A path has an empty
-/// root. A URL that climbs may name another host: `../../h/b` is resolved to `https://h/b` against
-/// `https://example.com/a`, and `../h:b` to `h:b` against the path `a`. Where Git stores no URL, a relative
-/// URL climbs, or its parent is empty.
+/// The root of a URL is `scheme://authority`. In the scp form it is the text before the colon of the host, with the
+/// colon if the path is absolute; that colon is the first one outside brackets. The root of a path is empty. A URL
+/// that climbs may name another host: `../../h/b` against `https://example.com/a` is resolved to `https://h/b`, and
+/// `../h:b` against the path `a` to `h:b`. If Git stores no URL for a relative URL, the URL climbs, or its parent
+/// is empty.
 ///
 /// ```
 /// /// Whether a submodule is taken from where the superproject is, as far as its URL says.
@@ -176,7 +175,7 @@ pub fn climbs(parent: &[u8], url: &[u8]) -> bool
     is_relative(url) && !keeps(parent, url)
 }
 
-/// Whether what is left of the parent begins with its root.
+/// Whether the rest of the parent begins with its root.
 fn keeps(parent: &[u8], url: &[u8]) -> bool
     ensures { result ≡ keeps_root (root_of parent.now) (text_left parent.now url.now) }
 {
@@ -193,7 +192,7 @@ fn begins_with(text: &[u8], front: &[u8]) -> bool
     text.starts_with(front)
 }
 
-/// The text that is left of a parent, if any is.
+/// The rest of the text of a parent, if any.
 fn left_text<'a>(parent: &'a [u8], url: &[u8]) -> Option<&'a [u8]>
     ensures { option_map (λ t. t.now) result ≡ text_left parent.now url.now }
 {

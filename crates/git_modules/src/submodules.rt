@@ -1,8 +1,7 @@
-//! The submodules of a `.gitmodules` file, and what is dangerous in them.
+//! The submodules of a `.gitmodules` file, and the dangers in them.
 //!
-//! It uses the entries of `git_rules` and the cuts of `git_syntax`. Its contract: the submodules of a file
-//! are one list of plain values, the last that Git takes of each key, in the order in which the names come
-//! first.
+//! For each key of a submodule the last value counts that Git accepts. The submodules are in the order in which
+//! their names first occur.
 
 ghost use Rattle.std.specs.Prelude.{◌≡◌, IfOk, OnOk, map, not, option_map};
 ghost use Rattle.git_modules.specs.Submodules.{has_component, is_refused_name, is_separator, names_of, submodule_of, submodules_of, taken_name, use_by, value_by};
@@ -20,27 +19,27 @@ use std::alloc::{AllocError, Global};
 use std::collections::BTreeMap;
 use std::marker::Model;
 
-/// A value that Git uses, and the entry that gives it. [`submodules`] has an example.
+/// A value that Git uses, and the index of its entry. [`submodules`] has an example.
 #[derive(Clone, Copy)]
 pub struct Used<'a> {
-    /// The value, as it is.
+    /// The value, unchanged.
     pub value: &'a [u8],
-    /// The index of the entry that gives it.
+    /// The index of the entry that sets it.
     pub index: usize,
 }
 
 /// A submodule of a `.gitmodules` file. It borrows all texts. [`submodules`] has an example.
 #[derive(Clone, Drop)]
 pub struct Submodule<'a> {
-    /// The name: the subsection of its entries, as it is.
+    /// The name: the subsection of its entries, unchanged.
     pub name: &'a [u8],
-    /// The folder of the submodule; none where no entry gives one, or each of them looks like an option.
+    /// The folder of the submodule, or `None` if no entry sets one, or each of them looks like an option.
     pub path: Option<Used<'a>>,
-    /// The place that it is cloned from; none where no entry gives one, or each of them looks like an option.
+    /// The URL that it is cloned from, or `None` if no entry sets one, or each of them looks like an option.
     pub url: Option<Used<'a>>,
-    /// How it is updated. Git stops unless it is `checkout`, `rebase`, `merge` or `none`.
+    /// The way to update it. Git stops unless it is `checkout`, `rebase`, `merge` or `none`.
     pub update: Option<Used<'a>>,
-    /// The branch that it is updated to by `git submodule update --remote`.
+    /// The branch to which `git submodule update --remote` updates it.
     pub branch: Option<Used<'a>>,
 }
 
@@ -54,27 +53,27 @@ impl<'a> Model for Submodule<'a> {
     ghost view = { git_submodule };
 }
 
-/// The submodules of a `.gitmodules` file, in the order in which their names come first.
+/// Returns the submodules of a `.gitmodules` file, in the order in which their names first occur.
 ///
-/// The entries are those of the file, with the section and the name in any letter case (ASCII). A submodule
-/// is the entries of the section `submodule` with one subsection, its name, byte for byte. The values are
-/// those that Git 2.39.5 uses of the file in a working tree (`parse_config` in `submodule-config.c`, with
+/// The entries are those of the file; the letter case (ASCII) of section and name is ignored. A submodule consists
+/// of the entries of the section `submodule` with the same subsection, byte for byte, which is its name. The values
+/// are those that Git 2.39.5 uses for the file in a working tree (`parse_config` in `submodule-config.c`, with
 /// `overwrite`):
 ///
-/// - The last value of a key counts. (Of a file in an older commit Git takes the first.)
-/// - Git ignores an entry whose name is empty or has a component `..` (between `/` and `\`), as it ignores a
-///   path and a URL that begin with `-`. Both are left out here.
-/// - Git stops at a key without a value, and at an `update` that is none of its four words. Here an entry
-///   without a value is left out, and `update` is returned as it is.
+/// - The last value of a key is used. (For a file in an older commit Git uses the first.)
+/// - Git ignores an entry whose name is empty or has a component `..` (between `/` and `\`), and a path or a URL
+///   that begins with `-`. They are ignored here too.
+/// - Git stops at a key without a value, and at an `update` that isn't one of its four words. Here an entry without
+///   a value is ignored, and `update` is returned unchanged.
 ///
-/// A submodule is listed also where no value of it is used.
+/// A submodule is listed even if none of its values is used.
 ///
-/// It takes time in the number of entries and its logarithm, and the length of the names. Memory is asked for
-/// as the list and five maps from the names grow.
+/// The time is proportional to the number of entries times its logarithm, and to the length of the names. Allocates
+/// as the list and five maps keyed by the names grow.
 ///
 /// # Errors
 ///
-/// `AllocError` where memory is refused, and no other.
+/// Returns `AllocError` if an allocation fails.
 ///
 /// ```
 /// /// The URL of the submodule at this path, and the index of the entry that gives it.
@@ -118,7 +117,7 @@ pub fn submodules<'a>(
     Ok(found)
 }
 
-/// The names of the submodules, in the order in which they come first.
+/// The names of the submodules, in the order in which they first occur.
 fn names_of<'a>(alloc: Global, entries: &[Entry<'a>]) -> Result<Vec<&'a [u8]>, AllocError>
     ensures { IfOk result (λ found. map (λ t. t.now) found.items ≡ names_of entries.now) }
 {
@@ -134,7 +133,7 @@ fn names_of<'a>(alloc: Global, entries: &[Entry<'a>]) -> Result<Vec<&'a [u8]>, A
     Ok(found)
 }
 
-/// Notes a name, and returns whether it wasn't noted before.
+/// Records a name, and returns whether it is new.
 fn is_new<'a>(seen: &mut BTreeMap<&'a [u8], ()>, name: &'a [u8]) -> Result<bool, AllocError>
     ensures is_new { IfOk result (λ new. new ≡ not (is_noted seen.old name.now)) }
     ensures noted { OnOk result (NotesName seen.old name.now seen.new) }
@@ -146,7 +145,7 @@ fn is_new<'a>(seen: &mut BTreeMap<&'a [u8], ()>, name: &'a [u8]) -> Result<bool,
     Ok(true)
 }
 
-/// The value that Git uses by this key, of each submodule that has one.
+/// The value that Git uses by this key, for each submodule that has one.
 fn uses_by<'a>(
     alloc: Global,
     entries: &[Entry<'a>],
@@ -164,7 +163,7 @@ fn uses_by<'a>(
     Ok(uses)
 }
 
-/// Notes a value for a name, in place of what was noted before.
+/// Records a value for a name, and replaces the previous one.
 fn note_use<'a>(
     uses: &mut BTreeMap<&'a [u8], Used<'a>>,
     name: &'a [u8],
@@ -176,7 +175,7 @@ fn note_use<'a>(
     Ok(())
 }
 
-/// The value that is noted for a name.
+/// The recorded value for a name.
 fn use_of<'a>(uses: &BTreeMap<&'a [u8], Used<'a>>, name: &[u8]) -> Option<Used<'a>>
     ensures { option_map used_value result ≡ noted_use uses.now name.now }
 {
@@ -185,7 +184,7 @@ fn use_of<'a>(uses: &BTreeMap<&'a [u8], Used<'a>>, name: &[u8]) -> Option<Used<'
 
 // ---- entries
 
-/// The name of the submodule that an entry is of.
+/// The name of the submodule of an entry.
 fn submodule_of<'a>(entry: &Entry<'a>) -> Option<&'a [u8]>
     ensures { option_map (λ t. t.now) result ≡ submodule_of entry.now }
 {
@@ -196,7 +195,7 @@ fn submodule_of<'a>(entry: &Entry<'a>) -> Option<&'a [u8]>
     }
 }
 
-/// The name of the submodule that Git uses an entry for.
+/// The name of the submodule for which Git uses an entry.
 fn taken_name<'a>(entry: &Entry<'a>) -> Option<&'a [u8]>
     ensures { option_map (λ t. t.now) result ≡ taken_name entry.now }
 {
@@ -208,7 +207,7 @@ fn taken_name<'a>(entry: &Entry<'a>) -> Option<&'a [u8]>
     }
 }
 
-/// The value that an entry gives a submodule by this key.
+/// The value that an entry sets for a submodule and this key.
 fn value_by<'a>(entry: &Entry<'a>, key: &str) -> Option<&'a [u8]>
     ensures { option_map (λ t. t.now) result ≡ value_by key.now entry.now }
 {
@@ -219,7 +218,7 @@ fn value_by<'a>(entry: &Entry<'a>, key: &str) -> Option<&'a [u8]>
     }
 }
 
-/// The name of the submodule that Git uses an entry for by this key, and the value that it gives.
+/// The name of the submodule for which Git uses an entry by this key, and the value.
 fn use_by<'a>(
     index: usize,
     entry: &Entry<'a>,

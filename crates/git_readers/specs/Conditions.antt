@@ -13,7 +13,7 @@ use Rattle.git_readers.specs.declared.unambiguous.Form.TheVariants.{Web, Transpo
 use Rattle.git_readers.specs.declared.unambiguous.Condition.TheVariants as condition
 use Rattle.git_readers.specs.Unambiguous.{BeginsWithPort, HasInnerSlash, HasDots, IsPlainHost, IsPlainLocal, IsPlainScpHost, IsPlainUser, IsPlainWord, behind_slash, is_odd_local, is_odd_start, is_path_byte, is_scp_byte}
 
--- the form of a location, by its scheme and the flag of the form that is no URL
+-- the form of a location, by its scheme and the flag of the alternative form
 abbrev pub form_of : Scheme → Bool → Form
 form_of file true = Local
 form_of ssh true = Scp
@@ -25,13 +25,13 @@ form_of _ flag = Transport
 abbrev pub form : Location → Form
 form v = form_of v.scheme v.flag
 
--- each byte of the path is one by which no reader cuts or changes it
+-- no reader cuts the path at one of its bytes or changes one
 abbrev pub HasPlainBytes : Form → List ℕ → Type 0
 HasPlainBytes Scp path = list_all is_scp_byte path ≡ true
 HasPlainBytes Local path = IsUtf8 path × Lacks is_odd_local path
 HasPlainBytes _ path = list_all is_path_byte path ≡ true
 
--- the path is laid out in a way that no reader changes
+-- the path begins in a way that no reader changes
 abbrev pub BeginsPlainly : Form → List ℕ → Type 0
 BeginsPlainly Web path = begins_with_slashes path ≡ false
 BeginsPlainly Transport path = (begins_with_slashes path ≡ false) × (is_tilde_second path ≡ false)
@@ -39,17 +39,17 @@ BeginsPlainly Transport path = (begins_with_slashes path ≡ false) × (is_tilde
 BeginsPlainly Scp path = ¬ BeginsWithPort path
 BeginsPlainly Local path = IsPlainLocal path
 
--- no segment `.` or `..` is in the path of a URL, nor in one of the scp form
+-- the path of a URL or of the scp form has no segment `.` or `..`
 abbrev pub LacksDots : Form → List ℕ → Type 0
 LacksDots Local path = Unit {0}
 LacksDots _ path = ¬ HasDots path
 
--- in the scp form the host is one that no reader takes for a scheme or a drive
+-- in the scp form, no reader reads the host as a scheme or a drive
 abbrev pub HasPlainScpHost : Form → Option (List ℕ) → Option (List ℕ) → Type 0
 HasPlainScpHost Scp user host = IfSome host (IsPlainScpHost user)
 HasPlainScpHost _ user host = Unit {0}
 
--- in the scp form a `/` is in the path
+-- in the scp form, the path has a `/` between two bytes
 abbrev pub HasScpSlash : Form → List ℕ → Type 0
 HasScpSlash Scp path = HasInnerSlash path
 HasScpSlash _ path = Unit {0}
@@ -68,11 +68,11 @@ Meets condition.DotSegment v = LacksDots (form v) v.path
 Meets condition.ScpHost v = HasPlainScpHost (form v) v.user v.host
 Meets condition.ScpPath v = HasScpSlash (form v) v.path
 
--- nobody misreads the text of the location: it meets every condition
+-- the location meets every condition under which all readers find the same fields in its text
 abbrev pub IsUnambiguous : Location → Type 0
 IsUnambiguous v = (each : Condition) → Meets each v
 
--- the place of a condition in the order in which the conditions are declared
+-- the index of a condition in the order of declaration
 abbrev pub place : Condition → ℕ
 place condition.Git = 0
 place condition.Escapes = 1

@@ -1,4 +1,4 @@
--- Groups of readers that cut remotes otherwise than Git, and the host that each finds in a text.
+-- Groups of readers that cut remotes differently from Git, and the host that each finds in a text.
 use Rattle.std.specs.Prelude.{ℕ, ◌+◌, ◌-◌, Bool, true, not, ◌&&◌, ◌||◌, ◌==◌, nat_le, List, [], ◌∷◌, ◌++◌, length, take, codes, Option, Some, None, if◌then◌else◌}
 use Rattle.std.specs.List.{list_all}
 use Rattle.std.specs.Char.{is_ascii_digit}
@@ -19,7 +19,7 @@ named_in authority = rest_or authority (cut_last at_sign authority)
 abbrev pub before_bracket : List ℕ → List ℕ
 before_bracket t = front_or t (cut_first right_bracket t)
 
--- the host without its port: of one in brackets what is between them, and else what is before the last colon
+-- the host without its port: the text in brackets, or the text before the last colon
 abbrev pub host_of : List ℕ → List ℕ
 host_of [] = []
 host_of (b ∷ rest) = if b == left_bracket then before_bracket rest else front_or (b ∷ rest) (cut_last colon (b ∷ rest))
@@ -28,7 +28,7 @@ host_of (b ∷ rest) = if b == left_bracket then before_bracket rest else front_
 abbrev pub host_in : List ℕ → List ℕ
 host_in authority = host_of (named_in authority)
 
--- the authority at the front of a text: as RFC 3986 has it, it ends at `/`, `?` or `#`
+-- the authority at the front of a text: by RFC 3986 it ends at `/`, `?` or `#`
 abbrev pub authority : List ℕ → List ℕ
 authority t = until (is_path_start true) t
 
@@ -49,7 +49,7 @@ abbrev pub after_scheme : Option (List ℕ × List ℕ) → Option (List ℕ)
 after_scheme None = None
 after_scheme (Some (scheme, rest)) = if is_scheme_text scheme then after_slashes rest else None
 
--- the text from the authority of a URL on, or from that of a relative URL on
+-- the text from the authority of a URL, or of a relative URL, on
 abbrev pub url_rest : List ℕ → Option (List ℕ)
 url_rest t = if begins_with slash t then after_slashes t else after_scheme (cut_first colon t)
 
@@ -62,7 +62,7 @@ abbrev pub after_web_scheme : Option (List ℕ × List ℕ) → Option (List ℕ
 after_web_scheme None = None
 after_web_scheme (Some (scheme, rest)) = if is_web_scheme scheme then Some (from is_no_slash rest) else None
 
--- the text from the authority of a URL of HTTP on, as the URL Standard has it
+-- the text from the authority of a URL of HTTP on, by the URL Standard
 abbrev pub standard_rest : List ℕ → Option (List ℕ)
 standard_rest t = after_web_scheme (cut_first colon t)
 
@@ -70,12 +70,12 @@ standard_rest t = after_web_scheme (cut_first colon t)
 abbrev pub some_host : List ℕ → Option (List ℕ)
 some_host t = unless_empty (host_in t)
 
--- the host of a URL, as RFC 3986 has it
+-- the host of a URL, by RFC 3986
 abbrev pub url_host : Option (List ℕ) → Option (List ℕ)
 url_host None = None
 url_host (Some rest) = some_host (authority rest)
 
--- the host of a URL, as the URL Standard has it
+-- the host of a URL, by the URL Standard
 abbrev pub standard_host : Option (List ℕ) → Option (List ℕ)
 standard_host None = None
 standard_host (Some rest) = some_host (standard_authority rest)
@@ -100,7 +100,7 @@ after_number (Some t) = after_number_cut (cut_first dot t)
 abbrev pub after_numbers : List ℕ → Option (List ℕ)
 after_numbers t = after_number (after_number (after_number (after_number (Some t))))
 
--- the text before the dot that is before its rest
+-- the text before the dot that precedes `rest`
 abbrev pub before_rest : List ℕ → Option (List ℕ) → Option (List ℕ)
 before_rest t None = None
 before_rest t (Some rest) = Some (take (length t - (length rest + 1)) t)
@@ -118,7 +118,7 @@ unless_other (front, []) = Some (front, [])
 unless_other (front, b ∷ rest) = if b == colon || (b == slash && begins_with slash rest) then None
     else Some (front, b ∷ rest)
 
--- the first colon cuts a text
+-- the cut at the first colon, if there is one and it isn't that of a remote helper or of a URL
 abbrev pub scp_cut_at : Option (List ℕ × List ℕ) → Option (List ℕ × List ℕ)
 scp_cut_at None = None
 scp_cut_at (Some pair) = unless_other pair
@@ -132,7 +132,7 @@ abbrev pub colon_host : Option (List ℕ × List ℕ) → Option (List ℕ)
 colon_host None = None
 colon_host (Some (front, rest)) = unless_empty (named_in front)
 
--- the host of the URL that is made of an scp form
+-- the host of the URL that is made from an scp form
 abbrev pub made_host : Option (List ℕ × List ℕ) → Option (List ℕ)
 made_host None = None
 made_host (Some (front, rest)) = some_host (authority front)

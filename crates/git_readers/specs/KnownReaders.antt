@@ -8,7 +8,7 @@ use Rattle.git_readers.specs.Unambiguous.{HasDots, IsPlainHost, is_path_byte}
 use Rattle.git_readers.specs.Readers.{LeavesPlain, UrlReader}
 use Rattle.git_readers.specs.Readers.Which.{first, last}
 
--- a text as it is
+-- a text, unchanged
 abbrev pub as_it_is : List ℕ → List ℕ
 as_it_is t = t
 
@@ -20,7 +20,7 @@ begins_query b = b == question_mark || b == number_sign
 abbrev pub never : ℕ → Bool
 never b = false
 
--- RFC 3986: an authority ends at `/`, `?` or `#`, as a path does at `?` or `#`; pieces are decoded when they are
+-- RFC 3986: an authority ends at `/`, `?` or `#`, and a path at `?` or `#`; pieces are decoded after they are
 -- cut, and a host has no letter case
 abbrev pub rfc3986 : UrlReader
 rfc3986 = record {
@@ -67,7 +67,7 @@ git_transports = record {
   path = as_it_is;
 }
 
--- Git's credential code: the first `@` ends user information, and pieces are decoded when they are cut
+-- Git's credential code: the first `@` ends user information, and pieces are decoded after they are cut
 abbrev pub git_credentials : UrlReader
 git_credentials = record {
   prepares = as_it_is;
@@ -81,16 +81,17 @@ git_credentials = record {
   path = percent_decode;
 }
 
--- the normalizer leaves plain hosts alone
+-- the normalizer doesn't change plain hosts
 abbrev pub KeepsHosts : (List ℕ → List ℕ) → Type 0
 KeepsHosts normal = (host : List ℕ) → IsPlainHost host → normal host ≡ host
 
--- the normalizer leaves plain paths without segments of dots alone
+-- the normalizer doesn't change plain paths without segments of dots
 abbrev pub KeepsPaths : (List ℕ → List ℕ) → Type 0
 KeepsPaths normal = (path : List ℕ) → list_all is_path_byte path ≡ true → ¬ HasDots path
     → normal path ≡ path
 
--- the reader of the URL Standard is of the family with any such normalizers
+-- `LeavesPlain` holds for the reader of the URL Standard with any normalizers that don't change plain hosts and
+-- plain paths
 abbrev pub WhatwgLeaves : Type 0
 WhatwgLeaves = (normal_host normal_path : List ℕ → List ℕ) → KeepsHosts normal_host
     → KeepsPaths normal_path → LeavesPlain (whatwg normal_host normal_path)

@@ -1,4 +1,4 @@
--- What a user reads.
+-- Public definitions.
 pub mod Unambiguous
 pub mod Conditions
 pub mod Readers

@@ -1,4 +1,4 @@
--- The law on the texts that nobody misreads, and the readers that are known to be of the family.
+-- The law on texts that nobody misreads, and the readers that are known to be of the family.
 use Rattle.std.specs.Prelude.{◌≡◌, ℕ, false, List, Ok}
 use Rattle.git_syntax.specs.Location.{Location}
 use Rattle.git_location.specs.Text.{text}
@@ -6,12 +6,13 @@ use Rattle.git_location.specs.Settled.{IsValue}
 use Rattle.git_readers.specs.Conditions.{IsUnambiguous}
 use Rattle.git_readers.specs.Readers.{LeavesPlain, Reader, UrlReader, own_parts, reads, reads_url}
 
--- in the text of a location of the class every reader finds the location's own parts
+-- every reader for which `LeavesPlain` holds finds an unambiguous location's own fields in its text
 abbrev pub ReadByAll : Type 0
 ReadByAll = (v : Location) → IsValue v → IsUnambiguous v → (r : Reader) → LeavesPlain r.url
     → (t : List ℕ) → text v ≡ Ok t → reads r t ≡ own_parts v
 
--- so does every reader of URLs in the text of one that is written as a URL
+-- if an unambiguous location is written as a URL, every reader of URLs for which `LeavesPlain` holds finds the
+-- location's own fields in its text
 abbrev pub UrlReadByAll : Type 0
 UrlReadByAll = (v : Location) → IsValue v → IsUnambiguous v → v.flag ≡ false → (r : UrlReader)
     → LeavesPlain r → (t : List ℕ) → text v ≡ Ok t → reads_url r t ≡ own_parts v

@@ -1,5 +1,5 @@
--- A family of readers of remotes. A reader is its choices: where it cuts, and what it makes of a piece. Those that
--- were asked differ by such choices.
+-- A family of readers of remotes. A reader is a set of choices: where it cuts a text, and how it transforms
+-- each piece. The readers that were tested differ in such choices.
 use Rattle.std.specs.Prelude.{◌≡◌, ℕ, Bool, true, false, not, ◌&&◌, ◌||◌, ◌==◌, List, [], ◌∷◌, codes, bytes_eq, decimal, drop, take, Option, Some, None, option_map, if◌then◌else◌}
 use Rattle.std.specs.List.{list_all, list_any}
 use Rattle.std.specs.Char.{is_ascii_digit}
@@ -26,7 +26,7 @@ pub data Which : Type 0 where
   first : Which
   last : Which
 
--- what is before a byte and behind it, with another byte at the front
+-- the texts before and after a cut, with another byte at the front
 abbrev pub with_front : ℕ → Option (List ℕ × List ℕ) → Option (List ℕ × List ℕ)
 with_front b None = None
 with_front b (Some (front, rest)) = Some (b ∷ front, rest)
@@ -36,7 +36,7 @@ abbrev pub cut_first : ℕ → List ℕ → Option (List ℕ × List ℕ)
 cut_first c [] = None
 cut_first c (b ∷ bs) = if b == c then Some ([], bs) else with_front b (cut_first c bs)
 
--- the later cut where there is one, and else a cut at this byte if it is c
+-- the later cut if there is one, and else a cut at this byte if it is c
 abbrev pub later_or : ℕ → ℕ → List ℕ → Option (List ℕ × List ℕ) → Option (List ℕ × List ℕ)
 later_or c b bs None = if b == c then Some ([], bs) else None
 later_or c b bs (Some later) = with_front b (Some later)
@@ -51,29 +51,29 @@ abbrev pub cut : Which → ℕ → List ℕ → Option (List ℕ × List ℕ)
 cut first c t = cut_first c t
 cut last c t = cut_last c t
 
--- what is before the cut, or the whole text
+-- the text before the cut, or the whole text
 abbrev pub front_or : List ℕ → Option (List ℕ × List ℕ) → List ℕ
 front_or whole None = whole
 front_or whole (Some (front, rest)) = front
 
--- what is behind the cut, or the whole text
+-- the text after the cut, or the whole text
 abbrev pub rest_or : List ℕ → Option (List ℕ × List ℕ) → List ℕ
 rest_or whole None = whole
 rest_or whole (Some (front, rest)) = rest
 
--- what is before the cut, if there is one
+-- the text before the cut, if there is one
 abbrev pub front_of : Option (List ℕ × List ℕ) → Option (List ℕ)
 front_of None = None
 front_of (Some (front, rest)) = Some front
 
--- what is behind the cut, if there is one
+-- the text after the cut, if there is one
 abbrev pub rest_of : Option (List ℕ × List ℕ) → Option (List ℕ)
 rest_of None = None
 rest_of (Some (front, rest)) = Some rest
 
--- ---- what is read
+-- ---- the result of a reader
 
--- the parts that a reader finds, the port by its digits
+-- the fields that a reader finds, the port by its digits
 pub record Parts : Type 0 where
   pub scheme : List ℕ
   pub user : Option (List ℕ)
@@ -82,12 +82,12 @@ pub record Parts : Type 0 where
   pub port : Option (List ℕ)
   pub path : List ℕ
 
--- the path as it is in the text: in a URL a `/` is before the `~` of a home folder
+-- the path as it is in the text: in a URL, a `/` precedes the `~` of a home folder
 abbrev pub path_in_text : Bool → List ℕ → List ℕ
 path_in_text true path = path
 path_in_text false path = if begins_with tilde path then slash ∷ path else path
 
--- the location's own parts
+-- the location's own fields
 abbrev pub own_parts : Location → Parts
 own_parts v = record {
   scheme = scheme_text v.scheme;
@@ -102,11 +102,11 @@ own_parts v = record {
 
 -- the choices of a reader of URLs
 pub record UrlReader : Type 0 where
-  -- what it makes of the text before it cuts: it may trim it, decode it, or write `/` for `\`
+  -- how it transforms the text before it cuts: it may trim it, decode it, or write `/` for `\`
   pub prepares : List ℕ → List ℕ
-  -- the bytes besides `/` at which an authority ends, as `?`, `#` or `;`
+  -- the bytes besides `/` at which an authority ends, like `?`, `#` or `;`
   pub ends_authority : ℕ → Bool
-  -- the bytes at which a path ends, as `?`, `#` or `;`
+  -- the bytes at which a path ends, like `?`, `#` or `;`
   pub ends_path : ℕ → Bool
   -- which `@` ends user information
   pub user_cut : Which
@@ -114,15 +114,16 @@ pub record UrlReader : Type 0 where
   pub password_cut : Which
   -- which `:` begins a port
   pub port_cut : Which
-  -- what it makes of a user or a password: it may decode it
+  -- how it transforms a user or a password: it may decode it
   pub word : List ℕ → List ℕ
-  -- what it makes of a host: it may change its case, or read numbers in it
+  -- how it transforms a host: it may change its case, or read numbers in it
   pub host : List ℕ → List ℕ
-  -- what it makes of a path: it may decode it, or remove segments of dots
+  -- how it transforms a path: it may decode it, or remove segments of dots
   pub path : List ℕ → List ℕ
 
--- the reader leaves alone what needs no change: a text of plain bytes, a word of unreserved ones, a plain host and
--- a path of plain bytes without segments of dots; and it cuts at no plain byte but `/`, `:` and `@`
+-- the reader doesn't change a text that needs no change: a text of plain bytes, a word of unreserved ones, a
+-- plain host and a path of plain bytes without segments of dots; and the only plain bytes at which it cuts are
+-- `/`, `:` and `@`
 pub record LeavesPlain (r : UrlReader) : Type 0 where
   pub text : (t : List ℕ) → list_all is_path_byte t ≡ true → r.prepares t ≡ t
   pub authority : (b : ℕ) → is_path_byte b ≡ true → r.ends_authority b ≡ false
@@ -135,7 +136,7 @@ pub record LeavesPlain (r : UrlReader) : Type 0 where
 abbrev pub is_colon : ℕ → Bool
 is_colon b = b == colon
 
--- the text behind `://`, where the first colon begins it
+-- the text after `://`, which the first colon begins
 abbrev pub behind_mark : List ℕ → List ℕ
 behind_mark t = drop 3 (from is_colon t)
 
@@ -160,7 +161,7 @@ abbrev pub password_in : UrlReader → Option (List ℕ) → Option (List ℕ)
 password_in r None = None
 password_in r (Some t) = option_map r.word (rest_of (cut r.password_cut colon t))
 
--- the parts of an authority and of the path behind it
+-- the fields of an authority and of the path after it
 abbrev pub parts_of : UrlReader → List ℕ → List ℕ → List ℕ → Parts
 parts_of r scheme authority path = record {
   scheme = scheme;
@@ -171,32 +172,32 @@ parts_of r scheme authority path = record {
   path = r.path (until r.ends_path path);
 }
 
--- what the reader finds in a text that is prepared
+-- the fields that the reader finds in a prepared text
 abbrev pub reads_prepared : UrlReader → List ℕ → Parts
 reads_prepared r t = parts_of r (until is_colon t) (until (ends_authority r) (behind_mark t))
     (from (ends_authority r) (behind_mark t))
 
--- what the reader finds in a URL
+-- the fields that the reader finds in a URL
 abbrev pub reads_url : UrlReader → List ℕ → Parts
 reads_url r t = reads_prepared r (r.prepares t)
 
 -- ---- remotes
 
--- `://` is at the front of the text
+-- the text begins with `://`
 abbrev pub begins_mark : List ℕ → Bool
 begins_mark t = bytes_eq (take 3 t) (codes "://")
 
--- `://` is in the text
+-- the text has a `://`
 abbrev pub holds_mark : List ℕ → Bool
 holds_mark [] = false
 holds_mark (b ∷ bs) = begins_mark (b ∷ bs) || holds_mark bs
 
--- which texts a reader takes for URLs: those with `://` anywhere, or behind a scheme
+-- the texts that a reader regards as URLs: those with `://` anywhere, or after a scheme
 pub data UrlTest : Type 0 where
   anywhere : UrlTest
   behind_scheme : UrlTest
 
--- the text is a URL to such a reader
+-- the text is a URL to a reader with this test
 abbrev pub is_url : UrlTest → List ℕ → Bool
 is_url anywhere t = holds_mark t
 is_url behind_scheme t = is_scheme_text (until is_colon t) && begins_mark (from is_colon t)
@@ -205,14 +206,14 @@ is_url behind_scheme t = is_scheme_text (until is_colon t) && begins_mark (from 
 abbrev pub has_slash : List ℕ → Bool
 has_slash t = list_any (λ b. b == slash) t
 
--- which other texts a reader takes for the scp form: those with a colon, with one before any slash, or with one
--- that a slash follows
+-- the other texts that a reader regards as the scp form: those with a colon, with one before any slash, or with
+-- one that a slash follows
 pub data ScpTest : Type 0 where
   any_colon : ScpTest
   before_slash : ScpTest
   slash_behind : ScpTest
 
--- the cut is one of the scp form to such a reader
+-- the cut is one of the scp form to a reader with this test
 abbrev pub is_scp_cut : ScpTest → Option (List ℕ × List ℕ) → Bool
 is_scp_cut test None = false
 is_scp_cut any_colon (Some (front, rest)) = true
@@ -226,9 +227,9 @@ pub record Reader : Type 0 where
   pub scp_test : ScpTest
   -- which colon ends the host
   pub host_cut : Which
-  -- whether it looks for the user's `@` in the whole text, and only then for the colon
+  -- whether it searches the whole text for the user's `@`, and only then for the colon
   pub user_first : Bool
-  -- whether digits behind the colon, with `/` or `:` behind them, are a port
+  -- whether digits after the colon, followed by `/` or `:`, are a port
   pub digits_are_port : Bool
 
 -- ---- the scp form
@@ -237,7 +238,7 @@ pub record Reader : Type 0 where
 abbrev pub is_no_digit : ℕ → Bool
 is_no_digit b = not (is_ascii_digit b)
 
--- the text begins with digits, and with `/` or `:` behind them
+-- the text begins with digits, followed by `/` or `:`
 abbrev pub begins_port : List ℕ → Bool
 begins_port t = begins_by is_ascii_digit t
     && (begins_with slash (from is_no_digit t) || begins_with colon (from is_no_digit t))
@@ -250,7 +251,7 @@ at_colon r t = cut r.host_cut colon t
 abbrev pub at_user : Reader → List ℕ → Option (List ℕ × List ℕ)
 at_user r t = cut r.url.user_cut at_sign t
 
--- what is before the colon, or behind the user and before the colon
+-- the text before the colon; the user may have been cut off already
 abbrev pub scp_front : Reader → List ℕ → List ℕ
 scp_front r t = front_or t (at_colon r t)
 
@@ -263,17 +264,17 @@ abbrev pub scp_host : Reader → List ℕ → List ℕ
 scp_host r t = if r.user_first then scp_front r (rest_or t (at_user r t))
     else rest_or (scp_front r t) (at_user r (scp_front r t))
 
--- what is behind the colon
+-- the text after the colon
 abbrev pub scp_rest : Reader → List ℕ → List ℕ
 scp_rest r t = if r.user_first
     then rest_or (rest_or t (at_user r t)) (at_colon r (rest_or t (at_user r t)))
     else rest_or t (at_colon r t)
 
--- digits behind the colon are a port
+-- digits after the colon are a port
 abbrev pub has_port : Reader → List ℕ → Bool
 has_port r rest = r.digits_are_port && begins_port rest
 
--- what the reader finds in a text of the scp form
+-- the fields that the reader finds in a text of the scp form
 abbrev pub reads_scp : Reader → List ℕ → Parts
 reads_scp r t = record {
   scheme = codes "ssh";
@@ -297,7 +298,7 @@ local_parts t = record {
   path = t;
 }
 
--- what the reader finds in a text
+-- the fields that the reader finds in a text
 abbrev pub reads : Reader → List ℕ → Parts
 reads r t = if is_url r.url_test t then reads_url r.url t
     else (if is_scp_cut r.scp_test (cut_first colon t) then reads_scp r t else local_parts t)

@@ -1,5 +1,5 @@
--- The texts that nobody misreads: hosts, user information and paths in which no reader that was asked finds
--- anything else than what is written.
+-- The texts that nobody misreads: hosts, user information and paths in which all readers that were tested find
+-- exactly the written text.
 use Rattle.std.specs.Prelude.{◌≡◌, ℕ, ◌<◌, ◌≤◌, Bool, true, false, ◌||◌, ◌==◌, ◌⊎◌, List, [], ◌∷◌, ◌++◌, length, codes, bytes_eq, Option, None, if◌then◌else◌}
 use Rattle.std.specs.List.{list_all}
 use Rattle.std.specs.Char.{is_ascii_alphanumeric, is_ascii_lowercase, is_ascii_digit}
@@ -30,7 +30,7 @@ pub record IsPlainLabel (label : List ℕ) : Type 0 where
   pub short : length label ≤ 63
   pub no_punycode : ¬ IsPunycode label
 
--- such labels joined by dots, of which the last begins with a letter: no reader takes that for a number
+-- plain labels joined by dots, of which the last begins with a letter: no reader reads the name as a number
 pub data AreLabels : List ℕ → Type 0 where
   last : (label : List ℕ) → IsPlainLabel label → begins_by is_ascii_lowercase label ≡ true
       → AreLabels label
@@ -46,28 +46,28 @@ pub record BeginsWithNumbers (host : List ℕ) : Type 0 where
   pub first_digits : list_all is_ascii_digit first ≡ true
   pub second_digits : list_all is_ascii_digit second ≡ true
 
--- a name that every reader takes for the same name
+-- a name that every reader reads as the same name
 pub record IsPlainName (host : List ℕ) : Type 0 where
   pub labels : AreLabels host
   pub short : length host ≤ 253
   pub no_numbers : ¬ BeginsWithNumbers host
 
--- such a name, or an IPv4 address
+-- a name that every reader reads as the same name, or an IPv4 address
 abbrev pub IsPlainHost : List ℕ → Type 0
 IsPlainHost host = IsPlainName host ⊎ IsIpv4Text host
 
 -- ---- user information
 
--- a letter, a digit, `-`, `.`, `_` or `~`: what RFC 3986 calls unreserved
+-- a letter, a digit, `-`, `.`, `_` or `~`: the unreserved bytes of RFC 3986
 abbrev pub is_unreserved : ℕ → Bool
 is_unreserved b = is_ascii_alphanumeric b || is_one_of (codes "-._~") b
 
--- a user or a password of such bytes
+-- a user or a password of unreserved bytes
 pub record IsPlainWord (word : List ℕ) : Type 0 where
   pub nonempty : begins_by is_unreserved word ≡ true
   pub bytes : list_all is_unreserved word ≡ true
 
--- a user of such bytes that isn't taken for an option
+-- a user of unreserved bytes that isn't read as an option
 pub record IsPlainUser (user : List ℕ) : Type 0 where
   pub word : IsPlainWord user
   pub no_option : is_option_like user ≡ false
@@ -82,7 +82,7 @@ is_path_byte b = is_ascii_alphanumeric b || is_one_of (codes "-._~!$&()*+,=:@/")
 abbrev pub is_scp_byte : ℕ → Bool
 is_scp_byte b = is_ascii_alphanumeric b || is_one_of (codes "-._~+,=/") b
 
--- a byte by which readers take a local path for something else: a control character, `:` or `\`
+-- a byte for which readers don't regard a text as a local path: a control character, `:` or `\`
 abbrev pub is_odd_local : ℕ → Bool
 is_odd_local b = is_control b || (b == colon || b == backslash)
 
@@ -91,7 +91,7 @@ abbrev pub behind_slash : List ℕ → List ℕ
 behind_slash [] = []
 behind_slash (b ∷ rest) = if b == slash then rest else b ∷ rest
 
--- `-`, or a byte and `:`, which readers of Secure Shell, of `git://` and of files take for an option or a drive
+-- `-`, or a byte and `:`, which readers of Secure Shell, of `git://` and of files read as an option or a drive
 abbrev pub is_odd_start : List ℕ → Bool
 is_odd_start [] = false
 is_odd_start (b ∷ rest) = b == hyphen || begins_with colon rest
@@ -100,13 +100,13 @@ is_odd_start (b ∷ rest) = b == hyphen || begins_with colon rest
 abbrev pub IsDots : List ℕ → Type 0
 IsDots segment = (segment ≡ codes ".") ⊎ (segment ≡ codes "..")
 
--- such a segment is the whole path, its first, or a later one
+-- a segment `.` or `..` is the whole path, its first segment, or a later one
 pub data HasDots : List ℕ → Type 0 where
   whole : (path : List ℕ) → IsDots path → HasDots path
   first : (path segment rest : List ℕ) → IsDots segment → path ≡ segment ++ slash ∷ rest → HasDots path
   later : (path front rest : List ℕ) → HasDots rest → path ≡ front ++ slash ∷ rest → HasDots path
 
--- the path of the scp form begins with digits and `/`, which readers take for a port
+-- the path of the scp form begins with digits and `/`, which readers read as a port
 pub record BeginsWithPort (path : List ℕ) : Type 0 where
   pub digits : List ℕ
   pub rest : List ℕ
@@ -114,24 +114,24 @@ pub record BeginsWithPort (path : List ℕ) : Type 0 where
   pub number : list_all is_ascii_digit digits ≡ true
   pub joined : path ≡ digits ++ slash ∷ rest
 
--- a byte follows a `/` of the text
+-- the text has a `/` that a byte follows
 pub record HasSlashBefore (text : List ℕ) : Type 0 where
   pub front : List ℕ
   pub behind : List ℕ
   pub joined : text ≡ front ++ slash ∷ behind
   pub nonempty : 0 < length behind
 
--- a `/` is in the path between two bytes
+-- the path has a `/` between two bytes
 abbrev pub HasInnerSlash : List ℕ → Type 0
 HasInnerSlash [] = ⊥
 HasInnerSlash (b ∷ rest) = HasSlashBefore rest
 
--- two slashes, one behind the other
+-- two slashes in sequence
 abbrev pub slashes : List ℕ
 slashes = codes "//"
 
--- a local path without `//`, and not `/` alone. Without one at its front it has no `@`, which
--- some readers take for the end of a user
+-- a local path without `//` that isn't just `/`. If it doesn't begin with `/`, it has no `@`, which some
+-- readers read as the end of a user
 pub record IsPlainLocal (path : List ℕ) : Type 0 where
   pub no_slashes : ¬ Holds slashes path
   pub no_root : ¬ (path ≡ codes "/")
@@ -145,7 +145,7 @@ is_scheme_word word = is_known_scheme word || (is_ftp word || (bytes_eq word (co
     || (bytes_eq word (codes "svn") || (bytes_eq word (codes "sftp")
     || (bytes_eq word (codes "ws") || bytes_eq word (codes "wss"))))))
 
--- a host that readers take neither for a drive nor, without a user, for a scheme
+-- a host that readers don't read as a drive, nor, without a user, as a scheme
 pub record IsPlainScpHost (user : Option (List ℕ)) (host : List ℕ) : Type 0 where
   pub long : 1 < length host
   pub no_scheme : user ≡ None → is_scheme_word host ≡ false

@@ -1,6 +1,4 @@
-//! Classes of bytes, by a table that has the flags of each byte.
-//!
-//! It uses nothing of this crate. Its contract: each test is exactly the definition that it is named after.
+//! Classes of bytes, by a table with the flags of each byte.
 
 ghost use Rattle.std.specs.Prelude.{◌≡◌};
 ghost use Rattle.std.specs.List.{list_all};
@@ -15,7 +13,7 @@ const SCP: u8 = 2;
 /// The flag of an unreserved byte.
 const WORD: u8 = 4;
 
-/// For each byte a digit, whose low three bits are the flags above.
+/// A digit for each byte. Its low three bits are the flags above.
 static CLASS: [u8; 256] = *b"\
     00000000000000000000000000000000\
     01001010111337737777777777100300\

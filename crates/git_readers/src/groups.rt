@@ -1,8 +1,8 @@
-//! Groups of readers that cut remotes otherwise than Git, and the host that each finds in a text.
+//! Groups of readers that cut remotes differently from Git, and the host that each finds in a text.
 //!
-//! A group is a way to cut texts. Each program by which it is named was asked, and takes the host of the group in most
-//! texts in which it takes another host than Git; `docs/READERS.md` has in how many, and what it does in the others.
-//! Which texts a program refuses isn't said here.
+//! A group is a way to cut texts. Each program by which it is named was tested: in most texts in which it finds
+//! another host than Git, it finds the host of the group. `docs/READERS.md` says in how many, and what it finds
+//! in the others. Which texts a program refuses isn't modelled.
 
 ghost use Rattle.std.specs.Prelude.{◌≡◌, ◌<◌, ◌||◌, ◌++◌, ◌∷◌, IfSome, Some, length, nat_le, option_map};
 ghost use Rattle.std.specs.Char.{is_ascii_digit};
@@ -19,7 +19,7 @@ use git_syntax::bytes::{cut, cut_before_path, is_scheme_text, last_cut, starts_w
 /// A group of readers that cut remotes in one way, which isn't Git's.
 #[derive(Clone, Copy, PartialEq, Eq, Debug)]
 pub enum Group {
-    /// Readers of URLs by RFC 3986: an authority ends at `/`, `?` or `#`, the last `@` of it ends user information,
+    /// Readers of URLs by RFC 3986: an authority ends at `/`, `?` or `#`, its last `@` ends user information,
     /// and its last `:` begins a port. A text that begins with `//` is a relative URL with a host.
     Urls,
     /// Readers of the URL Standard of the WHATWG: over HTTP a `\` is a `/`, and any number of them may follow the
@@ -27,20 +27,21 @@ pub enum Group {
     UrlStandard,
     /// Readers that write an scp form as a URL of Secure Shell, and read that.
     MadeUrls,
-    /// Readers that end the host at the first `:`, with a `/` before it or not.
+    /// Readers that end the host at the first `:`, whether a `/` precedes it or not.
     FirstColon,
     /// Readers that end the user at the first `@` of the whole text, and the host at the next `:`.
     FirstAt,
-    /// Readers that take digits at the front of the path of an scp form, with a `/` or `:` after them, for a port. The
-    /// host is Git's, and the port isn't. go-git takes five digits at most, and asks for a `/` in the path after them.
+    /// Readers that read digits at the front of the path of an scp form as a port, if a `/` or `:` follows
+    /// them. The host is Git's, and the port isn't. go-git accepts at most five digits, and requires a `/` in
+    /// the path after them.
     DigitsArePort,
-    /// Readers of URLs by RFC 3986 that end a host after four numbers with a `.` after them. Boost.URL takes numbers
-    /// to 255 without leading zeros.
+    /// Readers of URLs by RFC 3986 that end a host after four numbers, each followed by a `.`. Boost.URL
+    /// accepts numbers up to 255 without leading zeros.
     FourNumbers,
 }
 
 impl Group {
-    /// The name of the group, in lower case, for programs. It takes no memory.
+    /// The name of the group, in lower case, for programs. Allocates nothing.
     pub fn name(self) -> &'static str
         ensures { result.now ≡ group_name self }
     {
@@ -55,7 +56,8 @@ impl Group {
         }
     }
 
-    /// The readers of the group in a few words, which begin in lower case and have no end mark. It takes no memory.
+    /// The readers of the group in a few words, which begin in lower case and have no end mark. Allocates
+    /// nothing.
     pub fn words(self) -> &'static str
         ensures { result.now ≡ group_words self }
     {
@@ -71,8 +73,9 @@ impl Group {
         }
     }
 
-    /// The host that the group finds in a text, as it is written there and without brackets, or none. Of
-    /// [`Group::DigitsArePort`] the port is in it, and nothing else if the host is empty. It takes no memory.
+    /// The host that the group finds in a text, undecoded and without brackets, if it finds one. For
+    /// [`Group::DigitsArePort`] the result includes the colon and the port, and the host before them may be
+    /// empty. Allocates nothing.
     pub fn host_in(self, text: &[u8]) -> Option<&[u8]>
         ensures { option_map (λ t. t.now) result ≡ host_by self text.now }
     {
@@ -88,7 +91,7 @@ impl Group {
     }
 }
 
-/// The host of a URL, as RFC 3986 has it.
+/// The host of a URL, by RFC 3986.
 fn url_host(text: &[u8]) -> Option<&[u8]>
     ensures { option_map (λ t. t.now) result ≡ spec.url_host (spec.url_rest text.now) }
 {
@@ -96,7 +99,7 @@ fn url_host(text: &[u8]) -> Option<&[u8]>
     unless_empty(host_in(authority(rest)))
 }
 
-/// The text from the authority of a URL on, or from that of a relative URL on.
+/// The text from the authority of a URL, or of a relative URL, on.
 fn url_rest(text: &[u8]) -> Option<&[u8]>
     ensures { option_map (λ t. t.now) result ≡ spec.url_rest text.now }
 {
@@ -133,7 +136,7 @@ fn after_slashes(text: &[u8]) -> Option<&[u8]>
     }
 }
 
-/// The authority at the front of a text, as RFC 3986 has it.
+/// The authority at the front of a text, by RFC 3986.
 fn authority(text: &[u8]) -> &[u8]
     ensures { result.now ≡ spec.authority text.now }
 {
@@ -213,7 +216,7 @@ fn unless_empty(text: &[u8]) -> Option<&[u8]>
     }
 }
 
-/// The host of a URL of HTTP, as the URL Standard has it.
+/// The host of a URL of HTTP, by the URL Standard.
 fn standard_host(text: &[u8]) -> Option<&[u8]>
     ensures { option_map (λ t. t.now) result ≡ spec.standard_host (spec.standard_rest text.now) }
 {
@@ -274,7 +277,7 @@ fn is_number(label: &[u8]) -> bool
     begins_with_digit(label) && are_digits(label) && is_short(label)
 }
 
-/// Whether the label has three bytes at most.
+/// Whether the label has at most three bytes.
 fn is_short(label: &[u8]) -> bool
     ensures { result ≡ nat_le (length label.now) 3 }
 {
@@ -301,9 +304,9 @@ fn is_of_http(scheme: &[u8]) -> bool
 /// A text that is cut at its first colon.
 #[derive(Clone, Copy)]
 struct ScpCut<'a> {
-    /// What is before the colon.
+    /// The text before the colon.
     front: &'a [u8],
-    /// What is after it.
+    /// The text after it.
     rest: &'a [u8],
 }
 
@@ -329,7 +332,7 @@ fn colon_host(text: &[u8]) -> Option<&[u8]>
     unless_empty(named_in(scp_cut(text)?.front))
 }
 
-/// The host of the URL that is made of an scp form.
+/// The host of the URL that is made from an scp form.
 fn made_host(text: &[u8]) -> Option<&[u8]>
     ensures { option_map (λ t. t.now) result ≡ spec.made_host (spec.scp_cut text.now) }
 {
@@ -389,7 +392,7 @@ fn host_with_port<'a>(text: &'a [u8], front: &'a [u8], rest: &'a [u8]) -> Option
     }
 }
 
-/// Whether the text begins with digits, and with `/` or `:` after them.
+/// Whether the text begins with digits, followed by `/` or `:`.
 fn begins_port(text: &[u8]) -> bool
     ensures { result ≡ begins_port text.now }
 {

@@ -1,7 +1,4 @@
-//! Hosts, users and passwords that every reader takes for what is written.
-//!
-//! It uses cuts and addresses of `git_syntax`. Its contract: each test decides the condition or the definition that
-//! it is named for.
+//! Hosts, users and passwords that every reader reads unchanged.
 
 ghost use Rattle.std.specs.Prelude.{◌≡◌, ◌↔◌, ◌&&◌, ◌||◌, ◌==◌, ◌++◌, ◌∷◌, [], List, ℕ, IsTrue, not, true, bytes_eq, IfSome};
 ghost use Rattle.std.specs.List.{list_all};
@@ -19,7 +16,7 @@ use git_syntax::bytes::{before, cut, starts_with_byte};
 use git_syntax::ipv6::is_dotted;
 use git_syntax::scheme::{is_ftp, is_known_scheme};
 
-/// Whether the host, where there is one, is read alike.
+/// Whether the host is missing or read alike.
 pub(crate) fn has_plain_host(url: &UrlRef<'_>) -> bool
     ensures { IsTrue result ↔ Meets condition.Host url.now }
 {
@@ -29,7 +26,7 @@ pub(crate) fn has_plain_host(url: &UrlRef<'_>) -> bool
     }
 }
 
-/// Whether the text is a plain name or an IPv4 address. Most are common names, which one look finds.
+/// Whether the text is a plain name or an IPv4 address. Most are common names, which one pass finds.
 fn is_plain_host(host: &[u8]) -> bool
     ensures { IsTrue result ↔ IsPlainHost host.now }
 {
@@ -50,7 +47,7 @@ fn is_common_name(host: &[u8]) -> bool
     is_label_end(before) && host.len() <= 63
 }
 
-/// Whether the byte is a lower-case letter; a digit that isn't the first byte of a label; or `-` or `.` behind a
+/// Whether the byte is a lower-case letter; a digit that isn't the first byte of a label; or `-` or `.` after a
 /// letter or a digit.
 fn may_follow(before: u8, byte: u8) -> bool
     ensures { result ≡ (is_ascii_lowercase byte || (is_ascii_digit byte && not (before == dot)
@@ -61,7 +58,7 @@ fn may_follow(before: u8, byte: u8) -> bool
         || ((byte == b'-' || byte == b'.') && is_label_end(before))
 }
 
-/// Whether the text is a name that every reader takes for the same name.
+/// Whether the text is a name that every reader reads as the same name.
 fn is_plain_name(host: &[u8]) -> bool
     ensures { IsTrue result ↔ IsPlainName host.now }
 {
@@ -169,7 +166,7 @@ pub(crate) fn are_digits(text: &[u8]) -> bool
     text.iter().all(|byte| byte.is_ascii_digit())
 }
 
-/// Whether digits alone are in the text, which isn't empty.
+/// Whether the text isn't empty and has only digits.
 pub(crate) fn is_number(text: &[u8]) -> bool
     ensures { IsTrue result
         ↔ ((begins_by is_ascii_digit text.now ≡ true) × (list_all is_ascii_digit text.now ≡ true)) }
@@ -180,7 +177,7 @@ pub(crate) fn is_number(text: &[u8]) -> bool
     }
 }
 
-/// Whether the user, where there is one, is read alike.
+/// Whether the user is missing or read alike.
 pub(crate) fn has_plain_user(url: &UrlRef<'_>) -> bool
     ensures { IsTrue result ↔ Meets condition.User url.now }
 {
@@ -190,7 +187,7 @@ pub(crate) fn has_plain_user(url: &UrlRef<'_>) -> bool
     }
 }
 
-/// Whether the password, where there is one, is read alike.
+/// Whether the password is missing or read alike.
 pub(crate) fn has_plain_password(url: &UrlRef<'_>) -> bool
     ensures { IsTrue result ↔ Meets condition.Password url.now }
 {
@@ -217,7 +214,7 @@ pub(crate) fn has_plain_scp_host(url: &UrlRef<'_>) -> bool
     }
 }
 
-/// Whether the host, where there is one, has two bytes or more and, without a user, is no scheme.
+/// Whether the host is missing, or has at least two bytes and, without a user, is not a scheme.
 fn is_plain_scp_host(url: &UrlRef<'_>) -> bool
     ensures { IsTrue result ↔ IfSome url.now.host (IsPlainScpHost url.now.user) }
 {

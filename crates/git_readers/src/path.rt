@@ -1,7 +1,4 @@
-//! Paths that every reader cuts where they are cut, and changes nothing of.
-//!
-//! It uses cuts of `git_syntax`. Its contract: each test decides the condition or the definition that it is named
-//! for.
+//! Paths that no reader cuts differently or changes.
 
 ghost use Rattle.std.specs.Prelude.{◌≡◌, ◌↔◌, ◌++◌, ◌⊎◌, IsTrue, codes};
 ghost use Rattle.std.specs.List.{list_any};
@@ -21,7 +18,7 @@ use git_location::url_ref::UrlRef;
 use git_syntax::bytes::{cut, is_free_of, starts_with_byte};
 use git_syntax::text::is_text;
 
-/// Whether each byte of the path is one by which no reader cuts or changes it.
+/// Whether no reader cuts the path at one of its bytes or changes one.
 pub(crate) fn has_plain_bytes(url: &UrlRef<'_>) -> bool
     ensures { IsTrue result ↔ Meets condition.PathBytes url.now }
 {
@@ -32,14 +29,14 @@ pub(crate) fn has_plain_bytes(url: &UrlRef<'_>) -> bool
     }
 }
 
-/// Whether the path is text without a byte by which readers take a local path for something else.
+/// Whether the path is text without a byte for which readers don't regard it as a local path.
 fn are_local_bytes(path: &[u8]) -> bool
     ensures { IsTrue result ↔ HasPlainBytes form.Local path.now }
 {
     are_scp_bytes(path) || (is_text(path) && !has_odd_local(path))
 }
 
-/// Whether a byte is in the local path by which readers take it for something else.
+/// Whether the local path has a byte for which readers don't regard it as one.
 fn has_odd_local(path: &[u8]) -> bool
     ensures { result ≡ list_any byte.is_odd_local path.now }
 {
@@ -53,7 +50,7 @@ fn is_odd_local(it: u8) -> bool
     it < b' ' || it == 127 || it == b':' || it == b'\\'
 }
 
-/// Whether the path begins in a way that no reader changes. In a URL of HTTP it does where Git agrees.
+/// Whether the path begins in a way that no reader changes. In a URL of HTTP it does if Git agrees.
 pub(crate) fn begins_plainly(url: &UrlRef<'_>) -> bool
     requires { AgreesWithGit url.now }
     ensures { IsTrue result ↔ Meets condition.PathStart url.now }
@@ -124,8 +121,7 @@ fn begins_with_port(path: &[u8]) -> bool
     }
 }
 
-/// Whether no segment of the path is `.` or `..`, or the path is a local one. In a URL of HTTP none is where Git
-/// agrees.
+/// Whether the path has no segment `.` or `..`, or is a local one. A URL of HTTP has none if Git agrees.
 pub(crate) fn lacks_dots(url: &UrlRef<'_>) -> bool
     requires { AgreesWithGit url.now }
     ensures { IsTrue result ↔ Meets condition.DotSegment url.now }
@@ -137,8 +133,8 @@ pub(crate) fn lacks_dots(url: &UrlRef<'_>) -> bool
     }
 }
 
-/// Whether no `.` is in the path, but for that of `.git` at its end. Most paths are so, and none has a segment `.`
-/// or `..`.
+/// Whether the path has no `.`, except for that of `.git` at its end. Most paths are such, and have no segment
+/// `.` or `..`.
 fn is_dotless(path: &[u8]) -> bool
     ensures { IsTrue result → ¬ HasDots path.now }
 {
@@ -189,7 +185,7 @@ pub(crate) fn has_scp_slash(url: &UrlRef<'_>) -> bool
     }
 }
 
-/// Whether a `/` is in the path between two bytes.
+/// Whether the path has a `/` between two bytes.
 fn has_inner_slash(path: &[u8]) -> bool
     ensures { IsTrue result ↔ HasInnerSlash path.now }
 {
@@ -199,7 +195,7 @@ fn has_inner_slash(path: &[u8]) -> bool
     }
 }
 
-/// Whether a byte follows a `/` of the text.
+/// Whether the text has a `/` that a byte follows.
 fn has_slash_before(text: &[u8]) -> bool
     ensures { IsTrue result ↔ HasSlashBefore text.now }
 {
@@ -209,7 +205,7 @@ fn has_slash_before(text: &[u8]) -> bool
     }
 }
 
-/// Whether the local path is one that no reader takes for a host and a path.
+/// Whether no reader reads the local path as a host and a path.
 fn is_plain_local(path: &[u8]) -> bool
     ensures { IsTrue result ↔ IsPlainLocal path.now }
 {
@@ -223,7 +219,7 @@ fn is_root(path: &[u8]) -> bool
     matches!(path, [b'/'])
 }
 
-/// Whether `//` is in the path.
+/// Whether the path has a `//`.
 fn has_slashes(path: &[u8]) -> bool
     ensures { IsTrue result ↔ Holds slashes path.now }
 {

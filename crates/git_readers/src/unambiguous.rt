@@ -1,8 +1,5 @@
-//! The conditions of the class of locations whose texts nobody misreads.
-//!
-//! It uses `agrees_with_git` and the tests of `host` and `path`. Its contract: none is returned exactly for the
-//! locations of the class, and else the first condition, in the order of [`Condition`], that the location doesn't
-//! meet. It takes no memory.
+//! The conditions of the class of locations whose texts nobody misreads, and the first of them, in the order of
+//! [`Condition`], that a location doesn't meet.
 
 ghost use Rattle.std.specs.Prelude.{◌≡◌, ◌↔◌, IsTrue, IsNone, IfSome};
 ghost use Rattle.git_readers.specs.Conditions as spec;
@@ -14,34 +11,35 @@ use git_location::url_ref::UrlRef;
 use git_syntax::escape::decodes_to;
 use git_syntax::scheme::SchemeRef;
 
-/// A condition under which readers find the same parts in the text of a location. The conditions are in the order
-/// in which they are tested.
+/// A condition under which readers find the same fields in the text of a location. The conditions are in the
+/// order in which they are tested.
 #[derive(Clone, Copy, PartialEq, Eq, Debug)]
 pub enum Condition {
     /// The location is settled, and Git reads the same place in its text.
     Git,
     /// The path is written without escapes.
     Escapes,
-    /// The host is an IPv4 address, or a name of at most 253 bytes: labels of at most 63 lower-case letters, digits
-    /// and inner `-`, of which none begins with `xn--` and the last begins with a letter. Of the first two labels
-    /// one has another byte than digits.
+    /// The host is an IPv4 address, or a name of at most 253 bytes: labels of at most 63 lower-case letters,
+    /// digits and inner `-`, of which none begins with `xn--` and the last begins with a letter. One of the
+    /// first two labels has a byte other than digits.
     Host,
-    /// The user is of letters, digits, `-`, `.`, `_` and `~`, and doesn't begin with `-`.
+    /// The bytes of the user are letters, digits, `-`, `.`, `_` and `~`, and it doesn't begin with `-`.
     User,
-    /// The password is of letters, digits, `-`, `.`, `_` and `~`.
+    /// The bytes of the password are letters, digits, `-`, `.`, `_` and `~`.
     Password,
     /// The port isn't 0.
     Port,
-    /// The path is of letters, digits and a few marks, of which a path in the scp form has fewer. A local path is
-    /// any text without control characters, `:` and `\`.
+    /// The bytes of the path are letters, digits and a few marks, of which a path in the scp form has fewer. A
+    /// local path is any text without control characters, `:` and `\`.
     PathBytes,
-    /// The path of a URL doesn't begin with `//`; that of Secure Shell, of `git://` and of a file is written neither
-    /// with `/~~`, `/-` nor `/x:` at its front, and that of a file not with `/~`; that of the scp form doesn't begin with digits and `/`. A local
-    /// path has no `//`, isn't `/` alone, and has no `@` where it doesn't begin with `/`.
+    /// The path of a URL doesn't begin with `//`; that of Secure Shell, of `git://` and of a file isn't written
+    /// with `/~~`, `/-` or `/x:` at its front, and that of a file not with `/~`; that of the scp form doesn't
+    /// begin with digits and `/`. A local path has no `//`, isn't just `/`, and has no `@` if it doesn't begin
+    /// with `/`.
     PathStart,
-    /// The path has no segment `.` or `..`. It may in a local path.
+    /// The path has no segment `.` or `..`. A local path may have them.
     DotSegment,
-    /// A host of the scp form has two bytes or more, and without a user it isn't the name of a scheme.
+    /// A host of the scp form has at least two bytes, and without a user it isn't the name of a scheme.
     ScpHost,
     /// The path of the scp form has a `/` between two bytes.
     ScpPath,
@@ -52,7 +50,7 @@ pub enum Condition {
 pub enum Form {
     /// A URL of HTTP.
     Web,
-    /// Another URL: of Secure Shell, of `git://` or of a file, where Git reads the same in it.
+    /// Another URL in which Git reads the same: of Secure Shell, of `git://` or of a file.
     Transport,
     /// The scp form.
     Scp,
@@ -72,9 +70,9 @@ pub(crate) fn form_of(url: &UrlRef<'_>) -> Form
     }
 }
 
-/// Whether every reader of a family finds the same parts in the text of the location. It takes no memory.
+/// Whether every reader of a family finds the same fields in the text of the location. Allocates nothing.
 ///
-/// [`law_unambiguous`](crate::law::law_unambiguous) says which readers are meant.
+/// [`law_unambiguous`](crate::law::law_unambiguous) describes these readers.
 ///
 /// ```
 /// /// Whether a checker may pass on a remote: what connects to it finds the host that was checked.
@@ -88,7 +86,8 @@ pub fn is_unambiguous(url: &UrlRef<'_>) -> bool
     unmet_condition(url).is_none()
 }
 
-/// The first condition that the location doesn't meet, or none where nobody misreads its text. It takes no memory.
+/// The first condition that the location doesn't meet, or `None` if nobody misreads its text. Allocates
+/// nothing.
 ///
 /// ```
 /// /// Whether readers may find another host in the text of the location.

@@ -1,11 +1,11 @@
--- What Git's credential code reads in a text, to ask helpers for a user and a password. No proof says that Git
--- keeps to it: `scripts/web_witness` compares.
+-- What Git's credential code reads in a text before it asks helpers for a user and a password. This is a model
+-- of Git, not proved of it: `scripts/web_witness` compares the two.
 use Rattle.std.specs.Prelude.{◌≡◌, ℕ, ◌<◌, Bool, true, false, ◌||◌, ◌==◌, List, [], ◌∷◌, ◌++◌, length, codes, Option, Some, None, IfSome, if◌then◌else◌}
 use Rattle.std.specs.List.{list_all}
 use Rattle.git_syntax.specs.Bytes.{newline, slash, colon, at_sign, Lacks, FreeOf, begins_with, Holds, is_path_start, StartsPath}
 use Rattle.git_reads.specs.Git.{git_decode}
 
--- what helpers are asked for; the port is a part of the host
+-- a request to helpers; the port is part of the host
 pub record CredentialReading : Type 0 where
   pub protocol : List ℕ
   pub user : Option (List ℕ)
@@ -13,13 +13,13 @@ pub record CredentialReading : Type 0 where
   pub host : List ℕ
   pub path : Option (List ℕ)
 
--- a piece and its decoding: what precedes the first colon is taken for a scheme, and stays
+-- a piece and its decoding: the text before the first colon is read as a scheme and is not decoded
 pub data CredentialDecodes (piece decoded : List ℕ) : Type 0 where
   whole : FreeOf colon piece → decoded ≡ git_decode piece → CredentialDecodes piece decoded
   behind : (front rest : List ℕ) → FreeOf colon front → piece ≡ front ++ colon ∷ rest
       → decoded ≡ front ++ colon ∷ git_decode rest → CredentialDecodes piece decoded
 
--- an authority is cut at its first `@`, and what precedes that at its first colon
+-- an authority is cut at its first `@`, and the text before that at its first colon
 pub data CredentialCut (authority : List ℕ) (user password : Option (List ℕ))
     (named : List ℕ) : Type 0 where
   host_alone : FreeOf at_sign authority → named ≡ authority → user ≡ None → password ≡ None
@@ -41,12 +41,12 @@ abbrev pub without_last_slashes : List ℕ → List ℕ
 without_last_slashes [] = []
 without_last_slashes (b ∷ bs) = if are_slashes (b ∷ bs) then [] else b ∷ without_last_slashes bs
 
--- a path without the slashes at its end, but with its first byte; none where it is empty
+-- a path without the slashes at its end, but with its first byte; `None` if it is empty
 abbrev pub trimmed_path : List ℕ → Option (List ℕ)
 trimmed_path [] = None
 trimmed_path (b ∷ bs) = Some (b ∷ without_last_slashes bs)
 
--- what follows an authority, and the path: without the slashes at its front, decoded, without those at its
+-- the path in the text after an authority: without the slashes at its front, decoded, then without those at its
 -- end
 pub record CredentialPath (behind : List ℕ) (path : Option (List ℕ)) : Type 0 where
   pub slashes : List ℕ
@@ -58,18 +58,18 @@ pub record CredentialPath (behind : List ℕ) (path : Option (List ℕ)) : Type 
   pub decodes : CredentialDecodes rest decoded
   pub value : path ≡ trimmed_path decoded
 
--- what is read in an authority and in what follows it, also where a part is of several lines
+-- the decoded reading of an authority and the text after it, even if a field has several lines
 pub record ReadsPieces (authority behind : List ℕ) (r : CredentialReading) : Type 0 where
   pub named : List ℕ
   pub cut : CredentialCut authority r.user r.password named
   pub host : CredentialDecodes named r.host
   pub path : CredentialPath behind r.path
 
--- a part of one line, without a line feed and a carriage return; Git refuses any other
+-- a field of one line, without a line feed and a carriage return; Git refuses any other
 abbrev pub IsOneLine : List ℕ → Type 0
 IsOneLine part = Lacks (λ b. b == newline || b == 13) part
 
--- the parts are of one line each
+-- each field is of one line
 pub record AreOneLine (r : CredentialReading) : Type 0 where
   pub protocol : IsOneLine r.protocol
   pub user : IfSome r.user IsOneLine
@@ -77,7 +77,7 @@ pub record AreOneLine (r : CredentialReading) : Type 0 where
   pub host : IsOneLine r.host
   pub path : IfSome r.path IsOneLine
 
--- what Git's credential code reads in a text
+-- Git's credential code reads this request in the text
 pub record CredentialReads (t : List ℕ) (r : CredentialReading) : Type 0 where
   pub authority : List ℕ
   pub behind : List ℕ
@@ -93,7 +93,7 @@ pub record CredentialReads (t : List ℕ) (r : CredentialReading) : Type 0 where
   pub path : CredentialPath behind r.path
   pub lines : AreOneLine r
 
--- Git's credential code reads one thing in a text
+-- a text has at most one reading by Git's credential code
 abbrev pub OneCredentialReading : Type 0
 OneCredentialReading = (t : List ℕ) (r other : CredentialReading)
     → CredentialReads t r → CredentialReads t other → r ≡ other

@@ -1,7 +1,7 @@
--- What Git reads in a text that it is given for a place, on Linux: the place of one of its own transports. A
--- text that Git hands to a remote helper, takes for an option or refuses has no such reading, nor has one of
--- which Secure Shell refuses the user. No proof says that Git keeps to it: `scripts/git_witness` compares a
--- second reading of it with Git.
+-- What Git's own transports read in a text that is the name of a remote, on Linux. A text has no reading here
+-- if Git passes it to a remote helper, reads it as an option or refuses it, or if Secure Shell refuses its
+-- user. This is a model of Git, not proved of it: `scripts/git_witness` compares a second reading of the model
+-- with Git.
 use Rattle.std.specs.Prelude.{◌≡◌, ℕ, zero, suc, ◌+◌, ◌*◌, ◌<◌, Bool, false, not, ◌&&◌, ◌||◌, ◌==◌, nat_le, ◌⊎◌, List, [], ◌∷◌, ◌++◌, length, codes, Option, Some, None, if◌then◌else◌}
 use Rattle.std.specs.List.{list_all}
 use Rattle.std.specs.Char.{digit_value, is_ascii_digit}
@@ -14,7 +14,7 @@ use Rattle.git_syntax.specs.Schemes.{scheme_of}
 use Rattle.git_syntax.specs.Authority.{unless_empty}
 use Rattle.git_syntax.specs.Grammar.{HasHelperForm}
 
--- the place that Git reads: a file has a path alone
+-- the place that Git reads: a file has a path only
 pub record GitReading : Type 0 where
   pub protocol : Scheme
   pub user : Option (List ℕ)
@@ -34,7 +34,7 @@ on_this_machine whole = record {
 
 -- ---- escapes
 
--- the byte that two hexadecimal digits write
+-- the byte of an escape with these two hexadecimal digits
 abbrev pub escaped_byte : ℕ → ℕ → ℕ
 escaped_byte high low = 16 * digit_value high + digit_value low
 
@@ -42,7 +42,7 @@ escaped_byte high low = 16 * digit_value high + digit_value low
 abbrev pub is_git_escape : ℕ → ℕ → ℕ → Bool
 is_git_escape b high low = is_escape b high low && not (escaped_byte high low == 0)
 
--- the text with each such escape replaced by its byte
+-- the text with each escape replaced by its byte, except for the escape of byte 0
 abbrev pub git_decode : List ℕ → List ℕ
 git_decode [] = []
 git_decode (b ∷ []) = b ∷ []
@@ -57,13 +57,13 @@ git_decode (b ∷ high ∷ low ∷ rest) =
 abbrev pub host_mark : List ℕ
 host_mark = codes "@["
 
--- a bracket opens a host: behind the first `@` that is before one, or else at the front
+-- a bracket opens a host: the first one that follows an `@`, or else one at the front
 pub data OpensHost (t front rest : List ℕ) : Type 0 where
   behind_at : (user : List ℕ) → ¬ Holds host_mark user → front ≡ user ++ at_sign ∷ []
       → t ≡ user ++ (host_mark ++ rest) → OpensHost t front rest
   at_front : ¬ Holds host_mark t → front ≡ [] → t ≡ left_bracket ∷ rest → OpensHost t front rest
 
--- such a bracket is closed by the next `]`
+-- a bracket opens a host, and the next `]` closes it
 pub record InBrackets (t front inside behind : List ℕ) : Type 0 where
   pub opened : OpensHost t front (inside ++ right_bracket ∷ behind)
   pub next : FreeOf right_bracket inside
@@ -74,14 +74,14 @@ pub data LacksHostBrackets (t : List ℕ) : Type 0 where
   unclosed : (front rest : List ℕ) → OpensHost t front rest → FreeOf right_bracket rest
       → LacksHostBrackets t
 
--- the text without what Git passes over to find the host's end: what is before the closing `]`
+-- `passed` is the text before the closing `]`, which Git skips to find the host's end
 pub data HostEnd (t passed rest : List ℕ) : Type 0 where
   brackets : (front inside behind : List ℕ) → InBrackets t front inside behind
       → passed ≡ front ++ left_bracket ∷ inside → rest ≡ right_bracket ∷ behind
       → HostEnd t passed rest
   none : LacksHostBrackets t → passed ≡ [] → rest ≡ t → HostEnd t passed rest
 
--- the text is cut at the first c that isn't passed over
+-- the text is cut at the first c that isn't skipped
 pub record CutsPlace (c : ℕ) (t place rest : List ℕ) : Type 0 where
   pub passed : List ℕ
   pub between : List ℕ
@@ -91,36 +91,36 @@ pub record CutsPlace (c : ℕ) (t place rest : List ℕ) : Type 0 where
 
 -- ---- ports
 
--- white space as C has it: from `\t` to `\r`, and ` `
+-- white space as C defines it: from `\t` to `\r`, and ` `
 abbrev pub is_c_space : ℕ → Bool
 is_c_space b = b == space || (nat_le tab b && nat_le b 13)
 
--- the port that digits write
+-- the port that the digits spell, if it is at most 65,535
 abbrev pub digits_port : List ℕ → Option ℕ
 digits_port [] = None
 digits_port (b ∷ bs) =
     if list_all is_ascii_digit (b ∷ bs) && nat_le (digits_value 10 (b ∷ bs)) 65535
     then Some (digits_value 10 (b ∷ bs)) else None
 
--- of the numbers below zero only `-0` is a port
+-- the only number that is a port after a minus sign is 0
 abbrev pub negative_port : Option ℕ → Option ℕ
 negative_port None = None
 negative_port (Some zero) = Some 0
 negative_port (Some (suc n)) = None
 
--- the port that digits write behind a sign, or without one
+-- the port that digits spell, after a sign or without one
 abbrev pub signed_port : List ℕ → Option ℕ
 signed_port [] = None
 signed_port (b ∷ bs) =
     if b == plus_sign then digits_port bs
     else (if b == hyphen then negative_port (digits_port bs) else digits_port (b ∷ bs))
 
--- the port that a text writes for C's `strtol`, if there is one
+-- the port that C's `strtol` reads in a text, if there is one
 abbrev pub git_port : List ℕ → Option ℕ
 git_port [] = None
 git_port (b ∷ bs) = if is_c_space b then git_port bs else signed_port (b ∷ bs)
 
--- what is before a port, and the port: the first colon alone may mark one
+-- the text before a port, and the port: only the first colon can begin one
 pub data BeforePort (t front : List ℕ) (port : Option ℕ) : Type 0 where
   marked : (digits : List ℕ) (number : ℕ) → FreeOf colon front → t ≡ front ++ colon ∷ digits
       → git_port digits ≡ Some number → port ≡ Some number → BeforePort t front port
@@ -129,7 +129,7 @@ pub data BeforePort (t front : List ℕ) (port : Option ℕ) : Type 0 where
       → 0 < length other → git_port other ≡ None → front ≡ t → port ≡ None → BeforePort t front port
   no_colon : FreeOf colon t → front ≡ t → port ≡ None → BeforePort t front port
 
--- the place's host without its brackets, and the port behind it; what else is behind a `]` is dropped
+-- the place's host without its brackets, and the port after it; any other text after a `]` is dropped
 pub data HostAndPort (place host : List ℕ) (port : Option ℕ) : Type 0 where
   brackets : (front inside behind dropped : List ℕ) → InBrackets place front inside behind
       → host ≡ front ++ inside → BeforePort behind dropped port → HostAndPort place host port
@@ -137,13 +137,13 @@ pub data HostAndPort (place host : List ℕ) (port : Option ℕ) : Type 0 where
 
 -- ---- transports
 
--- a `~` behind any first byte begins the path
+-- the path from a `~` that is its second byte
 abbrev pub from_tilde : List ℕ → List ℕ
 from_tilde [] = []
 from_tilde (a ∷ []) = a ∷ []
 from_tilde (a ∷ b ∷ rest) = if b == tilde then b ∷ rest else a ∷ b ∷ rest
 
--- where no port was behind the host, one may be in what was in its brackets
+-- if no port follows the host, one may be in the text in its brackets
 pub data SecurePort (named : List ℕ) (found : Option ℕ) (word : List ℕ)
     (port : Option ℕ) : Type 0 where
   behind : (number : ℕ) → found ≡ Some number → word ≡ named → port ≡ found
@@ -157,14 +157,14 @@ pub data SecurePort (named : List ℕ) (found : Option ℕ) (word : List ℕ)
   no_colon : found ≡ None → FreeOf colon named → word ≡ named → port ≡ None
       → SecurePort named found word port
 
--- Secure Shell cuts its word at the last `@`, and refuses a word with nothing before that
+-- Secure Shell cuts its word at the last `@`, and refuses a word in which nothing precedes that
 pub data UserCut (word : List ℕ) (user : Option (List ℕ)) (host : List ℕ) : Type 0 where
   host_alone : FreeOf at_sign word → user ≡ None → host ≡ word → UserCut word user host
   with_user : (name : List ℕ) → 0 < length name → FreeOf at_sign host → word ≡ name ++ at_sign ∷ host
       → user ≡ Some name → UserCut word user host
 
--- what Secure Shell reaches: it gets a word, a port and a path. Neither word nor path may be an option, and
--- OpenSSH reads a word that begins with `ssh://` as a URL
+-- the place that Secure Shell connects to, with a word, a port and a path from Git. Neither word nor path may
+-- be an option, and OpenSSH reads a word that begins with `ssh://` as a URL
 pub record ReachesSecure (place path : List ℕ) (reading : GitReading) : Type 0 where
   pub named : List ℕ
   pub found : Option ℕ
@@ -186,7 +186,8 @@ pub record ReachesSecure (place path : List ℕ) (reading : GitReading) : Type 0
     path = path;
   }
 
--- what Git's own protocol reaches: it has no user, and neither its place nor its path holds the end of a line
+-- the place that Git's own protocol connects to: it has no user, and neither its place nor its path has the end
+-- of a line
 pub record ReachesGit (place path : List ℕ) (reading : GitReading) : Type 0 where
   pub host : List ℕ
   pub port : Option ℕ
@@ -203,7 +204,7 @@ pub record ReachesGit (place path : List ℕ) (reading : GitReading) : Type 0 wh
 
 -- ---- texts
 
--- the text is a URL of a transport, and this is behind its `://`, decoded
+-- the text is a URL of a transport, and `rest` is the text after its `://`, decoded
 pub record OwnUrl (known : Scheme) (t rest : List ℕ) : Type 0 where
   pub scheme : List ℕ
   pub spelled : List ℕ
@@ -211,14 +212,14 @@ pub record OwnUrl (known : Scheme) (t rest : List ℕ) : Type 0 where
   pub joined : t ≡ scheme ++ (codes "://" ++ spelled)
   pub decoded : rest ≡ git_decode spelled
 
--- the text is no URL, and not for a remote helper or `rsync`
+-- the text is not a URL, and not for a remote helper or `rsync`
 pub record IsNoUrl (t : List ℕ) : Type 0 where
   pub no_mark : ¬ Holds (codes "://") t
   pub no_helper : ¬ HasHelperForm t
   pub no_empty_helper : (rest : List ℕ) → ¬ (t ≡ codes "::" ++ rest)
   pub no_rsync : (rest : List ℕ) → ¬ (t ≡ codes "rsync:" ++ rest)
 
--- a colon is in the text before any `/`
+-- the text has a colon before any `/`
 pub record IsRemote (t : List ℕ) : Type 0 where
   pub front : List ℕ
   pub rest : List ℕ
@@ -230,9 +231,9 @@ abbrev pub IsLocal : List ℕ → Type 0
 IsLocal t = FreeOf colon t
     ⊎ ((front : List ℕ) × (rest : List ℕ) × FreeOf colon front × (t ≡ front ++ slash ∷ rest))
 
--- what Git reads in a text that it gets whole and takes for no option. A local path that begins with `~` has
--- no reading: `git clone` takes it as it is, and `git fetch`, `git push` and `git ls-remote` look below a
--- home folder
+-- the reading of a text that Git receives whole and doesn't read as an option. A local path that begins with
+-- `~` has no reading: `git clone` uses it unchanged, while `git fetch`, `git push` and `git ls-remote` look
+-- below a home folder
 pub data ReadsGiven (t : List ℕ) (reading : GitReading) : Type 0 where
   secure_url : (rest place path : List ℕ) → OwnUrl ssh t rest → CutsPlace slash rest place path
       → ReachesSecure place (from_tilde (slash ∷ path)) reading → ReadsGiven t reading
@@ -247,13 +248,13 @@ pub data ReadsGiven (t : List ℕ) (reading : GitReading) : Type 0 where
       → reading ≡ on_this_machine path
       → ReadsGiven t reading
 
--- what Git reads in a text: byte 0 ends what it gets, and a text that begins with `-` is an option
+-- Git reads this place in the text, which has no byte 0 and doesn't begin with `-`
 pub record GitReads (t : List ℕ) (reading : GitReading) : Type 0 where
   pub whole : FreeOf 0 t
   pub no_option : is_option_like t ≡ false
   pub reads : ReadsGiven t reading
 
--- Git reads one thing in a text
+-- a text has at most one reading by Git
 abbrev pub OneGitReading : Type 0
 OneGitReading = (t : List ℕ) (reading other : GitReading) → GitReads t reading → GitReads t other
     → reading ≡ other

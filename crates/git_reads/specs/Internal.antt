@@ -1,25 +1,25 @@
--- Definitions that serve the proofs of this crate alone.
+-- Definitions for the proofs of this crate.
 use Rattle.std.specs.Prelude.{◌≡◌, ℕ, ◌<◌, Bool, true, false, ◌||◌, ◌==◌, List, ◌∷◌, ◌++◌, length, codes, Option, Some, None, MatchOption}
 use Rattle.std.specs.Borrow.{Bor}
 use Rattle.git_syntax.specs.Bytes.{newline, slash, colon, at_sign, left_bracket, Lacks, FreeOf, Holds, begins_with, is_path_start, StartsPath}
 use Rattle.git_reads.specs.Git.{host_mark, escaped_byte, is_git_escape, CutsPlace}
 use Rattle.git_reads.specs.Credentials.{CredentialDecodes, are_slashes}
 
--- the text begins with no escape, or with that of byte 0
+-- the text doesn't begin with an escape, or begins with that of byte 0
 abbrev pub LacksEscape : List ℕ → Type 0
 LacksEscape t = (b high low : ℕ) (rest : List ℕ) → t ≡ b ∷ high ∷ low ∷ rest
     → is_git_escape b high low ≡ false
 
--- the text begins with an escape of the byte, which isn't byte 0, and this follows it
+-- the text begins with an escape of `byte`, which isn't byte 0, and `behind` follows it
 abbrev pub HasEscape : List ℕ → ℕ → List ℕ → Type 0
 HasEscape t byte behind = (b : ℕ) × (high : ℕ) × (low : ℕ) × (is_git_escape b high low ≡ true)
     × (byte ≡ escaped_byte high low) × (t ≡ b ∷ high ∷ low ∷ behind)
 
--- the text begins with an escape of such a byte, and this follows it; or it begins with none
+-- the byte of the escape that begins the text, and the text after it; `None` if no such escape does
 abbrev pub ReadsEscape : List ℕ → Option (ℕ × Bor (List ℕ)) → Type 0
 ReadsEscape t r = MatchOption r (LacksEscape t) (λ it. HasEscape t it.0 it.1.now)
 
--- the text is cut at the first c that isn't passed over, and the rest begins with that c
+-- the text is cut at the first c that isn't skipped, and the rest begins with that c
 abbrev pub CutsPlaceAt : ℕ → List ℕ → List ℕ → List ℕ → Type 0
 CutsPlaceAt c t place rest = (behind : List ℕ) × (rest ≡ c ∷ behind) × CutsPlace c t place behind
 
@@ -29,7 +29,7 @@ LacksOpened t = (¬ Holds host_mark t) × (begins_with left_bracket t ≡ false)
 
 -- ---- credentials
 
--- a text is cut into its protocol, its authority and what follows that
+-- a text is cut into its protocol, its authority and the text after that
 pub record CutsText (t protocol authority behind : List ℕ) : Type 0 where
   pub whole : FreeOf 0 t
   pub some : 0 < length protocol
@@ -38,11 +38,11 @@ pub record CutsText (t protocol authority behind : List ℕ) : Type 0 where
   pub before_path : Lacks (is_path_start true) authority
   pub path_start : StartsPath true behind
 
--- a text isn't cut in any such way
+-- the text has no such cut
 abbrev pub LacksTextCut : List ℕ → Type 0
 LacksTextCut t = (protocol authority behind : List ℕ) → ¬ CutsText t protocol authority behind
 
--- an authority is cut into a user, a password and what is named, none of them decoded
+-- an authority is cut into a user, a password and the host with its port, none of them decoded
 pub data CutsInformation (authority : List ℕ) (user password : Option (List ℕ))
     (named : List ℕ) : Type 0 where
   host_alone : FreeOf at_sign authority → named ≡ authority → user ≡ None → password ≡ None
@@ -53,13 +53,13 @@ pub data CutsInformation (authority : List ℕ) (user password : Option (List �
       → authority ≡ u ++ colon ∷ (w ++ at_sign ∷ named) → user ≡ Some u → password ≡ Some w
       → CutsInformation authority user password named
 
--- a piece and its decoding, or neither
+-- a piece and its decoding, or both are missing
 pub data DecodesPart (piece part : Option (List ℕ)) : Type 0 where
   absent : piece ≡ None → part ≡ None → DecodesPart piece part
   present : (spelled decoded : List ℕ) → CredentialDecodes spelled decoded → piece ≡ Some spelled
       → part ≡ Some decoded → DecodesPart piece part
 
--- what is left of a text without the slashes at its front
+-- the rest of a text after the slashes at its front
 pub record StripsSlashes (t rest : List ℕ) : Type 0 where
   pub slashes : List ℕ
   pub joined : t ≡ slashes ++ rest

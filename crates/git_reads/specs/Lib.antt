@@ -1,8 +1,8 @@
--- What a user reads.
+-- Public definitions.
 pub mod Git
 pub mod Unread
 pub mod Credentials
 pub mod Views
--- Definitions that serve the proofs of this crate alone.
+-- Definitions for the proofs of this crate.
 pub mod Internal
 pub mod Transports

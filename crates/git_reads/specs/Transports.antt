@@ -1,4 +1,5 @@
--- Definitions that serve the proofs of `transport.rt` alone: what is reached, and why nothing is.
+-- Definitions for the proofs of `transport.rt`: the places that transports reach, and the reasons for which
+-- they reach none.
 use Rattle.std.specs.Prelude.{◌≡◌, ℕ, ◌<◌, true, false, ◌⊎◌, List, ◌++◌, length, codes}
 use Rattle.git_syntax.specs.Location.{Scheme}
 use Rattle.git_syntax.specs.Location.Scheme.{file, git, ssh}
@@ -17,7 +18,7 @@ BeginsBy mark t = (rest : List ℕ) × (t ≡ mark ++ rest)
 abbrev pub NamesHelper : List ℕ → Type 0
 NamesHelper t = HasHelperForm t ⊎ BeginsBy (codes "::") t
 
--- the text of a URL, by what is before and behind its mark
+-- the text of a URL, from the texts before and after its mark
 abbrev pub url_text : List ℕ → List ℕ → List ℕ
 url_text scheme spelled = scheme ++ (codes "://" ++ spelled)
 
@@ -25,7 +26,7 @@ url_text scheme spelled = scheme ++ (codes "://" ++ spelled)
 abbrev pub LacksAny : (GitReading → Type 0) → Type 0
 LacksAny reaches = (r : GitReading) → ¬ reaches r
 
--- the reason why no reading is reached: Secure Shell gets a URL, or the place is refused
+-- the reason for which no reading is reached: Secure Shell receives a URL, or the place is refused
 abbrev pub FailsToReach : (GitReading → Type 0) → Type 0 → Unread → Type 0
 FailsToReach reaches gets why.Memory = Unit {0}
 FailsToReach reaches gets why.SecureShellUrl = gets
@@ -39,34 +40,34 @@ ReachesBy git place path reading = ReachesGit place (from_tilde path) reading
 ReachesBy file place path reading = reading ≡ on_this_machine path
 ReachesBy _ place path reading = ⊥
 
--- the transport is Secure Shell, and it gets a URL
+-- the transport is Secure Shell, and it receives a URL
 abbrev pub GetsUrlBy : Scheme → List ℕ → List ℕ → Type 0
 GetsUrlBy ssh place path = GetsUrl place (from_tilde path)
 GetsUrlBy _ place path = ⊥
 
--- the scheme of a URL names a remote helper: `rsync` belonged to a transport that is gone
+-- the scheme of a URL names a remote helper: `rsync` belonged to a transport that was removed
 abbrev pub IsHelperScheme : List ℕ → Type 0
 IsHelperScheme scheme = (is_helper_name scheme ≡ true) × ¬ (scheme ≡ codes "rsync")
 
--- the reason why a URL has no reading whose scheme is of none of Git's own transports
+-- the reason for which a URL has no reading if its scheme is not one of Git's own transports
 abbrev pub IsForeignFor : List ℕ → Unread → Type 0
 IsForeignFor scheme why.RemoteHelper = IsHelperScheme scheme
 IsForeignFor scheme why.Refused = ¬ IsHelperScheme scheme
 IsForeignFor scheme _ = ⊥
 
--- the path is one that is read in a local path
+-- the path is one that Git reads as a local path
 pub record IsReadPath (path : List ℕ) : Type 0 where
   pub some : 0 < length path
   pub safe : is_option_like path ≡ false
   pub no_home : begins_with tilde path ≡ false
 
--- the reason why the path isn't read
+-- the reason for which the path isn't read
 abbrev pub IsUnreadPath : List ℕ → Unread → Type 0
 IsUnreadPath path why.HomeOrHere = begins_with tilde path ≡ true
 IsUnreadPath path why.Refused = (¬ IsReadPath path) × (begins_with tilde path ≡ false)
 IsUnreadPath path _ = ⊥
 
--- the reason why nothing is read in a text that Git gets whole and takes for no option
+-- the reason for which a text has no reading that Git receives whole and doesn't read as an option
 abbrev pub Fails : List ℕ → Unread → Type 0
 Fails t why.Refused = LacksAny (ReadsGiven t) × Unreads t why.Refused
 Fails t other = Unreads t other

@@ -1,4 +1,4 @@
--- What the readings returned by calls stand for.
+-- The readings that results of calls represent.
 use Rattle.std.specs.Prelude.{option_map}
 use Rattle.git_syntax.specs.Location.{Scheme}
 use Rattle.git_syntax.specs.Location.Scheme.{file, git, ssh}
@@ -9,13 +9,13 @@ use Rattle.git_reads.specs.declared.credential.Request.{Request}
 use Rattle.git_reads.specs.Git.{GitReading}
 use Rattle.git_reads.specs.Credentials.{CredentialReading}
 
--- the scheme that a transport is for
+-- the scheme of a transport
 abbrev pub scheme_of_protocol : Protocol → Scheme
 scheme_of_protocol protocol.Ssh = ssh
 scheme_of_protocol protocol.Git = git
 scheme_of_protocol protocol.File = file
 
--- the place that Git reads
+-- the view of a `GitPlace`
 abbrev pub git_reading : GitPlace → GitReading
 git_reading r = record {
   protocol = scheme_of_protocol r.protocol;
@@ -25,7 +25,7 @@ git_reading r = record {
   path = r.path.now;
 }
 
--- what helpers are asked for
+-- the view of a `Request`
 abbrev pub credential_reading : Request → CredentialReading
 credential_reading r = record {
   protocol = r.protocol.now;

@@ -1,4 +1,4 @@
-//! Escapes decoded as Git decodes them: the escape of byte 0 stays.
+//! Decoding as Git does it: the escape of byte 0 stays.
 
 ghost use Rattle.std.specs.Prelude.{◌≡◌, ◌++◌, ℕ, IfOk};
 ghost use Rattle.git_syntax.specs.Internal.Decoding.{IsDigit};
@@ -28,7 +28,7 @@ pub fn append_decoded(out: &mut Vec<u8>, text: &[u8]) -> Result<(), AllocError>
     Ok(())
 }
 
-/// The byte of an escape that the text begins with, unless it is byte 0, and what follows.
+/// The byte of an escape that begins the text, unless it is byte 0, and the text after the escape.
 fn read_escape(text: &[u8]) -> Option<(u8, &[u8])>
     ensures { ReadsEscape text.now result }
 {

@@ -1,8 +1,9 @@
-//! What Git reads in a text that it is given for a place.
+//! What Git reads in a text that names a remote.
 //!
-//! [`transport::reading`] returns what Git's own transports read in any text, and [`credential::reading`]
-//! what Git's credential code asks helpers for in the text of a URL. `docs/GIT.md` has both in words. They use
-//! nothing that this library reads in a text: where the two agree is decided by `agrees_with_git`.
+//! [`transport::reading`] returns what Git's own transports read in any text, and [`credential::reading`] the
+//! request of Git's credential code for the text of a URL. `docs/GIT.md` describes both. They don't depend on
+//! what this library reads in a text: `agrees_with_git` decides whether the two agree. How often a function
+//! allocates, and how long it takes, is tested, not proved.
 #![tactic(auto)]
 
 pub mod credential;

@@ -1,4 +1,5 @@
-//! The host and the port that Git finds in a text: where a host in brackets ends, and which digits are a port.
+//! The host and the port that Git finds in a text: the end of a host in brackets, and the digits that are a
+//! port.
 
 ghost use Rattle.std.specs.Prelude.{◌≡◌, ◌++◌, ◌∷◌, ℕ, IfOk, List, MatchOption};
 ghost use Rattle.git_reads.specs.Git.{CutsPlace, HostAndPort, HostEnd, InBrackets, LacksHostBrackets, OpensHost};
@@ -9,7 +10,7 @@ use bstr::ByteSlice;
 use git_syntax::bytes::{after, cut};
 use std::alloc::AllocError;
 
-/// A host in brackets: what precedes them, is in them and follows them.
+/// A host in brackets: the texts before, in and after them.
 #[derive(Clone, Copy)]
 struct Bracketed<'a> {
     front: &'a [u8],
@@ -17,7 +18,7 @@ struct Bracketed<'a> {
     behind: &'a [u8],
 }
 
-/// The host of a place without its brackets, and the port that follows it. `named` holds the host where it has
+/// The host of a place without its brackets, and the port after it. `named` is the buffer for a host that has
 /// brackets.
 pub(crate) fn host_and_port<'a>(
     place: &'a [u8],
@@ -34,7 +35,7 @@ pub(crate) fn host_and_port<'a>(
     Ok((named.as_slice(), before_port(found.behind).1))
 }
 
-/// The text before the first `mark` behind a host in brackets, and the text from that mark on.
+/// The text before the first `mark` that follows a host in brackets, and the text from that mark on.
 pub(crate) fn cut_place(text: &[u8], mark: u8) -> Option<(&[u8], &[u8])>
     ensures { MatchOption result ((place rest : List ℕ) → ¬ CutsPlace mark text.now place rest)
         (λ it. CutsPlaceAt mark text.now it.0.now it.1.now) }
@@ -69,8 +70,8 @@ fn in_brackets(text: &[u8]) -> Option<Bracketed<'_>>
     })
 }
 
-/// What precedes a bracket that opens a host, and what follows it: the bracket of the first `@[`, or else one
-/// that begins the text.
+/// The text before a bracket that opens a host, and the text after it: the bracket of the first `@[`, or else
+/// one that begins the text.
 fn opened_host(text: &[u8]) -> Option<(&[u8], &[u8])>
     ensures { MatchOption result (LacksOpened text.now) (λ it. OpensHost text.now it.0.now it.1.now) }
 {

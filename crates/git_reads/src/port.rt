@@ -8,7 +8,7 @@ ghost use Rattle.git_reads.specs.Git.{BeforePort, digits_port, git_port, is_c_sp
 use git_syntax::bytes::cut;
 use git_syntax::text::as_text;
 
-/// What precedes a port, and the port: only the first colon marks one.
+/// The text before a port, and the port: only the first colon begins one.
 pub(crate) fn before_port(text: &[u8]) -> (&[u8], Option<u16>)
     ensures { BeforePort text.now result.0.now result.1 }
 {
@@ -36,14 +36,14 @@ pub(crate) fn port_of(text: &[u8]) -> Option<u16>
     None
 }
 
-/// Whether C takes the byte for white space.
+/// Whether C regards the byte as white space.
 fn is_c_space(byte: u8) -> bool
     ensures { result ≡ is_c_space byte }
 {
     byte == b' ' || (b'\t' <= byte && byte <= b'\r')
 }
 
-/// The port that digits spell after a sign, or without one. Of the negative numbers only `-0` is a port.
+/// The port that digits spell after a sign, or without one. The only negative number that is a port is `-0`.
 fn signed_port(text: &[u8]) -> Option<u16>
     ensures { result ≡ signed_port text.now }
 {

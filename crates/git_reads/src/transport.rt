@@ -1,5 +1,5 @@
-//! What Git's own transports read in a text: protocol, user, host, port and path, or why there is no such
-//! reading.
+//! What Git's own transports read in a text: protocol, user, host, port and path, or the reason for which they
+//! read nothing.
 //!
 //! The rules are those of Git 2.39.5 on Linux.
 
@@ -40,27 +40,27 @@ pub struct GitPlace<'a> {
     pub user: Option<&'a [u8]>,
     /// The host, without brackets. An empty one is `None`.
     pub host: Option<&'a [u8]>,
-    /// The port, where the text has one.
+    /// The port, if the text has one.
     pub port: Option<u16>,
-    /// The path, decoded where the text is a URL.
+    /// The path, decoded if the text is a URL.
     pub path: &'a [u8],
 }
 
 /// Why Git reads no place in a text.
 #[derive(Clone, Copy, PartialEq, Eq, Debug)]
 pub enum Unread {
-    /// Memory was refused.
+    /// An allocation failed.
     Memory,
     /// Byte 0 ends the argument of a command.
     ByteZero,
-    /// The text begins with `-`: Git takes it for an option.
+    /// The text begins with `-`: Git reads it as an option.
     Option,
-    /// Git hands the text to a remote helper.
+    /// Git passes the text to a remote helper.
     RemoteHelper,
-    /// A local path begins with `~`: `git clone` takes it as it is, and `git fetch` and `git push` look below a
+    /// A local path begins with `~`: `git clone` uses it unchanged, while `git fetch` and `git push` expand the
     /// home folder.
     HomeOrHere,
-    /// OpenSSH reads the word that Git gives it as a URL.
+    /// OpenSSH reads the word that Git passes to it as a URL.
     SecureShellUrl,
     /// Git, or Secure Shell, refuses the text.
     Refused,
@@ -84,7 +84,7 @@ pub struct Buffers {
 }
 
 impl Buffers {
-    /// Two empty buffers, which take no memory.
+    /// Two empty buffers. Allocates nothing.
     pub fn new(alloc: Global) -> Buffers {
         Buffers {
             decoded: Vec::new(alloc),
@@ -93,10 +93,10 @@ impl Buffers {
     }
 }
 
-/// What Git reads in the text. The parts are borrowed from the text and from the buffers, whose former content
-/// is lost. Memory is asked for where a URL is decoded or a host has brackets, at most as many bytes as the
-/// text has for each; where it is refused, [`Unread::Memory`] is returned. Every other error says why Git reads
-/// no place in the text.
+/// What Git reads in the text. The fields are borrowed from the text and from the buffers, whose former content
+/// is lost. Allocates if a URL is decoded or a host has brackets, at most as many bytes as the text has for
+/// each; if that fails, [`Unread::Memory`] is returned. Every other error says why Git reads no place in the
+/// text.
 ///
 /// ```
 /// /// The host that Git connects to.
@@ -127,7 +127,7 @@ pub fn reading<'a>(text: &'a [u8], buffers: &'a mut Buffers) -> Result<GitPlace<
 
 // ---- texts
 
-/// What is read in a URL.
+/// The reading of a URL.
 fn url<'a>(scheme: &[u8], spelled: &[u8], buffers: &'a mut Buffers) -> Result<GitPlace<'a>, Unread>
     requires no_mark { ¬ Holds url_mark scheme.now }
     requires no_helper { ¬ NamesHelper (url_text scheme.now spelled.now) }
@@ -145,7 +145,7 @@ fn url<'a>(scheme: &[u8], spelled: &[u8], buffers: &'a mut Buffers) -> Result<Gi
     }
 }
 
-/// What is read in the scp form, or in a local path.
+/// The reading of the scp form, or of a local path.
 fn no_url<'a>(text: &'a [u8], named: &'a mut Vec<u8>) -> Result<GitPlace<'a>, Unread>
     requires no_mark { ¬ Holds url_mark text.now }
     requires no_helper { ¬ NamesHelper text.now }
@@ -164,7 +164,7 @@ fn no_url<'a>(text: &'a [u8], named: &'a mut Vec<u8>) -> Result<GitPlace<'a>, Un
     }
 }
 
-/// What is read in a path of this machine.
+/// The reading of a path of this machine.
 fn local_path(path: &[u8]) -> Result<GitPlace<'_>, Unread>
     ensures read { IfOk result (λ it. IsReadPath path.now × (git_reading it ≡ on_this_machine path.now)) }
     ensures why { IfErr result (IsUnreadPath path.now) }
@@ -201,8 +201,8 @@ fn own_protocol(scheme: &[u8]) -> Option<Protocol>
     }
 }
 
-/// Why a URL isn't read whose scheme is none of Git's own: `rsync` belonged to a transport that is gone, and a
-/// text that isn't a scheme names no helper.
+/// Why a URL isn't read if its scheme is not one of Git's own: `rsync` belonged to a transport that was
+/// removed, and a text that isn't a scheme names no helper.
 fn without_transport(scheme: &[u8]) -> Unread
     ensures { IsForeignFor scheme.now result }
 {
@@ -225,7 +225,7 @@ fn names_helper(text: &[u8]) -> bool
     }
 }
 
-/// Whether a colon is in the text before any `/`.
+/// Whether the text has a colon before any `/`.
 fn is_remote(text: &[u8]) -> bool
     ensures { IsTrue result ↔ IsRemote text.now }
 {
@@ -244,7 +244,7 @@ fn begins_by(text: &[u8], mark: &[u8]) -> bool
 
 // ---- transports
 
-/// What the transport reaches at a place and a path.
+/// The place that the transport reaches, from a place and a path in the text.
 fn reach<'a>(
     protocol: Protocol,
     place: &'a [u8],
@@ -262,7 +262,7 @@ fn reach<'a>(
     }
 }
 
-/// What Secure Shell connects to: Git gives it a word, a port and a path.
+/// The place that Secure Shell connects to: Git passes it a word, a port and a path.
 fn secure<'a>(
     place: &'a [u8],
     path: &'a [u8],
@@ -294,7 +294,8 @@ fn secure<'a>(
     }
 }
 
-/// What Git's own protocol connects to: it has no user, and neither its place nor its path has a line feed.
+/// The place that Git's own protocol connects to: it has no user, and neither its place nor its path has a line
+/// feed.
 fn own<'a>(place: &'a [u8], path: &'a [u8], named: &'a mut Vec<u8>) -> Result<GitPlace<'a>, Unread>
     ensures read { IfOk result (λ it. ReachesGit place.now path.now (git_reading it)) }
     ensures why { IfErr result (FailsToReach (ReachesGit place.now path.now) ⊥) }
@@ -315,8 +316,8 @@ fn own<'a>(place: &'a [u8], path: &'a [u8], named: &'a mut Vec<u8>) -> Result<Gi
     })
 }
 
-/// The word and the port for Secure Shell: where no port follows the host, one may follow the first colon of
-/// what was in its brackets.
+/// The word and the port for Secure Shell: if no port follows the host, one may follow the first colon of the
+/// text in its brackets.
 fn secure_port(named: &[u8], found: Option<u16>) -> (&[u8], Option<u16>)
     ensures { SecurePort named.now found result.0.now result.1 }
 {
@@ -359,7 +360,7 @@ fn unless_empty(host: &[u8]) -> Option<&[u8]>
     if host.is_empty() { None } else { Some(host) }
 }
 
-/// The path from a `~` that is its second byte, whichever the first is.
+/// The path from a `~` that is its second byte; if there is none, the whole path.
 fn from_tilde(path: &[u8]) -> &[u8]
     ensures { result.now ≡ from_tilde path.now }
 {

@@ -1,6 +1,6 @@
--- What the checks answer where they find nothing.
+-- The results of checks that find no flaw.
 pub mod Readable
 pub mod Wrong
 pub mod Hosts
--- What the pieces hold of which the parts of a location are cut.
+-- The pieces that are cut into parts.
 pub mod Pieces

@@ -1,4 +1,4 @@
--- Which error a reason belongs to.
+-- The error that each reason belongs to.
 use Rattle.std.specs.Prelude.{Option, Some, None}
 use Rattle.git_syntax.specs.declared.refusal.UrlFault.{UrlFault}
 use Rattle.git_syntax.specs.declared.refusal.UrlFault.TheVariants.{NoScheme, BadPort, BadCharacter, HostRequired}
@@ -54,7 +54,7 @@ fault_in kind.TooLong = None
 abbrev pub fault_of : Reason → Option UrlFault
 fault_of r = fault_in (kind_of r)
 
--- the refusal of a text that was taken for this form
+-- the refusal of a text that was read as this form
 abbrev pub refusal_of : UrlKind → Place → Refusal
 refusal_of form place = record { form = form; reason = place.reason; at = place.at; len = place.len }
 

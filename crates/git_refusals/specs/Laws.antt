@@ -1,4 +1,4 @@
--- Laws on refusals: each text that spells no location has exactly one, and no other text has any.
+-- Laws on refusals: each text that spells no location has exactly one, and all other texts have none.
 use Rattle.std.specs.Prelude.{◌≡◌, ℕ, ◌+◌, ◌≤◌, List, length}
 use Rattle.git_syntax.specs.Location.{Location}
 use Rattle.git_syntax.specs.Grammar.{Spells}
@@ -6,11 +6,11 @@ use Rattle.git_refusals.specs.declared.refusal.Refusal.{Refusal}
 use Rattle.git_refusals.specs.Reasons.{Refused}
 use Rattle.git_refusals.specs.Promised.{NamesKind}
 
--- a text has one refusal at most: of several flaws always the same is named, at one place
+-- a text has at most one refusal: if it has several flaws, always the same one is named, at one place
 abbrev pub OneRefusal : Type 0
 OneRefusal = (b : List ℕ) (r s : Refusal) → Refused b r → Refused b s → r ≡ s
 
--- a text that is refused spells no location
+-- a text with a refusal spells no location
 abbrev pub RefusedUnspelled : Type 0
 RefusedUnspelled = (b : List ℕ) (r : Refusal) → Refused b r → (v : Location) → ¬ Spells b v
 

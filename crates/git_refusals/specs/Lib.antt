@@ -1,4 +1,4 @@
--- What a user reads.
+-- Public definitions.
 pub mod Kinds
 pub mod Characters
 pub mod Reasons
@@ -7,5 +7,5 @@ pub mod Laws
 pub mod Fronts
 pub mod Parts
 pub mod Words
--- Definitions that serve the proofs of this crate alone.
+-- Definitions for the proofs of this crate.
 pub mod Internal

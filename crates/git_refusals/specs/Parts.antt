@@ -1,4 +1,4 @@
--- Where in a text the parts of its location are. Each part is a slice of the text, not decoded.
+-- The places of the parts of a location in its text. Each part is a slice of the text, not decoded.
 use Rattle.std.specs.Prelude.{◌≡◌, ℕ, ◌+◌, ◌<◌, true, false, List, [], ◌∷◌, ◌++◌, length, take, drop, codes, Option, Some, None}
 use Rattle.std.specs.Str.Parse.{digits_value}
 use Rattle.percent_encoding.specs.Percent.{percent_decode}
@@ -12,20 +12,20 @@ use Rattle.git_refusals.specs.declared.parts.Parts.{Parts}
 use Rattle.git_refusals.specs.declared.parts.PartForm.{PartForm}
 use Rattle.git_refusals.specs.declared.parts.PartForm.TheVariants as form
 
--- the `len` bytes behind the first `at`
+-- `len` bytes from index `at`
 abbrev pub span : ℕ → ℕ → Span
 span at len = record { at = at; len = len }
 
--- the bytes of a text there
+-- the bytes of the text in this span
 abbrev pub slice_of : List ℕ → Span → List ℕ
 slice_of b s = take s.len (drop s.at b)
 
--- a piece that has so many bytes before it, if it isn't empty
+-- the piece that starts at index `start`, if it isn't empty
 abbrev pub span_unless_empty : ℕ → List ℕ → Option Span
 span_unless_empty start [] = None
 span_unless_empty start (c ∷ cs) = Some (span start (length (c ∷ cs)))
 
--- a host and a port, in a piece with so many bytes before it: the host has its brackets, and the colon that
+-- a host and a port, in a piece that starts at index `start`: the host has its brackets, and the colon that
 -- stays with it
 pub data HostSpans (start : ℕ) (piece : List ℕ) (host port : Option Span) : Type 0 where
   nothing : piece ≡ [] → host ≡ None → port ≡ None → HostSpans start piece host port
@@ -45,11 +45,11 @@ pub data HostSpans (start : ℕ) (piece : List ℕ) (host port : Option Span) : 
   plain_port : (text digits : List ℕ) → IsPlainHost text → FreeOf colon digits → 0 < length digits
       → piece ≡ text ++ colon ∷ digits → host ≡ Some (span start (length text))
       → port ≡ Some (span (start + (length text + 1)) (length digits)) → HostSpans start piece host port
-  -- colons that mark no port
+  -- colons that don't begin a port
   colons : begins_with left_bracket piece ≡ false → IsManyColoned piece
       → host ≡ Some (span start (length piece)) → port ≡ None → HostSpans start piece host port
 
--- a user and a password, in user information with so many bytes before it
+-- a user and a password, in user information that starts at index `start`
 pub data UserSpans (start : ℕ) (information : List ℕ) (user password : Option Span) : Type 0 where
   alone : FreeOf colon information → user ≡ Some (span start (length information)) → password ≡ None
       → UserSpans start information user password
@@ -57,7 +57,7 @@ pub data UserSpans (start : ℕ) (information : List ℕ) (user password : Optio
       → user ≡ Some (span start (length u)) → password ≡ Some (span (start + (length u + 1)) (length w))
       → UserSpans start information user password
 
--- the parts of an authority with so many bytes before it
+-- the parts of an authority that starts at index `start`
 pub data AuthoritySpans (start : ℕ) (authority : List ℕ) (user password host port : Option Span)
     : Type 0 where
   alone : FreeOf at_sign authority → user ≡ None → password ≡ None → HostSpans start authority host port
@@ -95,7 +95,7 @@ pub data HasParts (b : List ℕ) (parts : Parts) : Type 0 where
         path = span (length name + 2) (length address);
       }
       → HasParts b parts
-  -- the helper `ext` gets its whole URL
+  -- the helper `ext` receives its whole URL
   ext_url : (rest : List ℕ) → OtherUrlForm b (codes "ext") rest → parts ≡ path_span form.RemoteHelper b
       → HasParts b parts
   file_url : (host path : List ℕ) → UrlForm b (codes "file") (host ++ path) → FreeOf slash host
@@ -137,20 +137,20 @@ pub data HasParts (b : List ℕ) (parts : Parts) : Type 0 where
 
 -- ---- laws
 
--- a text has one cut into parts
+-- a text has at most one cut into parts
 abbrev pub OneCut : Type 0
 OneCut = (b : List ℕ) (p q : Parts) → HasParts b p → HasParts b q → p ≡ q
 
--- a text that has a part, of which the bytes decode to this
+-- the text has this part, and its bytes decode to `decoded`
 abbrev pub Decodes : List ℕ → Option Span → List ℕ → Type 0
 Decodes b part decoded = (s : Span) × (part ≡ Some s) × (percent_decode (slice_of b s) ≡ decoded)
 
--- the password of a location is the part that has this name, decoded
+-- the password of a location is the part `password`, decoded
 abbrev pub PasswordIsPart : Type 0
 PasswordIsPart = (b : List ℕ) (parts : Parts) (v : Location) (password : List ℕ) → HasParts b parts
     → Spells b v → v.password ≡ Some password → Decodes b parts.password password
 
--- so is the port of a location the part that has its digits
+-- the port of a location is the number of the digits in the part `port`
 abbrev pub PortIsPart : Type 0
 PortIsPart = (b : List ℕ) (parts : Parts) (v : Location) (port : ℕ) → HasParts b parts → Spells b v
     → v.port ≡ Some port → (s : Span) × (parts.port ≡ Some s) × (digits_value 10 (slice_of b s) ≡ port)

@@ -1,4 +1,4 @@
--- What the error of a refusal says of the text, as `git_syntax` has flaws: coarser than the reason.
+-- The flaw that the error of a refusal names, as `git_syntax` defines flaws. It is coarser than the reason.
 use Rattle.std.specs.Prelude.{◌≡◌, ℕ, List, [], IsUtf8}
 use Rattle.git_syntax.specs.declared.refusal.UrlKind.{UrlKind}
 use Rattle.git_syntax.specs.Flaws.{MissesPath, HasForm, IsTooLong, KindFlaw}

@@ -1,5 +1,5 @@
--- For which reason a text is refused, and where: the first flaw in the order of checks. Each check finds one
--- place at most, so a text has one refusal at most.
+-- The reason for which a text spells no location, and its place: the first flaw in the order of checks. Each
+-- check finds at most one place, so a text has at most one refusal.
 use Rattle.std.specs.Prelude.{◌≡◌, ℕ, ◌+◌, ◌<◌, ◌≤◌, Bool, true, false, ◌⊎◌, List, [], ◌∷◌, ◌++◌, length, take, drop, codes, IsUtf8}
 use Rattle.std.specs.List.{list_all}
 use Rattle.std.specs.Char.{is_whitespace, is_ascii_alphabetic, is_ascii_digit}
@@ -30,7 +30,7 @@ pub record Stands (why : Reason) (at len : ℕ) (p : Place) : Type 0 where
   pub start : p.at ≡ at
   pub size : p.len ≡ len
 
--- what a check finds in a piece of which so many bytes are before it
+-- the place that a check finds in a piece, which starts at index `before`
 pub record Behind (before : ℕ) (check : Place → Type 0) (p : Place) : Type 0 where
   pub inside : Place
   pub found : check inside
@@ -40,19 +40,19 @@ pub record Behind (before : ℕ) (check : Place → Type 0) (p : Place) : Type 0
 abbrev pub Passes : (Place → Type 0) → Type 0
 Passes check = (p : Place) → ¬ check p
 
--- what the first check finds, and where that finds nothing what the second one does
+-- the place that the first check finds; if it finds none, the place that the second one finds
 pub data Then (first second : Place → Type 0) (p : Place) : Type 0 where
   at_first : first p → Then first second p
   at_second : Passes first → second p → Then first second p
 
 -- ---- characters
 
--- a piece decodes to no UTF-8: the first bytes or escapes that don't
+-- the first bytes or escapes of a piece that don't decode to UTF-8
 pub record Undecodable (text : List ℕ) (p : Place) : Type 0 where
   pub undecodable : ¬ IsUtf8 (percent_decode text)
   pub stands : Stands reason.EscapesNotUtf8 (undecodable_at text) (undecodable_len (drop (undecodable_at text) text)) p
 
--- bytes are not UTF-8: the first that aren't
+-- the first bytes that are not UTF-8
 pub record NotText (text : List ℕ) (p : Place) : Type 0 where
   pub no_text : ¬ IsUtf8 text
   pub stands : Stands reason.NotUtf8 (utf8_valid_len text) (utf8_invalid_len (drop (utf8_valid_len text) text)) p
@@ -67,43 +67,43 @@ pub record HasBackslash (why : Reason) (text : List ℕ) (p : Place) : Type 0 wh
   pub first : StandsFirst backslash text p.at
   pub stands : Stands why p.at 1 p
 
--- the first `%` that begins no escape
+-- the first `%` that doesn't begin an escape
 pub record HasBrokenEscape (text : List ℕ) (p : Place) : Type 0 where
   pub first : StandsBroken text p.at
   pub stands : Stands reason.BrokenEscape p.at 1 p
 
 -- ---- hosts and ports
 
--- a text outside brackets that stands for no host
+-- a text outside brackets that denotes no host
 abbrev pub NoHostText : HostSyntax → List ℕ → Place → Type 0
 NoHostText http_hosts text = HasCharacter reason.HostCharacter is_no_host_character text
 NoHostText git_hosts text = Undecodable text
 NoHostText other_hosts text = Undecodable text
 
--- a text between brackets that is no literal stands for nothing
+-- a text in brackets that isn't a literal and denotes no host
 abbrev pub NoOther : HostSyntax → List ℕ → Place → Type 0
 NoOther http_hosts text = Stands reason.NotAnAddress 0 (length text)
 NoOther git_hosts text = Undecodable text
 NoOther other_hosts text = Undecodable text
 
--- a text between brackets that stands for nothing
+-- a text in brackets that denotes no host
 pub record NoInner (syntax : HostSyntax) (text : List ℕ) (p : Place) : Type 0 where
   pub no_literal : ¬ IsLiteral text
   pub no_other : NoOther syntax text p
 
--- what is in a port's place is no decimal number
+-- the text in a port's place isn't a decimal number
 pub record NoDigits (text : List ℕ) (p : Place) : Type 0 where
   pub other : list_all is_ascii_digit text ≡ false
   pub stands : Stands reason.PortNotANumber 0 (length text) p
 
--- decimal digits that are no port
+-- decimal digits that are not a port
 pub data PortOutside (syntax : HostSyntax) (digits : List ℕ) (p : Place) : Type 0 where
   too_large : IsDigits digits → 65535 < digits_value 10 digits
       → Stands reason.PortTooLarge 0 (length digits) p → PortOutside syntax digits p
   is_zero : syntax ≡ http_hosts → IsDigits digits → digits_value 10 digits ≡ 0
       → Stands reason.PortZero 0 (length digits) p → PortOutside syntax digits p
 
--- a piece of HTTP whose colons mark no port
+-- a piece of HTTP whose colons don't begin a port
 pub data WebColons (piece : List ℕ) (p : Place) : Type 0 where
   bare : IsIpv6Text piece → Stands reason.AddressWithoutBrackets 0 (length piece) p → WebColons piece p
   bare_colon : (address : List ℕ) → ¬ IsIpv6Text piece → IsIpv6Text address → piece ≡ address ++ colon ∷ []
@@ -114,18 +114,18 @@ pub data WebColons (piece : List ℕ) (p : Place) : Type 0 where
       → piece ≡ x ++ colon ∷ (y ++ colon ∷ z)
       → Stands reason.SecondColon (length x + 1 + length y) 1 p → WebColons piece p
 
--- a piece whose colons mark no port, and that stands for no host
+-- a piece whose colons don't begin a port, and that denotes no host
 abbrev pub BadColons : HostSyntax → List ℕ → Place → Type 0
 BadColons http_hosts piece = WebColons piece
 BadColons git_hosts piece = Undecodable piece
 BadColons other_hosts piece = Undecodable piece
 
--- what is wrong with a host and a port, by the marks that are in the piece
+-- the flaw of a host and a port, by the marks in the piece
 pub data BadHost (syntax : HostSyntax) (piece : List ℕ) (p : Place) : Type 0 where
   -- a bracket is not closed
   unclosed : (behind : List ℕ) → FreeOf right_bracket behind → piece ≡ left_bracket ∷ behind
       → Stands reason.UnclosedBracket 0 1 p → BadHost syntax piece p
-  -- what follows a closed bracket up to a colon or the end
+  -- the text after a closed bracket, up to a colon or the end
   behind_bracket : (x wrong rest : List ℕ) → FreeOf right_bracket x → FreeOf colon wrong → 0 < length wrong
       → (rest ≡ []) ⊎ (begins_with colon rest ≡ true)
       → piece ≡ left_bracket ∷ (x ++ right_bracket ∷ (wrong ++ rest))
@@ -133,17 +133,17 @@ pub data BadHost (syntax : HostSyntax) (piece : List ℕ) (p : Place) : Type 0 w
   -- the text between brackets
   between : (x rest : List ℕ) → BracketsAround piece x rest → Behind 1 (NoInner syntax x) p
       → BadHost syntax piece p
-  -- what follows brackets and a colon: no number, or none that a port may have
+  -- the text after brackets and a colon: not a number, or not one that a port may have
   port_behind : (x digits : List ℕ) → FreeOf right_bracket x → Passes (NoInner syntax x)
       → piece ≡ left_bracket ∷ (x ++ right_bracket ∷ (colon ∷ digits))
       → Behind (length x + 3) (Then (NoDigits digits) (PortOutside syntax digits)) p
       → BadHost syntax piece p
-  -- colons that mark no port
+  -- colons that don't begin a port
   colons : begins_with left_bracket piece ≡ false → IsManyColoned piece → ¬ ReadsAddress syntax piece
       → BadColons syntax piece p → BadHost syntax piece p
   -- a host alone
   plain : IsPlainHost piece → NoHostText syntax piece p → BadHost syntax piece p
-  -- `host:port`: no number, then the host, then a number that no port may have
+  -- `host:port`: the port isn't a number, then the host, then a number that a port may not have
   with_port : (text digits : List ℕ) → IsPlainHost text → FreeOf colon digits
       → piece ≡ text ++ colon ∷ digits
       → Then (Behind (length text + 1) (NoDigits digits))
@@ -152,7 +152,7 @@ pub data BadHost (syntax : HostSyntax) (piece : List ℕ) (p : Place) : Type 0 w
 
 -- ---- authorities
 
--- user information with a part that decodes to no text: of two the password is checked first
+-- user information with a user or a password that doesn't decode to text: the password is checked first
 pub data BadUser (information : List ℕ) (p : Place) : Type 0 where
   alone : FreeOf colon information → Undecodable information p → BadUser information p
   with_password : (u w : List ℕ) → FreeOf colon u → information ≡ u ++ colon ∷ w
@@ -163,13 +163,13 @@ pub record NoHostBehind (authority piece : List ℕ) (p : Place) : Type 0 where
   pub empty : piece ≡ []
   pub stands : Stands reason.HostBehindUser (length authority) 0 p
 
--- a host is needed, and there is nothing
+-- a host is needed, and the authority is empty
 pub record NoHostAtAll (needed : Bool) (authority : List ℕ) (p : Place) : Type 0 where
   pub wanted : needed ≡ true
   pub empty : authority ≡ []
   pub stands : Stands reason.HostMissing 0 0 p
 
--- what is wrong with an authority without a backslash, for a scheme that needs a host or doesn't
+-- the flaw of an authority without a backslash, for a scheme that needs a host or doesn't
 pub data BadParts (syntax : HostSyntax) (needed : Bool) (authority : List ℕ) (p : Place) : Type 0 where
   alone : FreeOf at_sign authority → Then (BadHost syntax authority) (NoHostAtAll needed authority) p
       → BadParts syntax needed authority p
@@ -178,23 +178,23 @@ pub data BadParts (syntax : HostSyntax) (needed : Bool) (authority : List ℕ) (
       (Then (Behind (length information + 1) (BadHost syntax piece)) (NoHostBehind authority piece)) p
       → BadParts syntax needed authority p
 
--- what is wrong with an authority
+-- the flaw of an authority
 abbrev pub BadAuthority : HostSyntax → Bool → List ℕ → Place → Type 0
 BadAuthority syntax needed authority = Then (HasBackslash reason.Backslash authority)
     (BadParts syntax needed authority)
 
 -- ---- URLs
 
--- the scheme is too long, or what follows `://`, of which the first 1,024 bytes are reported
+-- the scheme is too long, or the text after `://`; the first 1,024 bytes of that text are reported
 pub data TooLong (scheme rest : List ℕ) (p : Place) : Type 0 where
   long_scheme : 1024 < length scheme → Stands reason.SchemeTooLong 0 (length scheme) p → TooLong scheme rest p
   long_rest : length scheme ≤ 1024 → ¬ Fits scheme rest
       → Stands reason.AuthorityTooLong (length scheme + 3) (length (take 1024 rest)) p → TooLong scheme rest p
 
--- what is before `://` is no scheme
+-- the text before `://` is not a scheme
 pub data BadScheme (scheme : List ℕ) (p : Place) : Type 0 where
   missing : scheme ≡ [] → Stands reason.SchemeMissing 0 0 p → BadScheme scheme p
-  -- the character at its front, if that is no letter
+  -- the character at its front, if it isn't a letter
   bad_start : (c : ℕ) (rest : List ℕ) (size : ℕ) → scheme ≡ c ∷ rest → is_ascii_alphabetic c ≡ false
       → StandsCharacter (λ _. true) scheme 0 size → Stands reason.SchemeStart 0 size p → BadScheme scheme p
   bad_character : (c : ℕ) (rest : List ℕ) → scheme ≡ c ∷ rest → is_ascii_alphabetic c ≡ true
@@ -206,7 +206,7 @@ pub record NoPath (scheme b path : List ℕ) (p : Place) : Type 0 where
   pub empty : path ≡ []
   pub stands : Stands reason.PathMissing (length b) 0 p
 
--- what is wrong behind a scheme: the path, then the authority, then that there is no path
+-- the flaw after a scheme: of the path, then of the authority, then the missing path
 pub record BadRest (b scheme rest : List ℕ) (p : Place) : Type 0 where
   pub authority : List ℕ
   pub path : List ℕ
@@ -217,7 +217,7 @@ pub record BadRest (b scheme rest : List ℕ) (p : Place) : Type 0 where
       (Then (Behind (length scheme + 3)
       (BadAuthority (host_syntax_of scheme) (requires_host scheme) authority)) (NoPath scheme b path)) p
 
--- what is wrong with a URL that is no file URL
+-- the flaw of a URL that is not a file URL
 abbrev pub BadUrl : List ℕ → List ℕ → List ℕ → Place → Type 0
 BadUrl b scheme rest = Then (TooLong scheme rest) (Then (NotText b)
     (Then (HasCharacter reason.WhiteSpace is_whitespace b) (Then (HasBrokenEscape b)
@@ -228,7 +228,7 @@ pub record NoFilePath (b rest : List ℕ) (p : Place) : Type 0 where
   pub no_slash : FreeOf slash rest
   pub stands : Stands reason.FilePathMissing (length b) 0 p
 
--- what is wrong with a file URL
+-- the flaw of a file URL
 abbrev pub BadFile : List ℕ → List ℕ → Place → Type 0
 BadFile b rest = Then (NotText b) (NoFilePath b rest)
 
@@ -244,7 +244,7 @@ pub record NoScpHost (host : List ℕ) (p : Place) : Type 0 where
   pub empty : host ≡ []
   pub stands : Stands reason.HostMissing 0 0 p
 
--- the brackets of a host, or what is in a port's place
+-- the brackets of a host, or the text in a port's place
 pub data BadScpName (host : List ℕ) (p : Place) : Type 0 where
   unclosed : (behind : List ℕ) → FreeOf right_bracket behind → host ≡ left_bracket ∷ behind
       → Stands reason.UnclosedBracket 0 1 p → BadScpName host p
@@ -254,28 +254,28 @@ pub data BadScpName (host : List ℕ) (p : Place) : Type 0 where
   port_place : (text digits : List ℕ) → IsPlainHost text → FreeOf colon digits → host ≡ text ++ colon ∷ digits
       → Stands reason.PortNotANumber (length text + 1) (length digits) p → BadScpName host p
 
--- what is wrong with the host of the scp form
+-- the flaw of the host of the scp form
 abbrev pub BadScpHost : List ℕ → Place → Type 0
 BadScpHost host = Then (HasCharacter reason.WhiteSpaceInHost is_whitespace host)
     (Then (HasBackslash reason.BackslashInHost host) (Then (NoScpHost host) (BadScpName host)))
 
--- what is wrong with the front of the scp form: its host is behind the last `@`, or the whole front
+-- the flaw of the front of the scp form: its host follows the last `@`, or is the whole front
 pub data BadFront (front : List ℕ) (p : Place) : Type 0 where
   alone : FreeOf at_sign front → BadScpHost front p → BadFront front p
   with_user : (user host : List ℕ) → FreeOf at_sign host → front ≡ user ++ at_sign ∷ host
       → Behind (length user + 1) (BadScpHost host) p → BadFront front p
 
--- what is wrong with the scp form
+-- the flaw of the scp form
 abbrev pub BadScp : List ℕ → List ℕ → List ℕ → Place → Type 0
 BadScp b front path = Then (NotText b) (Then (NoScpPath b path) (BadFront front))
 
--- what is wrong with the form `user@[address]:path`
+-- the flaw of the form `user@[address]:path`
 abbrev pub BadAddressed : List ℕ → List ℕ → Place → Type 0
 BadAddressed b path = Then (NotText b) (NoScpPath b path)
 
 -- ---- all texts
 
--- the text is refused so: it has this form, and this is the first flaw in the order of checks
+-- the text has this form, and this refusal is its first flaw in the order of checks
 pub data Refused (b : List ℕ) (r : Refusal) : Type 0 where
   empty : (p : Place) → b ≡ [] → Stands reason.Empty 0 0 p → r ≡ refusal_of Local p → Refused b r
   file : (rest : List ℕ) (p : Place) → UrlForm b (codes "file") rest → BadFile b rest p

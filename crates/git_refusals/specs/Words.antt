@@ -1,9 +1,9 @@
--- The words that people read of reasons.
+-- The reasons in words.
 use Rattle.std.specs.Prelude.{ℕ, List, codes}
 use Rattle.git_refusals.specs.declared.reason.Reason.{Reason}
 use Rattle.git_refusals.specs.declared.reason.Reason.TheVariants as reason
 
--- a reason in one sentence, which holds no byte of a text
+-- a reason in one sentence, without a byte of a text
 abbrev pub reason_words : Reason → List ℕ
 reason_words reason.Empty = codes "the text is empty"
 reason_words reason.SchemeTooLong = codes "the scheme is longer than 1024 bytes"

@@ -1,4 +1,4 @@
-//! What is wrong with an authority: a backslash, the user information, or the host and the port behind it.
+//! The flaw of an authority: a backslash, or one in the user information, the host or the port.
 
 ghost use Rattle.std.specs.Prelude.{IsUtf8};
 ghost use Rattle.git_syntax.specs.Bytes.{FreeOf, at_sign, backslash};
@@ -13,7 +13,7 @@ use crate::reason::Reason;
 use git_syntax::bytes::{cut, last_cut};
 use git_syntax::host::HostSyntax;
 
-/// What is wrong with an authority, in which a host may be needed.
+/// The flaw of an authority, which may need a host.
 pub(crate) fn bad_authority(syntax: HostSyntax, needed: bool, authority: &[u8]) -> Option<Place>
     requires { IsUtf8 authority.now }
     ensures { Checks authority.now (BadAuthority (host_syntax syntax) needed authority.now)
@@ -37,7 +37,7 @@ pub(crate) fn backslash(reason: Reason, text: &[u8]) -> Option<Place>
     })
 }
 
-/// What is wrong with an authority without a backslash.
+/// The flaw of an authority without a backslash.
 fn bad_parts(syntax: HostSyntax, needed: bool, authority: &[u8]) -> Option<Place>
     requires text { IsUtf8 authority.now }
     requires clean { FreeOf backslash authority.now }
@@ -67,7 +67,7 @@ fn bad_parts(syntax: HostSyntax, needed: bool, authority: &[u8]) -> Option<Place
     None
 }
 
-/// What is wrong with an authority that is a host and a port alone.
+/// The flaw of an authority that consists of a host and a port.
 fn bad_alone(syntax: HostSyntax, needed: bool, authority: &[u8]) -> Option<Place>
     requires text { IsUtf8 authority.now }
     requires clean { FreeOf backslash authority.now }
@@ -88,7 +88,7 @@ fn bad_alone(syntax: HostSyntax, needed: bool, authority: &[u8]) -> Option<Place
     None
 }
 
-/// What is wrong with user information: of a user and a password the password is checked first.
+/// The flaw of user information. The password is checked before the user.
 fn bad_user(information: &[u8]) -> Option<Place>
     ensures { Checks information.now (BadUser information.now) (HoldsUser information.now) result }
 {

@@ -1,4 +1,4 @@
-//! The first character of a text that may not be there.
+//! The first character of a text that is not allowed.
 
 ghost use Rattle.std.specs.Prelude.{◌≡◌, ◌+◌, ◌≤◌, IfSome, MatchOption, chars, false, length};
 ghost use Rattle.std.specs.List.{list_any};
@@ -6,14 +6,14 @@ ghost use Rattle.git_refusals.specs.Characters.{StandsCharacter};
 ghost use Rattle.git_syntax.specs.Bytes.{is_scheme_mark};
 ghost use Rattle.git_refusals.specs.Internal.Wrong.{is_host_mark, wrong_test};
 
-/// The characters that a check looks for.
+/// The characters that a check searches for.
 #[derive(Clone, Copy)]
 pub(crate) enum Wrong {
-    /// White space, as Unicode has it.
+    /// White space, as Unicode defines it.
     WhiteSpace,
-    /// What a scheme doesn't hold.
+    /// A character that a scheme can't have.
     InScheme,
-    /// What the host of HTTP doesn't hold.
+    /// A character that the host of HTTP can't have.
     InWebHost,
     /// Any character.
     Any,
@@ -52,7 +52,7 @@ fn is_host_mark(character: char) -> bool
         || character == '~'
 }
 
-/// Where the first such character is, and its length.
+/// The index and the length of the first such character, in bytes.
 pub(crate) fn first_wrong(text: &str, wrong: Wrong) -> Option<(usize, usize)>
     ensures found { MatchOption result (list_any (wrong_test wrong) (chars text.now) ≡ false)
         (λ place. StandsCharacter (wrong_test wrong) text.now place.0 place.1) }

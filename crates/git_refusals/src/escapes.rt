@@ -1,4 +1,4 @@
-//! Where an escape is broken, and where bytes, or what they decode to, stop being UTF-8.
+//! The places of malformed escapes, and of bytes that aren't UTF-8 or don't decode to it.
 
 ghost use Rattle.std.specs.Prelude.{◌≡◌, IsUtf8, drop, false};
 ghost use Rattle.percent_encoding.specs.Percent.{percent_decode};
@@ -14,7 +14,7 @@ use bstr::{ByteSlice, decode_utf8};
 use git_syntax::bytes::cut;
 use git_syntax::escape::{begins_with_digits, decodes_to_utf8, front, split_decoded};
 
-/// How many bytes are before the first `%` without two hexadecimal digits behind it.
+/// The number of bytes before the first `%` that two hexadecimal digits don't follow.
 pub(crate) fn broken_escape(bytes: &[u8]) -> usize
     requires { escape.is_sound bytes.now ≡ false }
     ensures { StandsBroken bytes.now result }
@@ -50,7 +50,7 @@ pub(crate) fn not_text(bytes: &[u8]) -> Option<Place>
     }
 }
 
-/// The first bytes or escapes of a piece that decode to no UTF-8.
+/// The first bytes or escapes of a piece that don't decode to UTF-8.
 pub(crate) fn undecodable(piece: &[u8]) -> Option<Place>
     ensures { Checks piece.now (Undecodable piece.now) (IsUtf8 (percent_decode piece.now)) result }
 {
@@ -67,7 +67,7 @@ pub(crate) fn undecodable(piece: &[u8]) -> Option<Place>
     })
 }
 
-/// The end of a piece from where its decoding stops being UTF-8.
+/// The end of a piece, from the place at which its decoding stops being UTF-8.
 fn undecodable_end(piece: &[u8]) -> &[u8]
     requires { ¬ IsUtf8 (percent_decode piece.now) }
     ensures { result.now ≡ drop (undecodable_at piece.now) piece.now }
@@ -88,7 +88,7 @@ fn undecodable_end(piece: &[u8]) -> &[u8]
     rest
 }
 
-/// What is left of a text behind what spells the next `count` bytes of its decoding.
+/// The rest of a text after the bytes that spell the next `count` bytes of its decoding.
 fn behind(text: &[u8], count: usize) -> &[u8]
     ensures { result.now ≡ drop (spelled_len count text.now) text.now }
 {
@@ -99,7 +99,7 @@ fn behind(text: &[u8], count: usize) -> &[u8]
     rest
 }
 
-/// How many bytes of a text spell the first byte of its decoding.
+/// The number of bytes of a text that spell the first byte of its decoding.
 fn unit_len(text: &[u8]) -> usize
     ensures { result ≡ spec.unit_len text.now }
 {

@@ -12,7 +12,7 @@ use crate::url::{bad_file, bad_url};
 use git_syntax::classify::{Form, classify};
 use git_syntax::refusal::UrlKind;
 
-/// The refusal of the text: none where it spells a location.
+/// The refusal of the text: `None` if it spells a location.
 #[inline(never)]
 pub fn refusal_of(text: &[u8]) -> Option<Refusal>
     ensures found { MatchOption result (IsSpelled text.now) (λ refusal. Refused text.now refusal) }
@@ -44,7 +44,7 @@ pub fn refusal_of(text: &[u8]) -> Option<Refusal>
     }
 }
 
-/// The place of what an empty text lacks.
+/// The place of the refusal of the empty text.
 fn empty() -> Place
     ensures { Stands Reason.Empty 0 0 result }
 {

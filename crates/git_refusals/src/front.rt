@@ -1,4 +1,4 @@
-//! The front of a URL that is too long, which an error shows in place of the whole.
+//! The front of a URL that is too long. An error shows it in place of the whole.
 
 ghost use Rattle.std.specs.Prelude.{◌≡◌, ◌+◌, ◌≤◌, ℕ, List, Some, length};
 ghost use Rattle.git_refusals.specs.Fronts.{shown_front};
@@ -11,8 +11,8 @@ use crate::refusal::Refusal;
 use git_syntax::bytes::cut_at_mark;
 use git_syntax::refusal::UrlKind;
 
-/// The front that the error shows of a text with this refusal: the scheme, `://` and the 1,024 bytes behind
-/// it, or the whole where it is shorter.
+/// The front that the error shows of a text with this refusal: the scheme, `://` and the 1,024 bytes after it,
+/// or the whole text if it is shorter.
 pub fn shown_front<'a>(text: &'a [u8], refusal: &Refusal) -> &'a [u8]
     requires { refusal.now.at + refusal.now.len ≤ length text.now }
     ensures { result.now ≡ spec.shown_front text.now refusal.now }
@@ -28,7 +28,7 @@ pub fn shown_front<'a>(text: &'a [u8], refusal: &Refusal) -> &'a [u8]
     text.split_at(scheme + 1027).0
 }
 
-/// The refusal of a text that is too long, of which an error shows this front.
+/// The refusal of a text that is too long, from the front that an error shows.
 pub fn refusal_of_front(shown: &[u8]) -> Option<Refusal>
     ensures { (b : List ℕ) (r : Refusal) → Refused b r → kind_of r.reason ≡ RefusalKind.TooLong
         → shown.now ≡ shown_front b r → result ≡ Some r }

@@ -1,4 +1,4 @@
-//! What is wrong with a host and a port, by the marks that are in their piece.
+//! The flaw of a host and a port, by the marks in their text.
 
 ghost use Rattle.std.specs.Prelude.{◌≡◌, ◌<◌, ◌++◌, ◌∷◌, IsUtf8, false, length, true};
 ghost use Rattle.std.specs.List.{list_all};
@@ -20,7 +20,7 @@ use git_syntax::host::{HostSyntax, is_address_piece};
 use git_syntax::ipv6::is_address;
 use git_syntax::text::as_text;
 
-/// What is wrong with the host and the port of a URL.
+/// The flaw of the host and the port of a URL.
 pub(crate) fn bad_host(syntax: HostSyntax, piece: &[u8]) -> Option<Place>
     requires { IsUtf8 piece.now }
     ensures { Checks piece.now (BadHost (host_syntax syntax) piece.now)
@@ -35,7 +35,7 @@ pub(crate) fn bad_host(syntax: HostSyntax, piece: &[u8]) -> Option<Place>
     }
 }
 
-/// What is wrong with a piece that has this behind a bracket in front.
+/// The flaw of a piece that begins with a bracket, from the text after it.
 fn bad_bracketed(syntax: HostSyntax, behind: &[u8]) -> Option<Place>
     ensures { Checks (left_bracket ∷ behind.now) (BadHost (host_syntax syntax) (left_bracket ∷ behind.now))
         (NamesHost (host_syntax syntax) (left_bracket ∷ behind.now)) result }
@@ -50,7 +50,7 @@ fn bad_bracketed(syntax: HostSyntax, behind: &[u8]) -> Option<Place>
     }
 }
 
-/// What is wrong with the text between brackets, or behind them.
+/// The flaw of the text between brackets, or of the text after them.
 fn bad_brackets(syntax: HostSyntax, inner: &[u8], rest: &[u8]) -> Option<Place>
     requires { FreeOf right_bracket inner.now }
     ensures { Checks (left_bracket ∷ (inner.now ++ right_bracket ∷ rest.now))
@@ -91,7 +91,7 @@ fn before_colon(text: &[u8]) -> &[u8]
     }
 }
 
-/// What is wrong with the text between brackets.
+/// The flaw of the text between brackets.
 fn bad_inner(syntax: HostSyntax, text: &[u8]) -> Option<Place>
     ensures { Checks text.now (NoInner (host_syntax syntax) text.now) (StandsForInner (host_syntax syntax) text.now) result }
 {
@@ -108,7 +108,7 @@ fn bad_inner(syntax: HostSyntax, text: &[u8]) -> Option<Place>
     }
 }
 
-/// What is wrong with a piece that has no bracket in front.
+/// The flaw of a piece that doesn't begin with a bracket.
 fn bad_unbracketed(syntax: HostSyntax, piece: &[u8]) -> Option<Place>
     requires text { IsUtf8 piece.now }
     requires some { 0 < length piece.now }
@@ -124,7 +124,7 @@ fn bad_unbracketed(syntax: HostSyntax, piece: &[u8]) -> Option<Place>
     bad_pair(syntax, text, digits)
 }
 
-/// What is wrong with a host, a colon and what is in a port's place.
+/// The flaw of a host, a colon and the text in a port's place.
 fn bad_pair(syntax: HostSyntax, text: &[u8], digits: &[u8]) -> Option<Place>
     requires text { IsUtf8 text.now }
     requires plain { IsPlainHost text.now }
@@ -146,7 +146,7 @@ fn bad_pair(syntax: HostSyntax, text: &[u8], digits: &[u8]) -> Option<Place>
     })
 }
 
-/// What is wrong with a piece whose colons mark no port.
+/// The flaw of a piece whose colons don't begin a port.
 fn bad_colons(syntax: HostSyntax, piece: &[u8]) -> Option<Place>
     requires no_bracket { begins_with left_bracket piece.now ≡ false }
     requires colons { IsManyColoned piece.now }
@@ -165,7 +165,7 @@ fn bad_colons(syntax: HostSyntax, piece: &[u8]) -> Option<Place>
     }
 }
 
-/// What is wrong with a piece of HTTP whose colons mark no port: something always is.
+/// The flaw of a piece of HTTP whose colons don't begin a port. Each such piece has one.
 fn web_colons(piece: &[u8]) -> Option<Place>
     requires { IsManyColoned piece.now }
     ensures { Checks piece.now (WebColons piece.now) ⊥ result }
@@ -201,7 +201,7 @@ fn web_colons(piece: &[u8]) -> Option<Place>
     }
 }
 
-/// What is wrong with a text outside brackets that is to be a host.
+/// The flaw of a text outside brackets as a host.
 fn bad_name(syntax: HostSyntax, text: &[u8]) -> Option<Place>
     requires { IsUtf8 text.now }
     ensures { Checks text.now (NoHostText (host_syntax syntax) text.now) (StandsForHost (host_syntax syntax) text.now) result }
@@ -219,7 +219,7 @@ fn bad_name(syntax: HostSyntax, text: &[u8]) -> Option<Place>
     }
 }
 
-/// What is wrong with what follows a host and a colon.
+/// The flaw of the text after a host and a colon.
 fn bad_port(syntax: HostSyntax, digits: &[u8]) -> Option<Place>
     ensures { Checks digits.now (Then (NoDigits digits.now) (PortOutside (host_syntax syntax) digits.now))
         (IsPortText (host_syntax syntax) digits.now) result }
@@ -230,7 +230,7 @@ fn bad_port(syntax: HostSyntax, digits: &[u8]) -> Option<Place>
     }
 }
 
-/// The whole text, if it is not empty and no decimal number.
+/// The whole text, if it is neither empty nor a decimal number.
 fn no_digits(text: &[u8]) -> Option<Place>
     ensures { Checks text.now (NoDigits text.now) (list_all is_ascii_digit text.now ≡ true) result }
 {
@@ -244,7 +244,7 @@ fn no_digits(text: &[u8]) -> Option<Place>
     })
 }
 
-/// The digits, if they are no port.
+/// The digits, if they are not a port.
 fn port_outside(syntax: HostSyntax, digits: &[u8]) -> Option<Place>
     requires { list_all is_ascii_digit digits.now ≡ true }
     ensures { Checks digits.now (PortOutside (host_syntax syntax) digits.now) (IsPortText (host_syntax syntax) digits.now) result }

@@ -1,12 +1,10 @@
 //! The laws of refusals and of parts, over the definitions alone.
-//!
-//! It has no code and uses nothing: the contracts of its functions are the laws.
 
 ghost use Rattle.git_refusals.specs.Laws.{OneRefusal, RefusedFlaw, RefusedUnspelled, RefusedWithin};
 ghost use Rattle.git_refusals.specs.Parts.{OneCut, PasswordIsPart, PortIsPart};
 
-/// A text has one refusal at most, whose place is in the text; the flaw that its error names is in the text,
-/// and a text that has one spells no location.
+/// A text has at most one refusal, whose place is in the text. The flaw that its error names is in the text,
+/// and a text with a refusal spells no location.
 pub fn law_refused()
     ensures one { OneRefusal }
     ensures flaw { RefusedFlaw }
@@ -14,8 +12,8 @@ pub fn law_refused()
     ensures within { RefusedWithin }
 {}
 
-/// A text has one cut into parts at most. Where it spells a location with a password, the part of that name
-/// decodes to it, and where it spells one with a port, the part of that name has its digits.
+/// A text has at most one cut into parts. If it spells a location with a password, the part `password` decodes
+/// to it; if it spells one with a port, the part `port` has its digits.
 pub fn law_parts()
     ensures one { OneCut }
     ensures password { PasswordIsPart }

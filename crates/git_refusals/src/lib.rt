@@ -1,8 +1,8 @@
-//! What a text is read as, and where: the parts of its location, or the reason for which it spells none.
+//! The places of a text's parts, or the reason for which it spells no location.
 //!
-//! [`read::read`] returns what `git_syntax` finds in a text, and [`parts::parts_of`] where in the text each part
-//! is. Of a text that spells no location both return its [`refusal::Refusal`]: one reason at one place, the
-//! first flaw in the order of checks. Nothing here takes memory.
+//! [`read::read`] returns the slices that `git_syntax` finds in a text, and [`parts::parts_of`] the place of
+//! each part. For a text that spells no location both return its [`refusal::Refusal`]: one reason at one place,
+//! the first flaw in the order of checks. No function here allocates.
 #![tactic(auto)]
 
 mod authority;

@@ -1,6 +1,4 @@
-//! Where in a text the parts of its location are.
-//!
-//! It uses `read`, and cuts what spells a location at the marks that the grammar names. It takes no memory.
+//! The places of the parts of a location in its text, which is cut at the marks of the grammar.
 
 ghost use Rattle.std.specs.Prelude.{◌≡◌, ◌+◌, ◌≤◌, IfErr, IfOk, codes, length};
 ghost use Rattle.git_syntax.specs.Flaws.{OtherUrlForm, UrlForm};
@@ -19,10 +17,10 @@ use git_syntax::bytes::{cut_before_path, last_cut};
 use git_syntax::classify::{Form, classify};
 use git_syntax::rules::rules_of;
 
-/// A part of a text: `len` bytes behind the first `at`.
+/// A part of a text: `len` bytes from index `at`.
 #[derive(Clone, Copy, Debug, PartialEq, Eq)]
 pub struct Span {
-    /// How many bytes of the text are before it.
+    /// The number of bytes before it.
     pub at: usize,
     /// Its length, in bytes.
     pub len: usize,
@@ -41,8 +39,8 @@ pub enum PartForm {
     Local,
 }
 
-/// Where in a text the parts of its location are, not decoded. What is between two parts are the marks of the
-/// form.
+/// The places of the parts of a location in its text. The parts are not decoded; the text between two parts is
+/// a mark of the form.
 ///
 /// ```
 /// /// The port's digits in a text, leading zeros among them.
@@ -57,19 +55,19 @@ pub struct Parts {
     pub form: PartForm,
     /// The scheme of a URL, or the name of a remote helper. A URL of the helper `ext` has none.
     pub scheme: Option<Span>,
-    /// The user, which is there where `@` ends user information. It may be empty.
+    /// The user, if an `@` ends user information. It may be empty.
     pub user: Option<Span>,
-    /// The password, which is there where `:` is in user information. It may be empty.
+    /// The password, if the user information has a `:`. It may be empty.
     pub password: Option<Span>,
-    /// The host, with its brackets and with a colon that no port follows.
+    /// The host, with its brackets and with a colon that a port doesn't follow.
     pub host: Option<Span>,
     /// The digits of the port.
     pub port: Option<Span>,
-    /// The path, of HTTP with query and fragment; the address of a remote helper.
+    /// The path, in HTTP with query and fragment; the address of a remote helper.
     pub path: Span,
 }
 
-/// Where in the text the parts of its location are, or its refusal. It takes no memory.
+/// The places of the parts of the text's location. Allocates nothing.
 ///
 /// # Errors
 ///
@@ -166,7 +164,7 @@ fn url_parts(text: &[u8], scheme: &[u8], rest: &[u8]) -> Parts
     other_parts(text, scheme, rest)
 }
 
-/// The parts of a file URL: the path begins at the first `/` behind the mark.
+/// The parts of a file URL: the path begins at the first `/` after the mark.
 fn file_parts(text: &[u8], rest: &[u8]) -> Parts
     requires form { UrlForm text.now (codes "file") rest.now }
     requires spelled { IsSpelled text.now }

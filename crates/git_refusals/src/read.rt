@@ -1,6 +1,4 @@
-//! Reading: what is found in a text, or its refusal.
-//!
-//! It uses `git_syntax::find`, and looks for the reason in refused texts alone.
+//! Reads a text: its slices, or its refusal. The reason is searched for only in texts that spell no location.
 
 ghost use Rattle.std.specs.Prelude.{◌≡◌, ◌+◌, ◌≤◌, [], Err, IfErr, IfOk, length};
 ghost use Rattle.git_refusals.specs.Kinds.{empty_refusal};
@@ -41,7 +39,7 @@ pub fn refusal(bytes: &[u8]) -> Refusal
 {
     match refusal_of(bytes) {
         Some(refusal) => refusal,
-        // Every text that spells no location is refused.
+        // Every text that spells no location has a refusal.
         None => Refusal {
             form: UrlKind::Local,
             reason: Reason::Empty,

@@ -1,13 +1,11 @@
-//! The reasons for which a text is refused, by name.
-//!
-//! It uses the faults of `git_syntax`. `words` has each reason in one sentence.
+//! The reasons for which a text spells no location, and the error that each belongs to.
 
 ghost use Rattle.std.specs.Prelude.{◌≡◌};
 ghost use Rattle.git_refusals.specs.Kinds as spec;
 
 use git_syntax::refusal::UrlFault;
 
-/// For which reason a text spells no location. `Display` says it in one sentence, which holds no byte of the
+/// The reason for which a text spells no location. `Display` says it in one sentence, without a byte of the
 /// text.
 ///
 /// ```
@@ -25,39 +23,39 @@ pub enum Reason {
     AuthorityTooLong,
     /// The text is not UTF-8.
     NotUtf8,
-    /// White space is in a URL.
+    /// A URL has white space.
     WhiteSpace,
-    /// A `%` begins no escape.
+    /// A `%` doesn't begin an escape.
     BrokenEscape,
-    /// Nothing is before `://`.
+    /// No scheme comes before `://`.
     SchemeMissing,
-    /// A scheme begins with no letter of ASCII.
+    /// A scheme doesn't begin with a letter of ASCII.
     SchemeStart,
-    /// A character in a scheme is no letter, no digit and none of `+`, `-` and `.`.
+    /// A scheme has a character other than a letter, a digit, `+`, `-` and `.`.
     SchemeCharacter,
-    /// White space is in the host of the scp form.
+    /// The host of the scp form has white space.
     WhiteSpaceInHost,
-    /// A backslash is in an authority.
+    /// An authority has a backslash.
     Backslash,
-    /// A backslash is in the host of the scp form.
+    /// The host of the scp form has a backslash.
     BackslashInHost,
-    /// Bytes or escapes decode to no UTF-8.
+    /// Bytes or escapes don't decode to UTF-8.
     EscapesNotUtf8,
     /// A bracket is not closed.
     UnclosedBracket,
-    /// Something other than a colon follows a closed bracket.
+    /// A closed bracket is followed by something other than a colon.
     BehindBracket,
-    /// The text between the brackets of HTTP is no IPv6 literal.
+    /// The text in the brackets of HTTP isn't an IPv6 literal.
     NotAnAddress,
     /// An IPv6 address of HTTP is not in brackets.
     AddressWithoutBrackets,
     /// The host of HTTP has a second colon.
     SecondColon,
-    /// Nothing is before the colon of a port of HTTP.
+    /// No host comes before the colon of a port of HTTP.
     HostBeforePort,
-    /// A port is no decimal number.
+    /// A port isn't a decimal number.
     PortNotANumber,
-    /// A character that the host of HTTP may not hold.
+    /// The host of HTTP has a character that isn't allowed.
     HostCharacter,
     /// A port is greater than 65,535.
     PortTooLarge,
@@ -75,7 +73,7 @@ pub enum Reason {
     ScpPathMissing,
 }
 
-/// Which error a text is refused with.
+/// The error that a text is refused with.
 ///
 /// ```
 /// fn has_bad_port(refusal: &Refusal) -> bool {
@@ -86,13 +84,13 @@ pub enum Reason {
 pub enum RefusalKind {
     /// The text is empty.
     EmptyLocal,
-    /// A path is wanted and there is none.
+    /// The text needs a path and has none.
     MissingPath,
     /// The text is not UTF-8.
     NotUtf8,
     /// The scheme or the authority is too long.
     TooLong,
-    /// The text is no URL, or the host of the scp form is none.
+    /// The text isn't a URL, or the host of the scp form isn't valid.
     BadUrl(UrlFault),
 }
 

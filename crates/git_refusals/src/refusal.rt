@@ -1,4 +1,4 @@
-//! Refusals: why a text spells no location, the form that it was taken for, and where the flaw is.
+//! Refusals: why a text spells no location, the form that it was read as, and the place of the flaw.
 
 ghost use Rattle.std.specs.Prelude.{◌≡◌};
 ghost use Rattle.git_refusals.specs.Kinds as spec;
@@ -8,10 +8,10 @@ use crate::reason::{Reason, RefusalKind};
 use git_syntax::refusal::{UrlFault, UrlKind};
 use thiserror::Error;
 
-/// Why a text spells no location, and where: the flaw is the `len` bytes of the text behind its first `at`.
+/// Why a text spells no location, and the place of its flaw: `len` bytes of the text from index `at`.
 ///
-/// Of several flaws it is the first in the order of checks, so each text has one refusal at most. It owns
-/// nothing and holds no byte of the text. `Display` says the reason in words.
+/// If the text has several flaws, it is the first in the order of checks, so each text has at most one refusal.
+/// It owns nothing and contains no byte of the text. `Display` says the reason in words.
 ///
 /// ```
 /// /// The end of the text that is wrong, from the flaw on.
@@ -22,18 +22,18 @@ use thiserror::Error;
 #[derive(Clone, Copy, Debug, Error, PartialEq, Eq)]
 #[error("{reason}")]
 pub struct Refusal {
-    /// The form that the text was taken for: of the empty text a local path.
+    /// The form that the text was read as. For the empty text it is the local path.
     pub form: UrlKind,
     /// The reason.
     pub reason: Reason,
-    /// How many bytes of the text are before the flaw.
+    /// The number of bytes of the text before the flaw.
     pub at: usize,
-    /// The length of the flaw, in bytes. It is 0 where something is missing.
+    /// The length of the flaw, in bytes. It is 0 if something is missing.
     pub len: usize,
 }
 
 impl Refusal {
-    /// The refusal of a text that was taken for this form.
+    /// The refusal of a text that was read as this form.
     pub(crate) fn new(form: UrlKind, place: Place) -> Refusal
         ensures { result ≡ spec.refusal_of form place }
     {
@@ -45,8 +45,7 @@ impl Refusal {
         }
     }
 
-    /// What is wrong with the URL, or with the host of the scp form: none where the error is another one than
-    /// `BadUrl`.
+    /// The fault of the URL, or of the host of the scp form: `None` if the error isn't `BadUrl`.
     ///
     /// ```
     /// fn has_no_host(refusal: &Refusal) -> bool {

@@ -1,4 +1,4 @@
-//! What is wrong with the scp form, in which nothing is escaped.
+//! The flaw of the scp form, in which nothing is escaped.
 
 ghost use Rattle.std.specs.Prelude.{◌≡◌, ◌<◌, IsUtf8, false, length};
 ghost use Rattle.git_syntax.specs.Bytes.{FreeOf, at_sign, begins_with, left_bracket};
@@ -16,7 +16,7 @@ use crate::url::white_space;
 use git_syntax::bytes::{after, cut, is_free_of, last_cut};
 use git_syntax::text::as_text;
 
-/// What is wrong with the scp form.
+/// The flaw of the scp form.
 pub(crate) fn bad_scp(text: &[u8], front: &[u8], path: &[u8]) -> Option<Place>
     requires { PlainScp text.now front.now path.now }
     ensures { Checks text.now (BadScp text.now front.now path.now) (IsScp text.now) result }
@@ -30,7 +30,7 @@ pub(crate) fn bad_scp(text: &[u8], front: &[u8], path: &[u8]) -> Option<Place>
     bad_front(front)
 }
 
-/// The end of the text, where a path is missing.
+/// The end of the text, which lacks a path.
 fn no_path(text: &[u8]) -> Place
     ensures { Stands Reason.ScpPathMissing (length text.now) 0 result }
 {
@@ -41,7 +41,7 @@ fn no_path(text: &[u8]) -> Place
     }
 }
 
-/// What is wrong with the form `user@[address]:path`.
+/// The flaw of the form `user@[address]:path`.
 pub(crate) fn bad_addressed(text: &[u8], user: &[u8], address: &[u8], path: &[u8]) -> Option<Place>
     requires { AddressedForm text.now user.now address.now path.now }
     ensures { Checks text.now (BadAddressed text.now path.now) (IsAddressedScp text.now) result }
@@ -55,7 +55,7 @@ pub(crate) fn bad_addressed(text: &[u8], user: &[u8], address: &[u8], path: &[u8
     None
 }
 
-/// What is wrong with the front of the scp form: with the host behind its last `@`, or with the whole.
+/// The flaw of the front of the scp form: of the host after its last `@`, or of the whole front.
 fn bad_front(front: &[u8]) -> Option<Place>
     requires text { IsUtf8 front.now }
     requires colons { ColonsInside front.now }
@@ -72,7 +72,7 @@ fn bad_front(front: &[u8]) -> Option<Place>
     })
 }
 
-/// What is wrong with the host of the scp form.
+/// The flaw of the host of the scp form.
 fn bad_host(host: &[u8]) -> Option<Place>
     requires text { IsUtf8 host.now }
     requires no_at { FreeOf at_sign host.now }
@@ -95,7 +95,7 @@ fn bad_host(host: &[u8]) -> Option<Place>
     bad_name(host)
 }
 
-/// What is wrong with the brackets of a host, or with what is in a port's place.
+/// The flaw of the brackets of a host, or of the text in a port's place.
 fn bad_name(host: &[u8]) -> Option<Place>
     requires some { 0 < length host.now }
     requires text { IsUtf8 host.now }
@@ -122,7 +122,7 @@ fn bad_name(host: &[u8]) -> Option<Place>
     bad_port(host)
 }
 
-/// What is in the place of the port of a host without a bracket in front: the scp form has none.
+/// The text in the place of a port, after a host that doesn't begin with a bracket. The scp form has no port.
 fn bad_port(host: &[u8]) -> Option<Place>
     requires some { 0 < length host.now }
     requires open_front { begins_with left_bracket host.now ≡ false }

@@ -1,4 +1,4 @@
-//! What is wrong with a URL: its length, a character anywhere in it, its scheme, its path or its authority.
+//! The flaw of a URL: its length, a character anywhere in it, its scheme, its path or its authority.
 
 ghost use Rattle.std.specs.Prelude.{◌≡◌, ◌+◌, ◌≤◌, IfSome, IsUtf8, MatchOption, codes, length, true};
 ghost use Rattle.git_syntax.specs.Authority.{Fits};
@@ -22,7 +22,7 @@ use git_syntax::length::fits;
 use git_syntax::rules::{Rules, rules_of};
 use git_syntax::text::as_text;
 
-/// What is wrong with a URL that is no file URL.
+/// The flaw of a URL that isn't a file URL.
 pub(crate) fn bad_url(text: &[u8], scheme: &[u8], rest: &[u8]) -> Option<Place>
     requires { OtherUrlForm text.now scheme.now rest.now }
     ensures { Checks text.now (BadUrl text.now scheme.now rest.now) (IsUrl text.now) result }
@@ -46,7 +46,7 @@ pub(crate) fn bad_url(text: &[u8], scheme: &[u8], rest: &[u8]) -> Option<Place>
     bad_rest(text, rules, scheme, rest)
 }
 
-/// The scheme that is too long, or what follows `://`.
+/// The scheme, or the text after `://`, if it is too long.
 fn too_long(web: bool, scheme: &[u8], rest: &[u8]) -> Option<Place>
     requires { web ≡ is_web_scheme scheme.now }
     ensures found { MatchOption result (Fits scheme.now rest.now) (λ p. TooLong scheme.now rest.now p) }
@@ -77,7 +77,7 @@ pub(crate) fn white_space(reason: Reason, text: &str) -> Option<Place>
     Some(Place { reason, at, len })
 }
 
-/// The first `%` that begins no escape.
+/// The first `%` that doesn't begin an escape.
 fn unsound(text: &[u8]) -> Option<Place>
     ensures { Checks text.now (HasBrokenEscape text.now) (spec.is_sound text.now ≡ true) result }
 {
@@ -91,7 +91,7 @@ fn unsound(text: &[u8]) -> Option<Place>
     })
 }
 
-/// What is wrong with what is to be a scheme.
+/// The flaw of the text in a scheme's place.
 fn bad_scheme(scheme: &str) -> Option<Place>
     ensures { Checks scheme.now (BadScheme scheme.now) (IsScheme scheme.now) result }
 {
@@ -118,7 +118,7 @@ fn bad_scheme(scheme: &str) -> Option<Place>
     })
 }
 
-/// What is wrong behind the scheme: the path, then the authority, then that there is no path.
+/// The flaw after the scheme: of the path, then of the authority, then the missing path.
 fn bad_rest(text: &[u8], rules: Rules, scheme: &[u8], rest: &[u8]) -> Option<Place>
     requires form { OtherUrlForm text.now scheme.now rest.now }
     requires utf8 { IsUtf8 text.now }
@@ -151,7 +151,7 @@ fn bad_rest(text: &[u8], rules: Rules, scheme: &[u8], rest: &[u8]) -> Option<Pla
     None
 }
 
-/// What is wrong with a file URL.
+/// The flaw of a file URL.
 pub(crate) fn bad_file(text: &[u8], rest: &[u8]) -> Option<Place>
     requires { UrlForm text.now (codes "file") rest.now }
     ensures { Checks text.now (BadFile text.now rest.now) (IsFileUrl text.now) result }

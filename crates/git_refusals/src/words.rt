@@ -7,7 +7,7 @@ use crate::reason::Reason;
 use std::fmt;
 
 impl Reason {
-    /// The name of the reason, as programs show it to programs.
+    /// The name of the reason, for output that programs read.
     ///
     /// ```
     /// fn is_listed(reason: Reason, name: &str) -> bool {
@@ -49,7 +49,7 @@ impl Reason {
         }
     }
 
-    /// The reason in one sentence, which holds no byte of the text.
+    /// The reason in one sentence, without a byte of the text.
     ///
     /// ```
     /// fn are_long(reason: Reason) -> bool {
@@ -106,7 +106,7 @@ impl fmt::Display for Reason {
 
     ghost styled_output = { λ reason _. Some (reason_words reason) };
 
-    /// Shows the reason in one sentence.
+    /// Writes the reason in one sentence.
     fn fmt<W: fmt::Write>(&self, f: &mut fmt::Formatter<W>) -> fmt::Result {
         f.write_str(self.words())
     }

@@ -1,5 +1,5 @@
--- How Git cuts a command line into words (`split_cmdline` in `alias.c` of Git 2.39.5), and the name of a
--- program (`basename` of POSIX).
+-- How Git splits a command line into words (`split_cmdline` in `alias.c` of Git 2.39.5), and the name of a program
+-- (`basename` of POSIX).
 use Rattle.std.specs.Prelude.{ℕ, Bool, not, ◌==◌, List, [], ◌∷◌, Option, Some, None, option_map, reverse, if◌then◌else◌}
 use Rattle.std.specs.List.{take_while}
 use Rattle.git_syntax.specs.Bytes.{tab, newline, space, slash, backslash, is_one_of}
@@ -13,12 +13,12 @@ carriage_return = 13
 abbrev pub double_quote : ℕ
 double_quote = 34
 
--- the byte is between two words, outside of quotes
+-- the byte separates two words, outside of quotes
 abbrev pub is_gap : ℕ → Bool
 is_gap b = is_one_of (tab ∷ newline ∷ carriage_return ∷ space ∷ []) b
 
--- where Git is in a command line: between words, in a word outside of quotes, in quotes of either kind, or
--- behind a backslash outside of quotes or in double ones
+-- the state of Git in a command line: between words, in a word outside of quotes, in single or double quotes, or
+-- after a backslash outside of quotes or in double ones
 pub data Spot : Type 0 where
   between : Spot
   bare : Spot
@@ -32,7 +32,7 @@ pub record LineWords : Type 0 where
   pub first : List ℕ
   pub others : List (List ℕ)
 
--- one word, which is empty
+-- one empty word
 abbrev pub empty_word : LineWords
 empty_word = record { first = []; others = [] }
 
@@ -40,20 +40,19 @@ empty_word = record { first = []; others = [] }
 abbrev pub with_byte : ℕ → Option LineWords → Option LineWords
 with_byte b words = option_map (λ w. record { first = b ∷ w.first; others = w.others }) words
 
--- the words, behind one that ends here
+-- the words, after one that ends here
 abbrev pub after_end : Option LineWords → Option LineWords
 after_end words = option_map (λ w. record { first = []; others = w.first ∷ w.others }) words
 
--- a byte of a word, outside of quotes: quotes open, `\` is before a byte that is itself, and any other is
--- itself
+-- a byte of a word outside of quotes: a quote opens, `\` escapes the next byte, and any other byte is literal
 abbrev pub in_bare : ℕ → (Spot → Option LineWords) → Option LineWords
 in_bare b rest =
     if b == single_quote then rest single
     else (if b == double_quote then rest double
     else (if b == backslash then rest escaped else with_byte b (rest bare)))
 
--- the words of the rest of a command line, where it is read from such a spot; the first of them is the rest
--- of the word that the spot is in. None where a quote isn't closed, or a `\` is the last byte
+-- the words of the rest of a command line, read from this spot; the first of them is the rest of the word at the
+-- spot. None if a quote isn't closed or a `\` is the last byte
 abbrev pub line_words_from : Spot → List ℕ → Option LineWords
 line_words_from between [] = Some empty_word
 line_words_from bare [] = Some empty_word
@@ -74,8 +73,7 @@ line_words_from double (b ∷ bs) =
 line_words_from escaped (b ∷ bs) = with_byte b (line_words_from bare bs)
 line_words_from escaped_in_double (b ∷ bs) = with_byte b (line_words_from double bs)
 
--- the first word of a command line, which is empty where white space begins it; none where Git can't cut the
--- line
+-- the first word of a command line, empty if white space begins the line; none if Git can't split the line
 abbrev pub first_word : List ℕ → Option (List ℕ)
 first_word line = option_map (λ w. w.first) (line_words_from bare line)
 
@@ -83,13 +81,12 @@ first_word line = option_map (λ w. w.first) (line_words_from bare line)
 abbrev pub is_no_slash : ℕ → Bool
 is_no_slash b = not (b == slash)
 
--- the last name of a path, where both are read from their last byte to their first: slashes at the end of the
--- path don't count, and the name goes back to the next one
+-- the last name of a path, both from their last byte to their first: slashes at the end of the path are skipped,
+-- and the name extends to the next one
 abbrev pub name_back : List ℕ → List ℕ
 name_back [] = []
 name_back (b ∷ bs) = if b == slash then name_back bs else b ∷ take_while is_no_slash bs
 
--- the last name of a path; empty where the path has none, being empty or all slashes, for which `basename`
--- has `.` and `/`
+-- the last name of a path; empty if the path is empty or all slashes, for which `basename` returns `.` and `/`
 abbrev pub base_name : List ℕ → List ℕ
 base_name path = reverse (name_back (reverse path))

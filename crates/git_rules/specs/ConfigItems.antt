@@ -1,4 +1,4 @@
--- What is read of a configuration: its entries in turn, and what isn't one.
+-- Reading a configuration: its entries in turn, and its errors.
 use Rattle.std.specs.Prelude.{◌≡◌, ℕ, ◌+◌, ◌⊎◌, List, [], ◌∷◌, ◌++◌, Option, Some, None, Result, Ok, Err, MatchOption, All, length, option_map}
 use Rattle.std.specs.Borrow.{Bor}
 use Rattle.git_syntax.specs.Bytes.{FreeOf, dot, newline}
@@ -6,50 +6,50 @@ use Rattle.git_rules.specs.Config.{ConfigEntry, SpellsEntry, SpellsKey, name_tex
 use Rattle.git_rules.specs.declared.config.EntryError.{EntryError}
 use Rattle.git_rules.specs.declared.config.EntryError.TheVariants.{NoKey, NoEnd}
 
--- what is read at a place: an entry, or why there is none
+-- one item of a configuration: an entry, or an error
 abbrev pub Item : Type 0
 Item = Result ConfigEntry EntryError
 
--- what is left of a text, and at which byte of the text it begins
+-- the rest of a text, and the byte offset at which it begins
 pub record Place : Type 0 where
   pub rest : List ℕ
   pub at : ℕ
 
--- the first place of a text
+-- the start of a text
 abbrev pub start : List ℕ → Place
 start text = record { rest = text; at = 0 }
 
--- the key of a line, and the value behind it
+-- the key of a line, and the value after it
 abbrev pub CutsValue : List ℕ → Bor (List ℕ) × Option (Bor (List ℕ)) → Type 0
 CutsValue line p = FreeOf newline p.0.now × (line ≡ p.0.now ++ value_text (option_map (λ t. t.now) p.1))
 
--- the subsection and the name behind the first dot of a key
+-- the subsection and the name after the first dot of a key
 abbrev pub CutsName : List ℕ → Option (Bor (List ℕ)) × Bor (List ℕ) → Type 0
 CutsName behind p = FreeOf dot p.1.now × (behind ≡ name_text (option_map (λ t. t.now) p.0) p.1.now)
 
--- the parts of a key, or none where nothing spells it
+-- the parts of a key, or none if nothing spells it
 abbrev pub CutsKey : List ℕ → Option (Bor (List ℕ) × Option (Bor (List ℕ)) × Bor (List ℕ)) → Type 0
 CutsKey key found = MatchOption found
     ((s : List ℕ) (sub : Option (List ℕ)) (n : List ℕ) → ¬ SpellsKey key s sub n)
     (λ p. SpellsKey key p.0.now (option_map (λ t. t.now) p.1) p.2.now)
 
--- what a line that begins at a byte means: the entry that it spells, or none where it spells none
+-- the meaning of a line that begins at a byte: the entry that it spells, or an error if it spells none
 abbrev pub MeansItem : ℕ → List ℕ → Item → Type 0
 MeansItem at line (Ok e) = SpellsEntry line e × (e.at ≡ at)
 MeansItem at line (Err (NoKey place)) = (place ≡ at) × ((e : ConfigEntry) → ¬ SpellsEntry line e)
 MeansItem at line (Err (NoEnd place)) = ⊥
 
--- the line up to the first byte 0 means the item, and what follows that byte is left
+-- the line up to the first byte 0 means the item, and the text after that byte remains
 abbrev pub ReadsLine : Place → Item → Place → Type 0
 ReadsLine from item next = (line : List ℕ) × FreeOf 0 line × (from.rest ≡ line ++ 0 ∷ next.rest)
     × (next.at ≡ from.at + length line + 1) × MeansItem from.at line item
 
--- there is no byte 0, so what there is has no end, and nothing is left
+-- there is no byte 0, so the rest has no end, and nothing remains
 abbrev pub ReadsNoEnd : Place → Item → Place → Type 0
 ReadsNoEnd from item next = FreeOf 0 from.rest × (¬ (from.rest ≡ [])) × (item ≡ Err (NoEnd from.at))
     × (next.rest ≡ []) × (next.at ≡ from.at + length from.rest)
 
--- the item at a place, and the place behind it
+-- the item at a place, and the next place
 abbrev pub ReadsItem : Place → Item → Place → Type 0
 ReadsItem from item next = ReadsLine from item next ⊎ ReadsNoEnd from item next
 
@@ -68,25 +68,25 @@ entries_of (Err _ ∷ items) = entries_of items
 abbrev pub HasEntries : List ℕ → List ConfigEntry → Type 0
 HasEntries text found = (items : List Item) × ReadsItems (start text) items × (found ≡ entries_of items)
 
--- what a step of a reader gives: nothing at the end, else the item at its place
+-- one step of a reader: nothing at the end, otherwise the item at its place
 abbrev pub GivesItem : Place → Option Item → Place → Type 0
 GivesItem from None next = (from.rest ≡ []) × (next ≡ from)
 GivesItem from (Some item) next = ReadsItem from item next
 
--- the item isn't a line whose key has no section or no name
+-- the item isn't an error for a key without a section or a name
 abbrev pub HasKey : Item → Type 0
 HasKey (Ok e) = Unit {0}
 HasKey (Err (NoKey at)) = ⊥
 HasKey (Err (NoEnd at)) = Unit {0}
 
--- each line of the text has its key
+-- each line of the text has a key with a section and a name
 abbrev pub HasKeys : List ℕ → Type 0
 HasKeys text = (items : List Item) × ReadsItems (start text) items × All HasKey items
 
--- the text is empty, or a byte 0 is in it
+-- the text is empty or contains a byte 0
 abbrev pub IsEnded : List ℕ → Type 0
 IsEnded text = (text ≡ []) ⊎ ¬ FreeOf 0 text
 
--- the text may be what `git config --list -z` writes
+-- the text is empty or contains a byte 0, and each line that a byte 0 ends has a key with a section and a name
 abbrev pub IsListing : List ℕ → Type 0
 IsListing text = IsEnded text × HasKeys text

@@ -3,7 +3,7 @@ use Rattle.std.specs.Prelude.{option_map}
 use Rattle.git_rules.specs.declared.config.Entry.TheInside.{Inside}
 use Rattle.git_rules.specs.Config.{ConfigEntry}
 
--- what contracts see of an `Entry`
+-- the view of an `Entry`
 abbrev pub config_entry : Inside → ConfigEntry
 config_entry e = record {
   section = e.section.now;

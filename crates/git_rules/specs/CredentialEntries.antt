@@ -1,4 +1,4 @@
--- The entries of `credential.*` that apply to a request, as Git goes through them.
+-- The entries of `credential.*` that apply to a request, in the order in which Git reads them.
 use Rattle.std.specs.Prelude.{◌≡◌, ℕ, Bool, true, false, not, ◌&&◌, ◌⊎◌, ◌↔◌, IsTrue, List, [], ◌∷◌, ◌++◌, codes, length, Option, Some, None, if◌then◌else◌}
 use Rattle.git_reads.specs.Credentials.{CredentialReading}
 use Rattle.git_rules.specs.Config.{ConfigEntry, has_name, is_of_section}
@@ -7,8 +7,7 @@ use Rattle.git_rules.specs.Patterns.{Matches}
 use Rattle.git_rules.specs.CredentialUrls.{credential_url}
 use Rattle.git_rules.specs.PartialUrls.{FitsPartly}
 
--- what Git uses of a configuration: the indices of the helpers, the user, and whether helpers get the path of
--- HTTP
+-- the settings that Git uses: the indices of the helpers, the user, and whether helpers get the path of an HTTP URL
 pub record CredentialUse : Type 0 where
   pub helpers : List ℕ
   pub user : Option (List ℕ)
@@ -16,38 +15,38 @@ pub record CredentialUse : Type 0 where
 
 -- ---- one entry
 
--- the one normal form of a text, or that it has none
+-- the only normal form of a text, or that it has none
 abbrev pub IsFormOf : Bool → List ℕ → Option NormalPlace → Type 0
 IsFormOf globs t None = (n : NormalPlace) → ¬ IsNormalOf globs t n
 IsFormOf globs t (Some n) = IsNormalOf globs t n
 
--- the pattern stands for the place, if there is one
+-- the pattern matches the place; false if there is no place
 abbrev pub MatchesForm : NormalPlace → Option NormalPlace → Type 0
 MatchesForm pattern None = ⊥
 MatchesForm pattern (Some place) = Matches pattern place
 
--- the URL is a pattern that stands for the place
+-- the URL is a pattern that matches the place
 abbrev pub MatchesUrl : List ℕ → Option NormalPlace → Type 0
 MatchesUrl url place = (pattern : NormalPlace) × IsNormalOf true url pattern × MatchesForm pattern place
 
--- the URL has no normal form; or it has one, and whether that stands for the place
+-- the URL has no normal form, or it has one, which matches the place or not
 abbrev pub DecidesUrl : List ℕ → Option NormalPlace → Option Bool → Type 0
 DecidesUrl url place None = IsFormOf true url None
 DecidesUrl url place (Some matches) = (pattern : NormalPlace) × IsNormalOf true url pattern
     × (IsTrue matches ↔ MatchesForm pattern place)
 
--- the URL is a pattern that stands for the one that Git writes of the request
+-- the URL is a pattern that matches the URL that Git writes for the request
 abbrev pub FitsPattern : List ℕ → CredentialReading → Type 0
 FitsPattern url r = (place : Option NormalPlace) × IsFormOf false (credential_url r) place
     × MatchesUrl url place
 
--- a subsection fits the request and the user that Git has: there is none, or it stands for the request as a
--- pattern, or it has no normal form and the request has the parts that are read in it
+-- a subsection fits the request and the user that Git uses: it is missing, or matches the request as a pattern, or
+-- has no normal form and the request has the parts that Git reads in it
 abbrev pub FitsSubsection : Option (List ℕ) → CredentialReading → Option (List ℕ) → Type 0
 FitsSubsection None r user = Unit {0}
 FitsSubsection (Some url) r user = FitsPattern url r ⊎ (IsFormOf true url None × FitsPartly url r user)
 
--- an entry of `credential.*` applies to the request, with the user that Git has
+-- an entry of `credential.*` applies to the request, with the user that Git uses
 abbrev pub AppliesTo : CredentialReading → Option (List ℕ) → ConfigEntry → Type 0
 AppliesTo r user e = (is_of_section (codes "credential") e ≡ true) × FitsSubsection e.subsection r user
 
@@ -68,7 +67,7 @@ abbrev pub ChangesUser : CredentialReading → ConfigEntry → Option (List ℕ)
 ChangesUser r e user next = (AppliesTo r user e × (next ≡ user_after r.user e user))
     ⊎ ((¬ AppliesTo r user e) × (next ≡ user))
 
--- the user before and after entries, one after the other
+-- the user before and after a list of entries
 abbrev pub UserThrough : CredentialReading → List ConfigEntry → Option (List ℕ) → Option (List ℕ) → Type 0
 UserThrough r [] user last = last ≡ user
 UserThrough r (e ∷ rest) user last = (next : Option (List ℕ)) × ChangesUser r e user next
@@ -76,7 +75,7 @@ UserThrough r (e ∷ rest) user last = (next : Option (List ℕ)) × ChangesUser
 
 -- ---- entries in a list
 
--- the entry at this index applies, with the user that Git has after those before it
+-- the entry at this index applies, with the user that Git uses after the entries before it
 pub record AppliesAt (r : CredentialReading) (entries : List ConfigEntry) (i : ℕ)
     (e : ConfigEntry) : Type 0 where
   pub before : List ConfigEntry

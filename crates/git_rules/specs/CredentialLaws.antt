@@ -1,11 +1,11 @@
--- The law on what Git's credential code uses.
+-- The laws on the settings of Git's credential code.
 use Rattle.std.specs.Prelude.{◌≡◌, ℕ, List, Contains}
 use Rattle.git_reads.specs.Credentials.{CredentialReading}
 use Rattle.git_rules.specs.Config.{ConfigEntry}
 use Rattle.git_rules.specs.CredentialEntries.{AppliesAt, CredentialUse}
 use Rattle.git_rules.specs.Credentials.{AreCredentials}
 
--- a request and entries determine what is used
+-- a request and entries determine the settings
 abbrev pub OneUse : Type 0
 OneUse = (r : CredentialReading) (entries : List ConfigEntry) (a b : CredentialUse)
     → AreCredentials r entries a → AreCredentials r entries b → a ≡ b

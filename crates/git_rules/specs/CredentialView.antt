@@ -3,7 +3,7 @@ use Rattle.std.specs.Prelude.{option_map}
 use Rattle.git_rules.specs.declared.credentials.Credentials.TheInside.{Inside}
 use Rattle.git_rules.specs.CredentialEntries.{CredentialUse}
 
--- what contracts see of `Credentials`
+-- the view of `Credentials`
 abbrev pub credential_use : Inside → CredentialUse
 credential_use c = record {
   helpers = c.helpers.items;

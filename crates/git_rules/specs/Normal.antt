@@ -10,8 +10,8 @@ use Rattle.git_syntax.specs.Grammar.{or_root}
 use Rattle.git_syntax.specs.Hosts.{Number}
 use Rattle.git_syntax.specs.Hosts.HostSyntax.{http_hosts}
 
--- a URL in its normal form, as far as it is compared: no port is the scheme's own one or none, and the path
--- has its query and its fragment
+-- a URL in its normal form, as far as Git compares it: a missing port means the scheme's default port, and the path
+-- includes the query and the fragment
 pub record NormalPlace : Type 0 where
   pub scheme : List ℕ
   pub user : Option (List ℕ)
@@ -21,24 +21,24 @@ pub record NormalPlace : Type 0 where
 
 -- ---- escapes
 
--- a printable byte that is always written as an escape
+-- a printable byte that is always escaped
 abbrev pub is_unsafe_mark : ℕ → Bool
 is_unsafe_mark b = is_one_of (codes "<>\"%{}|\\^`") b
 
--- a byte that is always written as an escape: a control, the space, one past ASCII, or such a mark
+-- a byte that is always escaped: a control, the space, a byte outside ASCII, or one of the marks
 abbrev pub is_unsafe : ℕ → Bool
 is_unsafe b = nat_le b space || (nat_le delete b || is_unsafe_mark b)
 
--- a delimiter of parts of a component (RFC 3986, `sub-delims`)
+-- a sub-delimiter (RFC 3986, `sub-delims`)
 abbrev pub is_sub_delimiter : ℕ → Bool
 is_sub_delimiter b = is_one_of (codes "!$&'()*+,;=") b
 
--- a delimiter (RFC 3986, `reserved`), whose escape stays one
+-- a delimiter (RFC 3986, `reserved`), which stays escaped if it was escaped
 abbrev pub is_reserved : ℕ → Bool
 is_reserved b = is_one_of (codes ":/?#[]@") b || is_sub_delimiter b
 
--- what a byte becomes, which may have come as an escape: an escape where it is unsafe, or a delimiter that
--- came as one
+-- the normal form of a byte, which may have been escaped: an escape if it is unsafe, or if it is an escaped
+-- delimiter
 abbrev pub normal_byte : Bool → ℕ → List ℕ
 normal_byte escaped b = if is_unsafe b || (escaped && is_reserved b) then percent_encode_byte b else b ∷ []
 
@@ -46,7 +46,7 @@ normal_byte escaped b = if is_unsafe b || (escaped && is_reserved b) then percen
 abbrev pub escaped_byte : ℕ → ℕ → ℕ
 escaped_byte high low = digit_value high * 16 + digit_value low
 
--- a text whose escapes are sound, with each byte and each escape in its normal form
+-- the normal form of a text with well-formed escapes: that of each byte and each escape
 unfoldable pub normal_text : List ℕ → List ℕ
 normal_text [] = []
 normal_text (b ∷ []) = normal_byte false b
@@ -57,7 +57,7 @@ normal_text (b ∷ high ∷ low ∷ rest) =
 
 -- ---- user information
 
--- the user of the user information: what precedes its first `:`, or all of it
+-- the user in the user information: the text before its first `:`, or all of it
 abbrev pub IsUserOf : List ℕ → List ℕ → Type 0
 IsUserOf info user = (FreeOf colon info × (user ≡ info))
     ⊎ ((password : List ℕ) × FreeOf colon user × (info ≡ user ++ colon ∷ password))
@@ -72,11 +72,11 @@ asterisk = 42
 abbrev pub is_host_mark : ℕ → Bool
 is_host_mark b = is_one_of (codes ".-_[:]") b
 
--- a byte of a host; where stars are allowed, `*` is one
+-- a byte of a host; `globs` allows `*`
 abbrev pub is_host_byte : Bool → ℕ → Bool
 is_host_byte globs b = is_ascii_alphanumeric b || (is_host_mark b || (globs && b == asterisk))
 
--- a text is cut into a name and the text of a port at its last `:`, if no `]` follows that
+-- the text is split into a name and the text of a port at its last `:`, if no `]` follows that
 pub data CutsPort (text : List ℕ) (name : List ℕ) (port : List ℕ) : Type 0 where
   no_colon : FreeOf colon text → name ≡ text → port ≡ [] → CutsPort text name port
   in_brackets : (front : List ℕ) (back : List ℕ) → text ≡ front ++ colon ∷ back → FreeOf colon back
@@ -84,19 +84,19 @@ pub data CutsPort (text : List ℕ) (name : List ℕ) (port : List ℕ) : Type 0
   at_colon : text ≡ name ++ colon ∷ port → FreeOf colon port → FreeOf right_bracket port
       → CutsPort text name port
 
--- no host begins the text: it is empty or begins with `:`
+-- the text begins without a host: it is empty or begins with `:`
 abbrev pub lacks_host : List ℕ → Bool
 lacks_host [] = true
 lacks_host (b ∷ bs) = b == colon
 
--- the host in lower case. It may be missing in a URL of `file` alone, without a port, and what precedes a
--- last colon then doesn't count
+-- the host in lower case. Only a `file` URL without a port may omit it; the text before a last colon is then
+-- ignored
 pub data HostFor (scheme : List ℕ) (text : List ℕ) (name : List ℕ) (port : List ℕ) (host : List ℕ) : Type 0 where
   named : lacks_host text ≡ false → host ≡ lowercase name → HostFor scheme text name port host
   missing : lacks_host text ≡ true → scheme ≡ codes "file" → port ≡ [] → host ≡ []
       → HostFor scheme text name port host
 
--- the port is the scheme's own one
+-- the port is the scheme's default port
 abbrev pub is_own_port : List ℕ → ℕ → Bool
 is_own_port scheme port = (bytes_eq scheme (codes "http") && port == 80)
     || (bytes_eq scheme (codes "https") && port == 443)
@@ -106,7 +106,7 @@ abbrev pub PortFor : List ℕ → List ℕ → Option ℕ → Type 0
 PortFor scheme text port = ((text ≡ []) × (port ≡ None))
     ⊎ ((p : ℕ) × Number http_hosts text p × (port ≡ (if is_own_port scheme p then None else Some p)))
 
--- the text is a host and perhaps a port
+-- the text is a host and an optional port
 pub record HostPort (globs : Bool) (scheme text host : List ℕ) (port : Option ℕ) : Type 0 where
   pub name : List ℕ
   pub digits : List ℕ
@@ -115,7 +115,7 @@ pub record HostPort (globs : Bool) (scheme text host : List ℕ) (port : Option 
   pub host_form : HostFor scheme text name digits host
   pub port_form : PortFor scheme digits port
 
--- the text is an authority: a host and perhaps a port, behind the user information that ends at the first `@`
+-- the text is an authority: optional user information that ends at the first `@`, then a host and an optional port
 pub data NormalAuthority (globs : Bool) (scheme : List ℕ) (text : List ℕ) (user : Option (List ℕ)) (host : List ℕ)
     (port : Option ℕ) : Type 0 where
   alone : FreeOf at_sign text → user ≡ None → HostPort globs scheme text host port
@@ -127,7 +127,7 @@ pub data NormalAuthority (globs : Bool) (scheme : List ℕ) (text : List ℕ) (u
 
 -- ---- paths
 
--- a stack of segments, the last on top, as a path: each behind a `/`
+-- a stack of segments, the last on top, as a path: each after a `/`
 abbrev pub stacked_path : List (List ℕ) → List ℕ
 stacked_path [] = []
 stacked_path (top ∷ below) = stacked_path below ++ slash ∷ top
@@ -137,23 +137,22 @@ abbrev pub without_top : List (List ℕ) → Option (List (List ℕ))
 without_top [] = None
 without_top (top ∷ below) = Some below
 
--- a segment is read: `.` leaves the stack as it is, `..` takes its top off, any other goes on top of it
+-- the stack after a segment: `.` leaves it unchanged, `..` pops it, any other segment is pushed
 abbrev pub put_segment : List (List ℕ) → List ℕ → Option (List (List ℕ))
 put_segment stack segment = if bytes_eq segment (codes ".") then Some stack
     else if bytes_eq segment (codes "..") then without_top stack
     else Some (segment ∷ stack)
 
--- the segments are read one after the other, on top of a stack; there is no outcome where a `..` finds none
--- before it
+-- the stack after several segments, in their order; none if a `..` has no segment before it
 abbrev pub put_segments : List (List ℕ) → List (List ℕ) → Option (List (List ℕ))
 put_segments [] stack = Some stack
 put_segments (segment ∷ rest) stack = option_and_then (λ left. put_segments rest left) (put_segment stack segment)
 
--- a query or a fragment begins at the byte
+-- the byte begins a query or a fragment
 abbrev pub is_rest_start : ℕ → Bool
 is_rest_start b = b == question_mark || b == number_sign
 
--- a text without a first `/`
+-- the text without a leading `/`
 abbrev pub unrooted : List ℕ → List ℕ
 unrooted [] = []
 unrooted (b ∷ bs) = if b == slash then bs else b ∷ bs
@@ -162,8 +161,8 @@ unrooted (b ∷ bs) = if b == slash then bs else b ∷ bs
 abbrev pub normal_segments : List ℕ → List (List ℕ)
 normal_segments text = map normal_text (slice_split (λ b. b == slash) text)
 
--- what follows the authority becomes the path: its segments without `.` and `..` behind a `/`, then query and
--- fragment
+-- the path for the text after the authority: its segments without `.` and `..`, each after a `/`, then the query
+-- and the fragment
 pub record NormalPath (behind path : List ℕ) : Type 0 where
   pub segments : List ℕ
   pub rest : List ℕ
@@ -177,14 +176,14 @@ pub record NormalPath (behind path : List ℕ) : Type 0 where
 
 -- ---- URLs
 
--- the text is a URL: a scheme, `://`, an authority, and what follows that from the first `/`, `?` or `#` on
+-- the text is a URL: a scheme, `://`, an authority, and the text from the first `/`, `?` or `#` on
 pub record UrlCut (text scheme authority behind : List ℕ) : Type 0 where
   pub joined : text ≡ scheme ++ (codes "://" ++ (authority ++ behind))
   pub scheme_text : is_scheme_text scheme ≡ true
   pub before_path : Lacks (is_path_start true) authority
   pub path_starts : StartsPath true behind
 
--- the text has the normal form; a host may hold `*` where stars are allowed, as in a pattern
+-- the text has the normal form; `globs` allows `*` in the host, as in a pattern
 pub record IsNormalOf (globs : Bool) (text : List ℕ) (n : NormalPlace) : Type 0 where
   pub scheme : List ℕ
   pub authority : List ℕ

@@ -1,9 +1,9 @@
--- The normal form that a `NormalUrl` stands for.
+-- The normal form that a `NormalUrl` represents.
 use Rattle.std.specs.Prelude.{option_map}
 use Rattle.git_rules.specs.declared.normal.NormalUrl.TheInside.{Inside}
 use Rattle.git_rules.specs.Normal.{NormalPlace}
 
--- the parts of a `NormalUrl`, as plain values
+-- the view of a `NormalUrl`
 abbrev pub normal_place : Inside → NormalPlace
 normal_place n = record {
   scheme = n.scheme.now;

@@ -1,5 +1,5 @@
--- The entries of a configuration that apply to a place, as `http.<url>.proxy` does, and the best of them. Where
--- there is no place, those apply that are for all places.
+-- The entries of a configuration that apply to a place, such as `http.<url>.proxy`, and the best of them. Without a
+-- place only those for all places apply.
 use Rattle.std.specs.Prelude.{◌≡◌, ℕ, true, List, ◌+◌, ◌*◌, ◌<◌, ◌≤◌, length, All, Option, Some, None, IfSome, Result, Ok, Err}
 use Rattle.git_rules.specs.declared.normal.NormalError.{NormalError}
 use Rattle.git_rules.specs.declared.normal.NormalError.TheVariants.{NoRoom}
@@ -12,8 +12,8 @@ use Rattle.git_rules.specs.Patterns.{HasRank, IsBest, RanksFor}
 abbrev pub lowest_rank : Rank
 lowest_rank = record { host = 0; path = 0; user = 0 }
 
--- for all places the lowest rank; for a URL its rank, where there is a place, and the URL has a normal form that
--- stands for it
+-- the rank for a subsection: the lowest without a subsection; for a URL its rank, if it has a normal form that
+-- matches the place
 abbrev pub RanksSubsection : Option NormalPlace → Option (List ℕ) → Rank → Type 0
 RanksSubsection place None rank = rank ≡ lowest_rank
 RanksSubsection None (Some url) rank = ⊥
@@ -25,27 +25,28 @@ abbrev pub RanksEntry : List ℕ → List ℕ → Option NormalPlace → ConfigE
 RanksEntry section name place e rank = (sets section name e ≡ true)
     × RanksSubsection place e.subsection rank
 
--- a room of this length is enough for the URL of the entry, if it sets the variable; without a place no URL is
--- read, so each room is enough
+-- a buffer of this length suffices for the URL of the entry, if it sets the variable; without a place no URL is
+-- read, so any buffer suffices
 abbrev pub HasRoomFor : List ℕ → List ℕ → Option NormalPlace → ℕ → ConfigEntry → Type 0
 HasRoomFor section name None room e = Unit {0}
 HasRoomFor section name (Some place) room e = (sets section name e ≡ true)
     → IfSome e.subsection (λ url. 3 * length url + 1 ≤ room)
 
--- the rank of an entry, or that the room is too short for it
+-- the result is the rank of an entry, `None` if it has none, or an error if the buffer is too short for it
 abbrev pub RanksIn : List ℕ → List ℕ → Option NormalPlace → ℕ → ConfigEntry
     → Result (Option Rank) NormalError → Type 0
 RanksIn section name place room e (Ok rank) = HasRank (RanksEntry section name place) e rank
 RanksIn section name place room e (Err error) = (error ≡ NoRoom) × ¬ HasRoomFor section name place room e
 
--- the index of the best entry, or that the room is too short for one of them
+-- the result is the index of the best entry, `None` if no entry has a rank, or an error if the buffer is too short
+-- for one of them
 abbrev pub IsBestIn : List ℕ → List ℕ → Option NormalPlace → ℕ → List ConfigEntry
     → Result (Option ℕ) NormalError → Type 0
 IsBestIn section name place room entries (Ok best) = IsBest (RanksEntry section name place) entries best
 IsBestIn section name place room entries (Err error) = (error ≡ NoRoom)
     × ¬ All (HasRoomFor section name place room) entries
 
--- the rank of a URL for a place, or that the room is too short for it
+-- the rank of a URL for a place, or an error if the buffer is too short for it
 abbrev pub RanksUrlIn : NormalPlace → ℕ → List ℕ → Result (Option Rank) NormalError → Type 0
 RanksUrlIn place room url (Ok rank) = HasRank (RanksSubsection (Some place)) (Some url) rank
 RanksUrlIn place room url (Err error) = (error ≡ NoRoom) × (room < 3 * length url + 1)

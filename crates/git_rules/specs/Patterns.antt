@@ -1,4 +1,4 @@
--- Patterns of places, and the best of those that match.
+-- Patterns of places, and the best match.
 use Rattle.std.specs.Prelude.{◌≡◌, ℕ, ◌+◌, ◌<◌, ◌==◌, ◌⊎◌, List, [], ◌∷◌, ◌++◌, length, All, Option, Some, None, is_some, if◌then◌else◌}
 use Rattle.git_syntax.specs.Bytes.{dot, slash}
 use Rattle.git_rules.specs.declared.pattern.Rank.{Rank}
@@ -6,56 +6,56 @@ use Rattle.git_rules.specs.Normal.{NormalPlace, asterisk}
 
 -- ---- hosts
 
--- the byte at the front of the first label, which it makes up where there is none
+-- adds the byte to the front of the first label, or makes it the first label if there is none
 abbrev pub in_first_label : ℕ → List (List ℕ) → List (List ℕ)
 in_first_label b [] = (b ∷ []) ∷ []
 in_first_label b (label ∷ labels) = (b ∷ label) ∷ labels
 
--- the labels of a host: each ends at a `.`, or where the host ends. So `a.b` and `a.b.` have the same two,
--- and `a..b` has an empty one in the middle
+-- the labels of a host: each ends at a `.` or at the end of the host. So `a.b` and `a.b.` have the same two, and
+-- `a..b` has an empty one in the middle
 abbrev pub labels_of : List ℕ → List (List ℕ)
 labels_of [] = []
 labels_of (b ∷ bs) = if b == dot then [] ∷ labels_of bs else in_first_label b (labels_of bs)
 
--- a label of a pattern stands for a label: `*` for any, be it empty, and each other for itself
+-- a label of a pattern matches a label: `*` matches any, even an empty one, and each other only itself
 abbrev pub MatchesLabel : List ℕ → List ℕ → Type 0
 MatchesLabel wanted label = (wanted ≡ asterisk ∷ []) ⊎ (wanted ≡ label)
 
--- each label of a pattern stands for the one at its place, and there are no others
+-- the labels match one by one, and there are equally many
 abbrev pub MatchesLabels : List (List ℕ) → List (List ℕ) → Type 0
 MatchesLabels [] [] = Unit {0}
 MatchesLabels (wanted ∷ more) (label ∷ labels) = MatchesLabel wanted label
     × MatchesLabels more labels
 MatchesLabels _ _ = ⊥
 
--- the host of a pattern stands for the host, label by label
+-- the host of a pattern matches the host, label by label
 abbrev pub MatchesHost : List ℕ → List ℕ → Type 0
 MatchesHost pattern host = MatchesLabels (labels_of pattern) (labels_of host)
 
 -- ---- users and paths
 
--- a pattern without a user asks for none; else the place has that user
+-- a pattern without a user matches every user; otherwise the place has that user
 abbrev pub MatchesUser : Option (List ℕ) → Option (List ℕ) → Type 0
 MatchesUser None user = Unit {0}
 MatchesUser (Some wanted) user = user ≡ Some wanted
 
--- the path without one `/` at its end
+-- the path without one trailing `/`
 abbrev pub without_last_slash : List ℕ → List ℕ
 without_last_slash [] = []
 without_last_slash (b ∷ []) = if b == slash then [] else b ∷ []
 without_last_slash (b ∷ c ∷ bs) = b ∷ without_last_slash (c ∷ bs)
 
--- the front is the path, or is followed by a `/` in it
+-- the path equals `front`, or continues it with a `/`
 abbrev pub IsBelow : List ℕ → List ℕ → Type 0
 IsBelow front path = (path ≡ front) ⊎ ((rest : List ℕ) × (path ≡ front ++ slash ∷ rest))
 
--- the path of a pattern stands for the path itself and for what is below it
+-- the path of a pattern matches the path itself and the paths below it
 abbrev pub MatchesPath : List ℕ → List ℕ → Type 0
 MatchesPath pattern path = IsBelow (without_last_slash pattern) path
 
 -- ---- patterns
 
--- the pattern stands for the place
+-- the pattern matches the place
 pub record Matches (pattern place : NormalPlace) : Type 0 where
   pub scheme : place.scheme ≡ pattern.scheme
   pub port : place.port ≡ pattern.port
@@ -65,7 +65,7 @@ pub record Matches (pattern place : NormalPlace) : Type 0 where
 
 -- ---- the best
 
--- a shorter host; of equal hosts a shorter path; of equal ones too no user where the other asks for one
+-- a shorter host; with equal hosts a shorter path; if these are equal too, no user though the other has one
 abbrev pub IsLower : Rank → Rank → Type 0
 IsLower a b = (a.host < b.host)
     ⊎ ((a.host ≡ b.host) × ((a.path < b.path) ⊎ ((a.path ≡ b.path) × (a.user < b.user))))
@@ -82,7 +82,7 @@ rank_of pattern = record {
 abbrev pub HasNoRank : {T : Type 0} → (T → Rank → Type 0) → T → Type 0
 HasNoRank Ranks t = (k : Rank) → ¬ Ranks t k
 
--- the one rank of an item, or that it has none
+-- the only rank of an item, or that it has none
 abbrev pub HasRank : {T : Type 0} → (T → Rank → Type 0) → T → Option Rank → Type 0
 HasRank Ranks t None = HasNoRank Ranks t
 HasRank Ranks t (Some rank) = Ranks t rank × ((k : Rank) → Ranks t k → k ≡ rank)
@@ -95,8 +95,8 @@ RanksNoHigher Ranks rank t = (k : Rank) → Ranks t k → ¬ IsLower rank k
 abbrev pub RanksLower : {T : Type 0} → (T → Rank → Type 0) → Rank → T → Type 0
 RanksLower Ranks rank t = (k : Rank) → Ranks t k → IsLower k rank
 
--- the item in this place is the best of those that have a rank: none before it has a higher one, and each
--- behind it a lower one
+-- the item at this index is the best of those that have a rank: no earlier item has a higher one, and each later
+-- item a lower one
 pub record IsBestAt {T : Type 0} (Ranks : T → Rank → Type 0) (items : List T) (i : ℕ) : Type 0 where
   pub before : List T
   pub best : T
@@ -108,16 +108,16 @@ pub record IsBestAt {T : Type 0} (Ranks : T → Rank → Type 0) (items : List T
   pub not_higher : All (RanksNoHigher Ranks rank) before
   pub lower : All (RanksLower Ranks rank) behind
 
--- the place of the best item, or that none has a rank
+-- the result is the index of the best item, or `None` if no item has a rank
 abbrev pub IsBest : {T : Type 0} → (T → Rank → Type 0) → List T → Option ℕ → Type 0
 IsBest Ranks items None = All (HasNoRank Ranks) items
 IsBest Ranks items (Some i) = IsBestAt Ranks items i
 
--- a pattern that stands for the place has its rank
+-- the pattern matches the place and has this rank
 abbrev pub RanksFor : NormalPlace → NormalPlace → Rank → Type 0
 RanksFor place pattern rank = Matches pattern place × (rank ≡ rank_of pattern)
 
--- of the best so far and what comes next: that, where it has a rank and that isn't lower
+-- the better of the best so far and the next item: the next one if it has a rank that isn't lower
 abbrev pub IsBetter : Option (ℕ × Rank) → ℕ → Option Rank → Option (ℕ × Rank) → Type 0
 IsBetter best next None r = r ≡ best
 IsBetter None next (Some rank) r = r ≡ Some (next, rank)

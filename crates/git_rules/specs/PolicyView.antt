@@ -3,7 +3,7 @@ use Rattle.std.specs.Prelude.{option_map}
 use Rattle.git_rules.specs.declared.protocols.Protocols.TheInside.{Inside}
 use Rattle.git_rules.specs.Policies.{Policy}
 
--- what contracts see of a `Protocols`
+-- the view of a `Protocols`
 abbrev pub policy : Inside → Policy
 policy p = record {
   entries = p.entries.now;

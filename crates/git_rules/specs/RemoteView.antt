@@ -1,9 +1,9 @@
--- What contracts see of a `Remote`.
+-- The plain values of a `Remote`.
 use Rattle.std.specs.Prelude.{option_map}
 use Rattle.git_rules.specs.declared.remote.Remote.TheInside.{Inside}
 use Rattle.git_rules.specs.Remotes.{GitRemote}
 
--- the plain values of a remote
+-- the view of a `Remote`
 abbrev pub git_remote : Inside → GitRemote
 git_remote r = record {
   urls = r.urls.items;

@@ -15,17 +15,17 @@ push_instead_of = codes "pushinsteadof"
 abbrev pub url_section : List ℕ
 url_section = codes "url"
 
--- a base and a front make a rule; where one of them is missing there is none
+-- the rule of a base and a front; none if one of them is missing
 abbrev pub rule_between : Option (List ℕ) → Option (List ℕ) → List Rule
 rule_between (Some base) (Some front) = record { base = base; front = front } ∷ []
 rule_between (Some base) None = []
 rule_between None front = []
 
--- the rule that an entry is by this name: its subsection is the base, and its value the front
+-- the rule of an entry with this name: its subsection is the base, and its value the front
 abbrev pub entry_rule : List ℕ → ConfigEntry → List Rule
 entry_rule name e = if sets url_section name e then rule_between e.subsection e.value else []
 
--- the rules that entries are by this name, in their order
+-- the rules of entries with this name, in their order
 abbrev pub rules_named : List ℕ → List ConfigEntry → List Rule
 rules_named name [] = []
 rules_named name (e ∷ entries) = entry_rule name e ++ rules_named name entries
@@ -37,24 +37,24 @@ rules_of entries = record {
   pushing = rules_named push_instead_of entries;
 }
 
--- the rules with those of an entry behind them
+-- the rules, with those of an entry appended
 abbrev pub with_entry : Rules → ConfigEntry → Rules
 with_entry rules e = record {
   fetching = rules.fetching ++ entry_rule instead_of e;
   pushing = rules.pushing ++ entry_rule push_instead_of e;
 }
 
--- the entry has a base and one of the two names, and no value: Git stops at it
+-- the entry has a base and one of the two names, and no value: Git stops there
 abbrev pub LacksValue : ConfigEntry → Type 0
 LacksValue e = ((sets url_section instead_of e ≡ true) ⊎ (sets url_section push_instead_of e ≡ true))
     × ((base : List ℕ) × (e.subsection ≡ Some base)) × (e.value ≡ None)
 
--- none of the entries lacks a value
+-- no entry lacks a value
 abbrev pub AllHaveValues : List ConfigEntry → Type 0
 AllHaveValues [] = Unit {0}
 AllHaveValues (e ∷ entries) = (¬ LacksValue e) × AllHaveValues entries
 
--- the first of the entries that lacks a value begins at this byte
+-- the first entry that lacks a value begins at this byte
 abbrev pub FirstLacks : List ConfigEntry → ℕ → Type 0
 FirstLacks entries at = (before : List ConfigEntry) × (e : ConfigEntry) × (others : List ConfigEntry)
     × (entries ≡ before ++ e ∷ others) × AllHaveValues before × LacksValue e × (at ≡ e.at)

@@ -1,4 +1,4 @@
--- What filling `Rewrites` answers.
+-- The results of filling `Rewrites`.
 use Rattle.std.specs.Prelude.{◌≡◌, ℕ, List, Some, None, Result, Ok, Err}
 use Rattle.std.specs.Borrow.{Bor}
 use Rattle.git_rules.specs.Config.{ConfigEntry}
@@ -7,18 +7,18 @@ use Rattle.git_rules.specs.RewriteEntries.{AllHaveValues, FirstLacks, LacksValue
 use Rattle.git_rules.specs.declared.rewrite.RewriteError.{RewriteError}
 use Rattle.git_rules.specs.declared.rewrite.RewriteError.TheVariants.{Memory, NoValue}
 
--- the value of an entry, or that it has none
+-- the value of an entry, or an error if it has none
 abbrev pub HasFront : ConfigEntry → Result (Bor (List ℕ)) RewriteError → Type 0
 HasFront e (Ok front) = e.value ≡ Some front.now
 HasFront e (Err error) = (e.value ≡ None) × (error ≡ NoValue e.at)
 
--- an entry is added, or lacks a value and changes nothing; where memory is refused nothing changes either
+-- the rule of the entry, if it is a rule, is appended; if it lacks a value or an allocation failed, nothing changes
 abbrev pub AddsEntry : ConfigEntry → Rules → Rules → Result (Unit {0}) RewriteError → Type 0
 AddsEntry e old new (Ok _) = (¬ LacksValue e) × (new ≡ with_entry old e)
 AddsEntry e old new (Err (NoValue at)) = LacksValue e × (at ≡ e.at) × (new ≡ old)
 AddsEntry e old new (Err Memory) = new ≡ old
 
--- the rules of the entries, none of which lacks a value; or where the first of them does
+-- the rules of the entries, if each entry of a rule has a value; otherwise the byte offset of the first one without
 abbrev pub IsFilled : List ConfigEntry → Result Rules RewriteError → Type 0
 IsFilled entries (Ok rules) = AllHaveValues entries × (rules ≡ rules_of entries)
 IsFilled entries (Err (NoValue at)) = FirstLacks entries at

@@ -1,4 +1,4 @@
--- What contracts see of `Rewrites`.
+-- The view of `Rewrites`.
 use Rattle.git_rules.specs.declared.rewrite.Rewrites.TheInside.{Inside}
 use Rattle.git_rules.specs.Rewrites.{Rules}
 

@@ -1,4 +1,4 @@
--- Locations that a configuration rewrites: which rule wins, and what it makes of a text.
+-- Locations that a configuration rewrites: which rule wins, and the resulting text.
 use Rattle.std.specs.Prelude.{◌≡◌, ℕ, ◌<◌, ◌⊎◌, Bool, true, false, List, [], ◌∷◌, ◌++◌, Option, Some, None, length, unwrap_or}
 
 -- a rule: a text that begins with its front is rewritten to begin with its base
@@ -11,7 +11,7 @@ pub record Rules : Type 0 where
   pub fetching : List Rule
   pub pushing : List Rule
 
--- what becomes of a text: a base, where a rule wins, and what is left of the text behind that rule's front
+-- the outcome of rewriting a text: a base, if a rule wins, and the text after that rule's front
 pub record Outcome : Type 0 where
   pub base : Option (List ℕ)
   pub rest : List ℕ
@@ -20,15 +20,15 @@ pub record Outcome : Type 0 where
 abbrev pub no_rules : Rules
 no_rules = record { fetching = []; pushing = [] }
 
--- the rules with one more for fetching, behind the others
+-- the rules with one more for fetching, appended
 abbrev pub with_fetching : Rules → Rule → Rules
 with_fetching rules r = record rules { fetching = rules.fetching ++ r ∷ [] }
 
--- the rules with one more for pushing, behind the others
+-- the rules with one more for pushing, appended
 abbrev pub with_pushing : Rules → Rule → Rules
 with_pushing rules r = record rules { pushing = rules.pushing ++ r ∷ [] }
 
--- the text that an outcome stands for
+-- the text of an outcome
 abbrev pub outcome_text : Outcome → List ℕ
 outcome_text o = unwrap_or o.base [] ++ o.rest
 
@@ -46,17 +46,17 @@ LacksBase base (first ∷ others) = (¬ (first.base ≡ base)) × LacksBase base
 abbrev pub Applies : List ℕ → Rule → Type 0
 Applies text r = (rest : List ℕ) × (text ≡ r.front ++ rest)
 
--- a base comes first no later than another: no rule before the first with the one has the other
+-- base `a` comes first no later than base `b`: no rule before the first with `a` has `b`
 abbrev pub ComesNoLater : List Rule → List ℕ → List ℕ → Type 0
 ComesNoLater rules a b = (before : List Rule) × (first : Rule) × (others : List Rule)
     × (rules ≡ before ++ first ∷ others) × (first.base ≡ a) × LacksBase b before
 
--- the rule is preferred to another: its front is longer, or as long and its base comes no later
+-- the rule is preferred to another: its front is longer, or equally long and its base comes no later
 abbrev pub IsPreferred : List Rule → Rule → Rule → Type 0
 IsPreferred rules r s = (length s.front < length r.front)
     ⊎ ((length s.front ≡ length r.front) × ComesNoLater rules r.base s.base)
 
--- the rule wins: it applies to the text, and is preferred to each that does
+-- the rule wins: it applies to the text, and is preferred to every rule that applies
 abbrev pub Wins : List Rule → List ℕ → Rule → Type 0
 Wins rules text r = IsAmong r rules × Applies text r
     × ((s : Rule) → IsAmong s rules → Applies text s → IsPreferred rules r s)
@@ -65,14 +65,14 @@ Wins rules text r = IsAmong r rules × Applies text r
 abbrev pub NoneApplies : List Rule → List ℕ → Type 0
 NoneApplies rules text = (r : Rule) → IsAmong r rules → ¬ Applies text r
 
--- what the rules make of a text: the text itself where none applies, else the base of the rule that wins in
--- place of its front
+-- the outcome for a text: the text itself if no rule applies, otherwise the base of the rule that wins instead of
+-- its front
 abbrev pub IsRewritten : List Rule → List ℕ → Outcome → Type 0
 IsRewritten rules text o = ((o.base ≡ None) × (o.rest ≡ text) × NoneApplies rules text)
     ⊎ ((r : Rule) × Wins rules text r × (o.base ≡ Some r.base) × (text ≡ r.front ++ o.rest))
 
--- what they make of a location to push to: the push URL of a remote is rewritten as for fetching; its URL is
--- rewritten by the rules for pushing where one applies, and as for fetching where none does
+-- the outcome for a text that Git pushes to. A push URL is rewritten as for fetching; a URL is rewritten by the
+-- rules for pushing if one applies, otherwise as for fetching
 abbrev pub IsRewrittenToPush : Rules → Bool → List ℕ → Outcome → Type 0
 IsRewrittenToPush rules true text o = IsRewritten rules.fetching text o
 IsRewrittenToPush rules false text o = ((¬ NoneApplies rules.pushing text) × IsRewritten rules.pushing text o)

@@ -1,4 +1,4 @@
--- What contracts see of the rules of a `Table`.
+-- The view of a `Table`.
 use Rattle.std.specs.Prelude.{List, map}
 use Rattle.git_rules.specs.declared.rewrite.table.Table.TheInside.{Inside}
 use Rattle.git_rules.specs.Rewrites.{Rule}
@@ -8,7 +8,7 @@ use Rattle.git_rules.specs.RuleTable.{NotesFronts, NotesLengths, NotesRanks, rul
 abbrev pub table_rules : Inside → List Rule
 table_rules t = map rule_of t.rules.items
 
--- the rank of each base is noted, the first base of each front, and the length of each front
+-- the records are correct: the rank of each base, the first base of each front, and the length of each front
 abbrev pub IsTable : Inside → Type 0
 IsTable t = NotesRanks (table_rules t) t.ranks × NotesFronts (table_rules t) t.fronts
     × NotesLengths (table_rules t) t.lengths

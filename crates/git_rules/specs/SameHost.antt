@@ -7,15 +7,15 @@ use Rattle.git_syntax.specs.Grammar.{Spells}
 use Rattle.git_location.specs.Readings.{ReadsIn}
 use Rattle.git_location.specs.declared.parse_error.ParseError.{ParseError}
 
--- what names a host: without brackets around it and without a colon alone behind it, in lower case
+-- the name of a host: in lower case, without brackets around it and without a lone colon after it
 abbrev pub host_name : List ℕ → List ℕ
 host_name host = lowercase (ssh_host host)
 
--- both locations have a host, and their hosts have one name; or neither has one
+-- both locations have a host with the same name, or neither has a host
 abbrev pub HaveSameHost : Location → Location → Type 0
 HaveSameHost v w = option_map host_name v.host ≡ option_map host_name w.host
 
--- both texts are read, and it is reported whether they name the same host; or one of them isn't read
+-- both texts are parsed, and the result is whether they name the same host; or one of them can't be parsed
 abbrev pub ComparesHosts : List ℕ → ℕ → List ℕ → ℕ → Result Bool ParseError → Type 0
 ComparesHosts a room b other (Ok same) = (v : Location) × (w : Location) × Spells a v × Spells b w
     × (IsTrue same ↔ HaveSameHost v w)

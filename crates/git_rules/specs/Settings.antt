@@ -1,5 +1,5 @@
--- The entries of `http.*` whose values Git uses for a place: one for most names, and several for two names. Where
--- there is no place, as for a text without a normal form, they are among those that are for all places.
+-- The entries of `http.*` whose values Git uses for a place: one for most names, and several for two names. Without
+-- a place, as for a text without a normal form, only those for all places count.
 use Rattle.std.specs.Prelude.{◌≡◌, ℕ, true, ◌<◌, ◌↔◌, ◌⊎◌, List, [], ◌∷◌, ◌++◌, codes, length, All, Contains, Option, Some, None, option_to_list, Result, Ok, Err}
 use Rattle.std.specs.List.Sorted.{IsStrictlyIncreasing}
 use Rattle.git_rules.specs.declared.pattern.Rank.{Rank}
@@ -15,8 +15,8 @@ use Rattle.git_rules.specs.PatternEntries.{HasRoomFor, RanksEntry}
 
 -- ---- names
 
--- Git adds up the values of `http.extraHeader` and of `http.curloptResolve` (git-config(1)); the letter case
--- of a name doesn't count
+-- the values of `http.extraHeader` and of `http.curloptResolve` accumulate (git-config(1)), ignoring the letter
+-- case of the name
 abbrev pub IsListName : List ℕ → Type 0
 IsListName name = (is_word name (codes "extraheader") ≡ true) ⊎ (is_word name (codes "curloptresolve") ≡ true)
 
@@ -31,8 +31,8 @@ HasKind name kind.List = IsListName name
 abbrev pub RanksSetting : List ℕ → Option NormalPlace → ConfigEntry → Rank → Type 0
 RanksSetting name place e rank = RanksEntry (codes "http") name place e rank
 
--- Git takes the entry at this index: it sets `http.name` for the place, and no entry before it does with a
--- higher rank
+-- Git takes the entry at this index: it sets `http.name` for the place, and no earlier entry sets it with a higher
+-- rank
 pub record IsTakenAt (name : List ℕ) (place : Option NormalPlace) (entries : List ConfigEntry) (i : ℕ) (e : ConfigEntry) : Type 0 where
   pub before : List ConfigEntry
   pub others : List ConfigEntry
@@ -42,23 +42,23 @@ pub record IsTakenAt (name : List ℕ) (place : Option NormalPlace) (entries : L
   pub ranks : RanksSetting name place e rank
   pub not_higher : All (RanksNoHigher (RanksSetting name place) rank) before
 
--- no entry that Git takes after this index has an empty value, which clears what was added up
+-- no entry that Git takes after this index has an empty value, which clears the accumulated ones
 abbrev pub IsNotCleared : List ℕ → Option NormalPlace → List ConfigEntry → ℕ → Type 0
 IsNotCleared name place entries i = (j : ℕ) (e : ConfigEntry)
     → i < j → IsTakenAt name place entries j e → ¬ (e.value ≡ Some [])
 
--- the value of the entry at this index is one of those that Git adds up: Git takes the entry, its value isn't
--- empty, and none after it clears it
+-- the value of the entry at this index is one of the accumulated ones: Git takes the entry, its value isn't empty,
+-- and no later entry clears it
 pub record IsUsedAt (name : List ℕ) (place : Option NormalPlace) (entries : List ConfigEntry) (i : ℕ) : Type 0 where
   pub entry : ConfigEntry
   pub taken : IsTakenAt name place entries i entry
   pub not_empty : ¬ (entry.value ≡ Some [])
   pub not_cleared : IsNotCleared name place entries i
 
--- ---- answers
+-- ---- results
 
--- each entry that Git takes has a value, and these are the indices of those that it uses, each once and in
--- their order
+-- each entry that Git takes has a value, and these are the indices of those that it uses, each once and in their
+-- order
 pub record AreUsed (name : List ℕ) (place : Option NormalPlace) (entries : List ConfigEntry) (found : List ℕ) : Type 0 where
   pub values : (i : ℕ) (e : ConfigEntry) → IsTakenAt name place entries i e → ¬ (e.value ≡ None)
   pub in_order : IsStrictlyIncreasing found
@@ -69,7 +69,7 @@ abbrev pub IsBestAlone : List ℕ → Option NormalPlace → List ConfigEntry �
 IsBestAlone name place entries found = (best : Option ℕ)
     × IsBest (RanksSetting name place) entries best × (found ≡ option_to_list best)
 
--- these are the indices of the entries whose values Git uses: all that count for a list, else the best
+-- these are the indices of the entries whose values Git uses: all that count for a list, otherwise the best
 abbrev pub AreSettings : List ℕ → Option NormalPlace → List ConfigEntry → List ℕ → Type 0
 AreSettings name place entries found = (IsListName name × AreUsed name place entries found)
     ⊎ ((¬ IsListName name) × IsBestAlone name place entries found)
@@ -83,7 +83,8 @@ pub record FirstTakenLacks (name : List ℕ) (place : Option NormalPlace) (entri
   pub begins : at ≡ entry.at
   pub first : (j : ℕ) (e : ConfigEntry) → j < index → IsTakenAt name place entries j e → ¬ (e.value ≡ None)
 
--- the room is too short for the URL of an entry, or an entry of a list has no value; of memory nothing is said
+-- the buffer is too short for the URL of an entry, or an entry of a list has no value; `Memory` says nothing about
+-- the entries
 abbrev pub RefusesSettings : List ℕ → Option NormalPlace → ℕ → List ConfigEntry → SettingsError → Type 0
 RefusesSettings name place room entries Memory = Unit {0}
 RefusesSettings name place room entries NoRoom = ¬ All (HasRoomFor (codes "http") name place room) entries
@@ -96,7 +97,7 @@ RefusesSettings name place room entries (NoValue at) = IsListName name
 abbrev pub IsBestIndex : Option (ℕ × Rank) → ℕ → Type 0
 IsBestIndex best i = (rank : Rank) × (best ≡ Some (i, rank))
 
--- what becomes of a list by the value of an entry at this index
+-- the list before and after the value of an entry at this index
 abbrev pub IsAdded : Option (List ℕ) → ℕ → List ℕ → List ℕ → Type 0
 IsAdded None i old new = ⊥
 IsAdded (Some []) i old new = new ≡ []
@@ -109,7 +110,7 @@ AddsValue e i old new (Err Memory) = Unit {0}
 AddsValue e i old new (Err NoRoom) = ⊥
 AddsValue e i old new (Err (NoValue at)) = (e.value ≡ None) × (at ≡ e.at)
 
--- an entry that is the best so far is added or refused by its value; another one changes nothing
+-- an entry that is the best so far is added or refused by its value; any other changes nothing
 abbrev pub AddsBest : Option (ℕ × Rank) → ConfigEntry → ℕ → List ℕ → List ℕ → Result (Unit {0}) SettingsError
     → Type 0
 AddsBest best e i old new r = (IsBestIndex best i × AddsValue e i old new r)

@@ -1,5 +1,5 @@
--- How a shell cuts a text into words, as POSIX has it (Shell Command Language, 2.2 and 2.3), where nothing
--- is expanded; and a text in Git's single quotes.
+-- How a shell splits a text into words (POSIX, Shell Command Language, 2.2 and 2.3) if nothing is expanded; and a
+-- text in Git's single quotes.
 use Rattle.std.specs.Prelude.{ℕ, Bool, ◌||◌, ◌==◌, List, [], ◌∷◌, ◌++◌, codes, Option, Some, None, flat_map, if◌then◌else◌}
 use Rattle.git_syntax.specs.Bytes.{tab, newline, space, backslash, is_one_of}
 
@@ -13,14 +13,14 @@ exclamation_mark = 33
 
 -- ---- reading
 
--- where a shell is: between words, in a word outside of quotes, in single quotes, or behind a backslash
+-- the state of a shell: between words, in a word outside of quotes, in single quotes, or after a backslash
 pub data Place : Type 0 where
   between : Place
   bare : Place
   quoted : Place
   escaped : Place
 
--- outside of quotes the byte may be more than itself: an operator, a quote, or something to expand
+-- outside of quotes the byte may be special: an operator, a quote, or something to expand
 abbrev pub is_shell_special : ℕ → Bool
 is_shell_special b = b == 0 || (b == tab || (b == newline || is_one_of (codes "|&;<>()$`\"*?[#~=%!{}") b))
 
@@ -30,22 +30,21 @@ put_before b None = None
 put_before b (Some []) = None
 put_before b (Some (word ∷ words)) = Some ((b ∷ word) ∷ words)
 
--- the words, behind one that ends here
+-- the words, after one that ends here
 abbrev pub behind_end : Option (List (List ℕ)) → Option (List (List ℕ))
 behind_end None = None
 behind_end (Some words) = Some ([] ∷ words)
 
--- a byte in a word, outside of quotes: `'` opens quotes, `\` is before a byte that is itself, and any
--- other that isn't special is itself
+-- a byte in a word, outside of quotes: `'` opens quotes, `\` escapes the next byte, and any other byte that isn't
+-- special is literal
 abbrev pub in_word : ℕ → (Place → Option (List (List ℕ))) → Option (List (List ℕ))
 in_word b rest =
     if b == single_quote then rest quoted
     else (if b == backslash then rest escaped
     else (if is_shell_special b then None else put_before b (rest bare)))
 
--- the words of the rest of a text, where it is read from such a place; where that is in a word, the first of
--- them is the rest of it. None where a quote isn't closed, a `\` is the last byte or is before the end of
--- a line, or a byte is special
+-- the words of the rest of a text, read from this state; in a word, the first of them is the rest of that word.
+-- None if a quote isn't closed, a `\` is the last byte or precedes the end of a line, or a byte is special
 abbrev pub words_from : Place → List ℕ → Option (List (List ℕ))
 words_from between [] = Some []
 words_from bare [] = Some ([] ∷ [])
@@ -65,7 +64,7 @@ shell_words text = words_from between text
 
 -- ---- writing
 
--- the byte is written outside of the quotes, behind a `\`
+-- the byte is written outside of the quotes, after a `\`
 abbrev pub is_unquoted : ℕ → Bool
 is_unquoted b = b == single_quote || b == exclamation_mark
 

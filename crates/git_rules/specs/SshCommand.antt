@@ -1,9 +1,9 @@
--- The command that an `SshCommand` stands for.
+-- The command that an `SshCommand` represents.
 use Rattle.std.specs.Prelude.{option_map}
 use Rattle.git_rules.specs.declared.ssh.command.SshCommand.TheInside.{Inside}
 use Rattle.git_rules.specs.SecureShell.{Command}
 
--- the parts of an `SshCommand`: what is asked for, and those of the location
+-- the view of an `SshCommand`: the request, and the parts of the location
 abbrev pub lent_command : Inside → Command
 lent_command c = record {
   request = record {

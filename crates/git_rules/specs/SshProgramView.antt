@@ -4,7 +4,7 @@ use Rattle.git_rules.specs.declared.ssh.program.SshSettings.TheInside as given
 use Rattle.git_rules.specs.declared.ssh.program.SshProgram.TheInside as found
 use Rattle.git_rules.specs.SshPrograms.{Program, Settings}
 
--- what contracts see of an `SshSettings`
+-- the view of an `SshSettings`
 abbrev pub lent_settings : given.Inside → Settings
 lent_settings s = record {
   entries = s.entries.now;
@@ -13,6 +13,6 @@ lent_settings s = record {
   git_ssh_variant = option_map (λ t. t.now) s.git_ssh_variant;
 }
 
--- what contracts see of an `SshProgram`
+-- the view of an `SshProgram`
 abbrev pub lent_program : found.Inside → Program
 lent_program p = record { text = p.text.now; is_command_line = p.is_command_line; variant = p.variant }

@@ -1,9 +1,9 @@
--- What an `SshRequest` asks for.
+-- The request that an `SshRequest` represents.
 use Rattle.std.specs.Prelude.{option_map}
 use Rattle.git_rules.specs.declared.ssh.request.SshRequest.TheInside.{Inside}
 use Rattle.git_rules.specs.SecureShell.{Request}
 
--- the fields of an `SshRequest`, as plain values
+-- the view of an `SshRequest`
 abbrev pub lent_request : Inside → Request
 lent_request r = record {
   service = r.service;

@@ -1,6 +1,6 @@
--- Which transport Git uses for a text, by the form of the text alone. Git looks up the name of this transport
--- before it reads a host, a user or a port in the text. No proof says that Git keeps to it: the rows of
--- `transport_of` in `vectors/rules/git.jsonl` are what Git reports.
+-- The transport that Git uses for a text, by the form of the text alone. Git looks up the name of this transport
+-- before it reads a host, a user or a port in the text. No proof shows that Git follows this definition: the rows
+-- of `transport_of` in `vectors/rules/git.jsonl` are Git's results.
 use Rattle.std.specs.Prelude.{◌≡◌, ℕ, true, false, ◌⊎◌, List, [], ◌++◌, codes, Ok, if◌then◌else◌}
 use Rattle.git_syntax.specs.Location.{Location}
 use Rattle.git_syntax.specs.Bytes.{colon, FreeOf, Holds, begins_with, is_helper_name, is_option_like}
@@ -13,12 +13,12 @@ use Rattle.git_reads.specs.Git.{GitReading, GitReads, IsNoUrl, IsRemote, IsLocal
 use Rattle.git_rules.specs.declared.protocols.text.NoTransport.{NoTransport}
 use Rattle.git_rules.specs.declared.protocols.text.NoTransport.TheVariants as why
 
--- Git gets the text whole, and doesn't take it for an option
+-- Git gets the whole text, and doesn't take it for an option
 pub record IsGiven (t : List ℕ) : Type 0 where
   pub whole : FreeOf 0 t
   pub no_option : is_option_like t ≡ false
 
--- the transport of a URL by its scheme: Secure Shell has three schemes
+-- the transport of a URL by its scheme; Secure Shell has three schemes
 abbrev pub scheme_transport : List ℕ → List ℕ
 scheme_transport scheme = if is_ssh_scheme scheme then codes "ssh" else scheme
 
@@ -26,26 +26,27 @@ scheme_transport scheme = if is_ssh_scheme scheme then codes "ssh" else scheme
 pub data UsesTransport (t name : List ℕ) : Type 0 where
   -- `name::address`
   helper : (address : List ℕ) → HelperCut t name address → UsesTransport t name
-  -- the same with an empty name
+  -- `::address`, with an empty name
   empty_helper : (address : List ℕ) → t ≡ codes "::" ++ address → name ≡ [] → UsesTransport t name
-  -- a URL: `rsync` belonged to a transport that is gone
+  -- a URL; `rsync` named a transport that Git no longer has
   url : (scheme rest : List ℕ) → t ≡ scheme ++ (codes "://" ++ rest) → is_helper_name scheme ≡ true
       → ¬ (scheme ≡ codes "rsync") → name ≡ scheme_transport scheme → UsesTransport t name
   scp_form : IsNoUrl t → IsRemote t → name ≡ codes "ssh" → UsesTransport t name
   local_path : IsNoUrl t → IsLocal t → name ≡ codes "file" → UsesTransport t name
 
--- so it is where the text is one that Git gets whole, and no option
+-- Git uses the transport of this name for the text: the text has no byte 0 and doesn't begin with `-`, and its form
+-- has this transport
 pub record HasTransport (t name : List ℕ) : Type 0 where
   pub given : IsGiven t
   pub uses : UsesTransport t name
 
--- the text begins with `rsync:`, and is not for a helper of that name
+-- the text begins with `rsync:`, and doesn't name a helper `rsync`
 pub record IsForRsync (t : List ℕ) : Type 0 where
   pub rest : List ℕ
   pub joined : t ≡ codes "rsync:" ++ rest
   pub single : begins_with colon rest ≡ false
 
--- the text before the first `://` is the name of no transport and of no helper
+-- the text before the first `://` names neither a transport nor a helper
 pub record HasUnknownScheme (t : List ℕ) : Type 0 where
   pub scheme : List ℕ
   pub rest : List ℕ
@@ -65,15 +66,15 @@ LacksTransport t why.UnknownScheme = IsGiven t × HasUnknownScheme t
 
 -- ---- laws
 
--- Git uses one transport for a text
+-- Git uses at most one transport for a text
 abbrev pub OneTransport : Type 0
 OneTransport = (t name other : List ℕ) → HasTransport t name → HasTransport t other → name ≡ other
 
--- a text lacks a transport for one reason
+-- a text lacks a transport for at most one reason
 abbrev pub OneReason : Type 0
 OneReason = (t : List ℕ) (w v : NoTransport) → LacksTransport t w → LacksTransport t v → w ≡ v
 
--- a text that lacks a transport has none
+-- a text that has a transport doesn't lack one
 abbrev pub HasOrLacks : Type 0
 HasOrLacks = (t name : List ℕ) (w : NoTransport) → HasTransport t name → ¬ LacksTransport t w
 
@@ -82,12 +83,11 @@ abbrev pub EachDecided : Type 0
 EachDecided = (t : List ℕ)
     → ((name : List ℕ) × HasTransport t name) ⊎ ((w : NoTransport) × LacksTransport t w)
 
--- where Git reads a place in a text, the transport of the text is that of the place
+-- a text in which Git reads a place has the transport of the place's protocol
 abbrev pub TransportOfReading : Type 0
 TransportOfReading = (t : List ℕ) (r : GitReading) → GitReads t r → HasTransport t (scheme_text r.protocol)
 
--- the text of a location in which Git reads what this library reads: its transport is that of the location's
--- scheme
+-- the text of a location that `AgreesWithGit` has the transport of the location's scheme
 abbrev pub TransportOfLocation : Type 0
 TransportOfLocation = (v : Location) (t : List ℕ) → IsValue v → AgreesWithGit v → text v ≡ Ok t
     → HasTransport t (scheme_text v.scheme)

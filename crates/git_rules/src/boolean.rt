@@ -1,7 +1,4 @@
-//! Texts that Git takes for a boolean value, as it reads environment variables and configuration.
-//!
-//! It uses `word` and `number`. Its contract: the words and the numbers that Git takes, and no others, have the
-//! value that Git gives them. It takes no memory.
+//! Texts that Git reads as boolean values, in environment variables and in configuration.
 
 ghost use Rattle.std.specs.Prelude.{◌≡◌};
 ghost use Rattle.git_rules.specs.Booleans.{boolean_of, is_no, is_yes};
@@ -9,12 +6,12 @@ ghost use Rattle.git_rules.specs.Booleans.{boolean_of, is_no, is_yes};
 use crate::number::{INT_MAX, read_number};
 use crate::word::is_word;
 
-/// The boolean value of a text, as Git reads one; none where Git stops for it. It takes no memory.
+/// The boolean value of a text as Git reads it, or `None` if Git refuses the text.
 ///
-/// True are `true`, `yes` and `on`, false are `false`, `no`, `off` and the empty text, all without letter
-/// case (ASCII). A number of at most 2^31 - 1, as [`read_number`] reads it, is true unless it is 0. This is what
-/// git-config(1) says of boolean values, and what Git 2.39.5 does. A key without a value, which Git takes as
-/// true, has no text: the caller sees to it.
+/// `true`, `yes` and `on` are true; `false`, `no`, `off` and the empty text are false, ignoring letter case
+/// (ASCII). A number of at most 2^31 - 1, as [`read_number`] reads it, is true unless it is 0. git-config(1)
+/// defines boolean values so, and Git 2.39.5 reads them so. A key without a value, which Git reads as true, has no
+/// text: the caller handles it.
 ///
 /// ```
 /// fn is_on(value: &[u8]) -> bool {

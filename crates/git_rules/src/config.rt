@@ -1,8 +1,7 @@
 //! The entries of a configuration, as `git config --list -z` writes them.
 //!
-//! It uses `word` and the cuts of `git_syntax`. Its contract: an entry is one value of five parts, and what
-//! is read is reported as a concatenation: the texts of the entries, each with the byte 0 behind it, are the
-//! text.
+//! The contract of `Reader` describes reading as a concatenation: the texts of the entries, each followed by a byte
+//! 0, make up the text.
 
 ghost use Rattle.std.specs.Prelude.{◌≡◌, ◌↔◌, ◌==◌, ◌++◌, ◌∷◌, [], IfOk, IsTrue, OnOk, count_by};
 ghost use Rattle.git_rules.specs.Config.{has_name, is_of_section, of_section, sets};
@@ -16,10 +15,10 @@ use std::alloc::{AllocError, Global};
 use std::marker::Model;
 use thiserror::Error;
 
-/// An entry of a configuration: `section.subsection.name` and its value. Its parts are slices of the text
-/// that was read, and owning none of them it takes no memory.
+/// An entry of a configuration: `section.subsection.name` and its value. All parts are slices of the text that was
+/// read.
 ///
-/// The fields may be put together by hand. Contracts see the five of them as plain values.
+/// A program may also build one from its fields. In contracts an entry is a plain value of five fields.
 ///
 /// ```
 /// /// Whether an entry is `url.<base>.insteadOf`.
@@ -29,17 +28,16 @@ use thiserror::Error;
 /// ```
 #[derive(Clone, Drop)]
 pub struct Entry<'a> {
-    /// What the key holds before its first dot. Git writes it in lower case; [`Entry::is_section`] compares
-    /// it without letter case.
+    /// The part of the key before its first dot. Git writes it in lower case; [`Entry::is_section`] ignores letter
+    /// case.
     pub section: &'a [u8],
-    /// What the key holds between its first and its last dot, as it is; none where the key has one dot. It
-    /// may hold dots, and may be empty.
+    /// The part of the key between its first and its last dot, unchanged, or `None` if the key has a single dot. It
+    /// may contain dots, and may be empty.
     pub subsection: Option<&'a [u8]>,
-    /// What the key holds behind its last dot. Git writes it in lower case; [`Entry::is_name`] compares it
-    /// without letter case.
+    /// The part of the key after its last dot. Git writes it in lower case; [`Entry::is_name`] ignores letter case.
     pub name: &'a [u8],
-    /// The value, as it is; none where the key is without `=`, which Git takes as `true` where it asks for a
-    /// boolean value and refuses elsewhere.
+    /// The value, unchanged, or `None` if the key has no `=`. Git reads such a key as `true` if it expects a
+    /// boolean value, and otherwise refuses it.
     pub value: Option<&'a [u8]>,
     /// The byte offset of the entry in the text that was read.
     pub at: usize,
@@ -56,27 +54,22 @@ impl<'a> Model for Entry<'a> {
 }
 
 impl Entry<'_> {
-    /// Whether the entry is of the section, without letter case (ASCII), as Git compares sections. It takes
-    /// no memory.
-    /// [`Entry`] has an example.
+    /// Whether the entry is in the section, ignoring letter case (ASCII), as Git compares sections.
     pub fn is_section(&self, section: &str) -> bool
         ensures { result ≡ is_of_section section.now self.now }
     {
         is_word(self.section, section)
     }
 
-    /// Whether the entry has the name, without letter case (ASCII), as Git compares names. It takes no
-    /// memory.
-    /// [`Entry`] has an example.
+    /// Whether the entry has the name, ignoring letter case (ASCII), as Git compares names.
     pub fn is_name(&self, name: &str) -> bool
         ensures { result ≡ has_name name.now self.now }
     {
         is_word(self.name, name)
     }
 
-    /// Whether the entry sets the variable `section.name`, without a subsection or with any: section and name
-    /// are compared as [`Entry::is_section`] and [`Entry::is_name`] do it, and nothing else of the entry is
-    /// looked at. It takes no memory.
+    /// Whether the entry sets the variable `section.name`, with or without a subsection. [`Entry::is_section`]
+    /// compares the section, [`Entry::is_name`] the name; nothing else of the entry matters.
     ///
     /// ```
     /// /// Whether an entry is `http.sslVerify` or `http.<url>.sslVerify`.
@@ -91,18 +84,17 @@ impl Entry<'_> {
     }
 }
 
-/// Why what is read is not an entry, and at which byte of the text it begins. [`Reader`] has an example.
+/// An error in the text, with the byte offset of the faulty entry, as a [`Reader`] returns it.
 #[derive(Clone, Copy, Debug, Drop, PartialEq, Eq, Error)]
 pub enum EntryError {
-    /// The key has no section or no name: it has no dot, begins with one or ends in one. The next entry is
-    /// read on.
+    /// The key has no section or no name: it has no dot, begins with a dot or ends in one. The reader goes on with
+    /// the next entry.
     #[error("the key at byte {at} has no section or no name")]
     NoKey {
         /// The byte offset of the key in the text.
         at: usize,
     },
-    /// The text ends without the byte 0 that ends an entry: it isn't whole, and its last entry may be cut
-    /// off.
+    /// The text doesn't end in the byte 0 that ends an entry. It is incomplete, and its last entry may be cut off.
     #[error("the entry at byte {at} has no end")]
     NoEnd {
         /// The byte offset of the entry in the text.
@@ -110,11 +102,11 @@ pub enum EntryError {
     },
 }
 
-/// Reads the entries of a text in turn, and what isn't one. It takes no memory.
+/// An iterator over the entries and the errors of a text, in its order.
 ///
-/// Each entry ends in a byte 0. Its key ends before its first line feed, and the value is all that follows
-/// it; without a line feed there is no value. Where an entry can't be understood the item is an
-/// [`EntryError`], and the reader goes on behind it.
+/// Each entry ends in a byte 0. Its key ends before its first line feed, and its value is everything after that; an
+/// entry without a line feed has no value. For an entry that can't be read the item is an [`EntryError`], and the
+/// reader goes on after it.
 ///
 /// ```
 /// /// At which bytes of a configuration there is something that is no entry.
@@ -148,7 +140,7 @@ impl<'a> Model for Reader<'a> {
 }
 
 impl<'a> Reader<'a> {
-    /// A reader of the text that `git config --list -z` writes. [`Reader`] has an example.
+    /// Returns a reader of the text that `git config --list -z` writes.
     pub fn new(text: &'a [u8]) -> Reader<'a>
         ensures { result ≡ start text.now }
     {
@@ -185,7 +177,7 @@ impl<'a> Iterator for Reader<'a> {
     }
 }
 
-/// The entry that a line spells, where one is spelled. The line begins at this byte of the text.
+/// Returns the entry that a line spells, or an error. The line begins at this byte of the text.
 fn read_line(line: &[u8], at: usize) -> Result<Entry<'_>, EntryError>
     ensures { MeansItem at line.now result }
 {
@@ -202,7 +194,7 @@ fn read_line(line: &[u8], at: usize) -> Result<Entry<'_>, EntryError>
     }
 }
 
-/// The key of a line, and its value where there is one.
+/// Returns the key of a line, and its value if it has one.
 fn cut_value(line: &[u8]) -> (&[u8], Option<&[u8]>)
     ensures { CutsValue line.now result }
 {
@@ -212,7 +204,7 @@ fn cut_value(line: &[u8]) -> (&[u8], Option<&[u8]>)
     }
 }
 
-/// The section, the subsection and the name of a key.
+/// Returns the section, the subsection and the name of a key.
 fn read_key(key: &[u8]) -> Option<(&[u8], Option<&[u8]>, &[u8])>
     ensures { CutsKey key.now result }
 {
@@ -227,7 +219,7 @@ fn read_key(key: &[u8]) -> Option<(&[u8], Option<&[u8]>, &[u8])>
     Some((section, subsection, name))
 }
 
-/// The subsection, if there is one, and the name that a key holds behind its first dot.
+/// Returns the subsection, if any, and the name in the part of a key after its first dot.
 fn cut_name(behind: &[u8]) -> (Option<&[u8]>, &[u8])
     ensures { CutsName behind.now result }
 {
@@ -237,11 +229,11 @@ fn cut_name(behind: &[u8]) -> (Option<&[u8]>, &[u8])
     }
 }
 
-/// Whether the text may be what `git config --list -z` writes: unless it is empty there is a byte 0 in it, and
-/// each key that a byte 0 follows has a section and a name. It takes no memory.
+/// Whether the text may be the output of `git config --list -z`: it is empty or contains a byte 0, and each key
+/// that a byte 0 ends has a section and a name.
 ///
-/// So a text that `git config --list` writes, or a file of Git's, is not taken for a configuration without
-/// entries. Of a text that was cut off in its last entry the answer is yes; a [`Reader`] reports that.
+/// So the output of `git config --list`, or a configuration file of Git's, is not taken for a configuration without
+/// entries. The result is true for a text whose last entry is cut off; a [`Reader`] reports that.
 ///
 /// ```
 /// /// The entries of a text; none if it is no output of `git config --list -z`.
@@ -258,14 +250,14 @@ pub fn is_listing(text: &[u8]) -> bool
     is_ended(text) && has_keys(text)
 }
 
-/// Whether the text is empty, or has a byte 0.
+/// Whether the text is empty or contains a byte 0.
 fn is_ended(text: &[u8]) -> bool
     ensures { IsTrue result ↔ IsEnded text.now }
 {
     text.is_empty() || !is_free_of(text, 0)
 }
 
-/// Whether each line of the text has its key.
+/// Whether each line of the text has a key with a section and a name.
 fn has_keys(text: &[u8]) -> bool
     ensures { IsTrue result ↔ HasKeys text.now }
 {
@@ -277,18 +269,17 @@ fn has_keys(text: &[u8]) -> bool
     true
 }
 
-/// Whether what was read isn't a line whose key has no section or no name.
+/// Whether the item isn't the error for a key without a section or a name.
 fn has_key(item: Result<Entry<'_>, EntryError>) -> bool
     ensures { IsTrue result ↔ HasKey item.entry }
 {
     !matches!(item, Err(EntryError::NoKey { at: _ }))
 }
 
-/// The entries of a text that `git config --list -z` writes, in its order. What isn't an entry is left out: a
-/// [`Reader`] reports it, with its place, and reads on.
+/// Returns the entries of a text that `git config --list -z` writes, in its order. It skips everything that isn't
+/// an entry; a [`Reader`] reports those errors, with their byte offsets.
 ///
-/// Memory is asked for once, for as many entries as there are bytes 0 in the text. The entries borrow from
-/// the text.
+/// Allocates once, for as many entries as the text has bytes 0. The entries borrow from the text.
 ///
 /// ```
 /// /// The last value of `http.proxy`, which is the one that Git takes.
@@ -305,7 +296,7 @@ fn has_key(item: Result<Entry<'_>, EntryError>) -> bool
 ///
 /// # Errors
 ///
-/// `AllocError` where memory is refused, and no other.
+/// Returns `AllocError` if the allocation fails.
 pub fn entries(alloc: Global, text: &[u8]) -> Result<Vec<Entry<'_>>, AllocError>
     ensures { IfOk result (λ found. HasEntries text.now found.items) }
 {
@@ -316,7 +307,7 @@ pub fn entries(alloc: Global, text: &[u8]) -> Result<Vec<Entry<'_>>, AllocError>
     Ok(found)
 }
 
-/// Keeps an item that is an entry.
+/// Appends an item that is an entry.
 fn keep<'a>(
     found: &mut Vec<Entry<'a>>,
     item: Result<Entry<'a>, EntryError>,
@@ -332,14 +323,14 @@ fn keep<'a>(
     }
 }
 
-/// The entries of one section, in their order: those of which [`Entry::is_section`] is true, as they are.
+/// Returns the entries of one section, unchanged and in their order: those for which [`Entry::is_section`] is true.
 ///
-/// A program that answers many texts by one configuration takes them once, and then goes over them alone.
-/// Places in the text stay what they are; an index into this list is none into `entries`. What
-/// [`Protocols::permission`](crate::protocols::Protocols::permission) returns is the same by the entries of
-/// `protocol` as by all.
+/// A program that checks many texts against one configuration can filter it once and then search the shorter list.
+/// The byte offsets `at` stay the same; an index into this list isn't an index into `entries`. With the entries of
+/// `protocol` alone, [`Protocols::permission`](crate::protocols::Protocols::permission) returns the same as with
+/// all entries.
 ///
-/// Memory is asked for as the list grows. The entries borrow from the same text.
+/// Allocates as the list grows. The entries borrow from the same text.
 ///
 /// ```
 /// /// How many of the locations may be used, by the entries of `protocol` alone, which are found once.
@@ -371,7 +362,7 @@ fn keep<'a>(
 ///
 /// # Errors
 ///
-/// `AllocError` where memory is refused, and no other.
+/// Returns `AllocError` if an allocation fails.
 pub fn entries_of<'a>(
     alloc: Global,
     entries: &[Entry<'a>],
@@ -388,7 +379,7 @@ pub fn entries_of<'a>(
     Ok(found)
 }
 
-/// How many entries end in the text.
+/// The number of bytes 0 in the text, each of which ends an entry.
 fn count_ends(text: &[u8]) -> usize
     ensures { result ≡ count_by (λ b. b == 0) text.now }
 {

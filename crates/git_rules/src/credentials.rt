@@ -1,10 +1,5 @@
-//! What Git's credential code uses of a configuration for a URL: which helpers it asks, for which user, and
-//! whether they get the path of HTTP.
-//!
-//! It uses `config`, `boolean`, the patterns and `git_reads`. Its contract: the answer is the one that the
-//! definitions make of the entries that apply, one after the other, and an error says at which entry Git
-//! stops. Inside: `url` writes the URL of a request, `partial` reads URLs that lack parts, `entry` decides
-//! whether an entry applies. It takes memory.
+//! The settings of Git's credential code for a URL: which helpers it asks, for which user, and whether they get the
+//! path of an HTTP URL.
 
 mod entry;
 pub mod law;
@@ -29,14 +24,14 @@ use std::alloc::{AllocError, Global};
 use std::marker::Model;
 use thiserror::Error;
 
-/// What Git's credential code uses of a configuration for a URL. [`credentials_for`] has an example.
+/// The settings of Git's credential code for a URL. [`credentials_for`] has an example.
 #[derive(Drop)]
 pub struct Credentials<'a> {
-    /// The indices of the entries whose values are the helpers, in the order in which Git asks them.
+    /// The indices of the entries whose values are the helpers, in the order in which Git calls them.
     pub helpers: Vec<usize>,
-    /// The user that helpers are asked about, decoded; it may be empty.
+    /// The user to ask the helpers for, decoded. It may be empty.
     pub user: Option<&'a [u8]>,
-    /// Whether helpers get the path of a URL of HTTP. They get that of any other URL.
+    /// Whether helpers get the path of an HTTP URL. They always get the path of any other URL.
     pub use_http_path: bool,
 }
 
@@ -50,19 +45,19 @@ impl<'a> Model for Credentials<'a> {
     ghost view = { credential_use };
 }
 
-/// Why credentials were not found. [`credentials_for`] has an example.
+/// An error of [`credentials_for`], which has an example.
 #[derive(Clone, Copy, Debug, PartialEq, Eq, Error)]
 pub enum CredentialsError {
-    /// Memory was refused.
+    /// An allocation failed.
     #[error("out of memory")]
     Memory,
-    /// An entry that applies has no value. Git stops at it, whatever its name is.
+    /// An entry that applies has no value. Git stops there, whatever the entry's name.
     #[error("the setting at byte {at} has no value")]
     NoValue {
         /// The byte offset of the entry in the text of the configuration.
         at: usize,
     },
-    /// The value of a `useHttpPath` that applies is no boolean value. Git stops at it.
+    /// The value of a `useHttpPath` that applies isn't a boolean value. Git stops there.
     #[error("the setting at byte {at} has no boolean value")]
     NoBoolean {
         /// The byte offset of the entry in the text of the configuration.
@@ -80,37 +75,37 @@ impl From<AllocError> for CredentialsError {
     }
 }
 
-/// What Git's credential code uses of these entries for a request, as
-/// [`reading`](git_reads::credential::reading) returns it for the text of a URL.
+/// Returns the settings in these entries that Git's credential code uses for a request.
+/// [`reading`](git_reads::credential::reading) returns the request for the text of a URL.
 ///
-/// Git goes through the entries of `credential.*` in their order (`credential.c` of Git 2.39.5). An entry
-/// applies to the request
+/// Git goes through the entries of `credential.*` in their order (`credential.c` of Git 2.39.5). An entry applies
+/// to the request in each of these cases:
 ///
-/// - if it has no subsection;
-/// - if its subsection is a pattern ([`UrlPattern`](crate::pattern::UrlPattern)) that stands for the URL that
-///   Git writes of the request: its protocol, `://`, its user and `@`, its host, and its path behind a `/`,
-///   with each byte of a part as an escape that could be a delimiter. The user is left out where it is empty.
-///   No pattern stands for a URL without a normal form;
-/// - if its subsection has no normal form as a pattern, as `example.com` and `https://`, and the request has
-///   each part that Git reads in it: a protocol, a user, a host and a path, of which each may be missing.
-///   They are decoded, and compared byte by byte with those of the request. A password doesn't count. With a
-///   line feed in one of the parts the entry doesn't apply.
+/// - It has no subsection.
+/// - Its subsection is a pattern ([`UrlPattern`](crate::pattern::UrlPattern)) that matches the URL that Git writes
+///   for the request: the protocol, `://`, the user and `@`, the host, and a `/` and the path. Each byte of a part
+///   that could be a delimiter is escaped, and an empty user is left out. A URL without a normal form matches no
+///   pattern.
+/// - Its subsection has no normal form as a pattern, such as `example.com` and `https://`, and the request has each
+///   part that Git reads in it: a protocol, a user, a host and a path, each of which may be missing. They are
+///   decoded and compared byte by byte with those of the request. The password is ignored. If one of the parts
+///   contains a line feed, the entry doesn't apply.
 ///
-/// Of those that apply Git uses
+/// From the entries that apply Git uses
 ///
-/// - `helper`: each value, except for those before an empty value that applies, and for the empty value;
-/// - `username`: the last value, unless the request has a user that isn't empty. The subsections after it are
-///   compared with that user;
-/// - `useHttpPath`: the last value, as [`read_boolean`] reads it, and false where there is none.
+/// - `helper`: all values, except an empty one and those before it;
+/// - `username`: the last value, unless the request has a user that isn't empty. The subsections of later entries
+///   are compared with that user;
+/// - `useHttpPath`: the last value, as [`read_boolean`] reads it, or false if there isn't one.
 ///
-/// Names are compared without letter case (ASCII). Memory is asked for: for the list of helpers, for the URL
-/// that is written, and for each subsection.
+/// Names are compared ignoring letter case (ASCII). Allocates the list of helpers, the URL for the request, and
+/// buffers for each subsection.
 ///
 /// # Errors
 ///
-/// [`CredentialsError::NoValue`] and [`CredentialsError::NoBoolean`] with the place of the first entry at
-/// which Git stops: one that applies and has no value, or a `useHttpPath` that applies and is no boolean
-/// value. [`CredentialsError::Memory`] where memory is refused; then nothing is said of the entries.
+/// [`CredentialsError::NoValue`] and [`CredentialsError::NoBoolean`] name the first entry at which Git stops: one
+/// that applies and has no value, or a `useHttpPath` that applies and isn't a boolean value.
+/// [`CredentialsError::Memory`] if an allocation fails; it says nothing about the entries.
 ///
 /// ```
 /// /// The helper that Git asks first for a request.
@@ -150,7 +145,8 @@ pub fn credentials_for<'a>(
     }
 }
 
-/// What Git uses of the entries, when the URL that it writes has this normal form, or has none.
+/// Returns the settings that Git uses for a request; `place` is the normal form of the URL that Git writes for it,
+/// if that URL has one.
 fn all_used<'a>(
     alloc: Global,
     entries: &[Entry<'a>],
@@ -177,7 +173,7 @@ fn all_used<'a>(
     Ok(used)
 }
 
-/// Changes what is used by an entry that applies.
+/// Updates the settings by an entry that applies.
 fn take<'a>(
     used: &mut Credentials<'a>,
     i: usize,
@@ -195,7 +191,7 @@ fn take<'a>(
     Ok(())
 }
 
-/// The value of an entry that applies.
+/// The value of an entry that applies, or an error if it has none.
 fn value_of<'a>(entry: &Entry<'a>) -> Result<&'a [u8], CredentialsError>
     ensures { MatchResult result (λ value. entry.now.value ≡ Some value.now)
         (λ error. StopsAt entry.now error) }
@@ -206,7 +202,7 @@ fn value_of<'a>(entry: &Entry<'a>) -> Result<&'a [u8], CredentialsError>
     }
 }
 
-/// Adds the index of an entry to the helpers, or clears them where its value is empty, if it has their name.
+/// Appends the index of an entry named `helper`, or clears the helpers if its value is empty.
 fn add_helper(
     helpers: &mut Vec<usize>,
     i: usize,
@@ -245,7 +241,7 @@ fn user_after<'a>(
     }
 }
 
-/// Whether there is a user that isn't empty.
+/// Whether the user is present and not empty.
 fn has_user(user: Option<&[u8]>) -> bool
     ensures { result ≡ spec.has_user (option_map (λ t. t.now) user.entry) }
 {
@@ -255,7 +251,7 @@ fn has_user(user: Option<&[u8]>) -> bool
     }
 }
 
-/// Whether helpers get the path of HTTP after an entry that applies.
+/// Whether helpers get the path of an HTTP URL after an entry that applies.
 fn path_after(before: bool, entry: &Entry<'_>, value: &[u8]) -> Result<bool, CredentialsError>
     requires { entry.now.value ≡ Some value.now }
     ensures { MatchResult result (λ after. SetsPath entry.now before after)

@@ -1,8 +1,7 @@
-//! The normal form of a URL, by which Git picks settings for a place.
+//! The normal form of a URL, by which Git compares places when it picks `http.<url>.*` and `credential.<url>.*`.
 //!
-//! It uses `authority`, `cuts` and `write`. Its contract: a text has exactly the normal form that the
-//! definitions give it, by which Git compares the places of `http.<url>.*` and `credential.<url>.*`. It takes
-//! no memory: what has other bytes than the text is written into a room that the caller lends.
+//! Nothing here allocates: a part whose normal form differs from its text is written to a buffer that the caller
+//! supplies.
 
 mod authority;
 mod cuts;
@@ -21,45 +20,44 @@ use crate::normal::write::{lowered_in, write_parts};
 use std::marker::Model;
 use thiserror::Error;
 
-/// Why a text has no normal form.
+/// The reason why a text has no normal form.
 #[derive(Clone, Copy, Debug, Error)]
 pub enum NormalError {
-    /// The room is shorter than three times the text and one byte more.
+    /// The buffer is shorter than three times the text plus one byte.
     #[error("the room is too short")]
     NoRoom,
     /// The text doesn't begin with a scheme and `://`.
     #[error("no scheme and `://` begin the text")]
     NoUrl,
-    /// A `%` without two hexadecimal digits behind it, in the user information or behind the authority.
+    /// A `%` is not followed by two hexadecimal digits, in the user information or after the authority.
     #[error("a `%` without two hexadecimal digits")]
     BrokenEscape,
-    /// No host, which only a URL of `file` may leave out.
+    /// There is no host; only a `file` URL may omit it.
     #[error("no host")]
     NoHost,
-    /// A byte that no host has: neither a letter nor a digit nor one of `.-_[:]`, nor `*` where that is
-    /// allowed.
+    /// The host contains a byte that is neither a letter nor a digit nor one of `.-_[:]`, nor, in a pattern, `*`.
     #[error("a byte that no host has")]
     BadHost,
-    /// A port that isn't a number from 1 to 65,535, or any port in a URL of `file` without a host.
+    /// The port isn't a number from 1 to 65,535, or a `file` URL without a host has a port.
     #[error("no port")]
     BadPort,
-    /// A segment `..` with no segment before it.
+    /// A segment `..` has no segment before it.
     #[error("a segment `..` above the root")]
     AboveRoot,
 }
 
-/// A URL in its normal form, as far as Git compares it, in slices of the text and of a room.
+/// A URL in its normal form, as far as Git compares it, in slices of the text and of a buffer.
 ///
 /// The password isn't part of it.
 #[derive(Drop)]
 pub struct NormalUrl<'a> {
     /// The scheme, in lower case.
     pub scheme: &'a [u8],
-    /// The user, where there is user information: empty where that is.
+    /// The user, if there is user information. It may be empty.
     pub user: Option<&'a [u8]>,
-    /// The host, in lower case. It is empty in a URL of `file` alone.
+    /// The host, in lower case. It is empty only in a `file` URL.
     pub host: &'a [u8],
-    /// The port, unless it is 80 of `http` or 443 of `https`.
+    /// The port, unless it is 80 for `http` or 443 for `https`.
     pub port: Option<u16>,
     /// The path, which begins with `/`, with the query and the fragment.
     pub path: &'a [u8],
@@ -76,17 +74,21 @@ impl<'a> Model for NormalUrl<'a> {
 }
 
 impl<'a> NormalUrl<'a> {
-    /// The normal form of a text, by which Git compares the places of `http.<url>.*` and
+    /// Returns the normal form of a text, by which Git compares the places of `http.<url>.*` and
     /// `credential.<url>.*`.
     ///
-    /// The host has no `*`: of a pattern, which may have it,
-    /// [`UrlPattern::parse_in`](crate::pattern::UrlPattern::parse_in) makes the normal form. Room for three times
-    /// as many bytes as the text has, and one more, is asked for; no memory is.
+    /// The host contains no `*`; [`UrlPattern::parse_in`](crate::pattern::UrlPattern::parse_in) reads a pattern,
+    /// which may contain it. The buffer `room` needs three bytes for each byte of the text, and one more
+    /// ([`room_for`]). Allocates nothing.
+    ///
+    /// After [`NormalError::NoRoom`] and [`NormalError::NoUrl`] the buffer is unchanged. After an error in the
+    /// authority it may begin with the scheme in lower case. After an error in the path it may hold the scheme, the
+    /// user, the host and a part of the path, in normal form. The password is never written to it.
     ///
     /// # Errors
     ///
-    /// [`NormalError::NoRoom`] where the room is shorter than that, and else what the text has no normal form
-    /// for: then Git has no settings for it, but those that are for all places
+    /// [`NormalError::NoRoom`] if the buffer is too short. Every other error is the reason why the text has no
+    /// normal form; Git then uses only the settings for all places
     /// ([`settings_without_place`](crate::pattern::settings::settings_without_place)).
     ///
     /// ```
@@ -104,7 +106,7 @@ impl<'a> NormalUrl<'a> {
         NormalUrl::read_in(text, false, room)
     }
 
-    /// The normal form of a text, in whose host `*` is allowed where `globs` is true.
+    /// Returns the normal form of a text; `globs` allows `*` in its host.
     pub(crate) fn read_in(
         text: &'a [u8],
         globs: bool,
@@ -124,10 +126,10 @@ impl<'a> NormalUrl<'a> {
     }
 }
 
-/// How many bytes of room [`NormalUrl::parse_in`] asks for, and with it
-/// [`UrlPattern::parse_in`](crate::pattern::UrlPattern::parse_in) and the calls of
-/// [`entries`](crate::pattern::entries), for a text of this many bytes: three times as many, and one more. Where
-/// a `usize` can't hold that, it is the greatest `usize`. It takes no memory.
+/// The length in bytes of the buffer that [`NormalUrl::parse_in`],
+/// [`UrlPattern::parse_in`](crate::pattern::UrlPattern::parse_in) and the functions of
+/// [`entries`](crate::pattern::entries) need for a text of this many bytes: three times the length plus one, or the
+/// greatest `usize` if that overflows.
 ///
 /// ```
 /// /// The host whose settings apply to a text, in a room that is made for it.
@@ -146,16 +148,16 @@ pub fn room_for(len: usize) -> usize
     len.saturating_mul(3).saturating_add(1)
 }
 
-/// Whether a room of this length is enough for a text of this one.
+/// Whether a buffer of this length suffices for a text of this length.
 fn is_enough(text: usize, room: usize) -> bool
     ensures { IsTrue result ↔ (3 * text + 1 ≤ room) }
 {
     0 < room && text <= (room - 1) / 3
 }
 
-/// A text has one normal form at most; and where all readers agree in the text of a location of HTTP, as
-/// [`git_location::url_ref::UrlRef::agrees_with_git`] reports, its normal form has the location's own scheme
-/// and host, the location's port where that isn't the scheme's own, and its user as it is written.
+/// A text has at most one normal form. If all readers agree on the text of an HTTP location
+/// ([`git_location::url_ref::UrlRef::agrees_with_git`]), the normal form has the location's scheme and host, its
+/// port unless that is the scheme's default port, and its user as written.
 pub fn law_normal_form()
     ensures one { OneNormalForm }
     ensures place { KeepsPlace }

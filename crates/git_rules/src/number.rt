@@ -1,7 +1,4 @@
 //! Numbers as Git reads them in a configuration.
-//!
-//! Its contract: the texts that Git takes for a number, and no others, have the size that Git gives them. It
-//! takes no memory.
 
 ghost use Rattle.std.specs.Prelude.{◌≡◌, ◌≤◌, drop};
 ghost use Rattle.std.specs.List.{prefix_len};
@@ -11,20 +8,20 @@ ghost use Rattle.git_rules.specs.Numbers.{fitting, is_blank, number_in, number_o
 
 use git_syntax::bytes::starts_with_byte;
 
-/// The greatest value of C's `int`, which most numbers of a configuration are read as.
+/// The maximum of C's `int`, as which Git reads most numbers of a configuration.
 pub const INT_MAX: u64 = 2_147_483_647;
 
-/// The greatest value of C's `ssize_t` of 64 bits, which `http.postBuffer` is read as.
+/// The maximum of C's 64-bit `ssize_t`, as which Git reads `http.postBuffer`.
 pub const SIZE_MAX: u64 = 9_223_372_036_854_775_807;
 
-/// The size of a number without its sign, as Git reads one; none if the text is no number, or its size is above
-/// `greatest`. It takes no memory.
+/// The absolute value of a number as Git reads it, or `None` if the text isn't a number or the value exceeds
+/// `greatest`.
 ///
-/// A number is white space (of C), a sign or none, digits, and a unit or none. The digits are hexadecimal after
-/// `0x`, octal after a `0`, and else decimal. The units `k`, `m` and `g`, of either case, multiply by 2^10, 2^20
-/// and 2^30. Nothing may follow. This is what git-config(1) says of integers, and what Git 2.39.5 does
-/// (`git_parse_signed` in `config.c`): it compares a number with [`INT_MAX`], or with [`SIZE_MAX`] where it reads
-/// a size. A key without a value has no text, and Git stops there.
+/// A number is optional white space (as in C), an optional sign, digits, and an optional unit; nothing may follow.
+/// The digits are hexadecimal after `0x`, octal after a `0`, and decimal otherwise. The units `k`, `m` and `g`, in
+/// either case, multiply by 2^10, 2^20 and 2^30. git-config(1) defines integers so, and Git 2.39.5 reads them so
+/// (`git_parse_signed` in `config.c`): its limit is [`INT_MAX`], or [`SIZE_MAX`] for a size. A key without a value
+/// has no text; Git stops there.
 ///
 /// ```
 /// /// Whether Git takes a value for the number of requests at once.
@@ -39,7 +36,7 @@ pub fn read_number(text: &[u8], greatest: u64) -> Option<u64>
     read_size(without_sign(rest), greatest)
 }
 
-/// How many bytes of white space the text begins with.
+/// The number of bytes of white space at the start of the text.
 fn blank_len(text: &[u8]) -> usize
     ensures { result ≡ prefix_len is_blank text.now }
 {
@@ -53,7 +50,7 @@ fn is_blank(byte: u8) -> bool
     (9..=13).contains(&byte) || byte == b' '
 }
 
-/// The text without a sign in front.
+/// The text without a leading sign.
 fn without_sign(text: &[u8]) -> &[u8]
     ensures { result.now ≡ without_sign text.now }
 {
@@ -63,7 +60,7 @@ fn without_sign(text: &[u8]) -> &[u8]
     }
 }
 
-/// The size of the number that the text is, without a sign.
+/// The absolute value of a number without a sign.
 fn read_size(text: &[u8], greatest: u64) -> Option<u64>
     ensures { result ≡ size_of greatest text.now }
 {
@@ -76,7 +73,7 @@ fn read_size(text: &[u8], greatest: u64) -> Option<u64>
     read_in(10, text, greatest)
 }
 
-/// The number that begins with all of the text's first digits of this radix.
+/// The value of a number in this radix: its leading digits, and its unit.
 fn read_in(radix: u64, text: &[u8], greatest: u64) -> Option<u64>
     requires least { 1 ≤ radix }
     requires most { radix ≤ 16 }
@@ -95,7 +92,7 @@ fn read_in(radix: u64, text: &[u8], greatest: u64) -> Option<u64>
     Some(value * unit)
 }
 
-/// How many digits of this radix the text begins with.
+/// The number of digits of this radix at the start of the text.
 fn digit_len(radix: u64, text: &[u8]) -> usize
     ensures { result ≡ prefix_len (λ b. is_digit b radix) text.now }
 {
@@ -104,7 +101,7 @@ fn digit_len(radix: u64, text: &[u8]) -> usize
         .count()
 }
 
-/// The value of a digit or a letter, and 36 of any other byte.
+/// The value of a digit or a letter, and 36 for any other byte.
 fn digit_value(byte: u8) -> u64
     ensures { result ≡ digit_value byte }
 {
@@ -116,7 +113,7 @@ fn digit_value(byte: u8) -> u64
     }
 }
 
-/// What the text after a number multiplies it by.
+/// The factor of the unit that the text spells.
 fn read_unit(text: &[u8]) -> Option<u64>
     ensures { result ≡ unit_of text.now }
 {
@@ -129,7 +126,7 @@ fn read_unit(text: &[u8]) -> Option<u64>
     }
 }
 
-/// The number of the digits, if it is no greater than that.
+/// The value of the digits, unless it exceeds `greatest`.
 fn read_digits(radix: u64, digits: &[u8], greatest: u64) -> Option<u64>
     requires least { 1 ≤ radix }
     requires most { radix ≤ 16 }

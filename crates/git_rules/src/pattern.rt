@@ -1,10 +1,7 @@
-//! Patterns of places, as in `credential.<url>.*` and `http.<url>.*`, and the best of those that match.
+//! Patterns of places, as in `credential.<url>.*` and `http.<url>.*`, and the best match among several.
 //!
-//! It uses the normal form of `normal` and the cuts of `git_syntax`. Its contract: a pattern stands for
-//! exactly the places that Git matches with it, the best of several is the one that Git takes, and what a
-//! pattern without `*` picks for a text that all readers agree on goes to the scheme, the host and the port
-//! of the pattern. It takes no memory, except for the answers of `settings`. Inside: `place` makes the place of
-//! a location, `entries` picks among the entries of a configuration, `settings` finds all that Git uses.
+//! `place` returns the place of a location, `entries` picks the best entry of a configuration, and `settings`
+//! collects all entries that Git uses. Only `settings` allocates.
 
 ghost use Rattle.std.specs.Prelude.{◌≡◌, ◌<◌, ◌↔◌, ◌∷◌, ◌++◌, ℕ, List, [], IsTrue, MatchOption, true, length, option_map};
 ghost use Rattle.git_rules.specs.NormalFlaws.{NormalizesIn};
@@ -20,18 +17,19 @@ use crate::normal::{NormalError, NormalUrl};
 use git_syntax::bytes::{before, cut, starts_with_byte};
 use std::marker::Model;
 
-/// A pattern of places, as the `<url>` of `credential.<url>.*` and `http.<url>.*` (git-config(1)): a URL in
-/// its normal form, in whose host `*` may be a label.
+/// A pattern of places, as the `<url>` of `credential.<url>.*` and `http.<url>.*` (git-config(1)): a URL in its
+/// normal form, whose host may contain `*` as a label.
 ///
-/// It stands for a place exactly where
+/// It matches a place if all of these hold:
 ///
-/// - the schemes are equal, and so are the ports, each the scheme's own where none is there;
-/// - the user of the place is that of the pattern, if the pattern has one; the password doesn't count;
-/// - the hosts have as many labels, each ended by a `.` or by the end of the host, and each label of the
-///   pattern is `*` or the label at its place. So `*` stands for one whole label, be it empty, and within a
-///   longer label for itself, which no host has; a `.` at the end of a host makes no label more;
-/// - the path of the place is that of the pattern without one `/` at its end, or follows it with a `/`: whole
-///   elements, with query and fragment as they are.
+/// - The schemes are equal, and so are the ports; a missing port is the scheme's default port.
+/// - The user of the place is that of the pattern, if the pattern has one. The password is ignored.
+/// - The hosts have equally many labels, each ended by a `.` or by the end of the host, and each label of the
+///   pattern is `*` or equal to the label at its position. So `*` matches one whole label, even an empty one;
+///   within a longer label it matches only itself, which no host contains. A `.` at the end of a host adds no
+///   label.
+/// - The path of the place equals the path of the pattern without one trailing `/`, or continues it with a `/`.
+///   Only whole segments match; query and fragment are compared as they are.
 #[derive(Drop)]
 pub struct UrlPattern<'a> {
     /// The normal form.
@@ -47,16 +45,16 @@ impl<'a> Model for UrlPattern<'a> {
 }
 
 impl<'a> UrlPattern<'a> {
-    /// The pattern that the text spells, as [`NormalUrl::parse_in`] reads it, with `*` among the bytes of a
-    /// host.
+    /// Returns the pattern that the text spells, as [`NormalUrl::parse_in`] reads it, with `*` allowed in the host.
     ///
-    /// Room for three times as many bytes as the text has, and one more, is asked for; no memory is. A text
-    /// that is no URL, as `example.com` is, spells none.
+    /// The buffer `room` needs three bytes for each byte of the text, and one more. Allocates nothing. A text that
+    /// isn't a URL, such as `example.com`, isn't a pattern. [`NormalUrl::parse_in`] describes the contents of the
+    /// buffer after an error.
     ///
     /// # Errors
     ///
-    /// [`NormalError::NoRoom`] where the room is shorter than that, and else what the text has no normal form
-    /// for: then Git takes no entry of `http.*` with it.
+    /// [`NormalError::NoRoom`] if the buffer is too short. Every other error is the reason why the text has no
+    /// normal form; Git then uses no entry of `http.*` with this text.
     ///
     /// ```
     /// /// Whether a pattern stands for a place, each in a room of its own.
@@ -78,10 +76,9 @@ impl<'a> UrlPattern<'a> {
 }
 
 impl UrlPattern<'_> {
-    /// Whether the pattern stands for the place, by the rules of [`UrlPattern`]. It takes no memory.
+    /// Whether the pattern matches the place, by the rules of [`UrlPattern`].
     ///
-    /// The place is a normal form that is read without `*`, as [`place_in`](place::place_in) makes it of a
-    /// location.
+    /// The place is a normal form read without `*`, as [`place_in`](place::place_in) returns it for a location.
     ///
     /// ```
     /// /// Whether a proxy that is set for a URL is used for a place.
@@ -100,7 +97,7 @@ impl UrlPattern<'_> {
             && matches_path(own.path, place.path)
     }
 
-    /// The rank of the pattern, if it stands for the place.
+    /// The rank of the pattern, if it matches the place.
     pub(crate) fn rank_for(&self, place: &NormalUrl<'_>) -> Option<Rank>
         ensures { HasRank (RanksFor place.now) self.now result }
     {
@@ -123,16 +120,15 @@ impl UrlPattern<'_> {
     }
 }
 
-/// By what the best of several is chosen: the first number in which two differ decides, and the higher one is
-/// better (git-config(1): the host first, then the path, then the user).
+/// The precedence of a match. The first number that differs decides, and the higher one is better (git-config(1):
+/// the host first, then the path, then the user).
 #[derive(Clone, Copy)]
 pub struct Rank {
     /// The length of the host, in bytes.
     pub host: usize,
-    /// The length of the path without one `/` at its end, in bytes, and one more; 0 where there is no
-    /// pattern.
+    /// The length of the path without one trailing `/`, in bytes, plus one; 0 if there is no pattern.
     pub path: usize,
-    /// 1 where a user is asked for, else 0.
+    /// 1 if the pattern has a user, otherwise 0.
     pub user: usize,
 }
 
@@ -151,11 +147,10 @@ impl Rank {
     }
 }
 
-/// The index of the best of the patterns that stand for the place; none where none does. It takes no memory,
-/// and looks at each pattern once.
+/// The index of the best pattern that matches the place, or `None` if no pattern does. Tests each pattern once.
 ///
-/// The one with the longest host is the best, `*` counted as the byte that it is; of these the one with the
-/// longest path, then one with a user before those without, and then the last.
+/// The pattern with the longest host wins, `*` counted as one byte; among these the one with the longest path, then
+/// one with a user, then the last.
 ///
 /// ```
 /// /// The value that is set for a place: the values are as many as the patterns.
@@ -176,7 +171,7 @@ pub fn best(patterns: &[UrlPattern<'_>], place: &NormalUrl<'_>) -> Option<usize>
     }
 }
 
-/// The best so far, or the one that comes next: that where it has a rank, which isn't lower.
+/// The best match so far, or the next one if it matches and its rank isn't lower.
 pub(crate) fn better(
     best: Option<(usize, Rank)>,
     next: usize,
@@ -191,7 +186,7 @@ pub(crate) fn better(
     }
 }
 
-/// Whether the host of a pattern stands for the host, label by label.
+/// Whether the host of a pattern matches the host, label by label.
 fn matches_host(pattern: &[u8], host: &[u8]) -> bool
     ensures { IsTrue result ↔ MatchesHost pattern.now host.now }
 {
@@ -209,7 +204,7 @@ fn matches_host(pattern: &[u8], host: &[u8]) -> bool
     rest.is_empty()
 }
 
-/// The first label of a host, and what is behind the `.` that ends it; none of an empty host.
+/// The first label of a host, and the text after the `.` that ends it, or `None` if the host is empty.
 fn first_label(host: &[u8]) -> Option<(&[u8], &[u8])>
     ensures { MatchOption result (host.now ≡ [])
         (λ p. (labels_of host.now ≡ p.0.now ∷ labels_of p.1.now)
@@ -221,7 +216,7 @@ fn first_label(host: &[u8]) -> Option<(&[u8], &[u8])>
     }
 }
 
-/// The host as its only label, with nothing behind it; none of an empty host.
+/// The host as its only label, with an empty rest, or `None` if the host is empty.
 fn only_label(host: &[u8]) -> Option<(&[u8], &[u8])>
     ensures { MatchOption result (host.now ≡ [])
         (λ p. (p.0.now ≡ host.now) × (p.1.now ≡ []) × (0 < length host.now)) }
@@ -232,14 +227,14 @@ fn only_label(host: &[u8]) -> Option<(&[u8], &[u8])>
     Some(host.split_at(host.len()))
 }
 
-/// Whether the label of a pattern stands for the label.
+/// Whether the label of a pattern matches the label.
 fn matches_label(wanted: &[u8], label: &[u8]) -> bool
     ensures { IsTrue result ↔ MatchesLabel wanted.now label.now }
 {
     wanted == b"*".as_slice() || wanted == label
 }
 
-/// Whether the place has the user of the pattern, if that has one.
+/// Whether the place has the user of the pattern, if the pattern has one.
 fn matches_user(pattern: Option<&[u8]>, user: Option<&[u8]>) -> bool
     ensures { IsTrue result
         ↔ MatchesUser (option_map (λ t. t.now) pattern.entry) (option_map (λ t. t.now) user.entry) }
@@ -253,7 +248,7 @@ fn matches_user(pattern: Option<&[u8]>, user: Option<&[u8]>) -> bool
     }
 }
 
-/// The path without one `/` at its end.
+/// The path without one trailing `/`.
 fn without_last_slash(path: &[u8]) -> &[u8]
     ensures { result.now ≡ spec.without_last_slash path.now }
 {
@@ -263,14 +258,14 @@ fn without_last_slash(path: &[u8]) -> &[u8]
     }
 }
 
-/// Whether the path of a pattern stands for the path.
+/// Whether the path of a pattern matches the path.
 fn matches_path(pattern: &[u8], path: &[u8]) -> bool
     ensures { IsTrue result ↔ MatchesPath pattern.now path.now }
 {
     is_below(without_last_slash(pattern), path)
 }
 
-/// Whether the front is the path, or is followed by a `/` in it.
+/// Whether the path equals `front`, or continues it with a `/`.
 fn is_below(front: &[u8], path: &[u8]) -> bool
     ensures { IsTrue result ↔ IsBelow front.now path.now }
 {
@@ -280,7 +275,7 @@ fn is_below(front: &[u8], path: &[u8]) -> bool
     }
 }
 
-/// What follows the front in a text that begins with it.
+/// The text after `front`, if the text begins with it.
 fn behind<'a>(front: &[u8], text: &'a [u8]) -> Option<&'a [u8]>
     ensures { MatchOption result ((rest : List ℕ) → ¬ (text.now ≡ front.now ++ rest))
         (λ rest. text.now ≡ front.now ++ rest.now) }
@@ -288,20 +283,20 @@ fn behind<'a>(front: &[u8], text: &'a [u8]) -> Option<&'a [u8]>
     text.strip_prefix(front)
 }
 
-/// What a pattern picks goes to the place of the pattern, and to no other.
+/// A pattern only selects texts whose requests go to the pattern's own place.
 ///
-/// Let a pattern without `*` in its host stand for the normal form of the text of a location of HTTP that
-/// [`UrlRef::agrees_with_git`](git_location::url_ref::UrlRef::agrees_with_git) accepts. Then what Git's
-/// credential code reads in that text, and what a reader of URIs as libcurl reads in it, has the scheme, the
-/// host and the port of the pattern, each port the scheme's own where none is there. The host of the pattern
-/// may have a `.` at its end that theirs lacks: Git passes over it, and the name is the same (RFC 1034,
-/// section 3.1). So the request that Git makes for such a text goes to the host of the pattern. That each of
-/// the two readers reads one thing in such a text is [`law_git`](git_laws::laws::law_git).
+/// Suppose that a pattern without `*` in its host matches the normal form of the text of an HTTP location for which
+/// [`UrlRef::agrees_with_git`](git_location::url_ref::UrlRef::agrees_with_git) is true. Then Git's credential code
+/// and a URI reader such as libcurl both read the pattern's scheme, host and port in that text; a missing port is
+/// the scheme's default port. The host of the pattern may end in a `.` that theirs lacks: Git ignores it, and the
+/// name is the same (RFC 1034, section 3.1). So the request that Git makes for such a text goes to the host of the
+/// pattern. [`law_git`](git_laws::laws::law_git) states that each of the two readers has one reading of such a
+/// text.
 ///
-/// The law speaks of the text, and of no answer of a server. Git follows redirections by
-/// `http.followRedirects` (`initial` where it isn't set), and sends a header of `http.extraHeader` to the host
-/// that it is redirected to as well; libcurl drops the header `Authorization` alone. Proxies, `.netrc` and
-/// `GIT_ASKPASS` aren't looked at either.
+/// The law is about the text, not about a server's response. Git follows redirections as `http.followRedirects`
+/// says (`initial` if it isn't set), and also sends a header of `http.extraHeader` to the host that it is
+/// redirected to; libcurl only drops the header `Authorization`. The law doesn't cover proxies, `.netrc` and
+/// `GIT_ASKPASS`.
 ///
 /// ```
 /// /// Whether the secret that is kept for a URL may be sent with a location's request, which is made to that URL's host.

@@ -1,9 +1,7 @@
-//! Which transports may be used, and which one a location takes.
+//! Which transports may be used, and which one a location uses.
 //!
-//! It uses the entries of `config`, over which it decides as they are, without a copy, and the boolean values
-//! of `boolean`. Its contract: the decision is that of Git 2.39, by the list, the last entry of a key or the
-//! default, and names what decided; where Git stops, so does the decision, at the same fault. It reads no
-//! environment and takes no memory.
+//! The decision is that of Git 2.39: by the list, by the last entry of a key, or by default. The result names the
+//! reason, and reports the same fault at which Git stops. No function here reads the environment.
 
 ghost use Rattle.std.specs.Prelude.{◌≡◌, ◌↔◌, IsTrue, option_map};
 ghost use Rattle.git_syntax.specs.Schemes.{scheme_text};
@@ -18,15 +16,15 @@ use git_location::url_ref::UrlRef;
 use git_syntax::bytes::cut;
 use std::marker::Model;
 
-/// The name of the transport that Git takes for the location, or of the remote helper that it runs: `ssh`,
-/// `git`, `file`, `http`, `https`, `ext`, or the name of another helper.
+/// The name of the transport that Git uses for the location, or of the remote helper that it runs: `ssh`, `git`,
+/// `file`, `http`, `https`, `ext`, or the name of another helper.
 ///
-/// Git looks this name up in `protocol.<name>.allow` and `GIT_ALLOW_PROTOCOL`. It depends on the scheme
-/// alone: `ssh` for `git+ssh://` and the scp form, `file` for paths, `SSH` for `SSH://`, which Git hands to a
-/// helper of that name. Before that, Git refuses each text that begins with `rsync:` but not with `rsync::`.
-/// Such a location has a name here all the same, `rsync` as a URL and `ssh` in scp form.
-/// [`transport_of`](text::transport_of) names the transport of a text as Git reads it. `remote.<name>.vcs`,
-/// which names another helper, is not looked at. It takes no memory.
+/// Git looks this name up in `protocol.<name>.allow` and `GIT_ALLOW_PROTOCOL`. It depends only on the scheme: `ssh`
+/// for `git+ssh://` and the scp form, `file` for paths, `SSH` for `SSH://`, for which Git runs a helper of that
+/// name. Before that, Git refuses each text that begins with `rsync:` but not with `rsync::`. This function still
+/// returns a name for such a location, `rsync` for a URL and `ssh` in scp form.
+/// [`transport_of`](text::transport_of) returns the transport of a text as Git reads it. `remote.<name>.vcs`, which
+/// selects another helper, is ignored.
 ///
 /// ```
 /// fn is_secure_shell(url: &UrlRef<'_>) -> bool {
@@ -39,9 +37,9 @@ pub fn transport<'a>(url: &UrlRef<'a>) -> &'a str
     url.scheme.as_str()
 }
 
-/// What decides which transports may be used: a configuration, and two variables of the environment.
+/// The settings that decide which transports may be used: a configuration, and two variables of the environment.
 ///
-/// The caller reads the variables and puts their values in. It owns nothing and takes no memory.
+/// The caller reads the variables and sets the fields to their values, which are borrowed.
 ///
 /// ```
 /// /// Whether a location that the user didn't type may be fetched from.
@@ -56,13 +54,12 @@ pub fn transport<'a>(url: &UrlRef<'a>) -> &'a str
 /// ```
 #[derive(Drop)]
 pub struct Protocols<'a> {
-    /// The entries of the configuration, in their order. Those of other keys count for nothing.
+    /// The entries of the configuration, in their order. Entries of other keys are ignored.
     pub entries: &'a [Entry<'a>],
-    /// The value of `GIT_ALLOW_PROTOCOL`: names with a colon between two. None where it isn't set: the empty
-    /// text is a list that allows no transport but one without a name.
+    /// The value of `GIT_ALLOW_PROTOCOL`, names separated by colons, or `None` if it isn't set. The empty text is a
+    /// list that allows only the transport with the empty name.
     pub allow_list: Option<&'a [u8]>,
-    /// The value of `GIT_PROTOCOL_FROM_USER`, a boolean value. None where it isn't set, which Git takes as
-    /// true.
+    /// The value of `GIT_PROTOCOL_FROM_USER`, a boolean value, or `None` if it isn't set, which Git takes as true.
     pub from_user: Option<&'a [u8]>,
 }
 
@@ -76,49 +73,49 @@ impl<'a> Model for Protocols<'a> {
     ghost view = { policy };
 }
 
-/// What Git does about a transport, and by what. Copies take no memory.
+/// Git's decision about a transport, and the reason.
 #[derive(Clone, Copy, Debug, PartialEq, Eq)]
 pub enum Permission {
     /// Git uses it.
     Allowed(Reason),
     /// Git refuses it.
     Refused(Reason),
-    /// Git stops: the entry that counts has no value, or another than `always`, `user` and `never`.
+    /// Git stops: the value of the entry that decides is missing, or isn't `always`, `user` or `never`.
     UnknownAllowance {
-        /// The place of the entry: its field `at`.
+        /// The byte offset of the entry: its field `at`.
         at: usize,
     },
-    /// Git stops: the value of `GIT_PROTOCOL_FROM_USER`, which it needs, is no boolean value.
+    /// Git stops: it needs the value of `GIT_PROTOCOL_FROM_USER`, which isn't a boolean value.
     UnknownFromUser,
 }
 
-/// By what a transport is allowed or refused.
+/// The reason why a transport is allowed or refused.
 #[derive(Clone, Copy, Debug, PartialEq, Eq)]
 pub enum Reason {
     /// The list of `GIT_ALLOW_PROTOCOL`.
     AllowList,
-    /// The last entry of `protocol.<name>.allow`, or of `protocol.allow` where there is none.
+    /// The last entry of `protocol.<name>.allow`, or else of `protocol.allow`.
     Entry {
-        /// The place of the entry: its field `at`.
+        /// The byte offset of the entry: its field `at`.
         at: usize,
     },
-    /// What Git does where nothing is configured.
+    /// Git's default if nothing is configured.
     Default,
 }
 
-/// What an entry says of transports.
+/// The value of an entry for transports.
 #[derive(Clone, Copy)]
 enum Allowance {
-    /// They are allowed.
+    /// The transport is allowed.
     Always,
-    /// They are allowed for locations that come from the user.
+    /// The transport is allowed for locations that come from the user.
     User,
-    /// They are refused.
+    /// The transport is refused.
     Never,
 }
 
 impl Permission {
-    /// Whether Git uses the transport. Where Git stops, it doesn't.
+    /// Whether Git uses the transport; false if Git stops.
     ///
     /// ```
     /// fn is_helper_allowed(protocols: &Protocols<'_>) -> bool {
@@ -133,23 +130,22 @@ impl Permission {
 }
 
 impl Protocols<'_> {
-    /// What Git 2.39 does about a transport, by its name, which [`transport`] returns for a location.
+    /// Returns the decision of Git 2.39 about a transport, by its name, which [`transport`] returns for a location.
     ///
     /// 1. If `GIT_ALLOW_PROTOCOL` is set, it allows the names in it and refuses all others.
-    /// 2. Otherwise the last entry of `protocol.<name>.allow` decides, or if there is none the last one of
-    ///    `protocol.allow`, by its value: `always`, `never` or `user`, without letter case (ASCII).
-    /// 3. Otherwise `http`, `https`, `git` and `ssh` are as with `always`, `ext` as with `never`, and all
-    ///    others, `file` among them, as with `user`.
+    /// 2. Otherwise the last entry of `protocol.<name>.allow` decides, or else the last one of `protocol.allow`, by
+    ///    its value: `always`, `never` or `user`, ignoring letter case (ASCII).
+    /// 3. Otherwise `http`, `https`, `git` and `ssh` are treated as with `always`, `ext` as with `never`, and all
+    ///    others, including `file`, as with `user`.
     ///
     /// With `user`, the transport is allowed if `GIT_PROTOCOL_FROM_USER` is true or not set. Names are
-    /// compared with letter case. A value that Git can't understand is reported where Git stops for it, which
-    /// is where it needs it: the value of an entry if that entry decides, and `GIT_PROTOCOL_FROM_USER` with
-    /// `user`. It looks at each entry twice at most, and takes no memory. The rules are those of git(1) and
-    /// of `protocol.allow` in git-config(1).
+    /// case-sensitive. A value that Git can't read is reported only if Git stops for it because it needs it: the
+    /// value of an entry if that entry decides, and `GIT_PROTOCOL_FROM_USER` with `user`. Looks at each entry at
+    /// most twice. Allocates nothing. The rules are those of git(1) and of `protocol.allow` in git-config(1).
     ///
-    /// Git's helper for HTTP asks again, for `http`, `https`, `ftp` and `ftps`: whether it may use them, and
-    /// whether it may follow redirections to them, as if `GIT_PROTOCOL_FROM_USER` were false. So even if the
-    /// transport is allowed, Git may stop later for an entry of one of the others, or for
+    /// Git's helper for HTTP checks again, for `http`, `https`, `ftp` and `ftps`: whether it may use them, and
+    /// whether it may follow redirections to them, the latter as if `GIT_PROTOCOL_FROM_USER` were false. So even if
+    /// the transport is allowed, Git may stop later because of an entry of one of the others, or of
     /// `GIT_PROTOCOL_FROM_USER`.
     ///
     /// ```
@@ -170,14 +166,14 @@ impl Protocols<'_> {
     }
 }
 
-/// Whether the list allows the name.
+/// The decision by the list.
 fn by_list(list: &[u8], name: &str) -> Permission
     ensures { result ≡ by_list list.now name.now }
 {
     by_test(Reason::AllowList, Some(is_listed(list, name.as_bytes())))
 }
 
-/// Whether the name is one of those in the list.
+/// Whether the name is in the list.
 fn is_listed(list: &[u8], name: &[u8]) -> bool
     ensures { result ≡ is_listed list.now name.now }
 {
@@ -191,7 +187,7 @@ fn is_listed(list: &[u8], name: &[u8]) -> bool
     rest == name
 }
 
-/// The entry that counts for a transport.
+/// The entry that decides about a transport.
 fn counting<'a>(entries: &'a [Entry<'a>], name: &str) -> Option<&'a Entry<'a>>
     ensures { Counts entries.now name.now (option_map (λ e. e.now) result) }
 {
@@ -201,7 +197,7 @@ fn counting<'a>(entries: &'a [Entry<'a>], name: &str) -> Option<&'a Entry<'a>>
     }
 }
 
-/// The last entry of `protocol.<name>.allow`, or without a name of `protocol.allow`.
+/// The last entry of `protocol.<name>.allow`, or without a name the last one of `protocol.allow`.
 fn last_allow<'a>(entries: &'a [Entry<'a>], name: Option<&str>) -> Option<&'a Entry<'a>>
     ensures { IsLastOf (SetsAllow (option_map (λ t. t.now) name.entry)) entries.now (option_map (λ e. e.now) result) }
 {
@@ -222,7 +218,7 @@ fn sets_allow(entry: &Entry<'_>, name: Option<&str>) -> bool
     entry.sets("protocol", "allow") && is_same(entry.subsection, name)
 }
 
-/// Whether both are absent, or the same.
+/// Whether both are absent or both have the same text.
 fn is_same(subsection: Option<&[u8]>, name: Option<&str>) -> bool
     ensures { IsTrue result ↔ (option_map (λ t. t.now) subsection.entry ≡ option_map (λ t. t.now) name.entry) }
 {
@@ -233,7 +229,7 @@ fn is_same(subsection: Option<&[u8]>, name: Option<&str>) -> bool
     }
 }
 
-/// What the entry that counts says of the transport, or the default.
+/// The decision by the entry that decides, or by default.
 fn by_entry(name: &str, entry: Option<&Entry<'_>>, from_user: Option<&[u8]>) -> Permission
     ensures { result ≡ by_entry name.now (option_map (λ e. e.now) entry.entry) (option_map (λ t. t.now) from_user.entry) }
 {
@@ -243,7 +239,7 @@ fn by_entry(name: &str, entry: Option<&Entry<'_>>, from_user: Option<&[u8]>) -> 
     }
 }
 
-/// What the value of the entry at this place comes to.
+/// The decision by the value of the entry at this byte offset.
 fn by_value(allowance: Option<Allowance>, at: usize, from_user: Option<&[u8]>) -> Permission
     ensures { result ≡ by_value allowance at (option_map (λ t. t.now) from_user.entry) }
 {
@@ -253,7 +249,7 @@ fn by_value(allowance: Option<Allowance>, at: usize, from_user: Option<&[u8]>) -
     }
 }
 
-/// What an allowance comes to.
+/// The decision by an allowance.
 fn under(allowance: Allowance, by: Reason, from_user: Option<&[u8]>) -> Permission
     ensures { result ≡ under allowance by (option_map (λ t. t.now) from_user.entry) }
 {
@@ -264,7 +260,7 @@ fn under(allowance: Allowance, by: Reason, from_user: Option<&[u8]>) -> Permissi
     }
 }
 
-/// Allowed or refused as the test says, which Git may not understand.
+/// The decision by a test, whose result is `None` if Git can't read `GIT_PROTOCOL_FROM_USER`.
 fn by_test(by: Reason, test: Option<bool>) -> Permission
     ensures { result ≡ by_test by test }
 {
@@ -285,7 +281,7 @@ fn read_from_user(value: Option<&[u8]>) -> Option<bool>
     }
 }
 
-/// What the value of an entry says.
+/// The allowance that the value of an entry spells.
 fn read_allowance(value: Option<&[u8]>) -> Option<Allowance>
     ensures { result ≡ allowance_of (option_map (λ t. t.now) value.entry) }
 {
@@ -301,7 +297,7 @@ fn read_allowance(value: Option<&[u8]>) -> Option<Allowance>
     }
 }
 
-/// What holds where nothing is configured.
+/// The allowance if nothing is configured.
 fn default_allowance(name: &str) -> Allowance
     ensures { result ≡ default_allowance name.now }
 {
@@ -314,20 +310,20 @@ fn default_allowance(name: &str) -> Allowance
     }
 }
 
-/// Whether the transport is always allowed where nothing is configured.
+/// Whether the transport is allowed if nothing is configured.
 fn is_trusted(name: &str) -> bool
     ensures { result ≡ is_trusted name.now }
 {
     name == "http" || name == "https" || name == "git" || name == "ssh"
 }
 
-/// The entries of the section `protocol` decide alone: what [`Protocols::permission`] returns is the same by
-/// them, which [`entries_of`](crate::config::entries_of) finds, as by all entries.
+/// Only the entries of the section `protocol` decide: [`Protocols::permission`] returns the same with these alone,
+/// which [`entries_of`](crate::config::entries_of) returns, as with all entries.
 pub fn law_section()
     ensures { SectionDecides }
 {}
 
-/// Git decides in one way: whatever it does about a transport is what [`Protocols::permission`] returns.
+/// Git's decision is unique: [`Protocols::permission`] returns the only one.
 pub fn law_permission()
     ensures { OnePermission }
 {}

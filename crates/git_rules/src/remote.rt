@@ -1,8 +1,7 @@
-//! What Git uses of a configuration for a remote: the URLs that it fetches from and pushes to, and four values.
+//! The settings of a remote in a configuration: the URLs that Git fetches from and pushes to, and four values.
 //!
-//! It uses `config` for entries and `rewrite` for rules. Its contract: a remote is one value of two lists and
-//! four options. Each item of a list is what the rules make of one text, in the order of the entries, and an
-//! error names the entry that Git stops at.
+//! The URLs are in the order of the entries, each rewritten by the rules. An error names the entry at which Git
+//! stops.
 
 ghost use Rattle.std.specs.Prelude.{◌≡◌, [], IfErr, IfOk, OnOk, option_map};
 ghost use Rattle.git_rules.specs.Remotes.{AddsRuled, AreRewritten, AreRuled, ArePushUrls, AreUrls, HasPushUrls, HaveValues, first_of, has_none, has_read_name, is_its_own_url, is_remote, is_subsection_of, lacks_value, last_of, proxy_key, receivepack_key, uploadpack_key, url_key, value_for, values_of, vcs_key};
@@ -17,11 +16,11 @@ use std::alloc::{AllocError, Global};
 use std::marker::Model;
 use thiserror::Error;
 
-/// What `git fetch NAME` and `git push NAME` use of a configuration. It borrows all texts.
+/// The settings that `git fetch NAME` and `git push NAME` use. All texts are borrowed.
 ///
-/// `NAME` has the entries of the section `remote`, without letter case (ASCII), whose subsection is `NAME`,
-/// byte for byte, and whose names are compared without letter case. The fields hold what Git 2.39.5 has after
-/// it read the configuration (`remote.c`).
+/// The entries of `NAME` are those whose section is `remote`, ignoring letter case (ASCII), and whose subsection is
+/// `NAME`, byte for byte; their names are compared ignoring letter case. The fields hold the values that Git 2.39.5
+/// has after it read the configuration (`remote.c`).
 ///
 /// ```
 /// /// The URL that `git fetch` uses; none where the remote has a foreign helper and no URL.
@@ -34,18 +33,18 @@ use thiserror::Error;
 /// ```
 #[derive(Drop)]
 pub struct Remote<'a> {
-    /// What becomes of each value of `url` by the rules for fetching. Git fetches from the first. Without
-    /// `url` and `vcs` the name of the remote is its one URL.
+    /// Each value of `url`, rewritten by the rules for fetching. Git fetches from the first. If there is neither
+    /// `url` nor `vcs`, the only URL is the name of the remote.
     pub urls: Vec<Rewritten<'a>>,
-    /// What Git pushes to, in its order. `git push` pushes to all of them.
+    /// The URLs that Git pushes to, in its order. `git push` pushes to all of them.
     pub push_urls: Vec<Rewritten<'a>>,
     /// The last value of `vcs`: Git runs the helper `git-remote-<vcs>` for the remote.
     pub vcs: Option<&'a [u8]>,
     /// The last value of `proxy`, which may be empty.
     pub proxy: Option<&'a [u8]>,
-    /// The first value of `uploadpack`: the program that Git runs at the other end of a fetch.
+    /// The first value of `uploadpack`: the program that Git runs on the server for a fetch.
     pub uploadpack: Option<&'a [u8]>,
-    /// The first value of `receivepack`: the program that Git runs at the other end of a push.
+    /// The first value of `receivepack`: the program that Git runs on the server for a push.
     pub receivepack: Option<&'a [u8]>,
 }
 
@@ -59,13 +58,13 @@ impl<'a> Model for Remote<'a> {
     ghost view = { git_remote };
 }
 
-/// Why a remote was not read. [`Remote::of`] has an example.
+/// An error of [`Remote::of`], which has an example.
 #[derive(Clone, Copy, Debug, PartialEq, Eq, Error)]
 pub enum RemoteError {
-    /// Memory was refused.
+    /// An allocation failed.
     #[error("out of memory")]
     Memory,
-    /// An entry of a remote has no value. Git stops at it, whichever remote it was called for.
+    /// An entry of a remote has no value. Git stops there, whichever remote it was called for.
     #[error("the setting at byte {at} has no value")]
     NoValue {
         /// The byte offset of the entry in the text of the configuration.
@@ -84,32 +83,28 @@ impl From<AllocError> for RemoteError {
 }
 
 impl<'a> Remote<'a> {
-    /// The remote of this name. The rules are those of the same entries
-    /// ([`Rewrites::from_entries`](crate::rewrite::Rewrites::from_entries)), in which a program may leave some
-    /// out.
+    /// Returns the remote of this name. The rules come from the same entries
+    /// ([`Rewrites::from_entries`](crate::rewrite::Rewrites::from_entries)); a program may leave some of them out.
     ///
-    /// - `urls`: the values of `url`, each rewritten as by `rewrite_fetch`. An empty value is a URL like any
-    ///   other.
-    /// - `push_urls`: the values of `pushurl`, each rewritten as by `rewrite_fetch`. Without `pushurl` they
-    ///   are the values of `url` that a rule for pushing applies to, rewritten by these rules; the other
-    ///   values of `url` are not among them. Where there is none of all these Git pushes to `urls`. So by
-    ///   `url = gh:a`, `url = b` and `url.push:.pushInsteadOf = gh:` it pushes to `push:a` alone.
-    /// - Without `url` and `vcs` the name is the one URL. A rule for pushing that applies to it makes a push
-    ///   URL even where there is `pushurl`, after the values of that.
+    /// - `urls`: the values of `url`, each rewritten as by `rewrite_fetch`. An empty value is a URL like any other.
+    /// - `push_urls`: the values of `pushurl`, each rewritten as by `rewrite_fetch`. If there is no `pushurl`, they
+    ///   are only the values of `url` to which a rule for pushing applies, rewritten by these rules. If there are
+    ///   none of these either, Git pushes to `urls`. So with `url = gh:a`, `url = b` and `url.push:.pushInsteadOf =
+    ///   gh:` Git only pushes to `push:a`.
+    /// - If there is neither `url` nor `vcs`, the name is the only URL. If a rule for pushing applies to it, the
+    ///   result is a push URL, after the values of `pushurl` if there are any.
     ///
-    /// Git passes over an entry whose subsection begins with `/`. An entry with an empty subsection counts for
-    /// the remote whose name is a dot and the name of the entry in lower case, as `remote..url` for `.url`.
+    /// Git ignores an entry whose subsection begins with `/`. An entry with an empty subsection belongs to the
+    /// remote whose name is a dot and the name of the entry in lower case, as `remote..url` to `.url`.
     ///
-    /// No file is opened: Git reads `.git/remotes/NAME` and `.git/branches/NAME`, if it finds one of them,
-    /// before it takes the name for a URL. Groups of remotes (`remotes.NAME`) are not looked up, and other
-    /// entries of a remote, as `fetch` and `tagOpt`, are not checked. Memory is asked for as the two lists
-    /// grow.
+    /// No file is opened: Git reads `.git/remotes/NAME` and `.git/branches/NAME`, if it finds one of them, before
+    /// it takes the name for a URL. Groups of remotes (`remotes.NAME`) are not looked up, and other entries of a
+    /// remote, such as `fetch` and `tagOpt`, are not checked. Allocates as the two lists grow.
     ///
     /// # Errors
     ///
-    /// [`RemoteError::NoValue`] with the place of the first entry of any remote that has one of the six names
-    /// and no value, at which Git stops. [`RemoteError::Memory`] where memory is refused, and each entry has
-    /// a value.
+    /// [`RemoteError::NoValue`] names the first entry of any remote that has one of the six names and no value, at
+    /// which Git stops. [`RemoteError::Memory`] if an allocation fails and each entry has a value.
     ///
     /// ```
     /// /// The texts that `git push NAME` pushes to, each with a line feed after it.
@@ -159,7 +154,7 @@ impl<'a> Remote<'a> {
     }
 }
 
-/// That each entry of a remote has a value, or the first one without.
+/// Checks that each entry of a remote has a value, and reports the first one without a value.
 fn check_values(entries: &[Entry<'_>]) -> Result<(), RemoteError>
     ensures { ChecksValues entries.now result }
 {
@@ -171,7 +166,7 @@ fn check_values(entries: &[Entry<'_>]) -> Result<(), RemoteError>
     Ok(())
 }
 
-/// Whether the entry has no value, though Git reads one of a remote there.
+/// Whether the entry lacks a value that Git reads for a remote.
 fn lacks_value(entry: &Entry<'_>) -> bool
     ensures { result ≡ lacks_value entry.now }
 {
@@ -181,7 +176,7 @@ fn lacks_value(entry: &Entry<'_>) -> bool
         && has_read_name(entry)
 }
 
-/// Whether a subsection is a remote to Git.
+/// Whether Git takes the subsection for a remote.
 fn is_remote(subsection: Option<&[u8]>) -> bool
     ensures { result ≡ is_remote (option_map (λ t. t.now) subsection.entry) }
 {
@@ -191,7 +186,7 @@ fn is_remote(subsection: Option<&[u8]>) -> bool
     }
 }
 
-/// Whether the entry has one of the names that are read.
+/// Whether the entry has one of the names that Git reads.
 fn has_read_name(entry: &Entry<'_>) -> bool
     ensures { result ≡ has_read_name entry.now }
 {
@@ -203,7 +198,7 @@ fn has_read_name(entry: &Entry<'_>) -> bool
         || entry.is_name("receivepack")
 }
 
-/// The value that an entry gives the remote by this key.
+/// The value that the entry sets for the remote and this key, if any.
 fn value_for<'a>(entry: &Entry<'a>, name: &[u8], key: &str) -> Option<&'a [u8]>
     ensures { option_map (λ t. t.now) result ≡ value_for name.now key.now entry.now }
 {
@@ -215,7 +210,7 @@ fn value_for<'a>(entry: &Entry<'a>, name: &[u8], key: &str) -> Option<&'a [u8]>
     }
 }
 
-/// Whether the subsection of an entry with this key is the remote.
+/// Whether the subsection of an entry with this key denotes the remote.
 fn is_subsection_of(name: &[u8], key: &str, subsection: &[u8]) -> bool
     ensures { result ≡ is_subsection_of name.now key.now subsection.now }
 {
@@ -235,7 +230,7 @@ fn is_dot_and(name: &[u8], key: &str) -> bool
     }
 }
 
-/// The first of the values that entries give the remote by this key.
+/// The first value that entries set for the remote and this key.
 fn first_value<'a>(entries: &[Entry<'a>], name: &[u8], key: &str) -> Option<&'a [u8]>
     ensures { option_map (λ t. t.now) result ≡ first_of (values_of name.now key.now entries.now) }
 {
@@ -247,7 +242,7 @@ fn first_value<'a>(entries: &[Entry<'a>], name: &[u8], key: &str) -> Option<&'a 
     None
 }
 
-/// The last of the values that entries give the remote by this key.
+/// The last value that entries set for the remote and this key.
 fn last_value<'a>(entries: &[Entry<'a>], name: &[u8], key: &str) -> Option<&'a [u8]>
     ensures { option_map (λ t. t.now) result ≡ last_of (values_of name.now key.now entries.now) }
 {
@@ -260,14 +255,14 @@ fn last_value<'a>(entries: &[Entry<'a>], name: &[u8], key: &str) -> Option<&'a [
     last
 }
 
-/// Whether the name of the remote is its one URL.
+/// Whether the name of the remote is its only URL.
 fn is_its_own_url(entries: &[Entry<'_>], name: &[u8]) -> bool
     ensures { result ≡ is_its_own_url name.now entries.now }
 {
     first_value(entries, name, "url").is_none() && first_value(entries, name, "vcs").is_none()
 }
 
-/// The URLs of the remote, rewritten to fetch from them.
+/// The URLs of the remote, rewritten for fetching.
 fn urls_of<'a>(
     alloc: Global,
     entries: &[Entry<'a>],
@@ -300,7 +295,7 @@ fn pushed_to<'a>(
     Ok(found)
 }
 
-/// The push URLs of the remote: those of its entries, and those that rules for pushing make.
+/// The push URLs of the remote: those of its entries, and the results of rules for pushing.
 fn push_urls_of<'a>(
     alloc: Global,
     entries: &[Entry<'a>],
@@ -320,7 +315,7 @@ fn push_urls_of<'a>(
     Ok(found)
 }
 
-/// The values that entries give the remote by this key, rewritten by the rules for fetching.
+/// The values that entries set for the remote and this key, rewritten by the rules for fetching.
 fn rewritten_values<'a>(
     alloc: Global,
     entries: &[Entry<'a>],
@@ -340,7 +335,7 @@ fn rewritten_values<'a>(
     Ok(found)
 }
 
-/// The URLs of the remote that a rule for pushing applies to, rewritten by those rules.
+/// The URLs of the remote to which a rule for pushing applies, rewritten by those rules.
 fn ruled_urls<'a>(
     alloc: Global,
     entries: &[Entry<'a>],
@@ -359,7 +354,7 @@ fn ruled_urls<'a>(
     Ok(found)
 }
 
-/// Adds what the rules for pushing make of a text, if one of them applies to it.
+/// Appends the text as the rules for pushing rewrite it, if one of them applies.
 fn push_ruled<'a>(
     found: &mut Vec<Rewritten<'a>>,
     rules: &Rewrites<'a>,

@@ -1,8 +1,8 @@
-//! Locations rewritten as by `url.<base>.insteadOf` and `pushInsteadOf` of git-config(1).
+//! Locations rewritten by `url.<base>.insteadOf` and `pushInsteadOf` of git-config(1).
 //!
-//! It uses `config` for entries. Inside: `table` keeps rules and finds the one that wins, `outcome` is what
-//! becomes of a text. Its contract: a text is rewritten by the rule whose front is the longest that it begins
-//! with, of equal fronts by the one whose base comes first in its table, and is itself where no rule applies.
+//! The rule with the longest matching front wins; among equal fronts, the rule whose base comes first in its table.
+//! If no rule applies, the text stays as it is. `table` stores the rules and finds the one that wins; `outcome`
+//! represents the rewritten text.
 
 ghost use Rattle.std.specs.Prelude.{◌≡◌, OnErr, OnOk};
 ghost use Rattle.git_rules.specs.Rewrites.{IsRewritten, IsRewrittenToPush, no_rules, with_fetching, with_pushing};
@@ -20,13 +20,13 @@ use std::marker::Model;
 use table::Table;
 use thiserror::Error;
 
-/// Why rules were not read. [`Rewrites::add_entry`] has an example.
+/// An error in the rules. [`Rewrites::add_entry`] has an example.
 #[derive(Debug, Drop, Error)]
 pub enum RewriteError {
-    /// Memory was refused.
+    /// An allocation failed.
     #[error("out of memory")]
     Memory,
-    /// A rule has no value. Git stops at it, whatever it was called for.
+    /// A rule has no value. Git stops there, whatever command was called.
     #[error("the rule at byte {at} has no value")]
     NoValue {
         /// The byte offset of the entry in the text of the configuration.
@@ -44,14 +44,14 @@ impl From<AllocError> for RewriteError {
     }
 }
 
-/// Rules that rewrite locations: pairs of a base and the front that it replaces, for fetching and for
-/// pushing. They borrow their texts, and `'a` can't be shortened: a type that borrows rules names two
-/// lifetimes, as `&'r Rewrites<'a>`.
+/// Rules that rewrite locations: pairs of a base and the front that it replaces, for fetching and for pushing. They
+/// borrow their texts, and `'a` can't be shortened: a type that borrows rules needs two lifetimes, as in `&'r
+/// Rewrites<'a>`.
 ///
-/// A rule applies to a text that begins with its front, byte for byte. Of those that apply the one with the
-/// longest front wins, and of equal fronts the one whose base comes first in the table, be it by another
-/// rule: Git keeps the fronts of a base together. An empty front applies to every text, and an empty base
-/// takes a front off. What was rewritten is not rewritten again.
+/// A rule applies to a text that begins with its front, byte for byte. The rule with the longest front wins. Among
+/// equal fronts the base that comes first in the table wins, even if another rule put it there: Git keeps the
+/// fronts of a base together. An empty front applies to every text, and an empty base removes the front. The result
+/// is not rewritten again.
 ///
 /// ```
 /// /// The text that Git fetches from, by a configuration that `git config --list -z` wrote.
@@ -78,7 +78,8 @@ impl<'a> Model for Rewrites<'a> {
 }
 
 impl<'a> Rewrites<'a> {
-    /// No rules: every text stays as it is. It takes no memory yet. [`Rewrites::add_fetch`] has an example.
+    /// Returns an empty set of rules, which leaves every text unchanged. Allocates nothing yet.
+    /// [`Rewrites::add_fetch`] has an example.
     pub fn new(alloc: Global) -> Rewrites<'a>
         ensures { result ≡ no_rules }
     {
@@ -88,16 +89,15 @@ impl<'a> Rewrites<'a> {
         }
     }
 
-    /// The rules of a configuration: `url.<base>.insteadOf` for fetching and `url.<base>.pushInsteadOf` for
-    /// pushing, in the order of the entries. An entry without a subsection is no rule, as to Git. Memory is
-    /// asked for as the tables grow.
-    /// [`Rewrites`] has an example.
+    /// Returns the rules of a configuration: `url.<base>.insteadOf` for fetching and `url.<base>.pushInsteadOf`
+    /// for pushing, in the order of the entries. As in Git, an entry without a subsection isn't a rule. Allocates
+    /// as the tables grow.
     ///
     /// # Errors
     ///
-    /// [`RewriteError::NoValue`] with the place of the first rule that has no value, at which Git stops; a
-    /// program that goes on without it adds the entries one by one, by [`Rewrites::add_entry`].
-    /// [`RewriteError::Memory`] where memory is refused.
+    /// [`RewriteError::NoValue`] names the first rule that has no value, at which Git stops; a program that
+    /// continues without it can add the entries one by one with [`Rewrites::add_entry`]. [`RewriteError::Memory`]
+    /// if an allocation fails.
     pub fn from_entries(alloc: Global, entries: &[Entry<'a>]) -> Result<Rewrites<'a>, RewriteError>
         ensures { IsFilled entries.now result }
     {
@@ -108,8 +108,8 @@ impl<'a> Rewrites<'a> {
         Ok(rules)
     }
 
-    /// Adds the rule that an entry is, behind the others; an entry that is no rule changes nothing. Memory is
-    /// asked for where the table has to grow.
+    /// Appends the rule of an entry; an entry that isn't a rule changes nothing. Allocates if the table has to
+    /// grow.
     ///
     /// ```
     /// /// The rules of a configuration, and how many of them have no value, which Git would have stopped at.
@@ -132,8 +132,8 @@ impl<'a> Rewrites<'a> {
     ///
     /// # Errors
     ///
-    /// [`RewriteError::NoValue`] with the place of the entry, where it is a rule without a value, and
-    /// [`RewriteError::Memory`] where memory is refused. The rules are then what they were.
+    /// [`RewriteError::NoValue`] names the entry if it is a rule without a value. [`RewriteError::Memory`] if an
+    /// allocation fails. After an error the rules are unchanged.
     pub fn add_entry(&mut self, entry: &Entry<'a>) -> Result<(), RewriteError>
         ensures { AddsEntry entry.now self.old self.new result }
     {
@@ -150,8 +150,7 @@ impl<'a> Rewrites<'a> {
         Ok(())
     }
 
-    /// Adds a rule for fetching behind the others: `url.<base>.insteadOf = <front>`. Memory is asked for
-    /// where the table has to grow.
+    /// Appends a rule for fetching: `url.<base>.insteadOf = <front>`. Allocates if the table has to grow.
     ///
     /// ```
     /// /// A rule by hand: GitHub over HTTPS in place of Secure Shell.
@@ -164,7 +163,7 @@ impl<'a> Rewrites<'a> {
     ///
     /// # Errors
     ///
-    /// `AllocError` where memory is refused; the rules are then what they were.
+    /// Returns `AllocError` if an allocation fails; the rules are then unchanged.
     pub fn add_fetch(&mut self, base: &'a [u8], front: &'a [u8]) -> Result<(), AllocError>
         ensures added { OnOk result
             (self.new ≡ with_fetching self.old (record { base = base.now; front = front.now })) }
@@ -173,12 +172,12 @@ impl<'a> Rewrites<'a> {
         self.fetch.add(base, front)
     }
 
-    /// Adds a rule for pushing behind the others: `url.<base>.pushInsteadOf = <front>`. Memory is asked for
-    /// where the table has to grow. [`Rewrites::add_fetch`] has an example of its like.
+    /// Appends a rule for pushing: `url.<base>.pushInsteadOf = <front>`. Allocates if the table has to grow.
+    /// [`Rewrites::add_fetch`] has a similar example.
     ///
     /// # Errors
     ///
-    /// `AllocError` where memory is refused; the rules are then what they were.
+    /// Returns `AllocError` if an allocation fails; the rules are then unchanged.
     pub fn add_push(&mut self, base: &'a [u8], front: &'a [u8]) -> Result<(), AllocError>
         ensures added { OnOk result
             (self.new ≡ with_pushing self.old (record { base = base.now; front = front.now })) }
@@ -187,11 +186,11 @@ impl<'a> Rewrites<'a> {
         self.push.add(base, front)
     }
 
-    /// What becomes of a text that Git fetches from. [`Rewrites`] has an example.
+    /// Rewrites a text that Git fetches from.
     ///
-    /// It takes no memory, and no pass over the rules: the text is looked up once for each length of a front
-    /// that is at most its own. That takes at most the sum of these lengths, in bytes, times the logarithm of
-    /// the number of rules.
+    /// Allocates nothing, and doesn't go through the rules: the text is looked up once for each length of a front
+    /// that is at most its own. That takes at most the sum of these lengths, in bytes, times the logarithm of the
+    /// number of rules.
     pub fn rewrite_fetch<'t>(&self, text: &'t [u8]) -> Rewritten<'t>
     where
         'a: 't,
@@ -200,10 +199,10 @@ impl<'a> Rewrites<'a> {
         self.fetch.rewrite(text)
     }
 
-    /// What becomes of a text that Git pushes to. Where the remote has a push URL of its own the text is that
-    /// URL, and is rewritten as for fetching. Else it is the remote's URL: a rule for pushing that applies
-    /// comes before all rules for fetching, and where none applies it is rewritten as for fetching. It takes
-    /// no memory, and for each kind of rules the time of [`Rewrites::rewrite_fetch`].
+    /// Rewrites a text that Git pushes to. If the remote has a push URL, the text is that URL and is rewritten as
+    /// for fetching. Otherwise it is the remote's URL: a rule for pushing that applies takes precedence over all
+    /// rules for fetching, and if none applies the text is rewritten as for fetching. Allocates nothing, and takes
+    /// the time of [`Rewrites::rewrite_fetch`] for each kind of rules.
     ///
     /// ```
     /// /// The text that Git pushes to, for a remote with this URL and perhaps this push URL.
@@ -234,7 +233,7 @@ impl<'a> Rewrites<'a> {
         self.fetch.rewrite(text)
     }
 
-    /// What the rules for pushing make of a text by themselves, without those for fetching.
+    /// Rewrites a text by the rules for pushing alone.
     pub(crate) fn rewrite_by_push_rules<'t>(&self, text: &'t [u8]) -> Rewritten<'t>
     where
         'a: 't,
@@ -244,7 +243,7 @@ impl<'a> Rewrites<'a> {
     }
 }
 
-/// The value of an entry, which is the front of the rule that it is.
+/// The value of an entry, which is the front of its rule.
 fn front_of<'a>(entry: &Entry<'a>) -> Result<&'a [u8], RewriteError>
     ensures { HasFront entry.now result }
 {

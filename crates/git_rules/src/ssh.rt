@@ -1,12 +1,12 @@
 //! The words with which Git runs Secure Shell for a location.
 //!
-//! It uses borrowed locations. `ssh_command_for` decides whether there is a command, and takes no memory.
-//! Inside: `request` has what is asked for, `checks` refuses the parts that make no command, `command` has
-//! the parts of one, and `words` writes its words. Which program is run with them is decided by `program`. It
-//! runs no program. Its contract: the words are those of the definitions (`specs/SecureShell.antt`), no word
-//! but an option is taken for one, a shell reads the service and the path in the remote command
-//! (`specs/ShellWords.antt`), and where Git reads the same place in the location's text the words are Git's
-//! own (`law_git_words`).
+//! The words are those of the definitions (`specs/SecureShell.antt`). No word except the options is taken for an
+//! option, and a shell reads the service and the path in the remote command (`specs/ShellWords.antt`). If Git reads
+//! the same place in the location's text, the words are Git's own (`law_git_words`).
+//!
+//! `ssh_command_for` decides whether there is a command: `request` holds the options of the call, `checks` refuses
+//! unsafe parts. `command` holds the parts of a command, and `words` writes its words. `program` determines which
+//! program Git runs with them. No program is run here.
 
 ghost use Rattle.std.specs.Prelude.{◌≡◌, IfErr, IfOk, None, OnOk, Some, map};
 ghost use Rattle.bstr.specs.Owned.{bstring_bytes};
@@ -30,7 +30,7 @@ pub use request::{AddressFamily, SshRequest};
 use std::alloc::{AllocError, Global};
 use thiserror::Error;
 
-/// What Git has the server run.
+/// The service that Git requests from the server.
 ///
 /// ```
 /// fn service_of(is_push: bool) -> Service {
@@ -47,10 +47,11 @@ pub enum Service {
     UploadArchive,
 }
 
-/// The program that is run for Secure Shell, by the options that it has, as git-config(1) has `ssh.variant`.
+/// The variant of the Secure Shell program, which determines its options: the values of `ssh.variant` in
+/// git-config(1).
 ///
-/// The value `auto` isn't one of them: with it Git finds the variant by the name of the program, or by
-/// running it with `-G`. [`SshProgram::of`](program::SshProgram::of) finds it as Git does.
+/// The value `auto` isn't a variant: Git then detects the variant by the name of the program, or by running it with
+/// `-G`. [`SshProgram::of`](program::SshProgram::of) detects it as Git does.
 ///
 /// ```
 /// /// The variant that git-config(1) has for a value of `ssh.variant`; none for `auto`.
@@ -67,24 +68,23 @@ pub enum Service {
 /// ```
 #[derive(Clone, Copy, Debug, PartialEq, Eq)]
 pub enum SshVariant {
-    /// OpenSSH, or what has its options.
+    /// OpenSSH, or a program with the same options.
     Ssh,
-    /// A program that has no options.
+    /// A program without options.
     Simple,
     /// `plink` of PuTTY.
     Plink,
     /// `putty`, whose options are those of `plink`.
     Putty,
-    /// `tortoiseplink`, which is also asked to show no window.
+    /// `tortoiseplink`, which also gets the option to open no window.
     TortoisePlink,
 }
 
-/// The version of Git's protocol that is asked for, as git-config(1) has `protocol.version`.
+/// The requested version of Git's protocol: the values of `protocol.version` in git-config(1).
 ///
 /// With OpenSSH, a version above 0 adds the words `-o SendEnv=GIT_PROTOCOL`, and the value of that variable
-/// ([`SshCommand::git_protocol`]). Git pushes by version 0 where version 2 is asked for; it decides that by
-/// the program that the server runs, and so asks for version 2 unless that is `git-receive-pack` and nothing
-/// more.
+/// ([`SshCommand::git_protocol`]). Git pushes by version 0 if version 2 is requested; it decides that by the
+/// program that the server runs, and so requests version 2 unless that is exactly `git-receive-pack`.
 ///
 /// ```
 /// /// The version that Git asks for where `protocol.version` isn't set.
@@ -94,16 +94,15 @@ pub enum SshVariant {
 /// ```
 #[derive(Clone, Copy, Debug, PartialEq, Eq)]
 pub enum ProtocolVersion {
-    /// The original protocol: the server is asked for no version.
+    /// The original protocol; no version is sent to the server.
     V0,
-    /// The original protocol, with a line in which the server says its version.
+    /// The original protocol, with a line in which the server reports its version.
     V1,
-    /// The protocol that Git asks for where `protocol.version` isn't set.
+    /// The version that Git requests if `protocol.version` isn't set.
     V2,
 }
 
-/// Why a location has no command of Secure Shell. Where there is more than one reason, the first of these is
-/// returned.
+/// The reason why a location has no Secure Shell command. If several apply, the first of these is returned.
 ///
 /// ```
 /// /// Whether somebody tries to pass an option off as a part of a location.
@@ -116,18 +115,17 @@ pub enum ProtocolVersion {
 /// ```
 #[derive(Clone, Copy, Debug, PartialEq, Eq, Error)]
 pub enum SshRefusal {
-    /// The location isn't one of Secure Shell.
+    /// The location doesn't use Secure Shell.
     #[error("the location isn't reached by Secure Shell")]
     NotSecureShell,
-    /// The location has a password, for which Secure Shell has no argument. Git takes it for a part of the
-    /// user.
+    /// The location has a password, for which Secure Shell has no argument. Git takes it for a part of the user.
     #[error("Secure Shell takes no password")]
     Password,
     /// The user is empty. OpenSSH refuses a destination that begins with `@`.
     #[error("the user is empty")]
     EmptyUser,
-    /// The user, the host or the path holds byte 0, which no argument of a program can. Of each part it is
-    /// looked for before a `-`, an `@` or `ssh://`.
+    /// The user, the host or the path contains a byte 0, which no program argument can contain. In each part it
+    /// takes precedence over a `-`, an `@` or `ssh://`.
     #[error("an argument can't hold byte 0")]
     ByteZero,
     /// The user begins with `-`, so the destination would be taken for an option.
@@ -136,32 +134,32 @@ pub enum SshRefusal {
     /// The location has no host, or an empty one.
     #[error("the location has no host")]
     NoHost,
-    /// The host begins with `-`. Git refuses it where there is no user.
+    /// The host begins with `-`. Git refuses it if there is no user.
     #[error("the host looks like an option")]
     OptionLikeHost,
-    /// The host holds an `@`, at which Secure Shell would cut it.
+    /// The host contains an `@`, at which Secure Shell would split it.
     #[error("the host holds an `@`")]
     AtSignInHost,
-    /// The destination begins with `ssh://`, and OpenSSH would read a URL in it.
+    /// The destination begins with `ssh://`, so OpenSSH would read it as a URL.
     #[error("the user or the host looks like a URL")]
     UrlLikeDestination,
     /// The path is empty.
     #[error("the location has no path")]
     NoPath,
-    /// The path begins with `-`, and the server's program would take it for an option.
+    /// The path begins with `-`, so the server's program would take it for an option.
     #[error("the path looks like an option")]
     OptionLikePath,
-    /// The program in place of the service's is empty, and the server would run the path. Git does that.
+    /// The program that replaces the service's is empty, so the server would run the path. Git does that.
     #[error("the program is empty")]
     EmptyProgram,
-    /// The program holds byte 0, which no argument can.
+    /// The program contains a byte 0, which no argument can contain.
     #[error("the program holds byte 0")]
     ByteZeroInProgram,
-    /// The program begins with `-`. OpenSSH reads options after the destination too, so it would be taken for
-    /// one. Git doesn't refuse it.
+    /// The program begins with `-`. OpenSSH also reads options after the destination, so it would be taken for an
+    /// option. Git doesn't refuse it.
     #[error("the program looks like an option")]
     OptionLikeProgram,
-    /// A family of addresses is asked for, for which the variant `simple` has no option.
+    /// An address family is requested, for which the variant `simple` has no option.
     #[error("the variant `simple` of Secure Shell has no option for a family of addresses")]
     FamilyOfSimple,
     /// The location has a port, for which the variant `simple` has no option.
@@ -169,7 +167,7 @@ pub enum SshRefusal {
     PortOfSimple,
 }
 
-/// Why [`ssh_words`] returns no words.
+/// An error of [`ssh_words`].
 ///
 /// ```
 /// /// Whether the same call can succeed later: nothing is wrong with the location.
@@ -179,7 +177,7 @@ pub enum SshRefusal {
 /// ```
 #[derive(Clone, Copy, Debug, PartialEq, Eq, Error)]
 pub enum SshError {
-    /// Memory was refused. It says nothing of the location.
+    /// An allocation failed. This says nothing about the location.
     #[error("out of memory")]
     Memory,
     /// The location has no command.
@@ -198,7 +196,7 @@ impl From<AllocError> for SshError {
 }
 
 impl Service {
-    /// The name of the program that the server runs. It takes no memory.
+    /// The name of the program that the server runs.
     ///
     /// ```
     /// fn is_reading(service: Service) -> bool {
@@ -216,9 +214,9 @@ impl Service {
     }
 }
 
-/// The words with which Git runs Secure Shell for a location, without the name of the program, as
-/// [`SshCommand::to_words`] has them of [`ssh_command`]. Memory is asked for once for the list, and once for
-/// each word, and not at all where there are none.
+/// Returns the words with which Git runs Secure Shell for a location, without the name of the program:
+/// [`SshCommand::to_words`] of [`ssh_command`]. Allocates the list and each word, and nothing if there is no
+/// command.
 ///
 /// ```
 /// /// The words with which Git fetches by OpenSSH.
@@ -229,8 +227,8 @@ impl Service {
 ///
 /// # Errors
 ///
-/// [`SshError::Refused`] exactly where [`ssh_command`] refuses the location, for its reason, whatever memory
-/// there is; [`SshError::Memory`] where memory is refused.
+/// [`SshError::Refused`] exactly if [`ssh_command`] refuses the location, for the same reason, even if memory is
+/// short. [`SshError::Memory`] if an allocation fails.
 pub fn ssh_words(
     alloc: Global,
     url: &UrlRef<'_>,
@@ -249,9 +247,8 @@ pub fn ssh_words(
     }
 }
 
-/// The command with which Git runs Secure Shell for a location and a service, or why there is none: as
-/// [`ssh_command_for`] has it, without a program in place of the service's, and at any address. It takes no
-/// memory.
+/// Returns the command with which Git runs Secure Shell for a location and a service: [`ssh_command_for`] with the
+/// service's own program and any address family. Allocates nothing.
 ///
 /// ```
 /// /// The port and the host that are connected to, and whether a user is named.
@@ -263,7 +260,7 @@ pub fn ssh_words(
 ///
 /// # Errors
 ///
-/// A refusal exactly where the definition `ssh_refusal` has one, for the first reason that it has.
+/// An error exactly if the definition `ssh_refusal` has a reason to refuse, with the first such reason.
 pub fn ssh_command<'a>(
     url: &UrlRef<'a>,
     service: Service,
@@ -288,21 +285,20 @@ pub fn ssh_command<'a>(
     ssh_command_for(url, &request)
 }
 
-/// The command with which Git runs Secure Shell for a location, by all that is asked for, or why there is
-/// none. It takes no memory, and lives as long as what lends the location and the program.
+/// Returns the command with which Git runs Secure Shell for a location and a request. Allocates nothing. The
+/// command borrows from the location and from the request's program.
 ///
-/// User, host, port and path are the location's own: no user and no port is made up where it has none, the
-/// host has no brackets around an address, port 0 is a port, and a path is any bytes without byte 0. No word
-/// but the options begins with `-`, and OpenSSH reads user and host in the destination. In the remote command
-/// a POSIX shell reads two words, the service and the path. Where a program is named in place of the
-/// service's, the remote command is its text as it is, a space, and one quoted word, the path: the shell of
-/// the server expands the program, and runs what it comes to. What a configuration of `ssh` makes of the
-/// words, as `%r` in `ProxyCommand`, is not said.
+/// User, host, port and path are the location's own: no default user or port is added, the host has no brackets
+/// around an address, port 0 is a port, and a path may contain any byte except 0. Only the options begin with `-`,
+/// and OpenSSH reads the user and the host in the destination. In the remote command a POSIX shell reads two words,
+/// the service and the path. If the request names a program, the remote command is its text unchanged, a space, and
+/// the quoted path: the server's shell expands the program and runs the result. The effect of an `ssh`
+/// configuration on the words, such as `%r` in `ProxyCommand`, is not covered.
 ///
-/// It is made for the parts of a location, and not for a text. Where [`UrlRef::agrees_with_git`] is true, the
-/// words are those that Git gives Secure Shell for the location's text, by Git's own rules
-/// ([`law_git_words`]). Of other locations Git can refuse the text, or read other parts in it. The rules are
-/// those of `connect.c` of Git 2.39.5.
+/// The command is built from the parts of a location, not from a text. If [`UrlRef::agrees_with_git`] is true, the
+/// words are those that Git passes to Secure Shell for the location's text, by Git's own rules ([`law_git_words`]).
+/// For other locations Git may refuse the text, or read other parts in it. The rules are those of `connect.c` of
+/// Git 2.39.5.
 ///
 /// ```
 /// /// How Git fetches by the program that a remote has for it (`remote.<name>.uploadpack`), by IPv4 alone.
@@ -323,9 +319,9 @@ pub fn ssh_command<'a>(
 ///
 /// # Errors
 ///
-/// A refusal exactly where the definition `ssh_refusal` has one, for the first reason that it has: what is
-/// wrong with the location comes before what is wrong with the program, and that before a family or a port
-/// for which the variant `simple` has no option.
+/// An error exactly if the definition `ssh_refusal` has a reason to refuse, with the first such reason: reasons in
+/// the location come first, then those in the program, then an address family or a port for which the variant
+/// `simple` has no option.
 pub fn ssh_command_for<'a>(
     url: &UrlRef<'a>,
     request: &SshRequest<'a>,
@@ -360,13 +356,13 @@ pub fn ssh_command_for<'a>(
     Ok(command)
 }
 
-/// Of each location of Secure Shell in whose text Git reads the same place there is a command, and its words
-/// are Git's own.
+/// If Git reads the same place in the text of a Secure Shell location, there is a command for the location, and its
+/// words are Git's own.
 ///
-/// - `own`: where [`UrlRef::agrees_with_git`] is true of a location of Secure Shell, [`ssh_command_for`]
-///   returns a command, but for a program that is refused, and for a family of addresses or a port with the
-///   variant `simple`; and its destination, port and path are those that Git gives Secure Shell for the text
-///   of the location.
+/// - `own`: if [`UrlRef::agrees_with_git`] is true for a Secure Shell location, [`ssh_command_for`] returns a
+///   command, unless it refuses the program, or an address family or a port with the variant `simple`. The
+///   destination, the port and the path of the command are those that Git passes to Secure Shell for the text of
+///   the location.
 pub fn law_git_words()
     ensures own { GivesOwnWords }
 {

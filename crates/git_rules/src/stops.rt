@@ -1,7 +1,7 @@
-//! Entries of a configuration whose values Git doesn't take: it stops at them.
+//! Entries of a configuration at which Git stops because of their values.
 //!
-//! It uses `config`, `boolean`, `number` and `word`. Its contract: what Git needs of the value of an entry is
-//! that of one table, and an entry is refused exactly if its value isn't that. It takes no memory.
+//! One table states which kind of value each entry needs, and an entry is refused exactly if its value isn't of
+//! that kind.
 
 ghost use Rattle.std.specs.Prelude.{◌≡◌, option_map};
 ghost use Rattle.std.specs.Option.{is_some};
@@ -17,7 +17,7 @@ use crate::word::is_word;
 use git_syntax::bytes::starts_with_byte;
 use thiserror::Error;
 
-/// What Git needs the value of an entry to be. [`stop_at`] has an example.
+/// The kind of value that an entry needs, as [`kind_of`] returns it.
 #[derive(Clone, Copy, Debug, PartialEq, Eq)]
 pub enum ValueKind {
     /// A text, which may be empty.
@@ -30,45 +30,42 @@ pub enum ValueKind {
     BooleanOrInitial,
     /// A boolean value, which may not be missing.
     WrittenBoolean,
-    /// A number whose size is at most [`INT_MAX`] ([`read_number`]).
+    /// A number whose absolute value is at most [`INT_MAX`] ([`read_number`]).
     Integer,
-    /// A number whose size is at most [`SIZE_MAX`] ([`read_number`]).
+    /// A number whose absolute value is at most [`SIZE_MAX`] ([`read_number`]).
     Size,
-    /// `always`, `user` or `never`, in any letter case (ASCII).
+    /// `always`, `user` or `never`, ignoring letter case (ASCII).
     Allowance,
 }
 
-/// Why Git stops at an entry. [`stop_at`] has an example.
+/// The reason why Git stops at an entry, as [`stop_at`] returns it.
 #[derive(Clone, Copy, Debug, PartialEq, Eq, Error)]
 pub enum Stop {
-    /// It has no value, and Git needs one.
+    /// The value is missing, and Git needs one.
     #[error("has no value")]
     NoValue,
-    /// Its value is no boolean value, nor the word that Git takes in place of one.
+    /// The value is neither a boolean value nor the word that Git accepts instead.
     #[error("is no boolean value")]
     NoBoolean,
-    /// Its value is no number, or too large a one, or it has none.
+    /// The value isn't a number, is too large a number, or is missing.
     #[error("is no number that Git takes")]
     NoNumber,
-    /// Its value is none of `always`, `user` and `never`.
+    /// The value isn't `always`, `user` or `never`.
     #[error("is none of always, user and never")]
     NoAllowance,
 }
 
-/// What Git needs the value of an entry to be; none of an entry at whose value Git doesn't stop, or that isn't
-/// of the table below. It takes no memory.
+/// Returns the kind of value that an entry needs, or `None` if Git doesn't stop at any value of the entry or if the
+/// entry isn't in the table below.
 ///
-/// The table is that of Git 2.39.5, of the names that decide on locations. Sections and names are compared
-/// without letter case (ASCII).
+/// The table lists the names that affect locations, for Git 2.39.5. Sections and names are compared ignoring letter
+/// case (ASCII).
 ///
 /// - `http.*` and `http.<url>.*` (`http_options` in `http.c`);
-/// - `credential.*` and `credential.<url>.*`: each needs a value (`credential_config_callback` in
-///   `credential.c`);
+/// - `credential.*` and `credential.<url>.*`: each needs a value (`credential_config_callback` in `credential.c`);
 /// - `url.<base>.insteadOf`, `url.<base>.pushInsteadOf`, `remote.<name>.*` and `remote.pushDefault`
 ///   (`handle_config` in `remote.c`);
 /// - `protocol.allow` and `protocol.<name>.allow` (`transport.c`).
-///
-/// [`stop_at`] has an example.
 pub fn kind_of(entry: &Entry<'_>) -> Option<ValueKind>
     ensures { result ≡ kind_of entry.now }
 {
@@ -87,13 +84,12 @@ pub fn kind_of(entry: &Entry<'_>) -> Option<ValueKind>
     }
 }
 
-/// Why Git stops at an entry, by what its value must be; none if it takes the value, or doesn't look at it.
-/// It takes no memory.
+/// Returns the reason why Git stops at an entry, or `None` if it accepts the value or doesn't read it.
 ///
-/// Git stops as it reads the entry: at `http.*` in each command that talks over HTTP and at `credential.*` in each
-/// that asks for credentials, if the entry applies to the URL; at `url.*` and `remote.*` in each command that
-/// looks for a remote; at `protocol.*` if the entry decides about a transport. A path that begins with `~` and
-/// names no user is not found here: Git asks the system for the user.
+/// Git stops when it reads the entry: at `http.*` in each command that uses HTTP and at `credential.*` in each
+/// command that asks for credentials, if the entry applies to the URL; at `url.*` and `remote.*` in each command
+/// that looks for a remote; at `protocol.*` if the entry decides about a transport. A path that begins with `~` and
+/// the name of an unknown user is not reported: Git asks the system for the user.
 ///
 /// ```
 /// /// The places of the entries at which Git stops.
@@ -114,7 +110,7 @@ pub fn stop_at(entry: &Entry<'_>) -> Option<Stop>
     stop_by(kind, entry.value)
 }
 
-/// Why Git stops at a value that must be of this kind, if it does.
+/// The reason why Git stops at a value that must be of this kind, if it does.
 fn stop_by(kind: ValueKind, value: Option<&[u8]>) -> Option<Stop>
     ensures { result ≡ stop_by kind (option_map (λ v. v.now) value.entry) }
 {
@@ -124,7 +120,7 @@ fn stop_by(kind: ValueKind, value: Option<&[u8]>) -> Option<Stop>
     }
 }
 
-/// Why Git stops at an entry without a value, if it does.
+/// The reason why Git stops at an entry without a value, if it does.
 fn stop_without(kind: ValueKind) -> Option<Stop>
     ensures { result ≡ stop_without kind }
 {
@@ -135,7 +131,7 @@ fn stop_without(kind: ValueKind) -> Option<Stop>
     }
 }
 
-/// Why Git stops at this value, if it does.
+/// The reason why Git stops at this value, if it does.
 fn stop_with(kind: ValueKind, value: &[u8]) -> Option<Stop>
     ensures { result ≡ stop_with kind value.now }
 {
@@ -162,7 +158,7 @@ fn stop_with(kind: ValueKind, value: &[u8]) -> Option<Stop>
     }
 }
 
-/// The reason, unless the value is taken.
+/// The reason, unless the value is accepted.
 fn stop_unless(taken: bool, reason: Stop) -> Option<Stop>
     ensures { result ≡ stop_unless taken reason }
 {
@@ -185,7 +181,7 @@ fn is_allowance(value: &[u8]) -> bool
 
 // ---- the table
 
-/// What Git needs of `http.*` with this name.
+/// The kind of value that an entry of `http.*` with this name needs.
 fn http_kind(name: &[u8]) -> Option<ValueKind>
     ensures { result ≡ http_kind name.now }
 {
@@ -206,7 +202,7 @@ fn http_kind(name: &[u8]) -> Option<ValueKind>
     }
 }
 
-/// Whether Git needs a text of `http.*` with this name.
+/// Whether an entry of `http.*` with this name needs a text.
 fn is_http_text(name: &[u8]) -> bool
     ensures { result ≡ is_one_of http_texts name.now }
 {
@@ -235,7 +231,7 @@ fn is_http_text(name: &[u8]) -> bool
     )
 }
 
-/// Whether Git reads `http.*` with this name as a boolean value.
+/// Whether Git reads an entry of `http.*` with this name as a boolean value.
 fn is_http_boolean(name: &[u8]) -> bool
     ensures { result ≡ is_one_of http_booleans name.now }
 {
@@ -254,7 +250,7 @@ fn is_http_boolean(name: &[u8]) -> bool
     )
 }
 
-/// Whether Git reads `http.*` with this name as a number.
+/// Whether Git reads an entry of `http.*` with this name as a number.
 fn is_http_integer(name: &[u8]) -> bool
     ensures { result ≡ is_one_of http_integers name.now }
 {
@@ -269,7 +265,7 @@ fn is_http_integer(name: &[u8]) -> bool
     )
 }
 
-/// What Git needs of `credential.*` with this name.
+/// The kind of value that an entry of `credential.*` with this name needs.
 fn credential_kind(name: &[u8]) -> ValueKind
     ensures { result ≡ credential_kind name.now }
 {
@@ -280,7 +276,7 @@ fn credential_kind(name: &[u8]) -> ValueKind
     }
 }
 
-/// What Git needs of this entry of `url.*`.
+/// The kind of value that this entry of `url.*` needs.
 fn rewriting_kind(entry: &Entry<'_>) -> Option<ValueKind>
     ensures { result ≡ rewriting_kind entry.now }
 {
@@ -291,7 +287,7 @@ fn rewriting_kind(entry: &Entry<'_>) -> Option<ValueKind>
     }
 }
 
-/// What Git needs of this entry of `remote.*`. Git ignores remotes whose name begins with `/`.
+/// The kind of value that this entry of `remote.*` needs. Git ignores remotes whose name begins with `/`.
 fn remote_kind(entry: &Entry<'_>) -> Option<ValueKind>
     ensures { result ≡ remote_kind entry.now }
 {
@@ -302,7 +298,7 @@ fn remote_kind(entry: &Entry<'_>) -> Option<ValueKind>
     }
 }
 
-/// What Git needs of `remote.*` with this name and no name of a remote.
+/// The kind of value that an entry of `remote.*` with this name and without a remote needs.
 fn default_remote_kind(name: &[u8]) -> Option<ValueKind>
     ensures { result ≡ default_remote_kind name.now }
 {
@@ -313,7 +309,7 @@ fn default_remote_kind(name: &[u8]) -> Option<ValueKind>
     }
 }
 
-/// What Git needs of `remote.<name>.*` with this name.
+/// The kind of value that an entry of `remote.<name>.*` with this name needs.
 fn own_remote_kind(name: &[u8]) -> Option<ValueKind>
     ensures { result ≡ own_remote_kind name.now }
 {
@@ -326,7 +322,7 @@ fn own_remote_kind(name: &[u8]) -> Option<ValueKind>
     }
 }
 
-/// Whether Git needs a text of `remote.<name>.*` with this name.
+/// Whether an entry of `remote.<name>.*` with this name needs a text.
 fn is_remote_text(name: &[u8]) -> bool
     ensures { result ≡ is_one_of remote_texts name.now }
 {
@@ -346,7 +342,7 @@ fn is_remote_text(name: &[u8]) -> bool
     )
 }
 
-/// Whether Git reads `remote.<name>.*` with this name as a boolean value.
+/// Whether Git reads an entry of `remote.<name>.*` with this name as a boolean value.
 fn is_remote_boolean(name: &[u8]) -> bool
     ensures { result ≡ is_one_of remote_booleans name.now }
 {
@@ -362,7 +358,7 @@ fn is_remote_boolean(name: &[u8]) -> bool
     )
 }
 
-/// What Git needs of `protocol.*` with this name.
+/// The kind of value that an entry of `protocol.*` with this name needs.
 fn protocol_kind(name: &[u8]) -> Option<ValueKind>
     ensures { result ≡ protocol_kind name.now }
 {
@@ -373,7 +369,7 @@ fn protocol_kind(name: &[u8]) -> Option<ValueKind>
     }
 }
 
-/// Whether the text is one of the words, without letter case.
+/// Whether the text is one of the words, ignoring letter case.
 fn is_one_of(text: &[u8], words: &[&str]) -> bool
     ensures { result ≡ list_any (λ word. spec.is_word text.now word.now) words.now }
 {

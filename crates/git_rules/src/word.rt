@@ -1,12 +1,9 @@
-//! Words that Git compares without letter case.
-//!
-//! It uses nothing of this crate. Its contract: a text is a word exactly where both are the same in lower
-//! case, as ASCII has it. It takes no memory.
+//! Words that Git compares ignoring letter case (ASCII).
 
 ghost use Rattle.std.specs.Prelude.{◌≡◌};
 ghost use Rattle.git_rules.specs.Words.{is_word};
 
-/// Whether the text is the word, without letter case.
+/// Whether the text is the word, ignoring letter case.
 pub(crate) fn is_word(text: &[u8], word: &str) -> bool
     ensures { result ≡ is_word text.now word.now }
 {

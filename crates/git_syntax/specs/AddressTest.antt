@@ -1,12 +1,13 @@
--- A test for IPv6 texts that computes: the definition of `Addresses`, with each "some" as a search.
+-- A test for IPv6 texts that can be computed: the definition of `Addresses`, with a search for each
+-- existential.
 use Rattle.std.specs.Prelude.{ℕ, zero, suc, ◌-◌, Bool, true, false, not, ◌&&◌, ◌||◌, ◌==◌, nat_lt, nat_le, List, [], ◌∷◌, length}
 use Rattle.std.specs.List.{list_all}
 use Rattle.std.specs.Char.{is_ascii_digit}
 use Rattle.std.specs.Str.Parse.{digits_value}
 use Rattle.git_syntax.specs.Bytes.{dot, digit_zero, colon, begins_with, is_hexadecimal}
 
--- whether the text is some texts before and behind the byte that pass the two tests; the names let what isn't
--- needed wait
+-- whether the byte occurs in the text, and the texts before and after it pass the two tests; each `let` defers
+-- an operand that may not be needed
 abbrev pub any_cut : ℕ → (List ℕ → Bool) → (List ℕ → Bool) → List ℕ → Bool
 any_cut c before behind [] = false
 any_cut c before behind (b ∷ bs) =
@@ -57,7 +58,7 @@ are_items ending (suc (suc n)) t = any_cut colon is_group (are_items ending (suc
 abbrev pub is_full_address : List ℕ → Bool
 is_full_address t = are_items true 8 t
 
--- whether the text is two lists of groups around `::`, of at most seven
+-- whether the text is two lists of groups around `::`, with at most seven groups
 abbrev pub is_short_address : List ℕ → Bool
 is_short_address t =
     any_up_to (λ m. any_cut colon (are_items false m)

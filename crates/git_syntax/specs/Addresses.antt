@@ -14,7 +14,7 @@ IsGroup g = (0 < length g) × (length g ≤ 4) × (list_all is_hexadecimal g ≡
 abbrev pub IsOctet : List ℕ → Type 0
 IsOctet t = (n : ℕ) × (n ≤ 255) × (t ≡ decimal n)
 
--- an IPv4 text: four such numbers joined by `.`
+-- an IPv4 text: four decimal numbers up to 255 without leading zeros, joined by `.`
 pub record IsIpv4Text (t : List ℕ) : Type 0 where
   pub first : List ℕ
   pub second : List ℕ
@@ -23,8 +23,8 @@ pub record IsIpv4Text (t : List ℕ) : Type 0 where
   pub octets : IsOctet first × IsOctet second × IsOctet third × IsOctet fourth
   pub joined : t ≡ first ++ dot ∷ (second ++ dot ∷ (third ++ dot ∷ fourth))
 
--- the items count for this many groups: each is a group, but that the last may be an IPv4 text, which
--- counts for two, where that is allowed
+-- the items count for this many groups: each is a group, except that the last may be an IPv4 text if `ending`
+-- holds; that counts for two
 abbrev pub AreItems : Bool → List (List ℕ) → ℕ → Type 0
 AreItems ending [] n = n ≡ 0
 AreItems ending (t ∷ []) n = (IsGroup t × (n ≡ 1)) ⊎ ((ending ≡ true) × IsIpv4Text t × (n ≡ 2))
@@ -36,7 +36,7 @@ pub record IsFullAddress (t : List ℕ) : Type 0 where
   pub eight : AreItems true items 8
   pub joined : t ≡ join_with_byte colon items
 
--- two lists of groups around one `::`, which stands for at least one group
+-- two lists of groups around one `::`, which replaces at least one group
 pub record IsShortAddress (t : List ℕ) : Type 0 where
   pub front : List (List ℕ)
   pub back : List (List ℕ)
@@ -47,7 +47,7 @@ pub record IsShortAddress (t : List ℕ) : Type 0 where
   pub short : front_count + back_count ≤ 7
   pub joined : t ≡ join_with_byte colon front ++ colon ∷ (colon ∷ join_with_byte colon back)
 
--- an IPv6 text
+-- an IPv6 text: eight groups, or fewer around one `::`; an IPv4 text may replace the last two
 abbrev pub IsIpv6Text : List ℕ → Type 0
 IsIpv6Text t = IsFullAddress t ⊎ IsShortAddress t
 

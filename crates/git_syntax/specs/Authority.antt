@@ -1,4 +1,4 @@
--- The authority of a URL (RFC 3986, section 3.2), and how long it may be.
+-- The authority of a URL (RFC 3986, section 3.2), and its length limit.
 use Rattle.std.specs.Prelude.{◌≡◌, ℕ, ◌≤◌, Bool, true, false, not, ◌||◌, ◌==◌, List, [], ◌∷◌, ◌++◌, length, filter, codes, Option, Some, None, IsSome, IsUtf8}
 use Rattle.std.specs.List.{list_all}
 use Rattle.std.specs.Char.{is_ascii_whitespace}
@@ -7,17 +7,17 @@ use Rattle.git_syntax.specs.Bytes.{slash, colon, at_sign, backslash, Lacks, Free
 use Rattle.git_syntax.specs.Hosts.{HostSyntax, SpellsHostPort}
 use Rattle.git_syntax.specs.Schemes.{is_web_scheme}
 
--- a text, or none where it is empty
+-- the text, or `None` if it is empty
 abbrev pub unless_empty : List ℕ → Option (List ℕ)
 unless_empty [] = None
 unless_empty (b ∷ bs) = Some (b ∷ bs)
 
--- a user beside a password: an empty user is none, unless there is a password
+-- the user of a password, or without one: an empty user counts as `None` unless there is a password
 abbrev pub user_beside : Option (List ℕ) → List ℕ → Option (List ℕ)
 user_beside None user = unless_empty user
 user_beside (Some password) user = Some user
 
--- the user information holds a user and, behind its first `:`, a password
+-- the user information consists of a user and, after its first `:`, a password
 pub data Credentials (text : List ℕ) (user password : Option (List ℕ)) : Type 0 where
   -- `user`
   user_alone : FreeOf colon text → IsUtf8 (percent_decode text)
@@ -28,13 +28,13 @@ pub data Credentials (text : List ℕ) (user password : Option (List ℕ)) : Typ
       → password ≡ unless_empty (percent_decode w) → user ≡ user_beside password (percent_decode u)
       → Credentials text user password
 
--- an authority holds a user, a password, a host and a port
+-- an authority consists of a user, a password, a host and a port
 pub data Authority (syntax : HostSyntax) (text : List ℕ) (user password host : Option (List ℕ))
     (port : Option ℕ) : Type 0 where
   -- without user information
   host_alone : FreeOf at_sign text → SpellsHostPort syntax text host port → user ≡ None → password ≡ None
       → Authority syntax text user password host port
-  -- user information ends at the last `@`, and comes with a host
+  -- user information, which ends at the last `@` and needs a host
   with_user : (information piece : List ℕ) → FreeOf at_sign piece
       → text ≡ information ++ at_sign ∷ piece
       → Credentials information user password → SpellsHostPort syntax piece host port → IsSome host
@@ -48,13 +48,13 @@ without_white_space text = filter (λ b. not (is_ascii_whitespace b)) text
 abbrev pub is_any_slash : ℕ → Bool
 is_any_slash b = b == slash || b == backslash
 
--- the front is short enough; where nothing follows it, the whole text is
+-- the front is short enough; if nothing follows it, the whole text is
 abbrev pub IsWithinLimit : List ℕ → List ℕ → List ℕ → Type 0
 IsWithinLimit front [] whole = length whole ≤ 1024
 IsWithinLimit front (b ∷ back) whole = length front ≤ 1024
 
--- a scheme and what follows its `://` are short enough: white space is taken out, slashes are skipped, and
--- what then is before the first path start counts
+-- a scheme and the text after its `://` are short enough: without white space and the slashes at the front, the
+-- bytes before the first path start count
 pub record Fits (scheme rest : List ℕ) : Type 0 where
   pub slashes : List ℕ
   pub front : List ℕ

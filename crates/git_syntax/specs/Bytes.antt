@@ -1,4 +1,4 @@
--- Bytes by name, classes of bytes, what a text is free of, and where a path starts.
+-- Names of bytes, classes of bytes, tests of texts, and the start of a path.
 use Rattle.std.specs.Prelude.{◌≡◌, ℕ, Bool, true, false, ◌&&◌, ◌||◌, ◌==◌, ◌⊎◌, List, [], ◌∷◌, ◌++◌, map, chars, encode_utf8_all}
 use Rattle.std.specs.List.{list_any, list_all}
 use Rattle.std.specs.Char.{to_ascii_lowercase, is_ascii_alphabetic, is_ascii_alphanumeric, is_digit, is_whitespace}
@@ -84,7 +84,7 @@ right_bracket = 93
 abbrev pub tilde : ℕ
 tilde = 126
 
--- the control past `~`
+-- the control after `~`
 abbrev pub delete : ℕ
 delete = 127
 
@@ -94,11 +94,11 @@ is_one_of [] b = false
 is_one_of (c ∷ []) b = b == c
 is_one_of (c ∷ d ∷ cs) b = b == c || is_one_of (d ∷ cs) b
 
--- the text holds no byte that passes the test
+-- no byte of the text passes the test
 abbrev pub Lacks : (ℕ → Bool) → List ℕ → Type 0
 Lacks test bs = list_any test bs ≡ false
 
--- the text doesn't hold the byte
+-- the text lacks the byte
 abbrev pub FreeOf : ℕ → List ℕ → Type 0
 FreeOf c bs = Lacks (λ b. b == c) bs
 
@@ -111,15 +111,15 @@ begins_by test (b ∷ bs) = test b
 abbrev pub begins_with : ℕ → List ℕ → Bool
 begins_with c bs = begins_by (λ b. b == c) bs
 
--- a text that begins with `-` may be taken for an option
+-- the text begins with `-`, so a program may take it for an option
 abbrev pub is_option_like : List ℕ → Bool
 is_option_like text = begins_with hyphen text
 
--- the mark is somewhere in the text
+-- the first text occurs in the second
 abbrev pub Holds : List ℕ → List ℕ → Type 0
 Holds mark bs = (front : List ℕ) × (rest : List ℕ) × (bs ≡ front ++ (mark ++ rest))
 
--- the text in lower case, as ASCII has it
+-- the text in lower case; only letters of ASCII change
 abbrev pub lowercase : List ℕ → List ℕ
 lowercase bs = map to_ascii_lowercase bs
 
@@ -127,12 +127,12 @@ lowercase bs = map to_ascii_lowercase bs
 abbrev pub IsLowercase : List ℕ → Type 0
 IsLowercase bs = lowercase bs ≡ bs
 
--- no character of the text is white space, as Unicode has it. It means that of UTF-8 alone: what `chars`
--- makes of other bytes is no reading of them, so IsUtf8 has to be asked for beside it
+-- no character of the text is white space, as Unicode defines it. This is meaningful for UTF-8 only: for other
+-- bytes `chars` is no decoding, so `IsUtf8` is required with it
 abbrev pub LacksWhiteSpace : List ℕ → Type 0
 LacksWhiteSpace bs = list_any is_whitespace (chars bs) ≡ false
 
--- the bytes as UTF-8, with U+FFFD in place of what is none
+-- the bytes as UTF-8, with U+FFFD in place of invalid bytes
 abbrev pub lossy_text : List ℕ → List ℕ
 lossy_text bs = encode_utf8_all (lossy_chars bs)
 
@@ -146,7 +146,7 @@ is_hexadecimal b = is_digit b 16
 abbrev pub is_scheme_mark : ℕ → Bool
 is_scheme_mark b = b == plus_sign || (b == hyphen || b == dot)
 
--- a byte of a scheme or of a helper's name behind its first
+-- a byte of a scheme or of a helper's name after the first
 abbrev pub is_name_byte : ℕ → Bool
 is_name_byte b = is_ascii_alphanumeric b || is_scheme_mark b
 
@@ -155,12 +155,12 @@ abbrev pub is_scheme_text : List ℕ → Bool
 is_scheme_text [] = false
 is_scheme_text (b ∷ bs) = is_ascii_alphabetic b && list_all is_name_byte bs
 
--- the name of a remote helper: as a scheme, but that it may begin with a digit
+-- the name of a remote helper: like a scheme, except that it may begin with a digit
 abbrev pub is_helper_name : List ℕ → Bool
 is_helper_name [] = false
 is_helper_name (b ∷ bs) = is_ascii_alphanumeric b && list_all is_name_byte bs
 
--- ---- where a path starts
+-- ---- the start of a path
 
 -- a path may start at the byte: at a `/`, and on the web also at a `?` or a `#`
 abbrev pub is_path_start : Bool → ℕ → Bool

@@ -1,6 +1,6 @@
--- Percent-encoding. `percent_decode` and `percent_encode` of the crate `percent_encoding` are the two
--- directions: an escape is `%` and two hexadecimal digits of either case and stands for one byte, every
--- other byte stands for itself; written escapes have upper-case digits, and every byte past ASCII is one.
+-- Percent-encoding, by `percent_decode` and `percent_encode` of the crate `percent_encoding`. An escape is `%`
+-- and two hexadecimal digits of either case and decodes to one byte; every other byte decodes to itself.
+-- Written escapes have upper-case digits, and every byte that is not ASCII is escaped.
 use Rattle.std.specs.Prelude.{◌≡◌, ℕ, zero, suc, ◌+◌, ◌^◌, ◌<◌, Bool, true, false, not, ◌&&◌, ◌||◌, ◌==◌, nat_le, nat_lt, List, [], ◌∷◌, ◌++◌, codes, bytes_eq, Option, Some, None, if◌then◌else◌}
 use Rattle.std.specs.List.{list_any, list_all}
 use Rattle.percent_encoding.specs.declared.ascii_set.AsciiSet.{AsciiSet}
@@ -8,7 +8,7 @@ use Rattle.percent_encoding.specs.AsciiSet.{contains}
 use Rattle.percent_encoding.specs.Percent.{percent_decode}
 use Rattle.git_syntax.specs.Bytes.{space, percent_sign, colon, delete, is_hexadecimal, is_one_of}
 
--- every `%` has two hexadecimal digits behind it
+-- two hexadecimal digits follow every `%`
 abbrev pub is_sound : List ℕ → Bool
 is_sound [] = true
 is_sound (b ∷ []) = not (b == percent_sign)
@@ -32,7 +32,7 @@ abbrev pub matches : Option (List ℕ) → List ℕ → Bool
 matches None path = false
 matches (Some spelling) path = bytes_eq (percent_decode spelling) path
 
--- `%` is somewhere in the text
+-- the text has a `%`
 abbrev pub has_percent : List ℕ → Bool
 has_percent bs = list_any (λ b. b == percent_sign) bs
 
@@ -40,7 +40,7 @@ has_percent bs = list_any (λ b. b == percent_sign) bs
 abbrev pub is_printable_byte : ℕ → Bool
 is_printable_byte b = nat_lt space b && nat_lt b delete
 
--- each byte is one
+-- each byte of the text is printable ASCII
 abbrev pub is_printable : List ℕ → Bool
 is_printable bs = list_all is_printable_byte bs
 
@@ -48,21 +48,21 @@ is_printable bs = list_all is_printable_byte bs
 abbrev pub is_plain_byte : ℕ → Bool
 is_plain_byte b = nat_lt space b && (nat_lt b delete && not (b == percent_sign))
 
--- each byte is one
+-- each byte of the text is printable ASCII other than `%`
 abbrev pub is_plain : List ℕ → Bool
 is_plain bs = list_all is_plain_byte bs
 
--- ---- the sets of bytes that are escaped, besides every byte past ASCII
+-- ---- the sets of escaped bytes; every byte that is not ASCII is escaped too
 
--- a byte that a path of an HTTP location is not written with: a control, a space or one of these
+-- a byte that is escaped in a path of an HTTP location: a control, a space or one of these
 abbrev pub is_path_escaped : ℕ → Bool
 is_path_escaped b = nat_le b space || b == delete || is_one_of (codes "\"%<>`{}") b
 
--- a byte that a password is not written with: those of the path, and these
+-- a byte that is escaped in a password: those of the path, and these
 abbrev pub is_password_escaped : ℕ → Bool
 is_password_escaped b = is_path_escaped b || is_one_of (codes "#/?@[\\]^|") b
 
--- a byte that a user is not written with: those of the password, and `:`
+-- a byte that is escaped in a user: those of the password, and `:`
 abbrev pub is_user_escaped : ℕ → Bool
 is_user_escaped b = is_password_escaped b || b == colon
 
@@ -87,11 +87,11 @@ password_set = set_of is_password_escaped
 abbrev pub user_set : AsciiSet
 user_set = set_of is_user_escaped
 
--- the set holds exactly the ASCII bytes that pass the test
+-- the set has exactly the ASCII bytes that pass the test
 abbrev pub HoldsExactly : AsciiSet → (ℕ → Bool) → Type 0
 HoldsExactly set test = (b : ℕ) → b < 128 → contains set b ≡ test b
 
--- ---- texts in which `%` is only a `%`
+-- ---- texts in which `%` is a literal character
 
 -- the text with each `%` written as the escape of `%`
 abbrev pub escaped_percents : List ℕ → List ℕ

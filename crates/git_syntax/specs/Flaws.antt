@@ -1,4 +1,4 @@
--- Flaws: what is in a text that is refused. Each refusal names one, and the flaw that it names is there.
+-- Flaws: why a text spells no location. Each error names one that is in the text.
 use Rattle.std.specs.Prelude.{◌≡◌, ℕ, ◌<◌, Bool, true, false, ◌⊎◌, List, [], ◌∷◌, ◌++◌, length, codes, bytes_eq, Option, IsUtf8}
 use Rattle.percent_encoding.specs.Percent.{percent_decode}
 use Rattle.git_syntax.specs.declared.refusal.UrlKind.{UrlKind}
@@ -21,29 +21,29 @@ use Rattle.git_syntax.specs.Grammar.{HasHelperForm, ScpForm, AddressedForm, IsAd
 abbrev pub IsNoPort : HostSyntax → List ℕ → Type 0
 IsNoPort syntax text = (0 < length text) × ((port : ℕ) → ¬ Number syntax text port)
 
--- something is in a port's place that is no port: all that follows the colon
+-- the text in a port's place, which is all that follows the colon, is not a port
 pub data HasBadPort (syntax : HostSyntax) (piece : List ℕ) : Type 0 where
-  -- behind a host outside brackets
+  -- after a host outside brackets
   plain : (text digits : List ℕ) → IsPlainHost text → FreeOf colon digits
       → piece ≡ text ++ colon ∷ digits → IsNoPort syntax digits → HasBadPort syntax piece
-  -- behind brackets
+  -- after brackets
   bracketed : (x digits : List ℕ) → FreeOf right_bracket x
       → piece ≡ left_bracket ∷ (x ++ right_bracket ∷ (colon ∷ digits)) → IsNoPort syntax digits
       → HasBadPort syntax piece
 
--- nothing follows, or a colon and what is free of colons
+-- the text is empty, or a colon and a text without colons
 abbrev pub IsPortPlace : List ℕ → Type 0
 IsPortPlace rest = (rest ≡ []) ⊎ ((digits : List ℕ) × FreeOf colon digits × (rest ≡ colon ∷ digits))
 
--- the text stands for no host
+-- the text denotes no host
 abbrev pub IsNoHost : HostSyntax → List ℕ → Type 0
 IsNoHost syntax text = (host : List ℕ) → ¬ HostText syntax text host
 
--- the text between brackets stands for nothing
+-- the text in brackets denotes no host
 abbrev pub IsNoInner : HostSyntax → List ℕ → Type 0
 IsNoInner syntax text = (inner : List ℕ) → ¬ Inner syntax text inner
 
--- the text is brackets around another that is free of `]`, and nothing behind them, or a colon and anything
+-- the text is `[`, a text without `]`, and `]`, followed by nothing, or by a colon and anything
 pub record BracketsAround (piece x rest : List ℕ) : Type 0 where
   pub closed : FreeOf right_bracket x
   pub joined : piece ≡ left_bracket ∷ (x ++ right_bracket ∷ rest)
@@ -51,26 +51,26 @@ pub record BracketsAround (piece x rest : List ℕ) : Type 0 where
 
 -- a byte or an escape in the host's place is not allowed
 pub data HasBadHost (syntax : HostSyntax) (piece : List ℕ) : Type 0 where
-  -- the text before the port's place stands for no host
+  -- the text before the port's place denotes no host
   plain : (text rest : List ℕ) → IsPlainHost text → IsPortPlace rest → piece ≡ text ++ rest
       → IsNoHost syntax text → HasBadHost syntax piece
-  -- colons that mark no port are refused by HTTP
+  -- HTTP refuses colons that don't begin a port
   colons_on_the_web : syntax ≡ http_hosts → begins_with left_bracket piece ≡ false → IsManyColoned piece
       → HasBadHost syntax piece
-  -- a piece with such colons stands for no host
+  -- a text with colons that don't begin a port denotes no host
   colons : ¬ (syntax ≡ http_hosts) → ¬ ReadsAddress syntax piece → begins_with left_bracket piece ≡ false
       → IsManyColoned piece → IsNoHost syntax piece → HasBadHost syntax piece
   -- a bracket is not closed
   open_bracket : (behind : List ℕ) → FreeOf right_bracket behind → piece ≡ left_bracket ∷ behind
       → HasBadHost syntax piece
-  -- what follows a closed bracket begins with another byte than a colon
+  -- the text after a closed bracket begins with another byte than a colon
   behind_bracket : (x rest : List ℕ) → FreeOf right_bracket x
       → piece ≡ left_bracket ∷ (x ++ right_bracket ∷ rest) → 0 < length rest
       → begins_with colon rest ≡ false → HasBadHost syntax piece
-  -- the text between brackets stands for nothing
+  -- the text in brackets denotes no host
   brackets : (x rest : List ℕ) → BracketsAround piece x rest → IsNoInner syntax x → HasBadHost syntax piece
 
--- what is wrong with the piece behind the user information
+-- a flaw of the text after the user information
 abbrev pub HostPortFlaw : HostSyntax → List ℕ → UrlFault → Type 0
 HostPortFlaw syntax piece fault.BadPort = HasBadPort syntax piece
 HostPortFlaw syntax piece fault.BadCharacter = HasBadHost syntax piece
@@ -79,51 +79,52 @@ HostPortFlaw syntax piece fault.HostRequired = ⊥
 
 -- ---- authorities
 
--- the piece of an authority behind the user information
+-- the text of an authority after the user information
 pub data PieceOf (authority piece : List ℕ) : Type 0 where
   whole : FreeOf at_sign authority → piece ≡ authority → PieceOf authority piece
   behind : (information : List ℕ) → FreeOf at_sign piece → authority ≡ information ++ at_sign ∷ piece
       → PieceOf authority piece
 
--- a part of user information that decodes to no text
+-- a user or a password that doesn't decode to text
 pub data HasBadUser (authority : List ℕ) : Type 0 where
   -- user information without a colon is the user
   user : (u piece : List ℕ) → FreeOf at_sign piece → FreeOf colon u
       → authority ≡ u ++ at_sign ∷ piece → ¬ IsUtf8 (percent_decode u) → HasBadUser authority
-  -- what is before its first colon is
+  -- the text before its first colon is the user
   user_before_password : (u w piece : List ℕ) → FreeOf at_sign piece → FreeOf colon u
       → authority ≡ (u ++ colon ∷ w) ++ at_sign ∷ piece → ¬ IsUtf8 (percent_decode u)
       → HasBadUser authority
-  -- what is behind that colon is the password
+  -- the text after that colon is the password
   password : (u w piece : List ℕ) → FreeOf at_sign piece → FreeOf colon u
       → authority ≡ (u ++ colon ∷ w) ++ at_sign ∷ piece → ¬ IsUtf8 (percent_decode w)
       → HasBadUser authority
 
--- what is wrong with an authority, for a scheme that needs a host or doesn't
+-- a flaw of an authority, for a scheme that needs a host or doesn't
 pub data AuthorityFlaw (syntax : HostSyntax) (needed : Bool) (authority : List ℕ) : UrlFault → Type 0 where
-  -- it holds a backslash
+  -- it has a backslash
   holds_backslash : ¬ FreeOf backslash authority
       → AuthorityFlaw syntax needed authority fault.BadCharacter
-  -- a user or a password that is no text
+  -- a user or a password that doesn't decode to text
   bad_user : HasBadUser authority → AuthorityFlaw syntax needed authority fault.BadCharacter
-  -- the piece behind the user information
+  -- a flaw of the text after the user information
   bad_name : (piece : List ℕ) (named : UrlFault) → PieceOf authority piece
       → HostPortFlaw syntax piece named → AuthorityFlaw syntax needed authority named
   -- user information without a host
   no_host : (information : List ℕ) → authority ≡ information ++ at_sign ∷ []
       → AuthorityFlaw syntax needed authority fault.BadCharacter
-  -- nothing where a host is needed
+  -- the authority is empty, and a host is needed
   host_required : needed ≡ true → authority ≡ [] → AuthorityFlaw syntax needed authority fault.HostRequired
 
 -- ---- URLs
 
--- the text has the form of a URL: it is no remote helper, and this is before and behind its first `://`
+-- the text has the form of a URL: it is not a remote helper, and `front` and `rest` are before and after its
+-- first `://`
 pub record UrlForm (b front rest : List ℕ) : Type 0 where
   pub no_helper : ¬ HasHelperForm b
   pub first : ¬ Holds (codes "://") front
   pub joined : b ≡ front ++ (codes "://" ++ rest)
 
--- the form of a URL that is no file URL
+-- the form of a URL that is not a file URL
 pub record OtherUrlForm (b front rest : List ℕ) : Type 0 where
   pub form : UrlForm b front rest
   pub not_file : bytes_eq front (codes "file") ≡ false
@@ -135,9 +136,9 @@ pub record UrlCut (b scheme authority path : List ℕ) : Type 0 where
   pub before_path : Lacks (is_path_start (is_web_scheme scheme)) authority
   pub path_starts : StartsPath (is_web_scheme scheme) path
 
--- what is wrong with a URL
+-- a flaw of a URL
 pub data UrlFlaw (b : List ℕ) : UrlFault → Type 0 where
-  -- what is before `://` is no scheme
+  -- the text before `://` is not a scheme
   no_scheme : (front rest : List ℕ) → OtherUrlForm b front rest → is_scheme_text front ≡ false
       → UrlFlaw b fault.NoScheme
   -- white space, or a `%` that begins no escape
@@ -145,30 +146,30 @@ pub data UrlFlaw (b : List ℕ) : UrlFault → Type 0 where
       → UrlFlaw b fault.BadCharacter
   unsound : (front rest : List ℕ) → OtherUrlForm b front rest → is_sound b ≡ false
       → UrlFlaw b fault.BadCharacter
-  -- the path, which is the end of the text, decodes to no text
+  -- the path, which ends the text, doesn't decode to text
   bad_path : (scheme authority path : List ℕ) → UrlCut b scheme authority path
       → ¬ IsUtf8 (percent_decode path) → UrlFlaw b fault.BadCharacter
-  -- the authority, behind `://`
+  -- a flaw of the authority, which follows `://`
   bad_authority : (scheme authority path : List ℕ) (named : UrlFault) → UrlCut b scheme authority path
       → AuthorityFlaw (host_syntax_of scheme) (requires_host scheme) authority named → UrlFlaw b named
 
 -- ---- the scp form
 
--- a host of the scp form names none where each `%` is read as its own escape
+-- a host of the scp form, with each `%` escaped, has a flaw
 abbrev pub ScpNameFlaw : List ℕ → UrlFault → Type 0
 ScpNameFlaw host named = HostPortFlaw git_hosts (escaped_percents host) named
 
--- what is wrong with the host of the scp form
+-- a flaw of the host of the scp form
 pub data ScpHostFlaw (host : List ℕ) : UrlFault → Type 0 where
-  -- there is none
+  -- the host is empty
   empty : host ≡ [] → ScpHostFlaw host fault.HostRequired
-  -- it holds a byte or a character that no host does
+  -- it has a byte or a character that no host has
   holds_backslash : ¬ FreeOf backslash host → ScpHostFlaw host fault.BadCharacter
   white_space : IsUtf8 host → ¬ LacksWhiteSpace host → ScpHostFlaw host fault.BadCharacter
-  -- it names none
+  -- it denotes no host
   bad_name : (named : UrlFault) → ScpNameFlaw host named → ScpHostFlaw host named
 
--- what is wrong with the scp form, if it isn't `user@[address]:path`
+-- a flaw of the scp form, if it isn't `user@[address]:path`
 pub record ScpFlaw (b : List ℕ) (named : UrlFault) : Type 0 where
   pub not_addressed : ¬ IsAddressed b
   pub front : List ℕ
@@ -184,15 +185,15 @@ pub record ScpFlaw (b : List ℕ) (named : UrlFault) : Type 0 where
 
 -- a path is missing
 pub data MissesPath (b : List ℕ) : UrlKind → Type 0 where
-  -- no `/` is behind the mark of a file URL
+  -- no `/` follows the mark of a file URL
   in_file : (host : List ℕ) → FreeOf slash host → b ≡ codes "file://" ++ host
       → MissesPath b kind.Url
-  -- nor behind that of a URL of Git's own transports
+  -- no `/` follows the mark of a URL of Git's own transports
   in_url : (scheme authority : List ℕ) → requires_path (scheme_of scheme) ≡ true
       → FreeOf slash authority → b ≡ scheme ++ (codes "://" ++ authority) → MissesPath b kind.Url
-  -- nothing is behind the colon of the scp form
+  -- nothing follows the colon of the scp form
   in_scp : (front : List ℕ) → ScpForm b front [] → MissesPath b kind.Scp
-  -- nor behind an address between brackets
+  -- nothing follows an address in brackets
   behind_address : (user address : List ℕ) → AddressedForm b user address []
       → MissesPath b kind.Scp
 
@@ -202,20 +203,20 @@ HasForm b kind.Url = (front : List ℕ) × (rest : List ℕ) × UrlForm b front 
 HasForm b kind.Scp = HasScpForm b
 HasForm b kind.Local = ⊥
 
--- a URL is too long: its scheme is, or what follows `://`
+-- a URL is too long: its scheme is, or the text after `://`
 pub record IsTooLong (b : List ℕ) : Type 0 where
   pub front : List ℕ
   pub rest : List ℕ
   pub form : OtherUrlForm b front rest
   pub unfit : ¬ Fits front rest
 
--- what is wrong with a text of this kind
+-- a flaw of a text of this kind
 abbrev pub KindFlaw : List ℕ → UrlKind → UrlFault → Type 0
 KindFlaw b kind.Url named = UrlFlaw b named
 KindFlaw b kind.Scp named = ScpFlaw b named
 KindFlaw b kind.Local named = ⊥
 
--- the flaw that the refusal names is in the bytes
+-- the flaw that the error names is in the text
 abbrev pub NamesFlaw : List ℕ → Refusal → Type 0
 NamesFlaw b refusal.EmptyLocal = b ≡ []
 NamesFlaw b (refusal.MissingPath kind) = MissesPath b kind

@@ -37,8 +37,8 @@ pub record SpellsHelper (b : List ℕ) (v : Location) : Type 0 where
 
 -- ---- URLs (RFC 3986)
 
--- what is read of a URL before its scheme gives it a meaning: the user, the password and the host as they are
--- meant, the path as it is spelled
+-- the fields of a URL, before its scheme gives them a meaning: user, password and host decoded, the path as it
+-- is spelled
 pub record UrlSyntax : Type 0 where
   pub scheme : List ℕ
   pub user : Option (List ℕ)
@@ -47,7 +47,7 @@ pub record UrlSyntax : Type 0 where
   pub port : Option ℕ
   pub path : List ℕ
 
--- the text is a URL with these parts: a scheme, `://`, an authority and a path
+-- the text is a URL with these fields: a scheme, `://`, an authority and a path
 pub record HasUrlSyntax (b : List ℕ) (parts : UrlSyntax) : Type 0 where
   pub authority : List ℕ
   pub joined : b ≡ parts.scheme ++ (codes "://" ++ (authority ++ parts.path))
@@ -65,21 +65,21 @@ pub record HasUrlSyntax (b : List ℕ) (parts : UrlSyntax) : Type 0 where
   pub hosted : requires_host parts.scheme ≡ true → IsSome parts.host
   pub path_text : IsUtf8 (percent_decode parts.path)
 
--- the text is brackets around another
+-- the text is another in brackets
 abbrev pub IsBracketed : List ℕ → Type 0
 IsBracketed text = (inner : List ℕ) × (text ≡ left_bracket ∷ (inner ++ right_bracket ∷ []))
 
--- the text is brackets around another, and a colon behind them
+-- the text is another in brackets, followed by a colon
 abbrev pub IsBracketedColon : List ℕ → Type 0
 IsBracketedColon text = (inner : List ℕ)
     × (text ≡ left_bracket ∷ (inner ++ right_bracket ∷ (colon ∷ [])))
 
--- the text is free of `:`, except for one at its end, and has no bracket at its front
+-- the text lacks `:`, except for one at its end, and doesn't begin with a bracket
 abbrev pub EndsInColon : List ℕ → Type 0
 EndsInColon text = (front : List ℕ) × FreeOf colon front × (begins_with left_bracket front ≡ false)
     × (text ≡ front ++ colon ∷ [])
 
--- what Secure Shell takes for the host: without brackets around it, and without a colon behind it
+-- the host as Secure Shell takes it: without brackets around it, and without a colon after it
 pub data IsSshHost (host ssh_host : List ℕ) : Type 0 where
   brackets : host ≡ left_bracket ∷ (ssh_host ++ right_bracket ∷ []) → IsSshHost host ssh_host
   brackets_colon : host ≡ left_bracket ∷ (ssh_host ++ right_bracket ∷ (colon ∷ []))
@@ -89,24 +89,24 @@ pub data IsSshHost (host ssh_host : List ℕ) : Type 0 where
   same : ¬ IsBracketed host → ¬ IsBracketedColon host → ¬ EndsInColon host → ssh_host ≡ host
       → IsSshHost host ssh_host
 
--- the host of a location, by its scheme, for the host that its URL names
+-- the host of a location, by its scheme, from the host of its URL
 abbrev pub HostFor : Scheme → Option (List ℕ) → Option (List ℕ) → Type 0
 HostFor ssh None host = host ≡ None
 HostFor ssh (Some named) host = (ssh_host : List ℕ) × IsSshHost named ssh_host × (host ≡ Some ssh_host)
 HostFor _ named host = host ≡ named
 
--- a path below a home folder is written without the `/` before its `~`
+-- the path without a `/` before a `~` at its front
 abbrev pub from_home : List ℕ → List ℕ
 from_home [] = []
 from_home (a ∷ []) = a ∷ []
 from_home (a ∷ b ∷ rest) = if a == slash && b == tilde then b ∷ rest else a ∷ b ∷ rest
 
--- an empty path is the root
+-- the path, or `/` if it is empty
 abbrev pub or_root : List ℕ → List ℕ
 or_root [] = slash ∷ []
 or_root (b ∷ bs) = b ∷ bs
 
--- the path of a location, by its scheme, for the decoded path of its URL
+-- the path of a location, by its scheme, from the decoded path of its URL
 abbrev pub path_for : Scheme → List ℕ → List ℕ
 path_for ssh path = from_home path
 path_for git path = from_home path
@@ -114,11 +114,11 @@ path_for http path = or_root path
 path_for https path = or_root path
 path_for _ path = path
 
--- the spelling of a path is retained where it holds an escape
+-- the spelling of a path is retained if it has an escape
 abbrev pub retained_spelling : List ℕ → Option (List ℕ)
 retained_spelling path = if has_percent path then Some path else None
 
--- the location that the parts of a URL stand for, by its scheme
+-- the location that a URL with these fields denotes, by its scheme
 pub record MeansByScheme (scheme : Scheme) (parts : UrlSyntax) (v : Location) : Type 0 where
   pub host : Option (List ℕ)
   pub pathed : requires_path scheme ≡ true → 0 < length parts.path
@@ -134,7 +134,7 @@ pub record MeansByScheme (scheme : Scheme) (parts : UrlSyntax) (v : Location) : 
     spelling = retained_spelling parts.path;
   }
 
--- the location that a URL with these parts stands for: `ext` keeps its whole text as the path
+-- the location that a URL with these fields denotes: `ext` keeps the whole text as the path
 abbrev pub MeansAs : Scheme → List ℕ → UrlSyntax → Location → Type 0
 MeansAs ext b parts v = v ≡ path_alone ext true b
 MeansAs file b parts v = MeansByScheme file parts v
@@ -163,7 +163,7 @@ pub record SpellsFile (b : List ℕ) (v : Location) : Type 0 where
 
 -- ---- the scp form (git-clone, "GIT URLS")
 
--- a front before a colon that may be a user and a host: it is free of `:`, or its colons are between brackets
+-- a front before a colon that may be a user and a host: it lacks `:`, or its colons are in brackets
 pub data ScpFront (b front : List ℕ) : Type 0 where
   plain : FreeOf colon front → (begins_with left_bracket front ≡ false) ⊎ FreeOf right_bracket b
       → ScpFront b front
@@ -189,7 +189,7 @@ pub record AddressedCut (b user address path : List ℕ) : Type 0 where
   pub no_colon : FreeOf colon user
   pub addressed : IsIpv6Text address
 
--- the text has that form: it is neither a remote helper nor a URL
+-- the text has that form, and is neither a remote helper nor a URL
 pub record AddressedForm (b user address path : List ℕ) : Type 0 where
   pub cut : AddressedCut b user address path
   pub neither : IsNeither b
@@ -213,8 +213,8 @@ pub data Unbrackets (host inner : List ℕ) : Type 0 where
   brackets : host ≡ left_bracket ∷ (inner ++ right_bracket ∷ []) → Unbrackets host inner
   same : ¬ IsBracketed host → inner ≡ host → Unbrackets host inner
 
--- a host in the scp form stands for another: an escape in it is no escape. It is cut out of a text that is
--- UTF-8, so white space means something of it
+-- a host in the scp form denotes another: a `%` in it is a literal character. The host is cut out of a text
+-- that is UTF-8, so the test for white space is meaningful
 pub record ScpHost (host meant : List ℕ) : Type 0 where
   pub named : List ℕ
   pub no_at : FreeOf at_sign host
@@ -223,12 +223,12 @@ pub record ScpHost (host meant : List ℕ) : Type 0 where
   pub names : SpellsHostPort git_hosts (escaped_percents host) (Some named) None
   pub unbracketed : Unbrackets named meant
 
--- a location that only Secure Shell reaches, in the scp form
+-- a location of the scp form, which only Secure Shell reaches
 abbrev pub scp_location : Option (List ℕ) → List ℕ → List ℕ → Location
 scp_location user host path = record
     (path_alone ssh true (from_home path)) { user = user; host = Some host }
 
--- the scp form as it was before there was the form `user@[address]:path`
+-- the scp form, except for the form `user@[address]:path`
 pub record SpellsScpBefore (b : List ℕ) (v : Location) : Type 0 where
   pub front : List ℕ
   pub path : List ℕ
@@ -264,7 +264,7 @@ pub record LocalForm (b : List ℕ) : Type 0 where
   pub neither : IsNeither b
   pub no_scp : ¬ HasScpForm b
 
--- a local path: any other text, as it is
+-- a local path: any other text, unchanged
 pub record SpellsLocal (b : List ℕ) (v : Location) : Type 0 where
   pub nonempty : 0 < length b
   pub neither : IsNeither b

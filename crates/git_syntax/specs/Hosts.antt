@@ -1,4 +1,4 @@
--- Hosts and ports: what may be behind the user information of an authority, in three syntaxes.
+-- Hosts and ports, which follow the user information of an authority, in three syntaxes.
 use Rattle.std.specs.Prelude.{◌≡◌, ℕ, ◌<◌, ◌≤◌, Bool, true, false, ◌||◌, nat_le, ◌&&◌, ◌⊎◌, List, [], ◌∷◌, ◌++◌, length, codes, Option, Some, None, IsUtf8, if◌then◌else◌}
 use Rattle.std.specs.List.{list_all}
 use Rattle.std.specs.Char.{is_ascii_alphanumeric, is_ascii_digit}
@@ -13,21 +13,21 @@ pub data HostSyntax : Type 0 where
   git_hosts : HostSyntax
   other_hosts : HostSyntax
 
--- a byte that looks like a part of a domain name: a letter, a digit, `-`, `.`, `_` or `*`
+-- a byte that a domain name can have: a letter, a digit, `-`, `.`, `_` or `*`
 abbrev pub is_dns_byte : ℕ → Bool
 is_dns_byte b = is_ascii_alphanumeric b || is_one_of (codes "-._*") b
 
--- a byte that the host of an HTTP location may hold: a letter, a digit or one of `-._~!$&'()*+,;=%`, of which
--- those from `$` to `.` are side by side
+-- a byte that the host of an HTTP location may have: a letter, a digit or one of `-._~!$&'()*+,;=%`, of which
+-- those from `$` to `.` are consecutive
 abbrev pub is_http_host_byte : ℕ → Bool
 is_http_host_byte b = is_ascii_alphanumeric b
     || ((nat_le dollar_sign b && nat_le b dot) || is_one_of (codes "!;=_~") b)
 
--- the normal form of a host: in lower case where it looks like a domain name
+-- the normal form of a host: in lower case if it looks like a domain name
 abbrev pub normal_host : List ℕ → List ℕ
 normal_host host = if list_all is_dns_byte host then lowercase host else host
 
--- a text stands for a host, outside brackets
+-- a text outside brackets denotes a host
 abbrev pub HostText : HostSyntax → List ℕ → List ℕ → Type 0
 HostText http_hosts text host = (list_all is_http_host_byte text ≡ true) × (host ≡ normal_host text)
 HostText git_hosts text host = IsUtf8 (percent_decode text) × (host ≡ normal_host (percent_decode text))
@@ -37,20 +37,20 @@ HostText other_hosts text host = IsUtf8 (percent_decode text) × (host ≡ norma
 abbrev pub IsLiteral : List ℕ → Type 0
 IsLiteral text = (normal : List ℕ) × Literal text normal
 
--- a text between brackets stands for another, outside HTTP: a literal for its decoded normal form, any other
--- for its decoding
+-- a text in brackets denotes another, except in HTTP: a literal its decoded normal form, any other text its
+-- decoding
 pub data Bracketed (text : List ℕ) (inner : List ℕ) : Type 0 where
   literal : (normal : List ℕ) → Literal text normal → inner ≡ percent_decode normal → IsUtf8 inner
       → Bracketed text inner
   other : ¬ IsLiteral text → inner ≡ percent_decode text → IsUtf8 inner → Bracketed text inner
 
--- a text between brackets stands for another
+-- a text in brackets denotes another
 abbrev pub Inner : HostSyntax → List ℕ → List ℕ → Type 0
 Inner http_hosts text inner = Literal text inner
 Inner git_hosts text inner = Bracketed text inner
 Inner other_hosts text inner = Bracketed text inner
 
--- the port is allowed: zero is refused by HTTP alone
+-- the port is allowed: only HTTP refuses zero
 abbrev pub AllowsPort : HostSyntax → ℕ → Type 0
 AllowsPort http_hosts port = 0 < port
 AllowsPort git_hosts port = Unit {0}
@@ -67,41 +67,41 @@ pub record Number (syntax : HostSyntax) (text : List ℕ) (port : ℕ) : Type 0 
   pub within : port ≤ 65535
   pub allowed : AllowsPort syntax port
 
--- an IPv6 text without brackets, or one with a colon behind it
+-- an IPv6 text without brackets, or one that a colon follows
 abbrev pub IsAddressPiece : List ℕ → Type 0
 IsAddressPiece piece = IsIpv6Text piece
     ⊎ ((address : List ℕ) × IsIpv6Text address × (piece ≡ address ++ colon ∷ []))
 
--- such a piece, where an address needs no brackets
+-- an IPv6 text without brackets, or one that a colon follows, in a syntax in which an address needs no brackets
 abbrev pub ReadsAddress : HostSyntax → List ℕ → Type 0
 ReadsAddress syntax piece = (syntax ≡ git_hosts) × IsAddressPiece piece
 
--- the text holds two colons or more
+-- the text has two or more colons
 abbrev pub HoldsTwoColons : List ℕ → Type 0
 HoldsTwoColons piece = (x : List ℕ) × (y : List ℕ) × (z : List ℕ)
     × (piece ≡ x ++ colon ∷ (y ++ colon ∷ z))
 
--- the piece begins with a colon, or holds two; without a bracket at its front none of them marks a port
+-- the text begins with a colon, or has two; unless it begins with a bracket, none of them begins a port
 abbrev pub IsManyColoned : List ℕ → Type 0
 IsManyColoned piece = (begins_with colon piece ≡ true) ⊎ HoldsTwoColons piece
 
--- a host outside brackets: not empty, free of `:`, and no bracket at its front
+-- a host outside brackets: not empty, without `:`, and not beginning with a bracket
 pub record IsPlainHost (text : List ℕ) : Type 0 where
   pub nonempty : 0 < length text
   pub no_colon : FreeOf colon text
   pub no_bracket : begins_with left_bracket text ≡ false
 
--- what is behind the user information names a host and a port
+-- the text after the user information spells a host and a port
 pub data SpellsHostPort (syntax : HostSyntax) (piece : List ℕ) (host : Option (List ℕ))
     (port : Option ℕ) : Type 0 where
-  -- nothing
+  -- the empty text
   nothing : piece ≡ [] → host ≡ None → port ≡ None → SpellsHostPort syntax piece host port
   -- `[x]`
   bracketed : (x inner : List ℕ) → FreeOf right_bracket x → Inner syntax x inner
       → piece ≡ left_bracket ∷ (x ++ right_bracket ∷ [])
       → host ≡ Some (left_bracket ∷ (inner ++ right_bracket ∷ [])) → port ≡ None
       → SpellsHostPort syntax piece host port
-  -- `[x]:`, where the colon stays with the host
+  -- `[x]:`, whose colon stays with the host
   bracketed_colon : (x inner : List ℕ) → FreeOf right_bracket x → Inner syntax x inner
       → piece ≡ left_bracket ∷ (x ++ right_bracket ∷ (colon ∷ []))
       → host ≡ Some (left_bracket ∷ (inner ++ right_bracket ∷ (colon ∷ []))) → port ≡ None
@@ -112,13 +112,13 @@ pub data SpellsHostPort (syntax : HostSyntax) (piece : List ℕ) (host : Option 
       → piece ≡ left_bracket ∷ (x ++ right_bracket ∷ (colon ∷ digits))
       → host ≡ Some (left_bracket ∷ (inner ++ right_bracket ∷ [])) → port ≡ Some number
       → SpellsHostPort syntax piece host port
-  -- an address without brackets, where Git's own transports read one
+  -- an address without brackets, in the syntax of Git's own transports
   unbracketed : ReadsAddress syntax piece → host ≡ Some (lowercase piece) → port ≡ None
       → SpellsHostPort syntax piece host port
   -- `host`
   plain : (named : List ℕ) → IsPlainHost piece → HostText syntax piece named
       → host ≡ Some named → port ≡ None → SpellsHostPort syntax piece host port
-  -- `host:`, where the colon stays with the host
+  -- `host:`, whose colon stays with the host
   plain_colon : (text named : List ℕ) → IsPlainHost text → HostText syntax text named
       → piece ≡ text ++ colon ∷ [] → host ≡ Some (named ++ colon ∷ []) → port ≡ None
       → SpellsHostPort syntax piece host port
@@ -127,7 +127,7 @@ pub data SpellsHostPort (syntax : HostSyntax) (piece : List ℕ) (host : Option 
       → HostText syntax text named → Number syntax digits number
       → piece ≡ text ++ colon ∷ digits → host ≡ Some named → port ≡ Some number
       → SpellsHostPort syntax piece host port
-  -- colons that mark no port, outside HTTP: the whole piece is the host
+  -- colons that don't begin a port, except in HTTP: the whole text is the host
   colons : (named : List ℕ) → ¬ (syntax ≡ http_hosts) → ¬ ReadsAddress syntax piece
       → begins_with left_bracket piece ≡ false → IsManyColoned piece → HostText syntax piece named
       → host ≡ Some named → port ≡ None → SpellsHostPort syntax piece host port

@@ -1,4 +1,4 @@
--- What a user reads.
+-- Public definitions.
 pub mod Location
 pub mod Bytes
 pub mod Escapes
@@ -13,5 +13,5 @@ pub mod ErrorText
 pub mod Refusals
 pub mod Safeguards
 pub mod Views
--- Definitions that serve the proofs of this crate and of those above it alone.
+-- Definitions for the proofs of this crate and of those above it.
 pub mod Internal

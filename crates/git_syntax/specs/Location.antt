@@ -1,7 +1,7 @@
--- What contracts see of a location: plain values, no Rust type.
+-- A location as contracts see it: plain values without Rust types.
 use Rattle.std.specs.Prelude.{ℕ, Bool, List, Option, None}
 
--- the schemes that have a name of their own, a remote helper by its name, and any other URL by its scheme
+-- the known schemes, a remote helper by its name, and any other URL by its scheme
 pub data Scheme : Type 0 where
   file : Scheme
   git : Scheme
@@ -12,7 +12,7 @@ pub data Scheme : Type 0 where
   helper : List ℕ → Scheme
   helper_url : List ℕ → Scheme
 
--- the eight parts of a location: the seven public fields, and the retained spelling of the path
+-- the eight fields of a location: the seven public ones, and the retained spelling of the path
 pub record Location : Type 0 where
   pub scheme : Scheme
   pub user : Option (List ℕ)
@@ -27,7 +27,7 @@ pub record Location : Type 0 where
 abbrev pub fields : Location → Location
 fields v = record v { spelling = None }
 
--- a scheme, the alternative-form flag and a path, and nothing else
+-- a location of a scheme, the alternative-form flag and a path only
 abbrev pub path_alone : Scheme → Bool → List ℕ → Location
 path_alone named flagged whole = record {
   scheme = named;

@@ -1,5 +1,4 @@
--- What the scheme of a URL says: which one it is, how its host is read, and whether it needs a host and a
--- path.
+-- The scheme of a URL: its name, the syntax of its host, and whether it needs a host and a path.
 use Rattle.std.specs.Prelude.{ℕ, Bool, true, false, ◌||◌, List, codes, bytes_eq, Option, Some, None, if◌then◌else◌}
 use Rattle.git_syntax.specs.Location.{Scheme}
 use Rattle.git_syntax.specs.Location.Scheme.{file, git, ssh, http, https, ext, helper, helper_url}
@@ -7,16 +6,16 @@ use Rattle.git_syntax.specs.Hosts.{HostSyntax}
 use Rattle.git_syntax.specs.Hosts.HostSyntax.{http_hosts, git_hosts, other_hosts}
 use Rattle.std.specs.Prelude.{ℕ, Bool, ◌||◌, List, codes, bytes_eq}
 
--- the scheme is one of Secure Shell's names
+-- the scheme is one of the names of Secure Shell
 abbrev pub is_ssh_scheme : List ℕ → Bool
 is_ssh_scheme s = bytes_eq s (codes "ssh")
     || (bytes_eq s (codes "ssh+git") || bytes_eq s (codes "git+ssh"))
 
--- the scheme is HTTP's, with or without encryption
+-- the scheme is a name of HTTP, with or without encryption
 abbrev pub is_web_scheme : List ℕ → Bool
 is_web_scheme s = bytes_eq s (codes "http") || bytes_eq s (codes "https")
 
--- the scheme that a text names, to the letter
+-- the scheme that a text names exactly
 abbrev pub scheme_of : List ℕ → Scheme
 scheme_of s =
     if is_ssh_scheme s then ssh
@@ -38,7 +37,7 @@ scheme_text ext = codes "ext"
 scheme_text (helper name) = name
 scheme_text (helper_url name) = name
 
--- the port that a scheme stands for where none is given
+-- the port of a location with this scheme that names none
 abbrev pub default_port_of : Scheme → Option ℕ
 default_port_of http = Some 80
 default_port_of https = Some 443
@@ -46,7 +45,7 @@ default_port_of ssh = Some 22
 default_port_of git = Some 9418
 default_port_of _ = None
 
--- how the host of a URL with this scheme is read
+-- the syntax of the host of a URL with this scheme
 abbrev pub host_syntax_of : List ℕ → HostSyntax
 host_syntax_of s = if is_web_scheme s then http_hosts
     else (if is_ssh_scheme s || bytes_eq s (codes "git") then git_hosts else other_hosts)
@@ -63,12 +62,12 @@ requires_path ssh = true
 requires_path git = true
 requires_path _ = false
 
--- the scheme is one that has a name of its own
+-- the text is the name of a known scheme
 abbrev pub is_known_scheme : List ℕ → Bool
 is_known_scheme s = is_ssh_scheme s
     || (is_web_scheme s ||
     (bytes_eq s (codes "file") || (bytes_eq s (codes "git") || bytes_eq s (codes "ext"))))
 
--- the name is of FTP, whose URLs need a host
+-- the name is `ftp` or `ftps`, whose URLs need a host
 abbrev pub is_ftp : List ℕ → Bool
 is_ftp name = bytes_eq name (codes "ftp") || bytes_eq name (codes "ftps")

@@ -1,10 +1,10 @@
--- What a scheme of the code, and a judgement of an argument, stand for.
+-- The scheme of the definitions for that of the code.
 use Rattle.git_syntax.specs.declared.scheme.SchemeRef.{SchemeRef}
 use Rattle.git_syntax.specs.declared.scheme.SchemeRef.TheVariants as lent
 use Rattle.git_syntax.specs.Location.{Scheme}
 use Rattle.git_syntax.specs.Location.Scheme.{file, git, ssh, http, https, ext, helper, helper_url}
 
--- the scheme that a borrowed one of the code stands for
+-- the scheme that a borrowed one of the code represents
 abbrev pub lent_scheme : SchemeRef → Scheme
 lent_scheme lent.File = file
 lent_scheme lent.Git = git

@@ -1,8 +1,7 @@
-//! Cuts of a text around a byte or a mark, tests of its bytes, and bytes put where there is room.
+//! Cuts of a text around a byte or a mark, tests of bytes, and copies into a buffer.
 //!
-//! It stands on the searches of `bstr` and `memchr`, asks for no memory and uses nothing else of this crate.
-//! What a cut answers is reported as a concatenation: the pieces joined are the text, and one of them is free
-//! of what was searched for, so that no caller sees an index.
+//! The contract of a cut is a concatenation: the pieces joined are the text, and one of them lacks the byte
+//! that was searched for. No caller sees an index.
 
 ghost use Rattle.std.specs.Prelude.{◌≡◌, ◌↔◌, ◌+◌, ◌≤◌, ◌++◌, IsTrue, length, take, vec_capacity, vec_len};
 ghost use Rattle.std.specs.List.{list_all};
@@ -13,7 +12,7 @@ ghost use Rattle.git_syntax.specs.Internal.Cuts.{CutsAt, CutsAtLast, CutsAtMark,
 use bstr::ByteSlice;
 use memchr::memchr3;
 
-/// What is before and behind the first `c`.
+/// The bytes before and after the first `c`.
 pub fn cut(bytes: &[u8], c: u8) -> Option<(&[u8], &[u8])>
     ensures { CutsAt c bytes.now result }
 {
@@ -21,7 +20,7 @@ pub fn cut(bytes: &[u8], c: u8) -> Option<(&[u8], &[u8])>
     Some((bytes.split_at(at).0, bytes.split_at(at + 1).1))
 }
 
-/// What is before and behind the last `c`.
+/// The bytes before and after the last `c`.
 pub fn last_cut(bytes: &[u8], c: u8) -> Option<(&[u8], &[u8])>
     ensures { CutsAtLast c bytes.now result }
 {
@@ -29,7 +28,7 @@ pub fn last_cut(bytes: &[u8], c: u8) -> Option<(&[u8], &[u8])>
     Some((bytes.split_at(at).0, bytes.split_at(at + 1).1))
 }
 
-/// What is before and behind the first `://`.
+/// The bytes before and after the first `://`.
 pub fn cut_at_mark(bytes: &[u8]) -> Option<(&[u8], &[u8])>
     ensures { CutsAtMark bytes.now result }
 {
@@ -37,7 +36,7 @@ pub fn cut_at_mark(bytes: &[u8]) -> Option<(&[u8], &[u8])>
     Some((bytes.split_at(at).0, bytes.split_at(at + 3).1))
 }
 
-/// What follows a first byte `c`.
+/// The bytes after `c`, if `c` is the first byte.
 pub fn after(bytes: &[u8], c: u8) -> Option<&[u8]>
     ensures { StripsFirst c bytes.now result }
 {
@@ -47,7 +46,7 @@ pub fn after(bytes: &[u8], c: u8) -> Option<&[u8]>
     }
 }
 
-/// What is before a last byte `c`.
+/// The bytes before `c`, if `c` is the last byte.
 pub fn before(bytes: &[u8], c: u8) -> Option<&[u8]>
     ensures { StripsLast c bytes.now result }
 {
@@ -64,7 +63,7 @@ pub fn is_path_start(byte: u8, web: bool) -> bool
     byte == b'/' || (web && (byte == b'?' || byte == b'#'))
 }
 
-/// Where a path may first start.
+/// The index of the first byte at which a path may start.
 fn path_start(bytes: &[u8], web: bool) -> Option<usize>
     ensures { IsFirstByte (is_path_start web) bytes.now result }
 {
@@ -75,7 +74,7 @@ fn path_start(bytes: &[u8], web: bool) -> Option<usize>
     }
 }
 
-/// The front up to where a path may first start, and the rest.
+/// The bytes before the first byte at which a path may start, and the rest.
 pub fn cut_before_path(bytes: &[u8], web: bool) -> (&[u8], &[u8])
     ensures joined { bytes.now ≡ result.0.now ++ result.1.now }
     ensures front { Lacks (is_path_start web) result.0.now }
@@ -128,7 +127,7 @@ pub fn is_scheme_text(bytes: &[u8]) -> bool
     }
 }
 
-/// Whether the text is the name of a remote helper: as a scheme, but that it may begin with a digit.
+/// Whether the text is the name of a remote helper: like a scheme, except that it may begin with a digit.
 pub fn is_helper_name(bytes: &[u8]) -> bool
     ensures { result ≡ is_helper_name bytes.now }
 {
@@ -145,7 +144,7 @@ pub fn is_lowercase(bytes: &[u8]) -> bool
     bytes.iter().all(|byte| byte.to_ascii_lowercase() == *byte)
 }
 
-/// Appends the bytes, for which there is room.
+/// Appends the bytes, which fit into the vector's capacity.
 pub fn append_within(out: &mut Vec<u8>, bytes: &[u8])
     requires { vec_len out.old + length bytes.now ≤ vec_capacity out.old }
     ensures items { out.new.items ≡ out.old.items ++ bytes.now }
@@ -157,7 +156,7 @@ pub fn append_within(out: &mut Vec<u8>, bytes: &[u8])
     let _ = appended;
 }
 
-/// Copies the bytes into the front of the room, and returns how many they are.
+/// Copies the bytes to the front of the buffer and returns their number.
 pub(crate) fn copy_into(room: &mut [u8], bytes: &[u8]) -> usize
     requires { length bytes.now ≤ length room.old }
     ensures size { result ≡ length bytes.now }

@@ -1,7 +1,7 @@
-//! Which form a text has, and the pieces that it is cut into.
+//! The form of a text, and the pieces that it is cut into.
 //!
-//! It may use `bytes` and `ipv6`. Its contract: the answer names the form that the definitions give the text,
-//! and its pieces, joined by the marks of that form, are the text. It takes no memory.
+//! The form is the one that the definitions give the text. The pieces, joined by the marks of that form, are
+//! the text.
 
 ghost use Rattle.std.specs.Prelude.{◌≡◌, ◌<◌, ◌++◌, ◌∷◌, List, ℕ, MatchOption, length};
 ghost use Rattle.git_syntax.specs.Bytes.{FreeOf, colon, left_bracket, right_bracket, slash};
@@ -17,7 +17,7 @@ use crate::ipv6::is_address;
 /// The form of a text, with its pieces.
 #[derive(Clone, Copy)]
 pub enum Form<'a> {
-    /// No text at all.
+    /// The empty text.
     Empty,
     /// A remote helper: `name::address`.
     Helper {
@@ -29,7 +29,7 @@ pub enum Form<'a> {
         scheme: &'a [u8],
         rest: &'a [u8],
     },
-    /// The scp form with an IPv6 text between brackets behind the user: `user@[address]:path`.
+    /// The scp form with an IPv6 text in brackets after the user: `user@[address]:path`.
     Addressed {
         user: &'a [u8],
         address: &'a [u8],
@@ -66,7 +66,7 @@ fn classify_whole(bytes: &[u8]) -> Form<'_>
     }
 }
 
-/// The form of a text, by what is before and behind its first colon.
+/// The form of a text, by the bytes before and after its first colon.
 fn classify_cut<'a>(bytes: &'a [u8], front: &'a [u8], rest: &'a [u8]) -> Form<'a>
     requires { ColonCut bytes.now front.now rest.now }
     ensures { Classifies bytes.now result }
@@ -80,7 +80,7 @@ fn classify_cut<'a>(bytes: &'a [u8], front: &'a [u8], rest: &'a [u8]) -> Form<'a
     }
 }
 
-/// The address of a remote helper, where this is before and behind the first colon.
+/// The address of a remote helper, from the bytes before and after the first colon.
 fn helper_address<'a>(name: &[u8], rest: &'a [u8]) -> Option<&'a [u8]>
     requires { FreeOf colon name.now }
     ensures { MatchOption result (¬ HasHelperForm (name.now ++ colon ∷ rest.now))
@@ -98,7 +98,7 @@ fn helper_address<'a>(name: &[u8], rest: &'a [u8]) -> Option<&'a [u8]>
     }
 }
 
-/// The form of a text that is no remote helper.
+/// The form of a text that does not name a remote helper.
 fn classify_other<'a>(bytes: &'a [u8], front: &'a [u8], rest: &'a [u8]) -> Form<'a>
     requires cut { ColonCut bytes.now front.now rest.now }
     requires no_helper { ¬ HasHelperForm bytes.now }
@@ -110,7 +110,7 @@ fn classify_other<'a>(bytes: &'a [u8], front: &'a [u8], rest: &'a [u8]) -> Form<
     }
 }
 
-/// What is before and behind the first `://`: mostly the first colon begins it, or no other colon does.
+/// The bytes before and after the first `://`. In most texts the first colon begins it, or no other colon does.
 fn cut_url<'a>(bytes: &'a [u8], front: &'a [u8], rest: &'a [u8]) -> Option<(&'a [u8], &'a [u8])>
     requires { ColonCut bytes.now front.now rest.now }
     ensures { CutsAtMark bytes.now result }
@@ -127,7 +127,7 @@ fn cut_url<'a>(bytes: &'a [u8], front: &'a [u8], rest: &'a [u8]) -> Option<(&'a 
     }
 }
 
-/// What follows two slashes at the front.
+/// The bytes after two slashes at the front.
 fn after_slashes(text: &[u8]) -> Option<&[u8]>
     ensures { MatchOption result ((behind : List ℕ) → ¬ (text.now ≡ slash ∷ (slash ∷ behind)))
         (λ behind. text.now ≡ slash ∷ (slash ∷ behind.now)) }
@@ -154,7 +154,7 @@ fn classify_path<'a>(bytes: &'a [u8], front: &'a [u8], rest: &'a [u8]) -> Form<'
     }
 }
 
-/// The form of such a text without the form `user@[address]:path`.
+/// The form of such a text that is not of the form `user@[address]:path`.
 fn classify_plain<'a>(bytes: &'a [u8], front: &'a [u8], rest: &'a [u8]) -> Form<'a>
     requires cut { ColonCut bytes.now front.now rest.now }
     requires neither { IsNeither bytes.now }
@@ -175,7 +175,7 @@ struct AddressedPieces<'a> {
     path: &'a [u8],
 }
 
-/// The pieces of `user@[address]:path`, where this is before the first colon.
+/// The pieces of `user@[address]:path`, if the text has this form. `front` is the text before its first colon.
 fn cut_addressed<'a>(bytes: &'a [u8], front: &'a [u8]) -> Option<AddressedPieces<'a>>
     requires { IsColonFront bytes.now front.now }
     ensures { MatchOption result (¬ HasAddressedCut bytes.now)
@@ -187,15 +187,15 @@ fn cut_addressed<'a>(bytes: &'a [u8], front: &'a [u8]) -> Option<AddressedPieces
     }
 }
 
-/// The only user that such a text may have, and what is behind its `@[`.
+/// The only user that such a text can have, and the text after its `@[`.
 #[derive(Clone, Copy)]
 struct UserCut<'a> {
     user: &'a [u8],
     behind: &'a [u8],
 }
 
-/// That user: the first colon is one of the address, which holds no `@`, so the user ends at the last `@`
-/// before it.
+/// That user. The first colon is one of the address, which has no `@`, so the user ends at the last `@` before
+/// it.
 fn cut_addressed_user<'a>(bytes: &'a [u8], front: &'a [u8]) -> Option<UserCut<'a>>
     requires { IsColonFront bytes.now front.now }
     ensures { MatchOption result (¬ HasAddressedCut bytes.now)
@@ -216,7 +216,7 @@ fn cut_addressed_user<'a>(bytes: &'a [u8], front: &'a [u8]) -> Option<UserCut<'a
     }
 }
 
-/// The address and the path, behind this user and its `@[`.
+/// The address and the path, which follow this user and its `@[`.
 fn cut_address<'a>(user: &'a [u8], behind: &'a [u8]) -> Option<AddressedPieces<'a>>
     requires { AddressedFront (addressed_text user.now behind.now) user.now behind.now }
     ensures { MatchOption result (¬ HasAddressedCut (addressed_text user.now behind.now))
@@ -242,7 +242,7 @@ fn cut_address<'a>(user: &'a [u8], behind: &'a [u8]) -> Option<AddressedPieces<'
     }
 }
 
-/// What is before and behind the colon of the scp form.
+/// The bytes before and after the colon of the scp form.
 fn cut_scp<'a>(bytes: &'a [u8], front: &'a [u8], rest: &'a [u8]) -> Option<(&'a [u8], &'a [u8])>
     requires { ColonCut bytes.now front.now rest.now }
     ensures { MatchOption result (¬ HasScpCut bytes.now) (λ p. ScpCut bytes.now p.0.now p.1.now) }
@@ -259,8 +259,8 @@ fn cut_scp<'a>(bytes: &'a [u8], front: &'a [u8], rest: &'a [u8]) -> Option<(&'a 
     }
 }
 
-/// What is before and behind the first colon, or the first behind a closing bracket, where the text begins
-/// with an opening one.
+/// The bytes before and after the first colon; if the text begins with an opening bracket, the first colon
+/// after a closing one.
 fn cut_front<'a>(bytes: &'a [u8], front: &'a [u8], rest: &'a [u8]) -> Option<(&'a [u8], &'a [u8])>
     requires { ColonCut bytes.now front.now rest.now }
     ensures { MatchOption result (¬ HasFrontCut bytes.now)
@@ -272,7 +272,7 @@ fn cut_front<'a>(bytes: &'a [u8], front: &'a [u8], rest: &'a [u8]) -> Option<(&'
     }
 }
 
-/// What is before and behind the first colon behind brackets at the front.
+/// The bytes before and after the first colon that follows brackets at the front.
 fn cut_behind<'a>(
     bytes: &'a [u8],
     inside: &'a [u8],
@@ -289,7 +289,7 @@ fn cut_behind<'a>(
     }
 }
 
-/// What is between brackets at the front, and behind them.
+/// The bytes between brackets at the front, and the bytes after them.
 fn cut_brackets(bytes: &[u8]) -> Option<(&[u8], &[u8])>
     ensures { MatchOption result (LacksBrackets bytes.now)
         (λ p. FreeOf right_bracket p.0.now

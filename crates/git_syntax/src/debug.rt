@@ -1,10 +1,10 @@
-//! What a log may hold in place of bytes: how many they are. It takes no memory.
+//! The debug output that replaces bytes: their number.
 
 ghost use Rattle.std.specs.Prelude.{◌++◌, Some, codes, decimal};
 
 use std::fmt;
 
-/// What is shown in place of bytes: how many they are.
+/// Formats as a number of bytes, in place of the bytes.
 #[derive(Clone, Copy)]
 pub struct Length(pub usize);
 

@@ -1,7 +1,6 @@
-//! The words of forms and faults, as the errors say them to people.
+//! The words of forms and faults in error messages.
 //!
-//! It uses `refusal` alone and takes no memory. Its contract: the words are those of the definitions,
-//! whatever width, precision and flags are asked for, so they depend on nothing but the form or the fault.
+//! The words are those of the definitions, whatever width, precision and flags the formatter has.
 
 ghost use Rattle.std.specs.Prelude.{Some};
 ghost use Rattle.git_syntax.specs.ErrorText.{kind_words, url_fault_words};
@@ -14,7 +13,7 @@ impl fmt::Display for UrlKind {
 
     ghost styled_output = { λ kind _. Some (kind_words kind) };
 
-    /// `URL`, `scp form` or `local path`.
+    /// Writes `URL`, `scp form` or `local path`.
     fn fmt<W: fmt::Write>(&self, f: &mut fmt::Formatter<W>) -> fmt::Result {
         match self {
             UrlKind::Url => f.write_str("URL"),
@@ -29,7 +28,7 @@ impl fmt::Display for UrlFault {
 
     ghost styled_output = { λ fault _. Some (url_fault_words fault) };
 
-    /// What the URL has, or lacks: the words continue `the URL has`, or `the scp form has`.
+    /// Writes what the URL has or lacks: the words continue `the URL has`, or `the scp form has`.
     fn fmt<W: fmt::Write>(&self, f: &mut fmt::Formatter<W>) -> fmt::Result {
         match self {
             UrlFault::NoScheme => f.write_str("no valid scheme"),

@@ -1,9 +1,7 @@
-//! Percent-encoding: the sets of bytes that are escaped, tests of escaped texts, and decoding.
+//! Percent-encoding: the sets of escaped bytes, tests of escaped texts, and decoding.
 //!
-//! It uses the crates `percent_encoding` and `bstr`, `bytes` and `text`. Each test is exactly the definition
-//! in `specs/Escapes.antt` or `specs/Bytes.antt` that it is named after, and asks for no memory. `decoded`
-//! and `decoded_text` ask once, and not at all where the text is empty. A text without `%` is copied as it
-//! is.
+//! Each test is the definition of the same name in `specs/Escapes.antt` or `specs/Bytes.antt`. `decode` and
+//! `decoded_text` allocate once, and not at all if the text is empty. A text without `%` is copied unchanged.
 
 ghost use Rattle.std.specs.Prelude.{◌≡◌, ◌∷◌, ◌<◌, ◌+◌, ◌≤◌, ◌↔◌, IsTrue, IfOk, IsUtf8, length, take, true, drop, chars, string_bytes};
 ghost use Rattle.std.specs.Char.{is_digit, is_whitespace};
@@ -21,7 +19,7 @@ use bstr::{ByteSlice, decode_utf8};
 use percent_encoding::{AsciiSet, CONTROLS, ascii_set, percent_decode};
 use std::alloc::{AllocError, Global};
 
-/// The bytes that the path of an HTTP location is not written with.
+/// The bytes that are escaped in the path of an HTTP location.
 pub const PATH: AsciiSet = ascii_set!(
     CONTROLS
         .add(b' ')
@@ -34,7 +32,7 @@ pub const PATH: AsciiSet = ascii_set!(
         .add(b'}')
 );
 
-/// The bytes that a password is not written with: those of the path, and the delimiters of a URL but `:`.
+/// The bytes that are escaped in a password: those of the path, and the delimiters of a URL except `:`.
 pub const PASSWORD: AsciiSet = ascii_set!(
     PATH.add(b'#')
         .add(b'/')
@@ -47,24 +45,24 @@ pub const PASSWORD: AsciiSet = ascii_set!(
         .add(b'|')
 );
 
-/// The bytes that a user is not written with: those of the password, and `:`.
+/// The bytes that are escaped in a user: those of the password, and `:`.
 pub const USER: AsciiSet = ascii_set!(PASSWORD.add(b':'));
 
-/// Each set of escaped bytes is the documented set, of which the text of a location speaks, and holds exactly
-/// these bytes of ASCII; bytes past ASCII are always escaped.
+/// Each set of escaped bytes is the documented set, to which the definition of a location's text refers. It has
+/// exactly these bytes of ASCII; bytes that are not ASCII are always escaped.
 ///
 /// - `path`: in a path of HTTP, the controls, the space, `"`, `%`, `<`, `>`, `` ` ``, `{` and `}`.
 /// - `password`: in a password, those and `#`, `/`, `?`, `@`, `[`, `\`, `]`, `^` and `|`.
 /// - `user`: in a user, those and `:`.
 ///
-/// Users who compare written texts know by this law which bytes of a part are in them as they are.
+/// By this law, users who compare written texts know which bytes are written unescaped.
 pub fn law_sets()
     ensures path { PathSet }
     ensures password { PasswordSet }
     ensures user { UserSet }
 {}
 
-/// Whether every `%` of the text has two hexadecimal digits behind it.
+/// Whether two hexadecimal digits follow every `%` of the text.
 pub fn is_sound(text: &[u8]) -> bool
     ensures { result ≡ spec.is_sound text.now }
 {
@@ -95,7 +93,7 @@ fn is_hexadecimal(byte: u8) -> bool
     digit(byte).is_some()
 }
 
-/// Whether `%` is somewhere in the text.
+/// Whether the text has a `%`.
 pub fn has_percent(text: &[u8]) -> bool
     ensures { result ≡ spec.has_percent text.now }
 {
@@ -116,7 +114,7 @@ pub fn decodes_to_utf8(text: &[u8]) -> bool
     }
 }
 
-/// Whether the text begins with `8` or a byte behind it.
+/// Whether the first byte of the text is `8` or greater.
 pub(crate) fn begins_high(text: &[u8]) -> bool
     ensures { result ≡ begins_high text.now }
 {
@@ -126,7 +124,7 @@ pub(crate) fn begins_high(text: &[u8]) -> bool
     }
 }
 
-/// Whether the decoding of the text is UTF-8, in which mostly ASCII is.
+/// Whether the decoding of the text is UTF-8. In most texts it is ASCII.
 pub(crate) fn decoding_is_utf8(text: &[u8]) -> bool
     ensures { IsTrue result ↔ IsUtf8 (percent.percent_decode text.now) }
 {
@@ -144,7 +142,7 @@ pub(crate) fn decoding_is_utf8(text: &[u8]) -> bool
     true
 }
 
-/// What is left of a text behind the first character of its decoding, if that begins with one.
+/// The rest of the text after the first character of its decoding, if the decoding begins with a character.
 fn past_character(text: &[u8]) -> Option<&[u8]>
     requires { 0 < length (percent.percent_decode text.now) }
     ensures { PassesCharacter text.now result }
@@ -157,7 +155,7 @@ fn past_character(text: &[u8]) -> Option<&[u8]>
     Some(skip(text, size))
 }
 
-/// The next four bytes of a decoding, or as many as there are, and their count.
+/// The next four bytes of a decoding, or as many as are left, and their number.
 pub fn front(text: &[u8]) -> ([u8; 4], usize)
     ensures small { result.1 ≤ 4 }
     ensures full { length (take result.1 result.0) ≡ result.1 }
@@ -177,7 +175,7 @@ pub fn front(text: &[u8]) -> ([u8; 4], usize)
     (window, count)
 }
 
-/// What is left of a text behind the next `count` bytes of its decoding.
+/// The rest of the text after the next `count` bytes of its decoding.
 fn skip(text: &[u8], count: usize) -> &[u8]
     ensures { percent.percent_decode result.now ≡ drop count (percent.percent_decode text.now) }
 {
@@ -188,7 +186,7 @@ fn skip(text: &[u8], count: usize) -> &[u8]
     rest
 }
 
-/// What is left of a text behind the first byte of its decoding.
+/// The rest of the text after the first byte of its decoding.
 fn behind_first(text: &[u8]) -> &[u8]
     ensures { percent.percent_decode result.now ≡ drop 1 (percent.percent_decode text.now) }
 {
@@ -198,7 +196,7 @@ fn behind_first(text: &[u8]) -> &[u8]
     }
 }
 
-/// The first byte of the decoding of a text, and what is left of the text behind it.
+/// The first byte of the decoding of a text, and the rest of the text after it.
 #[inline(always)]
 pub fn split_decoded(text: &[u8]) -> Option<(u8, &[u8])>
     ensures { SplitsDecoded text.now result }
@@ -210,7 +208,7 @@ pub fn split_decoded(text: &[u8]) -> Option<(u8, &[u8])>
     Some((*first, behind))
 }
 
-/// The first byte of the decoding of `%` and this text, and what is left of the text behind it.
+/// The first byte of the decoding of `%` and this text, and the rest of the text after it.
 #[inline(always)]
 fn split_escape(behind: &[u8]) -> (u8, &[u8])
     ensures { percent.percent_decode (percent_sign ∷ behind.now)
@@ -258,14 +256,14 @@ pub fn decodes_to(spelling: &[u8], path: &[u8]) -> bool
     rest.is_empty()
 }
 
-/// Whether no character of the text is white space, as Unicode has it.
+/// Whether the text has no white space, as Unicode defines it.
 pub fn lacks_white_space(text: &str) -> bool
     ensures { IsTrue result ↔ LacksWhiteSpace text.now }
 {
     is_printable(text.as_bytes()) || !has_white_space(text)
 }
 
-/// Whether some character of the text is white space.
+/// Whether the text has white space.
 fn has_white_space(text: &str) -> bool
     ensures { result ≡ list_any is_whitespace (chars text.now) }
 {
@@ -285,7 +283,7 @@ pub fn decode(alloc: Global, text: &[u8]) -> Result<Vec<u8>, AllocError>
     Ok(bytes)
 }
 
-/// Writes what the text decodes to into the front of the room, and returns its length.
+/// Writes the decoding of the text to the front of the buffer and returns its length.
 pub fn decode_into(room: &mut [u8], text: &[u8]) -> usize
     requires { length (percent.percent_decode text.now) ≤ length room.old }
     ensures size { result ≡ length (percent.percent_decode text.now) }
@@ -301,7 +299,7 @@ pub fn decode_into(room: &mut [u8], text: &[u8]) -> usize
     size
 }
 
-/// The text that decodes to UTF-8, decoded.
+/// The decoding of the text, which is UTF-8.
 pub fn decoded_text(alloc: Global, text: &[u8]) -> Result<String, AllocError>
     requires { IsUtf8 (percent.percent_decode text.now) }
     ensures { IfOk result (λ s. string_bytes s ≡ percent.percent_decode text.now) }

@@ -1,8 +1,7 @@
-//! Finding: which form a text has, and the slices of it that its location is made of.
+//! Finds the form of a text and the slices that its location consists of.
 //!
-//! It may use `classify`, `url`, `scp` and `found`. Its contract: what is found means the one location that
-//! the definitions spell with the bytes, a refusal comes only where they spell none, and the flaw that it
-//! names is in them. It takes no memory and copies nothing.
+//! If an error is returned, the definitions spell no location with the text, and the flaw that it names is in
+//! the text.
 
 ghost use Rattle.std.specs.Prelude.{◌≡◌, ◌≤◌, [], Err, IfErr, IfOk, length};
 ghost use Rattle.git_syntax.specs.Flaws.{NamesFlaw};

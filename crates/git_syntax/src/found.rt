@@ -1,16 +1,15 @@
-//! What is found in a text: the slices that a location is made of.
+//! The slices of a text that a location consists of.
 //!
-//! It may use `rules` and `url_syntax`. These are values without a copy of any byte, which `find` makes. Of
-//! them `build` makes a location that owns its bytes, and `lend` one that borrows them. The definitions in
-//! `specs/FoundPieces` say which location they mean.
+//! [`crate::find::find`] returns them. The definitions in `specs/Internal/FoundPieces.antt` say which location
+//! they mean.
 
 use crate::rules::Rules;
 use crate::url_syntax::ParsedUrl;
 
-/// The slices that a location is made of, by its form.
+/// The slices that a location consists of, by its form.
 #[derive(Clone, Copy)]
 pub enum Found<'a> {
-    /// A remote helper: both stay as they are.
+    /// A remote helper: both slices stay as they are.
     Helper {
         name: &'a [u8],
         address: &'a [u8],
@@ -19,16 +18,16 @@ pub enum Found<'a> {
     Local {
         path: &'a [u8],
     },
-    /// A file URL: both stay as they are, and an empty host is none.
+    /// A file URL: both slices stay as they are. An empty host counts as a missing one.
     File {
         host: &'a [u8],
         path: &'a [u8],
     },
-    /// A URL of the helper `ext`: its whole text is the path.
+    /// A URL of the helper `ext`: the path is the whole text.
     Ext {
         text: &'a [u8],
     },
-    /// Any other URL, and what its scheme says of the rest.
+    /// Any other URL, and the rules of its scheme.
     Url {
         rules: Rules,
         url: ParsedUrl<'a>,
@@ -41,13 +40,13 @@ pub enum Found<'a> {
     },
 }
 
-/// The host of the scp form, without brackets around it. A `%` in it stands for itself.
+/// The host of the scp form, without brackets around it. A `%` in it is a literal character.
 #[derive(Clone, Copy)]
 pub enum ScpHost<'a> {
-    /// An IPv6 text, perhaps with a `%` and a zone: what is before the `%` is lowercased.
+    /// An IPv6 text, perhaps with a `%` and a zone: the text before the `%` is lowercased.
     Literal(&'a [u8]),
-    /// A host outside brackets: it is lowercased where it looks like a domain name.
+    /// A host outside brackets: it is lowercased if it looks like a domain name.
     Name(&'a [u8]),
-    /// A simple host, or any other text that was between brackets: it stays as it is.
+    /// A simple host, or any other text that was in brackets: it stays as it is.
     Kept(&'a [u8]),
 }

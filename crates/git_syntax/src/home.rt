@@ -1,7 +1,4 @@
 //! The front of a path: the `/` before a home folder, and the root in place of an empty path.
-//!
-//! It uses `bytes`, and asks for no memory. Its contract: each answer is that of the definition that it is
-//! named after.
 
 ghost use Rattle.std.specs.Prelude.{◌≡◌, false, true};
 ghost use Rattle.git_syntax.specs.Grammar as grammar;
@@ -28,7 +25,7 @@ pub fn from_home(path: &[u8]) -> &[u8]
     }
 }
 
-/// The path, or `/` where it is empty.
+/// The path, or `/` if it is empty.
 pub fn or_root(path: &[u8]) -> &[u8]
     ensures { result.now ≡ grammar.or_root path.now }
 {

@@ -1,9 +1,7 @@
-//! The piece of an authority behind the user information: a host and a port.
+//! Host and port, which follow the user information in an authority.
 //!
-//! It may use `bytes`, `escape` and `ipv6`. Inside: `port` reads what follows a host, `bytes` tests the bytes
-//! of hosts and zones, `build` makes the text of a host. Its contract: a host and a port are read exactly
-//! where the definitions name them, as slices of the piece, and each refusal has its flaw. It takes no memory
-//! except for the text of a host, when that is built.
+//! Both are read, as slices of the text, exactly if the definitions spell them. If an error is returned, the
+//! text has the flaw that it names. Only [`HostPort::build`] allocates.
 
 ghost use Rattle.std.specs.Prelude.{◌≡◌, ℕ, IsUtf8, ◌<◌, ◌↔◌, ◌++◌, ◌∷◌, List, Option, None, IsTrue, IfOk, IfErr, IfSome, MatchOption, false, length};
 ghost use Rattle.git_syntax.specs.Bytes.{FreeOf, begins_with, left_bracket, right_bracket};
@@ -26,45 +24,45 @@ use port::{are_digits, ends_host, with_port, with_rest};
 /// How strictly a host is read.
 #[derive(Clone, Copy, PartialEq, Eq)]
 pub enum HostSyntax {
-    /// As HTTP has it: escapes stay, and brackets hold an IPv6 literal.
+    /// As in HTTP: escapes stay, and brackets contain an IPv6 literal.
     Http,
-    /// As Git's own transports have it: an IPv6 text needs no brackets.
+    /// As in Git's own transports: an IPv6 text needs no brackets.
     Git,
-    /// As any other scheme has it.
+    /// As in any other scheme.
     Other,
 }
 
-/// The text of a host as it is in the input, with what has to be done to it.
+/// The text of a host as it is in the input, and how it is decoded.
 #[derive(Clone, Copy)]
 pub enum HostPiece<'a> {
-    /// A host of lower-case letters, digits, `-` and `.`: it stands for itself in every syntax.
+    /// A host of lower-case letters, digits, `-` and `.`: it is the same in every syntax.
     Simple(&'a [u8]),
-    /// An IPv6 text without brackets, perhaps with a colon behind it: it is lowercased.
+    /// An IPv6 text without brackets, perhaps followed by a colon: it is lowercased.
     Address(&'a [u8]),
     /// A host of HTTP: its escapes stay.
     Kept(&'a [u8]),
     /// Any other host outside brackets: it is decoded.
     Decoded(&'a [u8]),
-    /// An IPv6 literal between brackets, in HTTP: the address is lowercased, the zone with its `%25` stays.
+    /// An IPv6 literal in brackets, in HTTP: the address is lowercased, the zone with its `%25` stays.
     Literal(&'a [u8]),
-    /// The same elsewhere: it is decoded, and the address lowercased.
+    /// An IPv6 literal in brackets, in another scheme: it is decoded, and the address is lowercased.
     DecodedLiteral(&'a [u8]),
-    /// Any other text between brackets: it is decoded.
+    /// Any other text in brackets: it is decoded.
     Bracketed(&'a [u8]),
 }
 
-/// A host, and what follows it.
+/// A host, and the colon or the port after it.
 #[derive(Clone, Copy)]
 pub struct HostPort<'a> {
     /// The host.
     pub piece: HostPiece<'a>,
-    /// Whether a colon follows it that stays with it.
+    /// Whether a colon that follows the host stays with it.
     pub keeps_colon: bool,
     /// The port.
     pub port: Option<u16>,
 }
 
-/// Reads a host and a port: none where the piece is empty.
+/// Reads a host and a port: `None` if the text is empty.
 pub(crate) fn read_host(syntax: HostSyntax, piece: &[u8]) -> Result<Option<HostPort<'_>>, UrlFault>
     ensures named { IfOk result
         (λ named. SpellsHostPort (host_syntax syntax) piece.now (host_of named) (port_of named)) }
@@ -95,7 +93,7 @@ pub fn port_of(host: Option<HostPort<'_>>) -> Option<u16>
     }
 }
 
-/// The host, where the piece is a simple one: most are.
+/// The host, if the text is a simple one, as most are.
 pub(crate) fn simple_host(piece: &[u8]) -> Option<HostPort<'_>>
     ensures simple { IfSome result (λ host. IsSimpleHost piece.now) }
     ensures host { IfSome result (λ host. named_text host ≡ piece.now) }
@@ -115,7 +113,7 @@ pub fn is_simple_host(text: &[u8]) -> bool
     !text.is_empty() && are_simple_bytes(text)
 }
 
-/// Reads a host and a port, where there is something to read.
+/// Reads a host and a port from a text that isn't empty.
 fn read_some(syntax: HostSyntax, piece: &[u8]) -> Result<HostPort<'_>, UrlFault>
     requires { 0 < length piece.now }
     ensures { ReadsHostPort (host_syntax syntax) piece.now result }
@@ -126,7 +124,7 @@ fn read_some(syntax: HostSyntax, piece: &[u8]) -> Result<HostPort<'_>, UrlFault>
     }
 }
 
-/// Reads what is behind an opening bracket.
+/// Reads the text after an opening bracket.
 fn read_bracketed(syntax: HostSyntax, behind: &[u8]) -> Result<HostPort<'_>, UrlFault>
     ensures { ReadsHostPort (host_syntax syntax) (left_bracket ∷ behind.now) result }
 {
@@ -136,7 +134,7 @@ fn read_bracketed(syntax: HostSyntax, behind: &[u8]) -> Result<HostPort<'_>, Url
     }
 }
 
-/// Reads what is between brackets, and behind them.
+/// Reads the text between brackets, and the text after them.
 fn read_brackets<'a>(
     syntax: HostSyntax,
     inner: &'a [u8],
@@ -158,7 +156,7 @@ fn read_brackets<'a>(
     }
 }
 
-/// Reads a piece without an opening bracket.
+/// Reads a text without an opening bracket.
 fn read_unbracketed(syntax: HostSyntax, piece: &[u8]) -> Result<HostPort<'_>, UrlFault>
     requires some { 0 < length piece.now }
     requires no_bracket { begins_with left_bracket piece.now ≡ false }
@@ -182,7 +180,7 @@ fn read_unbracketed(syntax: HostSyntax, piece: &[u8]) -> Result<HostPort<'_>, Ur
     }
 }
 
-/// Reads a piece without a colon.
+/// Reads a text without a colon.
 fn read_plain(syntax: HostSyntax, piece: &[u8]) -> Result<HostPort<'_>, UrlFault>
     requires { spec.IsPlainHost piece.now }
     ensures { ReadsHostPort (host_syntax syntax) piece.now result }
@@ -193,7 +191,7 @@ fn read_plain(syntax: HostSyntax, piece: &[u8]) -> Result<HostPort<'_>, UrlFault
     }
 }
 
-/// Reads a piece whose colons mark no port.
+/// Reads a text whose colons don't begin a port.
 fn read_colons(syntax: HostSyntax, piece: &[u8]) -> Result<HostPort<'_>, UrlFault>
     requires no_bracket { begins_with left_bracket piece.now ≡ false }
     requires colons { IsManyColoned piece.now }
@@ -211,7 +209,7 @@ fn read_colons(syntax: HostSyntax, piece: &[u8]) -> Result<HostPort<'_>, UrlFaul
     }
 }
 
-/// A host with nothing behind it.
+/// A host that nothing follows.
 fn alone(piece: HostPiece<'_>) -> HostPort<'_>
     ensures host { named_text result ≡ meant_host piece.entry }
     ensures port { result.port ≡ None }
@@ -230,7 +228,7 @@ fn is_http_syntax(syntax: HostSyntax) -> bool
     matches!(syntax, HostSyntax::Http)
 }
 
-/// Whether the piece is an address that needs no brackets.
+/// Whether the text is an address that needs no brackets.
 fn reads_address(syntax: HostSyntax, piece: &[u8]) -> bool
     ensures { IsTrue result ↔ ReadsAddress (host_syntax syntax) piece.now }
 {
@@ -240,7 +238,7 @@ fn reads_address(syntax: HostSyntax, piece: &[u8]) -> bool
     }
 }
 
-/// Whether the piece is an IPv6 text, perhaps with a colon behind it.
+/// Whether the text is an IPv6 text, perhaps followed by a colon.
 pub fn is_address_piece(piece: &[u8]) -> bool
     ensures { IsTrue result ↔ IsAddressPiece piece.now }
 {
@@ -253,7 +251,7 @@ pub fn is_address_piece(piece: &[u8]) -> bool
     }
 }
 
-/// The host that a text outside brackets stands for.
+/// The host that a text outside brackets denotes.
 fn read_text(syntax: HostSyntax, text: &[u8]) -> Option<HostPiece<'_>>
     ensures { MatchOption result (IsNoHost (host_syntax syntax) text.now)
         (λ piece. HostText (host_syntax syntax) text.now (meant_host piece)) }
@@ -276,7 +274,7 @@ fn read_text(syntax: HostSyntax, text: &[u8]) -> Option<HostPiece<'_>>
     }
 }
 
-/// The host that a text between brackets stands for.
+/// The host that a text in brackets denotes.
 fn read_inner(syntax: HostSyntax, text: &[u8]) -> Option<HostPiece<'_>>
     ensures { MatchOption result (IsNoInner (host_syntax syntax) text.now)
         (λ piece. IsInner (host_syntax syntax) text.now (meant_host piece)) }
@@ -287,7 +285,7 @@ fn read_inner(syntax: HostSyntax, text: &[u8]) -> Option<HostPiece<'_>>
     read_no_literal(syntax, text)
 }
 
-/// The piece of a literal, which is decoded except for HTTP.
+/// The piece of a literal, which is decoded except in HTTP.
 fn literal(syntax: HostSyntax, text: &[u8]) -> HostPiece<'_>
     ensures { meant_host result ≡ in_brackets (shown_literal (host_syntax syntax) text.now) }
 {
@@ -297,7 +295,7 @@ fn literal(syntax: HostSyntax, text: &[u8]) -> HostPiece<'_>
     }
 }
 
-/// The host that a text between brackets stands for that is no literal.
+/// The host that a text in brackets denotes if it isn't a literal.
 fn read_no_literal(syntax: HostSyntax, text: &[u8]) -> Option<HostPiece<'_>>
     requires { ¬ IsLiteral text.now }
     ensures { MatchOption result (IsNoInner (host_syntax syntax) text.now)

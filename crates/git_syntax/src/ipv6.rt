@@ -1,16 +1,13 @@
-//! IPv6 and IPv4 texts, as a host of a location may be one.
-//!
-//! Stands on std's readers of addresses alone and takes no memory. Its tests are true exactly for an IPv6
-//! text, of bytes or of text, and for an IPv4 text.
+//! IPv6 and IPv4 texts, either of which can be a host.
 
 ghost use Rattle.git_syntax.specs.Addresses.{IsIpv4Text, IsIpv6Text};
 ghost use Rattle.std.specs.Prelude.{IsTrue, ◌↔◌};
 
 use std::net::{Ipv4Addr, Ipv6Addr};
 
-/// Whether the text is eight groups of one to four hexadecimal digits joined by `:`, where one `::` may stand
-/// for one or more groups that are zero, and an IPv4 text for the last two (RFC 4291, section 2.2). Brackets
-/// and zones are no part of it. It takes no memory.
+/// Whether the text is eight groups of one to four hexadecimal digits joined by `:`. One `::` may replace one
+/// or more groups that are zero, and an IPv4 text the last two groups (RFC 4291, section 2.2). Brackets and
+/// zones are not part of it. Allocates nothing.
 ///
 /// ```
 /// fn needs_brackets(host: &str) -> bool {
@@ -23,7 +20,7 @@ pub fn is_ipv6(text: &str) -> bool
     is_address(text.as_bytes())
 }
 
-/// The same of bytes.
+/// Whether the bytes are an IPv6 text, as [`is_ipv6`] tests it.
 #[tactic(auto, using(crate::proofs::Addresses::AddressReader::reads_addresses))]
 pub fn is_address(text: &[u8]) -> bool
     ensures { IsTrue result ↔ IsIpv6Text text.now }
@@ -31,7 +28,7 @@ pub fn is_address(text: &[u8]) -> bool
     Ipv6Addr::parse_ascii(text).is_ok()
 }
 
-/// Whether the text is four numbers from 0 to 255 in decimal, without leading zeros, joined by `.`.
+/// Whether the text is four decimal numbers from 0 to 255, without leading zeros, joined by `.`.
 #[tactic(auto, using(crate::proofs::Addresses::AddressReader::reads_dotted))]
 pub fn is_dotted(text: &[u8]) -> bool
     ensures { IsTrue result ↔ IsIpv4Text text.now }

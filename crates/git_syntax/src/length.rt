@@ -1,10 +1,8 @@
 //! The length test of URLs.
 //!
-//! It uses the tests of `bytes` and `scheme` and the searches of `memchr`, and asks for no memory. A walk takes
-//! what follows the `://` of a URL in any number of pieces, so that a text can be measured that is nowhere as a
-//! whole, and looks at no byte once nothing changes its outcome. Its contract: what follows the pieces has the
-//! outcome that it has behind them, and the outcome is the one that the definition of the length test says. A
-//! text that isn't longer than the limit is short without a walk.
+//! A check takes the text after the `://` of a URL in any number of pieces, so it also works for a text that is
+//! in no single buffer. It reads no further once the outcome is fixed. If the text is no longer than the limit,
+//! it passes without being read.
 
 ghost use Rattle.std.specs.Prelude.{◌≡◌, ◌↔◌, ◌++◌, [], List, ℕ, IsTrue, not};
 ghost use Rattle.std.specs.List.{count_by};
@@ -18,22 +16,22 @@ use crate::bytes::cut_before_path;
 use crate::scheme::is_web_scheme;
 use memchr::{memchr2, memchr3};
 
-/// The bytes that a scheme may have, and those that may count of what follows.
+/// The number of bytes that a scheme may have, and the number that may count of the text after `://`.
 pub const LIMIT: usize = 1024;
 
-/// What a walk over what follows the `://` of a URL has come to.
+/// The state of a check over the text after the `://` of a URL.
 #[derive(Clone, Copy)]
 enum Stage {
-    /// Slashes, backslashes and white space alone, which are skipped.
+    /// So far only slashes, backslashes and white space, which are skipped.
     Slashes,
-    /// The front. A path starts in time among the next bytes that count, as many as that.
+    /// The front. A path starts in time if it starts within this number of further bytes that count.
     Front(usize),
-    /// Whether a path started in time, which nothing changes.
+    /// Whether a path started in time. No further byte changes this.
     Fixed(bool),
 }
 
 impl Stage {
-    /// The stage behind these bytes.
+    /// The stage after these bytes.
     fn advance(self, web: bool, bytes: &[u8]) -> Stage
         ensures { (behind : List ℕ)
             → is_in_time web result behind ≡ is_in_time web self (bytes.now ++ behind) }
@@ -45,7 +43,7 @@ impl Stage {
         }
     }
 
-    /// Whether a path started in time, where nothing follows.
+    /// Whether a path started in time, if nothing follows.
     fn is_in_time(self, web: bool) -> bool
         ensures { result ≡ is_in_time web self [] }
     {
@@ -53,7 +51,7 @@ impl Stage {
     }
 }
 
-/// The stage behind these bytes, before which only such are as are skipped.
+/// The stage after these bytes, if only skipped bytes came before them.
 fn advance_slashes(web: bool, bytes: &[u8]) -> Stage
     ensures { (behind : List ℕ)
         → is_in_time web result behind ≡ is_in_time web Stage.Slashes (bytes.now ++ behind) }
@@ -68,7 +66,7 @@ fn advance_slashes(web: bool, bytes: &[u8]) -> Stage
     Stage::Slashes
 }
 
-/// The stage behind these bytes of the front. They are looked at in windows, as few as fix the outcome.
+/// The stage after these bytes of the front. They are read in windows, as few as fix the outcome.
 fn advance_front(web: bool, within: usize, bytes: &[u8]) -> Stage
     ensures { (behind : List ℕ)
         → is_in_time web result behind ≡ is_in_time web (Stage.Front within) (bytes.now ++ behind) }
@@ -90,11 +88,11 @@ fn advance_front(web: bool, within: usize, bytes: &[u8]) -> Stage
     Stage::Front(left)
 }
 
-/// How many bytes count: those that are no white space.
+/// The number of bytes that count: those that aren't white space.
 fn count_visible(bytes: &[u8]) -> usize
     ensures { result ≡ count_by (λ b. not (is_ascii_whitespace b)) bytes.now }
 {
-    // Hardly any text has white space, and to search for it is faster than to look at each byte.
+    // Few texts have white space, and searching for it is faster than testing each byte.
     if lacks_white_space(bytes) {
         return bytes.len();
     }
@@ -118,7 +116,7 @@ fn is_skipped(byte: u8) -> bool
     byte == b'/' || byte == b'\\' || byte.is_ascii_whitespace()
 }
 
-/// A walk over the whole text of a URL, which leaves out the scheme and the `://` behind it.
+/// A check over the whole text of a URL, which skips the scheme and the `://` after it.
 #[derive(Clone, Copy)]
 pub struct LengthCheck {
     left: usize,
@@ -127,7 +125,7 @@ pub struct LengthCheck {
 }
 
 impl LengthCheck {
-    /// A walk over the text of a URL with this scheme, before its first byte.
+    /// A check over the text of a URL with this scheme, before its first byte.
     pub fn over(scheme: &[u8]) -> LengthCheck
         ensures { result ≡ length_check_for scheme.now }
     {
@@ -138,7 +136,7 @@ impl LengthCheck {
         }
     }
 
-    /// The walk past these bytes.
+    /// The check after these bytes.
     pub fn advance(self, bytes: &[u8]) -> LengthCheck
         ensures { (behind : List ℕ)
             → is_text_in_time result behind ≡ is_text_in_time self (bytes.now ++ behind) }
@@ -157,7 +155,7 @@ impl LengthCheck {
         }
     }
 
-    /// Whether a path started in time behind the scheme, where nothing follows.
+    /// Whether a path started in time after the scheme, if nothing follows.
     pub fn is_in_time(self) -> bool
         ensures { result ≡ is_text_in_time self [] }
     {
@@ -165,7 +163,7 @@ impl LengthCheck {
     }
 }
 
-/// Whether a scheme, of HTTP or another, and what follows its `://` are short enough.
+/// Whether a scheme, of HTTP or another, and the text after its `://` are short enough.
 pub fn fits(web: bool, scheme: &[u8], rest: &[u8]) -> bool
     requires { web ≡ is_web_scheme scheme.now }
     ensures { IsTrue result ↔ Fits scheme.now rest.now }
@@ -173,6 +171,6 @@ pub fn fits(web: bool, scheme: &[u8], rest: &[u8]) -> bool
     if scheme.len() > LIMIT {
         return false;
     }
-    // What counts is never longer than the whole, so a short rest needs no walk.
+    // At most all bytes count, so a short rest need not be read.
     rest.len() <= LIMIT || advance_slashes(web, rest).is_in_time(web)
 }

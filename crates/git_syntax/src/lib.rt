@@ -1,9 +1,11 @@
-//! The syntax of Git locations: which form a text has, and the slices of it that a location is made of.
+//! The syntax of Git locations: the form of a text, and the slices that its location consists of.
 //!
-//! [`find::find`] finds what a text spells, or names a flaw that is in it. It takes no memory, and what it
-//! finds are slices of the text. What is below it distinguishes texts, bytes, escapes, IPv6 addresses,
-//! schemes and hosts. Nothing here knows the type of a location: its value is that of the definitions
-//! ([`specs/Location`]).
+//! [`find::find`] returns slices of the text, or a flaw in it. The modules below it read texts, bytes, escapes,
+//! IPv6 addresses, schemes and hosts. The type of a location is in the crates above; here a location is the
+//! value of the definitions (`specs/Location.antt`).
+//!
+//! No function here allocates, except [`host::HostPort::build`], [`escape::decode`] and
+//! [`escape::decoded_text`]. Each test is the definition of the same name.
 #![tactic(auto)]
 
 pub mod address_law;

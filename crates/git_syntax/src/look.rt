@@ -1,7 +1,4 @@
-//! A look at a whole text: what is known of its bytes, decided once and passed on.
-//!
-//! It may use `bytes`, `escape` and `text`. Its contract: what is said of a text holds of it. It takes no
-//! memory.
+//! Facts about the bytes of a text, which are decided once and passed on.
 
 ghost use Rattle.std.specs.Prelude.{◌≡◌, true};
 ghost use Rattle.git_syntax.specs.Escapes.{is_printable};
@@ -11,16 +8,16 @@ use crate::bytes::cut;
 use crate::escape::{begins_high, begins_with_digits};
 use crate::text::{is_plain, is_printable};
 
-/// What is known of a text.
+/// A fact about the bytes of a text.
 #[derive(Clone, Copy)]
 pub(crate) enum Look {
     /// Each byte is printable ASCII, and none is `%`.
     Plain,
-    /// Each byte is printable ASCII, and each `%` begins an escape that stands for ASCII.
+    /// Each byte is printable ASCII, and each `%` begins an escape of an ASCII byte.
     Ascii,
     /// Each byte is printable ASCII, and each `%` begins an escape.
     Escaped,
-    /// Nothing.
+    /// Nothing is known.
     Other,
 }
 
@@ -49,7 +46,7 @@ impl Look {
         }
     }
 
-    /// Whether the text is known to hold no `%`.
+    /// Whether the text is known to have no `%`.
     pub(crate) fn is_plain(self) -> bool
         ensures { result ≡ knows_plain self }
     {
@@ -62,7 +59,7 @@ impl Look {
     }
 }
 
-/// Looks at the bytes of a text.
+/// Classifies the bytes of a text.
 pub(crate) fn look_at(text: &[u8]) -> Look
     ensures { Looks result text.now }
 {
@@ -75,7 +72,7 @@ pub(crate) fn look_at(text: &[u8]) -> Look
     Look::Other
 }
 
-/// Looks at the escapes of a printable text.
+/// Classifies the escapes of a printable text.
 fn look_at_escapes(text: &[u8]) -> Look
     requires { is_printable text.now ≡ true }
     ensures { Looks result text.now }

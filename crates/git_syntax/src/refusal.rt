@@ -1,9 +1,7 @@
-//! Refusals: why a text spells no location, the form that it was taken for, and what is wrong with it.
-//!
-//! These hold nothing of a text, so making one takes no memory.
-//! `error_text` says forms and faults to people.
+//! Parse errors: why a text spells no location, the form that it was read as, and its flaw. They contain
+//! nothing of the text.
 
-/// The form that a text was taken for. `Display` names it, as in `the URL has no path`.
+/// The form that a text was read as. `Display` names it, as in `the URL has no path`.
 ///
 /// ```
 /// fn is_scp(error: &Error) -> bool {
@@ -18,7 +16,7 @@
 /// ```
 #[derive(Clone, Copy, Debug, PartialEq, Eq)]
 pub enum UrlKind {
-    /// A URL: `://` is in it.
+    /// A URL: the text has a `://`.
     Url,
     /// The form `user@host:path` of `scp`.
     Scp,
@@ -26,7 +24,7 @@ pub enum UrlKind {
     Local,
 }
 
-/// What is wrong with a URL, or with the host of the scp form. `Display` says it in words.
+/// The flaw in a URL, or in the host of the scp form. `Display` says it in words.
 ///
 /// ```
 /// fn has_bad_port(error: &Error) -> bool {
@@ -41,39 +39,39 @@ pub enum UrlKind {
 /// ```
 #[derive(Clone, Copy, Debug, PartialEq, Eq)]
 pub enum UrlFault {
-    /// What is before `://` is no scheme.
+    /// The text before `://` isn't a scheme.
     NoScheme,
-    /// What is in a port's place is no port.
+    /// The text in a port's place isn't a port.
     BadPort,
-    /// A byte or a character is where it is not allowed, or an escape is broken or stands for no text.
+    /// A byte or a character is not allowed, or an escape is malformed or doesn't decode to text.
     BadCharacter,
     /// The scheme, or the scp form, needs a host.
     HostRequired,
 }
 
-/// Why a text spells no location: a flaw that is in it. Of several it is the one that `find` came upon; the one
-/// reason and the one place of a text are those of `git_refusals`.
+/// Why a text spells no location: a flaw that is in it. If the text has several flaws, it is the one that
+/// `find` returns; `git_refusals` defines the one reason for an error and its one place.
 #[derive(Clone, Copy)]
 pub enum Refusal {
     /// The text is empty.
     EmptyLocal,
-    /// A path is wanted and there is none.
+    /// The text needs a path and has none.
     MissingPath {
-        /// The form that the text was taken for.
+        /// The form that the text was read as.
         kind: UrlKind,
     },
     /// The text is not UTF-8.
     NotUtf8 {
-        /// The form that the text was taken for.
+        /// The form that the text was read as.
         kind: UrlKind,
     },
     /// The scheme or the authority is too long.
     TooLong,
-    /// The text is no URL, or the host of the scp form is none.
+    /// The text isn't a URL, or the host of the scp form isn't valid.
     BadUrl {
-        /// The form that the text was taken for.
+        /// The form that the text was read as.
         kind: UrlKind,
-        /// What is wrong.
+        /// The flaw.
         fault: UrlFault,
     },
 }

@@ -1,11 +1,11 @@
-//! The law that a refusal is final: what has a flaw spells no location.
+//! The law that a text with a flaw spells no location.
 //!
-//! It has no code and uses nothing: the contract of its function is the law, which users have from `gix_url`.
-//! It is here too, so that a wrong definition of a flaw is refused in its own layer.
+//! The public form of the law is in `gix_url`. It is also proved here, so that a wrong definition of a flaw
+//! fails in its own crate.
 
 ghost use Rattle.git_syntax.specs.Refusals.{Flawless};
 
-/// No flaw is in bytes that spell a location.
+/// No text with a flaw spells a location.
 fn law_refusal()
     ensures { Flawless }
 {}

@@ -1,7 +1,4 @@
-//! What the scheme of a URL says of the rest of it. It is decided once, and passed on.
-//!
-//! It may use `scheme` and the syntaxes of `host`, and asks for no memory. Its contract: each rule is the
-//! definition's, for the text of the scheme.
+//! The rules that a URL's scheme has for the rest of it. They are decided once and passed on.
 
 ghost use Rattle.std.specs.Prelude.{◌≡◌, false, true};
 ghost use Rattle.git_syntax.specs.Internal.HostPieces.{host_syntax};
@@ -11,18 +8,18 @@ ghost use Rattle.git_syntax.specs.Schemes.{is_web_scheme, host_syntax_of, scheme
 use crate::host::HostSyntax;
 use crate::scheme::{KnownScheme, is_ftp, is_named, scheme_of};
 
-/// What the scheme of a URL says of the rest of it.
+/// The rules that a URL's scheme has for the rest of it.
 #[derive(Clone, Copy)]
 pub struct Rules {
-    /// The protocol that it names.
+    /// The known scheme that its text names.
     pub known: KnownScheme,
     /// The syntax of its host.
     pub syntax: HostSyntax,
     /// Whether it needs a host.
     pub needs_host: bool,
-    /// Whether it is HTTP's: a path may begin with `?` and `#` too, and an empty one is the root.
+    /// Whether it is one of HTTP's: a path may also begin with `?` or `#`, and an empty one is the root.
     pub web: bool,
-    /// Whether it needs a path, in which a home folder is without the `/` before it.
+    /// Whether it needs a path, in which a home folder has no `/` before it.
     pub needs_path: bool,
 }
 

@@ -1,7 +1,4 @@
-//! Schemes: those that have a name of their own, and the others by name.
-//!
-//! It uses nothing of this crate but its errors. Its contract: names and default ports are those of the
-//! definitions, and a scheme's text names it to the letter.
+//! Schemes: the known ones, and all others by name. Names are compared exactly.
 
 ghost use Rattle.std.specs.Prelude.{◌≡◌, bytes_eq};
 ghost use Rattle.git_syntax.specs.Internal.SchemeRules.{scheme_named};
@@ -9,7 +6,7 @@ ghost use Rattle.git_syntax.specs.Schemes.{scheme_of, scheme_text, default_port_
 ghost use Rattle.git_syntax.specs.Schemes.{is_ftp};
 ghost use Rattle.git_syntax.specs.Views.{lent_scheme};
 
-/// What a borrowed location is reached by: a [`Scheme`] whose name is a slice. Copies take no memory.
+/// The scheme of a borrowed location: a [`Scheme`] whose name is a slice. Copying it allocates nothing.
 ///
 /// ```
 /// fn is_encrypted(scheme: SchemeRef<'_>) -> bool {
@@ -32,12 +29,12 @@ pub enum SchemeRef<'a> {
     Ext,
     /// Another remote helper, by its name, as in `name::address`.
     Helper(&'a str),
-    /// The scheme of any other URL, which Git hands to the remote helper of that name.
+    /// The scheme of any other URL, which Git passes to the remote helper of that name.
     HelperUrl(&'a str),
 }
 
 impl<'a> SchemeRef<'a> {
-    /// The scheme with this text, which names this known one.
+    /// The scheme with this text, which names the known scheme `named`.
     pub fn of_known_scheme(named: KnownScheme, text: &'a str) -> SchemeRef<'a>
         ensures { lent_scheme result ≡ scheme_named named text.now }
     {
@@ -52,7 +49,7 @@ impl<'a> SchemeRef<'a> {
         }
     }
 
-    /// The text that the scheme is written with, as [`Scheme::as_str`] has it. It takes no memory.
+    /// The text that the scheme is written with, like [`Scheme::as_str`]. Allocates nothing.
     ///
     /// ```
     /// /// The protocol of a location, for as long as what lends it.
@@ -75,8 +72,8 @@ impl<'a> SchemeRef<'a> {
         }
     }
 
-    /// The port that the scheme stands for where a location names none, as [`Scheme::default_port`] has it.
-    /// It takes no memory.
+    /// The port of a location with this scheme that names none, like [`Scheme::default_port`]. Allocates
+    /// nothing.
     ///
     /// ```
     /// fn port_of(scheme: SchemeRef<'_>) -> u16 {
@@ -98,7 +95,7 @@ impl<'a> SchemeRef<'a> {
     }
 }
 
-/// The scheme that a text names, to the letter.
+/// A known scheme, which a text names exactly.
 #[derive(Clone, Copy)]
 pub enum KnownScheme {
     /// The local file system.
@@ -113,7 +110,7 @@ pub enum KnownScheme {
     Https,
     /// The remote helper `ext`.
     Ext,
-    /// Any other, which has no name but the text.
+    /// Any other scheme, which has no name except its text.
     Other,
 }
 
@@ -142,7 +139,7 @@ pub fn scheme_of(text: &[u8]) -> KnownScheme
     KnownScheme::Other
 }
 
-/// Whether the text is a scheme that has a name of its own.
+/// Whether the text is a known scheme.
 pub fn is_known_scheme(text: &[u8]) -> bool
     ensures { result ≡ is_known_scheme text.now }
 {
@@ -153,28 +150,28 @@ pub fn is_known_scheme(text: &[u8]) -> bool
         || is_named(text, "ext")
 }
 
-/// Whether the text is one of Secure Shell's names.
+/// Whether the text is one of the names of Secure Shell.
 fn is_ssh_scheme(text: &[u8]) -> bool
     ensures { result ≡ is_ssh_scheme text.now }
 {
     is_named(text, "ssh") || is_named(text, "ssh+git") || is_named(text, "git+ssh")
 }
 
-/// Whether the text is HTTP's name, with or without encryption.
+/// Whether the text is a name of HTTP, with or without encryption.
 pub(crate) fn is_web_scheme(text: &[u8]) -> bool
     ensures { result ≡ is_web_scheme text.now }
 {
     is_named(text, "http") || is_named(text, "https")
 }
 
-/// Whether the text is one of FTP's names, whose URLs need a host.
+/// Whether the text is one of the names of FTP, whose URLs need a host.
 pub fn is_ftp(text: &[u8]) -> bool
     ensures { result ≡ is_ftp text.now }
 {
     is_named(text, "ftp") || is_named(text, "ftps")
 }
 
-/// Whether the text is the name, to the letter.
+/// Whether the text is exactly the name.
 pub(crate) fn is_named(text: &[u8], name: &str) -> bool
     ensures { result ≡ bytes_eq text.now name.now }
 {

@@ -1,8 +1,5 @@
-//! The scp form, from the pieces that the classifier cut.
-//!
-//! It may use `bytes`, `text`, `escape`, `ipv6`, `host`, `found` and the errors. Its contract: the slices of
-//! a location are found exactly where the definitions spell one, and each refusal has its flaw. It takes no
-//! memory. An escape in the host is no escape: a `%` in it stands for itself.
+//! The scp form, from the pieces that the classifier cut. Its host has no escapes: a `%` in it is a literal
+//! character.
 
 ghost use Rattle.std.specs.Prelude.{◌≡◌, ◌↔◌, ◌∷◌, IfErr, IfOk, IsTrue, IsUtf8, false, length, ◌+◌, ◌<◌, ◌≤◌, true};
 ghost use Rattle.git_syntax.specs.Addresses.{IsZone};
@@ -24,7 +21,7 @@ use crate::ipv6::is_address;
 use crate::refusal::{Refusal, UrlFault, UrlKind};
 use crate::text::{as_text, is_plain, is_text};
 
-/// Finds the slices of the scp form: a host, perhaps behind a user, a colon and a path.
+/// Finds the slices of the scp form: a user if there is one, a host, a colon and a path.
 pub(crate) fn find_scp<'a>(
     input: &'a [u8],
     front: &'a [u8],
@@ -53,7 +50,7 @@ pub(crate) fn find_scp<'a>(
     }
 }
 
-/// Whether the text is UTF-8, as a plain one is.
+/// Whether the text is UTF-8. A plain text always is.
 fn is_utf8(plain: bool, text: &[u8]) -> bool
     requires { plain ≡ true → spec.is_plain text.now ≡ true }
     ensures { IsTrue result ↔ IsUtf8 text.now }
@@ -61,7 +58,7 @@ fn is_utf8(plain: bool, text: &[u8]) -> bool
     plain || str::from_utf8(text).is_ok()
 }
 
-/// Finds the slices of the scp form with an IPv6 text between brackets behind the user.
+/// Finds the slices of the scp form with an IPv6 text in brackets after the user.
 pub(crate) fn find_addressed<'a>(
     input: &'a [u8],
     user: &'a [u8],
@@ -97,7 +94,7 @@ fn cut_front_user(front: &[u8]) -> (Option<&[u8]>, &[u8])
     }
 }
 
-/// Finds the host of the scp form. What is known to be plain isn't looked at again for white space.
+/// Finds the host of the scp form. A host that is known to be plain isn't searched for white space.
 fn find_host(plain: bool, host: &[u8]) -> Result<ScpHost<'_>, UrlFault>
     requires plain { plain ≡ true → spec.is_plain host.now ≡ true }
     requires text { IsUtf8 host.now }
@@ -124,7 +121,7 @@ fn find_host(plain: bool, host: &[u8]) -> Result<ScpHost<'_>, UrlFault>
     }
 }
 
-/// Whether the text holds no white space, as a plain one doesn't.
+/// Whether the text has no white space. A plain text never has.
 fn has_no_white_space(plain: bool, text: &[u8]) -> bool
     requires plain { plain ≡ true → spec.is_plain text.now ≡ true }
     requires text { IsUtf8 text.now }
@@ -133,8 +130,8 @@ fn has_no_white_space(plain: bool, text: &[u8]) -> bool
     plain || lacks_white_space(as_text(text))
 }
 
-/// Finds a host that has no bracket in front. Where it holds a colon, a bracket is behind that, so that no
-/// port follows.
+/// Finds a host that doesn't begin with a bracket. If it has a colon, a bracket follows that, so it has no
+/// port.
 fn find_name(host: &[u8]) -> Result<ScpHost<'_>, UrlFault>
     requires some { 0 < length host.now }
     requires open_front { begins_with left_bracket host.now ≡ false }
@@ -152,7 +149,8 @@ fn find_name(host: &[u8]) -> Result<ScpHost<'_>, UrlFault>
     Err(UrlFault::BadPort)
 }
 
-/// Finds the host that has this behind a bracket in front: the bracket that closes it is the last byte.
+/// Finds a host that begins with a bracket, from the text after it. The last byte is the bracket that closes
+/// it.
 fn find_in_brackets(behind: &[u8]) -> Result<ScpHost<'_>, UrlFault>
     requires text { IsUtf8 (left_bracket ∷ behind.now) }
     requires colons { ColonsInside (left_bracket ∷ behind.now) }
@@ -172,8 +170,7 @@ fn find_in_brackets(behind: &[u8]) -> Result<ScpHost<'_>, UrlFault>
     }
 }
 
-/// Whether the text is an IPv6 literal with its `%` unescaped: an address, or one with a `%` and a zone
-/// behind it.
+/// Whether the text is an IPv6 literal with its `%` unescaped: an address, or one that a `%` and a zone follow.
 fn is_literal(text: &[u8]) -> bool
     ensures { IsTrue result ↔ IsLiteral (spec.escaped_percents text.now) }
 {

@@ -1,7 +1,4 @@
-//! The host of a URL as Secure Shell takes it: without brackets around it, and without a colon behind it.
-//!
-//! It may use `bytes` and `text`. Its contract: the host is the one that the definitions leave of the one
-//! that a URL names. It is edited in place, and no memory is asked for.
+//! The host of a URL as Secure Shell takes it: without brackets around it, and without a colon after it.
 
 ghost use Rattle.std.specs.Prelude.{◌≡◌, ℕ, List, MatchOption, false, string_bytes, true};
 ghost use Rattle.git_syntax.specs.Bytes.{begins_with, left_bracket};
@@ -12,14 +9,15 @@ ghost use Rattle.git_syntax.specs.Internal.UrlPieces.{DropsLast, InBrackets};
 use crate::bytes::{after, before, is_free_of, starts_with_byte};
 use crate::text::into_text;
 
-/// The host as Secure Shell takes it: without brackets around it, and without a colon behind it.
+/// The host as Secure Shell takes it: without brackets around it, and without a colon after it. It is edited in
+/// place.
 pub fn ssh_host(host: String) -> String
     ensures { string_bytes result ≡ ssh_host (string_bytes host) }
 {
     into_text(ssh_host_bytes(host.into_bytes()))
 }
 
-/// The same of a text that is lent, as a slice of it.
+/// The host as Secure Shell takes it, as a slice of the host.
 pub fn ssh_host_text(host: &[u8]) -> &[u8]
     ensures { result.now ≡ ssh_host host.now }
 {
@@ -29,7 +27,7 @@ pub fn ssh_host_text(host: &[u8]) -> &[u8]
     strip_colon(host)
 }
 
-/// The host without brackets around it and a colon behind them.
+/// The host without brackets around it and a colon after them.
 fn strip_brackets(host: &[u8]) -> &[u8]
     requires { begins_with left_bracket host.now ≡ true }
     ensures { IsSshHost host.now result.now }
@@ -40,7 +38,7 @@ fn strip_brackets(host: &[u8]) -> &[u8]
     }
 }
 
-/// The host without a colon at its end, where it holds no other.
+/// The host without a colon at its end, if it has no other colon.
 fn strip_colon(host: &[u8]) -> &[u8]
     requires { begins_with left_bracket host.now ≡ false }
     ensures { IsSshHost host.now result.now }
@@ -51,7 +49,7 @@ fn strip_colon(host: &[u8]) -> &[u8]
     }
 }
 
-/// The same of its bytes, in place.
+/// The bytes of the host as Secure Shell takes it, edited in place.
 fn ssh_host_bytes(host: Vec<u8>) -> Vec<u8>
     ensures { IsSshHost host.items result.items }
 {
@@ -62,7 +60,7 @@ fn ssh_host_bytes(host: Vec<u8>) -> Vec<u8>
     }
 }
 
-/// The host without brackets around it and a colon behind them.
+/// The host without brackets around it and a colon after them, edited in place.
 fn without_brackets(mut host: Vec<u8>) -> Vec<u8>
     requires { begins_with left_bracket host.items ≡ true }
     ensures { IsSshHost host.items result.items }
@@ -76,7 +74,7 @@ fn without_brackets(mut host: Vec<u8>) -> Vec<u8>
     host
 }
 
-/// The text in brackets, where nothing or a colon follows them.
+/// The text in brackets, if nothing or a colon follows them.
 fn in_brackets(host: &[u8]) -> Option<&[u8]>
     ensures { MatchOption result ((inside : List ℕ) → ¬ InBrackets host.now inside)
         (λ inside. InBrackets host.now inside.now) }
@@ -95,7 +93,7 @@ fn without_last(text: &[u8], c: u8) -> &[u8]
     }
 }
 
-/// The host without a colon at its end, where it holds no other.
+/// The host without a colon at its end, if it has no other colon, edited in place.
 fn without_colon(mut host: Vec<u8>) -> Vec<u8>
     requires { begins_with left_bracket host.items ≡ false }
     ensures { IsSshHost host.items result.items }

@@ -1,8 +1,6 @@
-//! URLs, from the pieces that the classifier cut: file URLs, and those whose scheme gives them a meaning.
+//! URLs, from the pieces that the classifier cut: file URLs, URLs of the helper `ext`, and all others.
 //!
-//! It may use `bytes`, `rules`, `length`, `look`, `text`, `url_syntax`, `found` and the errors. Its contract:
-//! the slices of a location are found exactly where the definitions spell one, and each refusal has its flaw.
-//! It takes no memory. The scheme is looked at once, here, and what it says of the rest is passed on.
+//! The scheme is read once, here; its rules are passed on.
 
 ghost use Rattle.std.specs.Prelude.{◌≡◌, ◌≤◌, ◌↔◌, ◌++◌, IfErr, IfOk, IsTrue, MatchOption, codes, length, true};
 ghost use Rattle.git_syntax.specs.Authority.{Fits};
@@ -25,7 +23,7 @@ use crate::scheme::KnownScheme;
 use crate::text::{as_text, is_text};
 use crate::url_syntax::{ParsedUrl, read_url_syntax};
 
-/// Finds what a URL is made of.
+/// Finds the slices of a URL.
 pub(crate) fn find_url<'a>(
     input: &'a [u8],
     scheme: &'a [u8],
@@ -59,7 +57,7 @@ fn is_ext(known: KnownScheme) -> bool
     matches!(known, KnownScheme::Ext)
 }
 
-/// Finds what a file URL is made of: the host ends at the first `/`, where the path begins.
+/// Finds the slices of a file URL. The host ends at the first `/`, at which the path begins.
 fn find_file<'a>(input: &'a [u8], rest: &'a [u8]) -> Result<Found<'a>, Refusal>
     requires { UrlForm input.now (codes "file") rest.now }
     ensures found { IfOk result (λ found. SpellsFile input.now (meant found)) }
@@ -76,7 +74,7 @@ fn find_file<'a>(input: &'a [u8], rest: &'a [u8]) -> Result<Found<'a>, Refusal>
     }
 }
 
-/// The host and the path of a file URL, of what follows its `://`. Most such URLs have no host.
+/// The host and the path of a file URL, from the text after `://`. Most such URLs have no host.
 fn cut_at_path(rest: &[u8]) -> Option<(&[u8], &[u8])>
     ensures { MatchOption result (FreeOf slash rest.now)
         (λ p. FreeOf slash p.0.now
@@ -90,7 +88,7 @@ fn cut_at_path(rest: &[u8]) -> Option<(&[u8], &[u8])>
     Some(rest.split_at(host.len()))
 }
 
-/// Finds what a URL is made of that is no file URL, of whose scheme these are the rules.
+/// Finds the slices of a URL that isn't a file URL, by the rules of its scheme.
 fn find_other<'a>(
     input: &'a [u8],
     rules: Rules,
@@ -114,7 +112,7 @@ fn find_other<'a>(
     find_in_text(input, rules, scheme, rest)
 }
 
-/// Finds what a URL is made of, as `find_other` does, where nothing is known of its bytes.
+/// Finds the slices of a URL, as `find_other` does, if nothing is known of its bytes.
 fn find_in_text<'a>(
     input: &'a [u8],
     rules: Rules,
@@ -135,7 +133,7 @@ fn find_in_text<'a>(
     }
 }
 
-/// Finds the parts of a URL that is text and no file URL, of which this is known.
+/// Finds the slices of a URL that is text and isn't a file URL, with the facts `look` about its bytes.
 fn find_parts<'a>(
     text: &'a str,
     look: Look,
@@ -161,7 +159,7 @@ fn find_parts<'a>(
     }
 }
 
-/// What a URL is made of whose parts were read. That of the helper `ext` has the whole text for its path.
+/// The slices of a parsed URL. The path of a URL of the helper `ext` is its whole text.
 fn found_of_url<'a>(input: &'a [u8], rules: Rules, url: ParsedUrl<'a>) -> Result<Found<'a>, Refusal>
     requires spelled { HasUrlSyntax input.now (syntax_of url) }
     requires rules { AreRulesOf url.scheme.now rules }

@@ -1,8 +1,4 @@
 //! The reader of URLs: scheme, user information, host, port and path, as slices of the text.
-//!
-//! It may use `bytes`, `escape`, `host`, `look` and `rules`. Its contract: the parts are read exactly where
-//! the definitions spell a URL with them, and each refusal has its flaw. It takes no memory and copies
-//! nothing.
 
 ghost use Rattle.std.specs.Prelude.{◌≡◌, ◌↔◌, ◌⊎◌, IfErr, IfOk, IsTrue, IsUtf8};
 ghost use Rattle.percent_encoding.specs.Percent.{percent_decode};
@@ -24,7 +20,7 @@ use crate::look::Look;
 use crate::refusal::UrlFault;
 use crate::rules::Rules;
 
-/// The parts of a URL, as slices of its text: nothing is decoded, nothing is copied.
+/// The fields of a URL, as slices of its text. Nothing is decoded or copied.
 #[derive(Clone, Copy)]
 pub struct ParsedUrl<'a> {
     /// The scheme.
@@ -35,13 +31,13 @@ pub struct ParsedUrl<'a> {
     pub password: Option<&'a [u8]>,
     /// The host and the port.
     pub host: Option<HostPort<'a>>,
-    /// The path with its escapes, and with what HTTP has behind it.
+    /// The path with its escapes, and in HTTP with the query and the fragment.
     pub path: &'a [u8],
-    /// Whether the path holds a `%`.
+    /// Whether the path has a `%`.
     pub escaped: bool,
 }
 
-/// What an authority holds, as slices of it.
+/// The fields of an authority, as slices of it.
 #[derive(Clone, Copy)]
 struct AuthoritySlices<'a> {
     /// The user and the password.
@@ -50,7 +46,7 @@ struct AuthoritySlices<'a> {
     host: Option<HostPort<'a>>,
 }
 
-/// What user information holds, as slices of it.
+/// The fields of user information, as slices of it.
 #[derive(Clone, Copy)]
 struct CredentialSlices<'a> {
     /// The user, if there is one, with its escapes.
@@ -59,8 +55,8 @@ struct CredentialSlices<'a> {
     password: Option<&'a [u8]>,
 }
 
-/// Reads the URL with this scheme, of which these are the rules, and this rest behind `://`. It is no file
-/// URL, and no remote helper. What is known of the text isn't looked for again.
+/// Reads the URL with this scheme, the rules of the scheme, and this text after `://`. It is not a file URL and
+/// not a remote helper. Known facts about the text aren't tested again.
 pub(crate) fn read_url_syntax<'a>(
     text: &'a str,
     look: Look,
@@ -95,7 +91,7 @@ pub(crate) fn read_url_syntax<'a>(
     Ok(join_parts(scheme, parts, path, holds_escape(look, path)))
 }
 
-/// The parts of a URL, from those of its authority.
+/// The fields of a URL, from those of its authority.
 fn join_parts<'a>(
     scheme: &'a [u8],
     parts: AuthoritySlices<'a>,
@@ -119,7 +115,7 @@ fn join_parts<'a>(
     }
 }
 
-/// Whether no character of the text is white space, as in a printable one.
+/// Whether the text has no white space. A printable text never has.
 fn has_no_white_space(look: Look, text: &str) -> bool
     requires { Looks look text.now }
     ensures { IsTrue result ↔ LacksWhiteSpace text.now }
@@ -127,7 +123,7 @@ fn has_no_white_space(look: Look, text: &str) -> bool
     look.is_printable() || lacks_white_space(text)
 }
 
-/// Whether every `%` of the text has two hexadecimal digits behind it.
+/// Whether two hexadecimal digits follow every `%` of the text.
 fn has_sound_escapes(look: Look, text: &str) -> bool
     requires { Looks look text.now }
     ensures { result ≡ escape.is_sound text.now }
@@ -135,7 +131,7 @@ fn has_sound_escapes(look: Look, text: &str) -> bool
     look.is_printable() || is_sound(text.as_bytes())
 }
 
-/// Whether the piece decodes to UTF-8, as one does that decodes to ASCII.
+/// Whether the text decodes to UTF-8. A text that decodes to ASCII always does.
 fn means_text(look: Look, piece: &[u8]) -> bool
     requires { Looks look piece.now }
     ensures { IsTrue result ↔ IsUtf8 (percent_decode piece.now) }
@@ -149,7 +145,7 @@ fn means_text(look: Look, piece: &[u8]) -> bool
     decodes_to_utf8(piece)
 }
 
-/// Whether the piece holds a `%`, as a plain one doesn't.
+/// Whether the text has a `%`. A plain text never has.
 fn holds_escape(look: Look, piece: &[u8]) -> bool
     requires { Looks look piece.now }
     ensures { result ≡ escape.has_percent piece.now }
@@ -160,7 +156,7 @@ fn holds_escape(look: Look, piece: &[u8]) -> bool
     has_percent(piece)
 }
 
-/// Reads an authority, in which a host may be needed. Mostly it is a simple host.
+/// Reads an authority, which may need a host. Most are a simple host.
 fn read_authority(
     syntax: HostSyntax,
     needed: bool,
@@ -188,7 +184,7 @@ fn read_authority(
     read_marked(syntax, needed, authority)
 }
 
-/// Reads an authority in which marks may be.
+/// Reads an authority that may have user information, brackets and a port.
 fn read_marked(
     syntax: HostSyntax,
     needed: bool,
@@ -276,7 +272,7 @@ fn unless_empty(text: &[u8]) -> Option<&[u8]>
     if text.is_empty() { None } else { Some(text) }
 }
 
-/// The user beside a password, or beside none: an empty user counts only beside a password.
+/// The user of a password, or without one: an empty user counts only beside a password.
 fn user_beside<'a>(password: Option<&'a [u8]>, user: &'a [u8]) -> Option<&'a [u8]>
     ensures { decoded_option result
         ≡ authority.user_beside (decoded_option password.entry) (percent_decode user.now) }

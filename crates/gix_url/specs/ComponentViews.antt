@@ -1,4 +1,4 @@
--- What contracts see of the components that the code returns: their bytes, and what of them is lent.
+-- The components that the code returns, as contracts see them: their bytes, and which of them are borrowed.
 use Rattle.std.specs.Prelude.{◌≡◌, ℕ, Bool, true, false, List, [], ◌∷◌, map, Option, Some, None, option_map}
 use Rattle.bstr.specs.BStr.{bstr_bytes}
 use Rattle.bstr.specs.Owned.{bstring_bytes}
@@ -15,7 +15,7 @@ abbrev pub text_bytes : QueryText → List ℕ
 text_bytes (Borrowed text) = bstr_bytes text
 text_bytes (Owned text) = bstring_bytes text
 
--- the name or the value is lent
+-- the name or the value is borrowed
 abbrev pub is_borrowed : QueryText → Bool
 is_borrowed (Borrowed text) = true
 is_borrowed (Owned text) = false
@@ -24,16 +24,16 @@ is_borrowed (Owned text) = false
 abbrev pub pair_bytes : QueryText × QueryText → List ℕ × List ℕ
 pair_bytes pair = (text_bytes pair.0, text_bytes pair.1)
 
--- whether the name and whether the value is lent
+-- whether the name and whether the value is borrowed
 abbrev pub pair_lent : QueryText × QueryText → Bool × Bool
 pair_lent pair = (is_borrowed pair.0, is_borrowed pair.1)
 
--- which names and which values of the query are lent, in order, where there is a query; a path and a fragment
+-- which names and which values of the query are borrowed, in order, if there is a query; a path and a fragment
 -- always are
 abbrev pub what_is_lent : PathComponents → Option (List (Bool × Bool))
 what_is_lent parts = option_map (λ pairs. map pair_lent pairs.items) parts.query
 
--- the components that were returned
+-- the components that a `PathComponents` represents
 abbrev pub components : PathComponents → Components
 components parts = record {
   path = bstr_bytes parts.path;
@@ -41,8 +41,8 @@ components parts = record {
   fragment = option_map bstr_bytes parts.fragment;
 }
 
--- a name or a value of the query: a text of its own exactly where a raw `+` is in the piece that it was cut
--- out as, and else lent, so that its bytes are in the path
+-- a name or a value of the query: an owned text exactly if the piece that was cut out has a raw `+`, and else
+-- borrowed, so that its bytes are in the path
 abbrev pub LentTerm : Location → List ℕ → QueryText → Type 0
 LentTerm v piece (Borrowed text) = FreeOf plus_sign piece × Holds (bstr_bytes text) v.path
 LentTerm v piece (Owned text) = ¬ FreeOf plus_sign piece
@@ -67,7 +67,8 @@ pub record LentFields (v : Location) (pairs : List (QueryText × QueryText)) : T
   pub split : CutsFields query fields
   pub lent : LentPairs v fields pairs
 
--- those that were returned, if any were
+-- the names and values of the query, if there is a query, are those of the location's original path; each is
+-- borrowed unless its piece has a raw `+`
 abbrev pub LentQuery : Location → Option (List (QueryText × QueryText)) → Type 0
 LentQuery v None = Unit {0}
 LentQuery v (Some pairs) = LentFields v pairs

@@ -1,4 +1,4 @@
--- Flaws: what the errors of reading name and hold.
+-- Flaws: the facts about a text that a parse error states, and the text in the error.
 use Rattle.std.specs.Prelude.{◌≡◌, ℕ, List, length, Option, Some}
 use Rattle.bstr.specs.Owned.{bstring_bytes}
 use Rattle.gix_url.specs.declared.error.Error.{Error}
@@ -12,7 +12,7 @@ pub use Rattle.git_refusals.specs.Kinds.{kind_of, fault_in, fault_of, refusal_of
 pub use Rattle.git_refusals.specs.Reasons.{Stands, Behind, Passes, Then, Undecodable, NotText, HasCharacter, HasBackslash, HasBrokenEscape, NoHostText, NoOther, NoInner, NoDigits, PortOutside, WebColons, BadColons, BadHost, BadUser, NoHostBehind, NoHostAtAll, BadParts, BadAuthority, TooLong, BadScheme, NoPath, BadRest, BadUrl, NoFilePath, BadFile, NoScpPath, NoScpHost, BadScpName, BadScpHost, BadFront, BadScp, BadAddressed, Refused}
 pub use Rattle.git_refusals.specs.Promised.{IsOfKind, NamesKind}
 
--- the error is that of the refusal, and holds the text, or of one that is too long the front
+-- the error is that of the refusal, and has the text, or the front of a text that is too long
 abbrev pub IsErrorOf : List ℕ → Refusal → Error → Type 0
 IsErrorOf b r error.EmptyLocal = kind_of r.reason ≡ kind.EmptyLocal
 IsErrorOf b r (error.MissingPath form input) = (kind_of r.reason ≡ kind.MissingPath) × (form ≡ r.form)
@@ -25,12 +25,12 @@ IsErrorOf b r (error.BadUrl form fault input) = (kind_of r.reason ≡ kind.BadUr
     × (bstring_bytes input ≡ b)
 IsErrorOf b r _ = ⊥
 
--- memory was refused, or the error is that of the bytes' one refusal
+-- an allocation failed, or the error is that of the bytes' one refusal
 abbrev pub Flaw : List ℕ → Error → Type 0
 Flaw b error.Memory = Unit {0}
 Flaw b e = (r : Refusal) × Refused b r × IsErrorOf b r e
 
--- the error is none of reading
+-- the error is not one with which a text is refused when it is read
 abbrev pub IsNotOfReading : Error → Type 0
 IsNotOfReading error.EmptyLocal = ⊥
 IsNotOfReading (error.MissingPath form input) = ⊥

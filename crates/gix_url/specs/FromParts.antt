@@ -1,4 +1,4 @@
--- A location made of its parts: what is read of their text, with the path that was given where it is kept.
+-- A location from its fields: their text is read, and HTTP keeps the given path.
 use Rattle.std.specs.Prelude.{◌≡◌, ℕ, Bool, List, [], ◌∷◌, Option, Some, None, Result, Ok, Err, if◌then◌else◌}
 use Rattle.bstr.specs.declared.bstring.BString.{BString}
 use Rattle.bstr.specs.Owned.{bstring_bytes}
@@ -12,7 +12,7 @@ use Rattle.git_location.specs.Text.{text}
 use Rattle.git_location.specs.Settled.{IsSettled}
 use Rattle.gix_url.specs.Readings.{Reads}
 
--- the location with these parts, and no spelling
+-- the location with these seven fields, and no spelling
 abbrev pub of_parts : Scheme → Option (List ℕ) → Option (List ℕ) → Option (List ℕ) → Option ℕ
     → List ℕ → Bool → Location
 of_parts named user password host port path flag = record {
@@ -26,50 +26,50 @@ of_parts named user password host port path flag = record {
   spelling = None;
 }
 
--- the name of a remote helper, if no helper can have it
+-- the name of a remote helper, if it isn't a valid one
 abbrev pub invalid_name : Scheme → Option (List ℕ)
 invalid_name (helper name) = if is_helper_name name then None else Some name
 invalid_name _ = None
 
--- the error holds the name
+-- the error has the name
 abbrev pub ReportsName : List ℕ → Error → Type 0
 ReportsName name e = (reported : BString) × (e ≡ error.HelperName reported) × (bstring_bytes reported ≡ name)
 
--- the path that was given, or the other where it is empty
+-- the given path, or the other one if it is empty
 abbrev pub given_or : List ℕ → List ℕ → List ℕ
 given_or [] other = other
 given_or (b ∷ bs) other = b ∷ bs
 
--- what was read, with the path that was given and no spelling of it
+-- the location that was read, with the given path and no spelling of it
 abbrev pub with_given : List ℕ → Location → Location
 with_given path read = record read { path = given_or path read.path; spelling = None }
 
--- what was read of the text of parts with this scheme and this path: HTTP keeps the path
+-- the location that was read from the text of fields with this scheme and this path: HTTP keeps the path
 abbrev pub keeping : Scheme → List ℕ → Location → Location
 keeping http path read = with_given path read
 keeping https path read = with_given path read
 keeping _ path read = read
 
--- what reading the text of parts answers, with their path where it is kept
+-- the result of reading the text of fields, with their path if it is kept
 abbrev pub ReadsKept : Location → List ℕ → Result Location Error → Type 0
 ReadsKept given b (Ok v) = (read : Location) × Reads b (Ok read)
     × (v ≡ keeping given.scheme given.path read)
 ReadsKept given b (Err e) = Reads b (Err e)
 
--- what making a location of settled parts answers: them as they are, or lack of memory
+-- the result for settled fields: these fields, or a failed allocation
 abbrev pub GivesBack : Location → Result Location Error → Type 0
 GivesBack given (Ok v) = v ≡ given
 GivesBack given (Err e) = e ≡ error.Memory
 
--- what making a location of parts answers
+-- the result of making a location from fields
 pub record MadeOf (given : Location) (result : Result Location Error) : Type 0 where
-  -- a name that no remote helper can have is refused, and reported
+  -- a name of a remote helper that isn't valid is refused, and reported
   pub helper_name : (name : List ℕ) → invalid_name given.scheme ≡ Some name
       → (e : Error) × (result ≡ Err e) × ReportsName name e
-  -- else a fault of their text
+  -- otherwise, if the fields have no text, the fault is returned
   pub fault : invalid_name given.scheme ≡ None → (f : WriteFault) → text given ≡ Err f
       → result ≡ Err (error.Unwritable f)
-  -- else their text is read
+  -- otherwise the text of the fields is read
   pub read : (t : List ℕ) → text given ≡ Ok t → ReadsKept given t result
-  -- settled parts come back as they are
+  -- settled fields come back unchanged
   pub settled : IsSettled given → GivesBack given result

@@ -13,20 +13,20 @@ use Rattle.gix_url.specs.Homes.HomeUser.{current, named}
 use Rattle.git_laws.specs.Order.{text_eq, text_cmp, there, fed_bytes, fed_part}
 use Rattle.git_laws.specs.OrderLaws.{text_decides, text_total, text_ties}
 
--- the name that a user brings with it
+-- the name of a user, if there is one
 abbrev pub user_name : HomeUser → Option (List ℕ)
 user_name current = None
 user_name (named name) = Some name
 
--- users are equal where their names are, or where both have none
+-- users are equal if their names are, or if both have none
 abbrev pub user_eq : HomeUser → HomeUser → Bool
 user_eq u v = text_eq (user_name u) (user_name v)
 
--- users are ordered by their names, none before all others
+-- users are ordered by their names; a user without one comes first
 abbrev pub user_cmp : HomeUser → HomeUser → Ordering
 user_cmp = on user_name text_cmp
 
--- of a user a hasher is fed whether there is a name, and the name
+-- a user feeds a hasher whether there is a name, and the name
 abbrev pub fed_user : HomeUser → HashWrites
 fed_user u = fed.u8 (there (user_name u)) ++ fed_part fed_bytes (user_name u)
 
@@ -42,7 +42,7 @@ unfolding user_at
 user_itself current = refl
 user_itself (named name) = refl
 
--- what is equal is one user
+-- equal users are one user
 pub user_decides : (u v : HomeUser) → Decides (user_eq u v) (u ≡ v)
 user_decides u v = (
   λ e. sym (user_itself u) ∙
@@ -51,20 +51,22 @@ user_decides u v = (
       (text_decides (user_name u) (user_name v)).1 (ap user_name e),
 )
 
+-- equality of users is an equivalence
 pub user_equiv : IsEquivalence user_eq
 user_equiv = decided user_eq user_decides
 
--- the order is total
+-- the order of users is total
 pub user_total : IsTotalOrder user_cmp
 user_total = on_total user_name text_total
 
--- what is equal is what the order doesn't distinguish
+-- users are equal exactly if the order doesn't distinguish them
 pub user_ties : (u v : HomeUser) → user_eq u v ≡ eq_by_cmp user_cmp u v
 user_ties u v = text_ties (user_name u) (user_name v)
 
+-- the order of users is a partial order that agrees with equality
 pub user_po : IsPartialOrder user_eq (λ u v. Some (user_cmp u v))
 user_po = po user_total user_ties
 
--- what is equal feeds a hasher alike
+-- equal users feed a hasher alike
 pub users_alike : (u v : HomeUser) → user_eq u v ≡ true → fed_user u ≡ fed_user v
 users_alike u v e = ap fed_user ((user_decides u v).0 e)

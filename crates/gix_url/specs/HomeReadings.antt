@@ -1,4 +1,4 @@
--- What the calls on home folders and on canonical paths answer: words that name the types of the code.
+-- The results of the calls on home folders and on canonical paths, by the types of the code.
 use Rattle.std.specs.Prelude.{◌≡◌, ℕ, false, ◌⊎◌, List, [], ◌∷◌, ◌++◌, Option, Some, None, MatchOption, Result, Ok, Err, String, string_bytes, IsUtf8}
 use Rattle.std.specs.Global.{Global}
 use Rattle.std.specs.Borrow.{Bor}
@@ -15,35 +15,36 @@ use Rattle.gix_url.specs.Paths.{EndsInPiece, IsIdle, LiesBelow}
 use Rattle.gix_url.specs.Homes.{HomeUser, Expands}
 use Rattle.gix_url.specs.Homes.HomeUser.{current, named}
 
--- the user that a `ForUser` stands for
+-- the user that a `ForUser` represents
 abbrev pub user_of : ForUser → HomeUser
 user_of Current = current
 user_of (Name name) = named (bstring_bytes name)
 
--- the path is `/~` and a name, with nothing below, or `/~`, a name, `/` and what lies below
+-- the path is `/~` and a name, with nothing below, or `/~`, a name, `/` and the rest below
 abbrev pub HomePath : List ℕ → List ℕ → List ℕ → Type 0
 HomePath path name below = ((path ≡ slash ∷ (tilde ∷ name)) × (below ≡ []))
     ⊎ (path ≡ slash ∷ (tilde ∷ (name ++ slash ∷ below)))
 
--- the name of a user and what lies below the home folder, or none where the path doesn't begin with `/~`
+-- the name of a user and the path below the home folder, or `None` if the path doesn't begin with `/~`
 abbrev pub CutsHome : List ℕ → Option (Bor (List ℕ) × Bor (List ℕ)) → Type 0
 CutsHome path r = MatchOption r (begins_at_home path ≡ false)
     (λ p. FreeOf slash p.0.now × HomePath path p.0.now p.1.now)
 
--- the first segment of a text, and what is behind the `/` that ends it, if one does
+-- the first segment of a text, and the text after the `/` that ends it, if one does
 abbrev pub CutsSegment : List ℕ → Bor (List ℕ) → Option (Bor (List ℕ)) → Type 0
 CutsSegment text segment behind =
     FreeOf slash segment.now
     × MatchOption behind (text ≡ segment.now) (λ more. text ≡ segment.now ++ slash ∷ more.now)
 
--- the front of a text that ends with its last piece; it is empty where there is none
+-- the front of a text that ends with its last piece; it is empty if there is no piece
 pub record UpToLast (text front : List ℕ) : Type 0 where
   pub tail : List ℕ
   pub idle : IsIdle tail
   pub whole : text ≡ front ++ tail
   pub last : EndsInPiece front ⊎ (front ≡ [])
 
--- what is answered for a user by a folder of which this holds: the path below it, or that none is known
+-- the result for a user whose home folder satisfies `is_home`: the path below it, or the error that none is
+-- known
 abbrev pub Expansion : (Option (List ℕ) → Type 0) → HomeUser → List ℕ → Result (String Global) Error
     → Type 0
 Expansion is_home user path (Ok text) = (folder : List ℕ) × is_home (Some folder)
@@ -52,8 +53,8 @@ Expansion is_home user path (Err error.Memory) = Unit {0}
 Expansion is_home user path (Err (error.NoHome who)) = is_home None × (user_of who ≡ user)
 Expansion is_home user path (Err _) = ⊥
 
--- what an expansion by the home folder of the current user answers: the expanded path, or that the user has
--- none
+-- the result of an expansion by the home folder of the current user: the expanded path, or the error that the
+-- user has none
 abbrev pub AnswersExpanded : Option (List ℕ) → Option HomeUser → List ℕ → Result (String Global) Error
     → Type 0
 AnswersExpanded home user path (Ok text) = Expands home user path (Some (string_bytes text))
@@ -62,15 +63,14 @@ AnswersExpanded home user path (Err (error.NoHome who)) = (user ≡ Some (user_o
     × Expands home user path None
 AnswersExpanded home user path (Err _) = ⊥
 
--- why a path wasn't expanded: it is no text, its user has no home folder, or memory ran out
+-- why a path wasn't expanded: it is not text, its user has no home folder, or an allocation failed
 abbrev pub IsUnexpanded : Option HomeUser → List ℕ → Error → Type 0
 IsUnexpanded user path error.PathNotUtf8 = ¬ IsUtf8 path
 IsUnexpanded user path (error.NoHome who) = IsUtf8 path × (user ≡ Some (user_of who))
 IsUnexpanded user path error.Memory = IsUtf8 path
 IsUnexpanded user path _ = ⊥
 
--- why the path of a location wasn't resolved: it is that of a local one, and no text, or the resolver has
--- none for it
+-- why the path of a local location wasn't resolved: it is not text, or the resolver returned `None` for it
 abbrev pub IsUnresolved : Location → Error → Type 0
 IsUnresolved v error.PathNotUtf8 = (v.scheme ≡ file) × ¬ IsUtf8 v.path
 IsUnresolved v error.Unresolved = (v.scheme ≡ file) × IsUtf8 v.path

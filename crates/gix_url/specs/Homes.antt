@@ -1,17 +1,17 @@
--- Home folders: whose folder a path means, and which folder that is.
+-- Home folders: the user of a path's home folder, and the folder.
 use Rattle.std.specs.Prelude.{◌≡◌, ℕ, false, List, [], ◌∷◌, ◌++◌, Option, Some, None}
 use Rattle.git_syntax.specs.Bytes.{slash, tilde, FreeOf, lossy_text}
 use Rattle.git_syntax.specs.Grammar.{begins_at_home}
 use Rattle.gix_url.specs.Paths.{Joins, LiesBelow, IsParent}
 
--- ---- whose home folder
+-- ---- the user
 
 -- the current user, or one with a name
 pub data HomeUser : Type 0 where
   current : HomeUser
   named : List ℕ → HomeUser
 
--- the user of this name: none named is the current one
+-- the user of this name: an empty name is the current user
 abbrev pub home_user : List ℕ → HomeUser
 home_user [] = current
 home_user (b ∷ bs) = named (b ∷ bs)
@@ -34,32 +34,32 @@ shell_text None path = path
 shell_text (Some current) path = tilde ∷ path
 shell_text (Some (named name)) path = tilde ∷ (name ++ path)
 
--- what a shell takes for the path
+-- the path as a shell takes it
 pub record ForShell (path result : List ℕ) : Type 0 where
   pub user : Option HomeUser
   pub rest : List ℕ
   pub split : SplitsHome path user rest
   pub written : result ≡ shell_text user rest
 
--- ---- which folder
+-- ---- the folder
 
--- the home folder of a user, if it is known, by that of the current user
+-- the home folder of a user, if it is known, from that of the current user
 pub data HomeFolder (home : Option (List ℕ)) (user : HomeUser)
     (folder : Option (List ℕ)) : Type 0 where
   -- the current user's own
   own : user ≡ current → folder ≡ home → HomeFolder home user folder
-  -- another's lies beside it, in its parent
+  -- another user's folder is next to it, in its parent
   beside : (name own parent other : List ℕ) → user ≡ named name → home ≡ Some own
       → IsParent own (Some parent)
       → Joins parent (lossy_text name) other → folder ≡ Some other → HomeFolder home user folder
-  -- a folder without a parent has none beside it
+  -- if it has no parent, no folder is known
   topmost : (name own : List ℕ) → user ≡ named name → home ≡ Some own → IsParent own None
       → folder ≡ None → HomeFolder home user folder
-  -- and none is known beside none
+  -- if it isn't known, no other folder is known
   unknown : (name : List ℕ) → user ≡ named name → home ≡ None → folder ≡ None
       → HomeFolder home user folder
 
--- a path as it is without a user, or below the home folder of its user; none where none is known
+-- a path, unchanged without a user, or below the home folder of its user; `None` if that isn't known
 pub data Expands (home : Option (List ℕ)) (user : Option HomeUser) (path : List ℕ)
     (result : Option (List ℕ)) : Type 0 where
   userless : user ≡ None → result ≡ Some path → Expands home user path result

@@ -1,3 +1,3 @@
--- Definitions that serve the proofs of this crate and of those above it alone.
+-- Definitions for the proofs of this crate and of those above it.
 pub mod Meanings
 pub mod ComponentPieces

@@ -9,8 +9,9 @@ use Rattle.gix_url.specs.Readings.{Reads}
 use Rattle.git_location.specs.Readings.{ReadsIn}
 pub use Rattle.git_laws.specs.Laws.{Unique, ComesBack, SettledAgain, ReadAgain, TextDecides, SameComponents, is_closed, IsException, Closed, Apart, Exact, keeps_bytes, KeepsBytes, ExactByFields, Unchanged, Writable, SpellsLocalBefore, SpellsBefore, KeepsEarlier, EqualIsSame, TiedIsEqual, FedAlike, LocationsFedApart, SchemesFedApart, SpellingLast}
 
--- what two readers answer to the same bytes, one with memory and one into a room: the same location, or a
--- refusal each; else memory was refused to the one, or the room of the other is shorter than the bytes
+-- the results of two readers for the same bytes, one that allocates and one with a buffer, agree: the same
+-- location, or a refusal each; otherwise an allocation of the one failed, or the buffer of the other is shorter
+-- than the bytes
 abbrev pub AnswerAlike : List ℕ → ℕ → Result Location Error → Result Location ParseError → Type 0
 AnswerAlike b room (Ok v) (Ok w) = v ≡ w
 AnswerAlike b room (Ok v) (Err unread.NoRoom) = room < length b
@@ -19,14 +20,15 @@ AnswerAlike b room (Err e) (Ok w) = e ≡ error.Memory
 AnswerAlike b room (Err e) (Err unread.NoRoom) = (e ≡ error.Memory) × (room < length b)
 AnswerAlike b room (Err e) (Err (unread.Refused refusal)) = Unit {0}
 
--- reading with memory and reading into a room answer alike
+-- reading the same bytes with allocation and into a buffer has the same result: one location or a refusal each,
+-- unless an allocation failed or the buffer is shorter than the bytes
 abbrev pub ReadersAgree : Type 0
 ReadersAgree = (b : List ℕ) (room : ℕ) (owned : Result Location Error)
     (lent : Result Location ParseError) → Reads b owned → ReadsIn b room lent
     → AnswerAlike b room owned lent
 
--- with room for as many bytes, the one answers a location exactly where the other does, unless memory was
--- refused
+-- if the buffer is at least as long as the bytes, reading into it returns a location exactly if reading with
+-- allocation returns it, unless an allocation failed
 abbrev pub SameWithRoom : Type 0
 SameWithRoom = (b : List ℕ) (room : ℕ) (owned : Result Location Error)
     (lent : Result Location ParseError) → length b ≤ room → Reads b owned → ReadsIn b room lent

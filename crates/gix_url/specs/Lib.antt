@@ -1,4 +1,4 @@
--- What a user reads.
+-- Public definitions.
 pub mod Flaws
 pub mod Readings
 pub mod FromParts
@@ -15,9 +15,9 @@ pub mod Url
 pub mod Stored
 -- Examples of the definitions: each row is proved.
 pub mod Examples
--- Definitions that serve the proofs of this crate and of those above it alone.
+-- Definitions for the proofs of this crate and of those above it.
 pub mod Internal
--- What is in the layers below, under the names by which users of this crate know it.
+-- Public definitions of the crates below, re-exported.
 pub use Rattle.git_syntax.specs.Location
 pub use Rattle.git_syntax.specs.Bytes
 pub use Rattle.git_syntax.specs.Escapes

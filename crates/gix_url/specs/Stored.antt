@@ -1,11 +1,11 @@
--- The location whose parts a stored record has.
+-- The location whose fields a stored record has.
 use Rattle.std.specs.Prelude.{string_bytes, option_map}
 use Rattle.std.specs.Vec.{vec_items}
 use Rattle.gix_url.specs.declared.stored.StoredUrl.{StoredUrl}
 use Rattle.git_syntax.specs.Location.{Location}
 use Rattle.gix_url.specs.Views.{owned_scheme}
 
--- the eight parts of a record, as plain values
+-- the eight fields of a record, as plain values
 abbrev pub recorded_location : StoredUrl → Location
 recorded_location s = record {
   scheme = owned_scheme s.scheme;

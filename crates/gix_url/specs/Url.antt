@@ -1,11 +1,11 @@
--- The location that a `Url` stands for.
+-- The location that a `Url` represents.
 use Rattle.std.specs.Prelude.{string_bytes, option_map}
 use Rattle.bstr.specs.Owned.{bstring_bytes}
 use Rattle.gix_url.specs.declared.location.Url.TheInside.{Inside}
 use Rattle.git_syntax.specs.Location.{Location}
 use Rattle.gix_url.specs.Views.{owned_scheme}
 
--- the eight parts of a `Url`, as plain values
+-- the eight fields of a `Url`, as plain values
 abbrev pub location : Inside → Location
 location u = record {
   scheme = owned_scheme u.scheme;

@@ -1,8 +1,5 @@
-//! The parts of a location: looked at, exchanged, and the location that has none of them.
-//!
-//! It uses `location` and `scheme`, and takes no memory. Its contracts: what is returned is the field, and of
-//! the spelling of the path whether it is retained; what is stored is there from then on, the old value comes
-//! back, and no other part changes.
+//! The fields of a location: getters, setters, and the empty location. A setter changes no other field and
+//! returns the old value.
 
 ghost use Rattle.std.specs.Prelude.{◌≡◌, ◌↔◌, IsSome, IsTrue, [], ◌∷◌, false, option_map, string_bytes};
 ghost use Rattle.std.specs.Option.{option_or};
@@ -18,10 +15,10 @@ use std::alloc::Global;
 use std::mem;
 
 impl Url {
-    /// The location with nothing in it: Secure Shell, an empty path, no other part, and the flag not set. It
-    /// takes no memory, since nothing empty does.
+    /// The empty location: the scheme is Secure Shell, the path is empty, all other fields are missing, and the
+    /// flag isn't set. Allocates nothing.
     ///
-    /// It is a value to put parts into, and not settled as it is: its text is `ssh:///`.
+    /// It is a value whose fields are to be set. Without that it isn't settled: its text is `ssh:///`.
     ///
     /// ```
     /// fn at_host(alloc: Global, host: String) -> Url {
@@ -45,9 +42,9 @@ impl Url {
         }
     }
 
-    /// The user, decoded, if there is one. It may be empty. It takes no memory.
+    /// The user, decoded, if there is one. It may be empty. Allocates nothing.
     ///
-    /// A user may begin with `-`: a command gets it by [`Url::user_as_argument`].
+    /// A user may begin with `-`: pass it to a command by [`Url::user_as_argument`].
     ///
     /// ```
     /// fn is_git(url: &Url) -> bool {
@@ -60,10 +57,10 @@ impl Url {
         self.user.as_deref()
     }
 
-    /// The password, decoded, if there is one. It takes no memory.
+    /// The password, decoded, if there is one. Allocates nothing.
     ///
-    /// Neither `Display` nor `Debug` shows this field. The text of the location does, unless there is no
-    /// user.
+    /// Neither `Display` nor `Debug` shows this field, as [`Url`] describes. The text of the location contains it,
+    /// unless there is no user.
     ///
     /// ```
     /// fn asks_for_password(url: &Url) -> bool {
@@ -76,10 +73,10 @@ impl Url {
         self.password.as_deref()
     }
 
-    /// The host, if there is one. It takes no memory.
+    /// The host, if there is one. Allocates nothing.
     ///
-    /// Secure Shell has an IPv6 text without its brackets, other schemes with them where the text had them. A
-    /// host may begin with `-`: a command gets it by [`Url::host_as_argument`].
+    /// An IPv6 text has brackets as the field `host` of [`Url`] describes. A host may begin with `-`: pass it to a
+    /// command by [`Url::host_as_argument`].
     ///
     /// ```
     /// fn is_here(url: &Url) -> bool {
@@ -92,9 +89,9 @@ impl Url {
         self.host.as_deref()
     }
 
-    /// The port, or else the one that the scheme stands for, if it stands for one. It takes no memory.
+    /// The port, or the default port of the scheme, if it has one. Allocates nothing.
     ///
-    /// It may be 0: only HTTP's locations are refused with that port when they are read.
+    /// It may be 0: reading refuses that port only for HTTP.
     ///
     /// ```
     /// fn is_same_service(one: &Url, other: &Url) -> bool {
@@ -108,10 +105,10 @@ impl Url {
         self.as_ref().port_or_default()
     }
 
-    /// Whether the path is `/`. It takes no memory.
+    /// Whether the path is `/`. Allocates nothing.
     ///
-    /// So it is of `https://host`, which has no path in its text. Of `https://host/?x` it isn't: an HTTP path
-    /// holds the query and the fragment.
+    /// The path of `https://host`, whose text has none, is `/`. That of `https://host/?x` isn't: an HTTP path
+    /// includes the query and the fragment.
     ///
     /// ```
     /// fn names_a_repository(url: &Url) -> bool {
@@ -124,12 +121,12 @@ impl Url {
         self.as_ref().path_is_root()
     }
 
-    /// Whether a spelling of the path is retained, with its escapes. It takes no memory.
+    /// Whether a spelling of the path is retained, with its escapes. Allocates nothing.
     ///
-    /// Reading retains the spelling of a path in which an escape is. The spelling is no public field, but
-    /// equality, order and hash see it, and the text of the location has it where it still stands for the
-    /// path. Where there is none, the location is its public fields and nothing else: two such locations with
-    /// the same fields are equal.
+    /// Reading retains the escaped path if it has an escape. The spelling isn't a public field, but equality,
+    /// order and hash depend on it, and the text of the location contains it if it still decodes to the path.
+    /// Without a spelling, the location is determined by its public fields: two such locations with the same
+    /// fields are equal.
     ///
     /// ```
     /// fn is_plain(alloc: Global, text: &str) -> Result<bool, Error> {
@@ -144,9 +141,9 @@ impl Url {
         self.spelling.is_some()
     }
 
-    /// Stores another user, or none, and returns the one before. It takes no memory; no other part changes.
+    /// Stores another user, or none, and returns the old one. Allocates nothing. No other field changes.
     ///
-    /// The location may have no text from then on: a user without a host has none.
+    /// Afterwards the location may have no text: a user without a host has none.
     ///
     /// ```
     /// fn as_git(alloc: Global, url: &mut Url) -> Result<Option<String>, AllocError> {
@@ -161,8 +158,7 @@ impl Url {
         mem::replace(&mut self.user, user)
     }
 
-    /// Stores another password, or none, and returns the one before. It takes no memory; no other part
-    /// changes.
+    /// Stores another password, or none, and returns the old one. Allocates nothing. No other field changes.
     ///
     /// A password without a user is not written.
     ///
@@ -179,10 +175,10 @@ impl Url {
         mem::replace(&mut self.password, password)
     }
 
-    /// The same location, asked to be written in the form that is no URL, or not to be. It takes no memory.
+    /// The same location with this flag for the alternative form, which is not a URL. Allocates nothing.
     ///
-    /// `file:///path` is written as `/path` then, and `ssh://host/path` as `host:/path`. Where a location has
-    /// no such form, as with a port, its text stays.
+    /// `file:///path` is then written as `/path`, and `ssh://host/path` as `host:/path`. If a location has no
+    /// such form, as with a port, its text stays the same.
     ///
     /// ```
     /// fn as_path(alloc: Global) -> Result<BString, Error> {

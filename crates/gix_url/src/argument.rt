@@ -1,6 +1,5 @@
-//! Which parts of a location may be given to a command as arguments: the judgement of the borrowed location.
-//!
-//! It uses `location`, and takes no memory.
+//! Tests for the fields of a location that are passed to a command as arguments, like those of the borrowed
+//! location.
 
 ghost use Rattle.std.specs.Prelude.{◌≡◌, Some, IfSome, false, option_map};
 ghost use Rattle.bstr.specs.BStr.{bstr_bytes};
@@ -13,7 +12,7 @@ use bstr::BStr;
 use git_location::argument::ArgumentSafety;
 
 impl Url {
-    /// The user as an argument of a command. It takes no memory.
+    /// The user as an argument of a command. Allocates nothing.
     ///
     /// ```
     /// fn is_refused(url: &Url) -> bool {
@@ -28,10 +27,10 @@ impl Url {
         self.as_ref().user_as_argument()
     }
 
-    /// The host as an argument of a command. It takes no memory.
+    /// The host as an argument of a command. Allocates nothing.
     ///
-    /// A host may begin with `-`. Secure Shell has an IPv6 text without its brackets, other schemes with them
-    /// where the text had them.
+    /// A host may begin with `-`. For Secure Shell an IPv6 text has no brackets, for other schemes it has them
+    /// if the text had them.
     ///
     /// ```
     /// fn is_refused_host(url: &Url) -> bool {
@@ -46,9 +45,9 @@ impl Url {
         self.as_ref().host_as_argument()
     }
 
-    /// The user, where there is one that doesn't begin with `-`. It takes no memory.
+    /// The user, if there is one that doesn't begin with `-`. Allocates nothing.
     ///
-    /// `None` also stands for no user at all: [`Url::user_as_argument`] distinguishes the two.
+    /// The result is also `None` if there is no user: [`Url::user_as_argument`] distinguishes the two.
     ///
     /// ```
     /// fn user_or_git(url: &Url) -> &str {
@@ -63,9 +62,9 @@ impl Url {
         self.as_ref().user_argument_safe()
     }
 
-    /// The host, where there is one that doesn't begin with `-`. It takes no memory.
+    /// The host, if there is one that doesn't begin with `-`. Allocates nothing.
     ///
-    /// `None` also stands for no host at all: [`Url::host_as_argument`] distinguishes the two.
+    /// The result is also `None` if there is no host: [`Url::host_as_argument`] distinguishes the two.
     ///
     /// ```
     /// fn can_connect(url: &Url) -> bool {
@@ -80,9 +79,9 @@ impl Url {
         self.as_ref().host_argument_safe()
     }
 
-    /// The whole path, where it begins with `/` and the byte behind that isn't `-`. It takes no memory.
+    /// The whole path, if it begins with `/` and the next byte isn't `-`. Allocates nothing.
     ///
-    /// A path that begins with `~` or is relative is not returned. `/` alone is. The path is decoded, may be
+    /// A path that begins with `~` or is relative is not returned; the path `/` is. The path is decoded, may be
     /// any bytes, and is not quoted for a shell.
     ///
     /// ```

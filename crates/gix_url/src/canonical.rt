@@ -1,8 +1,4 @@
-//! Canonical paths: a local location with its path resolved.
-//!
-//! It uses `location`, `copy` and `error`. What resolves a path is given as a closure. Its contract: the path
-//! of a local location becomes what the closure answers, and nothing else changes; after an error nothing
-//! did, and which errors come where is said.
+//! Canonical paths: local locations whose path a closure resolves.
 
 ghost use Rattle.std.specs.Prelude.{◌≡◌, ◌⊎◌, Err, IfErr, IfOk, IsUtf8, MatchOption, MatchResult, None, Ok, Some, string_bytes};
 ghost use Rattle.std.specs.Fn.{FnOnceReturnsAt, FnOnceTakesAt};
@@ -18,16 +14,18 @@ use bstr::{BString, ByteSlice};
 use std::alloc::Global;
 
 impl Url {
-    /// Puts what `resolve` answers for the path in its place, if the location is a local one.
+    /// Replaces the path by the result of `resolve` for it, if the location is a local one.
     ///
-    /// `resolve` is called once, with the path, where the scheme is `File` and the path is text. Its answer
-    /// becomes the path as it is, without a copy. A location of any other scheme stays as it is, and
-    /// `resolve` is not called. No other part changes. This takes no memory but what `resolve` takes.
+    /// `resolve` is called once, with the path, if the scheme is `File` and the path is text. Its result
+    /// becomes the path without a copy. A location of any other scheme is unchanged, and `resolve` is not
+    /// called. No other field changes. Allocates nothing, except in `resolve`.
     ///
     /// # Errors
     ///
-    /// [`Error::PathNotUtf8`], where the path of a local location is no text; that is tested first.
-    /// [`Error::Unresolved`], where `resolve` answers none. The location is unchanged after either.
+    /// - [`Error::PathNotUtf8`] if the path of a local location is not text. This is tested first.
+    /// - [`Error::Unresolved`] if `resolve` returns `None`.
+    ///
+    /// The location is unchanged after either.
     ///
     /// ```
     /// /// Gives a local location the path that the file system has for it.
@@ -71,14 +69,14 @@ impl Url {
         }
     }
 
-    /// A copy of the location with what `resolve` answers for the path in its place, if the location is a
-    /// local one:
-    /// [`Url::clone`], and then [`Url::canonicalize`] of the copy. All other parts are those of the location.
+    /// A copy of a local location with the result of `resolve` as its path; a copy of any other location. The
+    /// result is that of [`Url::clone`], and then [`Url::canonicalize`] of the copy. All other fields are those of
+    /// the location.
     ///
     /// # Errors
     ///
-    /// [`Error::Memory`], where the location can't be copied; then `resolve` is not called.
-    /// [`Error::PathNotUtf8`] and [`Error::Unresolved`] come where `canonicalize` answers them.
+    /// - [`Error::Memory`] if the location can't be copied. `resolve` is not called then.
+    /// - [`Error::PathNotUtf8`] and [`Error::Unresolved`] as in `canonicalize`.
     ///
     /// ```
     /// /// The same location by the path that the file system has for it.

@@ -1,11 +1,9 @@
-//! What the path of a location is made of: on the web a path, a query and a fragment, lent without copying.
+//! The components of a location's path: over HTTP a path, a query and a fragment, borrowed from the location.
 //!
-//! It may use `home`, `location`, `scheme`, `url_ref`, the spelling that `writer` finds to match, and the
-//! rooms below: `cuts` cuts a text together with what it stands for, `measure` counts that, `fields` goes
-//! over the fields of a query, and `lend` returns their names and values. Its contract: the answer is what
-//! the definitions cut out of the path, for every location. Pieces are cut first and stand for bytes after,
-//! whatever is escaped in them. Memory is asked for once for the list of a query's names and values, where
-//! there is one to hold, and once for each of them that has a raw `+`.
+//! Pieces are cut first and decoded afterwards, whatever is escaped in them. Allocates once for the list of a
+//! query's names and values, if it isn't empty, and once for each of them that has a raw `+`. `cuts` cuts a
+//! text together with its decoding, `measure` computes lengths of decodings, `fields` iterates over the fields
+//! of a query, and `lend` returns their names and values.
 
 ghost use Rattle.std.specs.Prelude.{◌≡◌, ◌⊎◌, [], ◌∷◌, None, IfErr, IfOk, IfSome, IsErr, IsOk, option_map};
 ghost use Rattle.bstr.specs.BStr.{bstr_bytes};
@@ -31,8 +29,8 @@ use git_syntax::home::or_root;
 use git_syntax::scheme::SchemeRef;
 use std::alloc::{AllocError, Global};
 
-/// The path of a location with the query and the fragment that are in it, as they are meant: escapes stand
-/// for their bytes, where the location's spelling has them. It is what [`Url::path_query_fragment`] answers.
+/// The path of a location, with its query and fragment. Escapes are decoded if they are in the location's
+/// spelling. [`Url::path_query_fragment`] returns it.
 ///
 /// ```
 /// fn fragment_of<'a>(parts: &PathComponents<'a>) -> Option<BStr<'a>> {
@@ -41,7 +39,7 @@ use std::alloc::{AllocError, Global};
 /// ```
 #[derive(Debug, Drop)]
 pub struct PathComponents<'a> {
-    /// The path before the query and the fragment.
+    /// The path, without the query and the fragment.
     pub path: BStr<'a>,
     /// The names and values of the query, in order, if there is a query. A field without `=` has an empty
     /// value.
@@ -50,7 +48,7 @@ pub struct PathComponents<'a> {
     pub fragment: Option<BStr<'a>>,
 }
 
-/// A name or a value of a query. Two are equal where their bytes are, lent or not.
+/// A name or a value of a query. Two are equal if their bytes are, borrowed or owned.
 ///
 /// ```
 /// fn is_empty(value: &QueryText<'_>) -> bool {
@@ -59,32 +57,30 @@ pub struct PathComponents<'a> {
 /// ```
 #[derive(Debug, Drop)]
 pub enum QueryText<'a> {
-    /// A part of the location's path, as it is there.
+    /// A slice of the location's path.
     Borrowed(BStr<'a>),
-    /// A text of its own: a raw `+` was in it, which means a space.
+    /// An owned text, for a piece with a raw `+`, which means a space.
     Owned(BString),
 }
 
 impl Url {
-    /// The path, the query and the fragment of a location of HTTP, whose marks are those of RFC 3986. Any
-    /// other location has its path alone.
+    /// The path, the query and the fragment of a location of HTTP, with the delimiters of RFC 3986. For any
+    /// other location, the path only.
     ///
-    /// The [original path](Url::original_path) is cut first: the query begins behind the first `?` before any
-    /// `#`, the fragment behind the first `#`; the query has its fields between `&`, and a field its value
-    /// behind its first `=`. Empty fields are left out. What an escape stands for comes after, so `%26` parts
-    /// nothing; and where the original path is no spelling, as in a path that a program assigned, an escape
-    /// stands for itself. A raw `+` in a name or a value is a space, as in forms of HTML. An empty path is
-    /// `/`.
+    /// The [original path](Url::original_path) is cut first: the query begins after the first `?` that precedes
+    /// any `#`, the fragment after the first `#`; `&` separates the fields of the query, and the first `=` of a
+    /// field begins its value. Empty fields are skipped. Escapes are decoded afterwards, so `%26` separates
+    /// nothing; if the original path is not a spelling, like a path that a program assigned, an escape is
+    /// literal text. A raw `+` in a name or a value is a space, as in HTML forms. An empty path is `/`.
     ///
-    /// Nothing is checked beyond that: a name may come twice, `..` may be in the path, and any byte may be
-    /// anywhere.
+    /// Nothing else is checked: a name may occur twice, the path may have `..`, and any byte may be anywhere.
     ///
-    /// The parts are lent from the location. Memory is asked for once for the list of names and values, where
-    /// there is one, and once for each name or value with a raw `+`.
+    /// The components are borrowed from the location. Allocates once for the list of names and values, if it
+    /// isn't empty, and once for each name or value with a raw `+`.
     ///
     /// # Errors
     ///
-    /// [`Error::Memory`] where memory is refused. Where there is no query, none is asked for.
+    /// [`Error::Memory`] if an allocation fails. Without a query, nothing is allocated.
     ///
     /// ```
     /// /// Whether the query asks for the service of this name.
@@ -118,12 +114,12 @@ impl Url {
 }
 
 impl<'a> PathComponents<'a> {
-    /// The path, the query and the fragment of a location that is borrowed, as [`Url::path_query_fragment`]
-    /// has them. They are lent from what lends the location, and live as long.
+    /// The path, the query and the fragment of a borrowed location, like [`Url::path_query_fragment`]. They
+    /// live for `'a`.
     ///
     /// # Errors
     ///
-    /// [`Error::Memory`] where memory is refused. Where there is no query, none is asked for.
+    /// [`Error::Memory`] if an allocation fails. Without a query, nothing is allocated.
     ///
     /// ```
     /// fn fragment_of<'a>(alloc: Global, url: &UrlRef<'a>) -> Result<Option<BStr<'a>>, Error> {
@@ -156,7 +152,7 @@ impl<'a> PathComponents<'a> {
     }
 }
 
-/// The path as it is spelled, together with what it stands for.
+/// The path as it is spelled, together with its decoding.
 fn spelled_path<'a>(url: &UrlRef<'a>) -> EscapedText<'a>
     ensures { SpellsPath url.now result }
 {
@@ -185,7 +181,7 @@ fn web_components<'a>(alloc: Global, whole: EscapedText<'a>) -> Result<PathCompo
     })
 }
 
-/// What the piece stands for, if there is one.
+/// The decoding of the piece, if there is one.
 fn meant_option(piece: Option<EscapedText<'_>>) -> Option<BStr<'_>>
     ensures { option_map bstr_bytes result ≡ option_map (λ p. p.meant.now) piece.entry }
 {

@@ -1,8 +1,7 @@
-//! Copies of locations, of schemes, and of the parts that own memory.
+//! Copies of locations, of schemes, and of the fields that own memory.
 //!
-//! It uses `scheme` and `location`. Its contract: a copy is an equal value that shares nothing with the
-//! original, and only memory can be wanting. Each copy of a part asks for memory once, and not at all where
-//! there are no bytes.
+//! A copy is an equal value that shares nothing with the original. Each copy of a field allocates once, and not
+//! at all if the field is empty.
 
 ghost use Rattle.std.specs.Prelude.{◌≡◌, None, IfErr, IfOk, IsOk, option_map, string_bytes};
 ghost use Rattle.bstr.specs.Owned.{bstring_bytes};
@@ -16,14 +15,13 @@ use bstr::BString;
 use std::alloc::{AllocError, Global};
 
 impl Scheme {
-    /// A copy of the scheme. It asks for memory once for a name that isn't empty, and not at all for a scheme
-    /// with a name of its own.
+    /// A copy of the scheme. Allocates once for a name that isn't empty, and nothing for a known scheme.
     ///
-    /// The copy is equal to the scheme, and neither notices what becomes of the other.
+    /// The copy is equal to the scheme and independent of it.
     ///
     /// # Errors
     ///
-    /// [`Error::Memory`] where memory is refused, and never for a scheme with a name of its own.
+    /// [`Error::Memory`] if the allocation fails; never for a known scheme.
     ///
     /// ```
     /// fn twice(alloc: Global, scheme: Scheme) -> Result<(Scheme, Scheme), Error> {
@@ -50,16 +48,14 @@ impl Scheme {
 }
 
 impl Url {
-    /// A copy of the location, the retained spelling of its path included. It asks for memory once for each
-    /// text in it that isn't empty: a name that the scheme holds, the user, the password, the host, the path
-    /// and the spelling.
+    /// A copy of the location, including the retained spelling of its path. Allocates once for each text that
+    /// isn't empty: the name in the scheme, the user, the password, the host, the path and the spelling.
     ///
-    /// The copy is equal to the location, and neither notices what becomes of the other. It holds the
-    /// password, too.
+    /// The copy is equal to the location and independent of it. It contains the password, too.
     ///
     /// # Errors
     ///
-    /// [`Error::Memory`] where memory is refused.
+    /// [`Error::Memory`] if an allocation fails.
     ///
     /// ```
     /// /// The same location on another host.

@@ -1,15 +1,14 @@
-//! What a log may hold of a location and of an error: `Debug`, without the field `password` and without
-//! refused texts.
+//! `Debug` of locations and of errors, without the field `password` and without the texts in errors.
 //!
-//! It uses the word of Display for what is in place of a password. A location shows every part but that
-//! field; an error shows the length of a text that was refused, and never its bytes. Otherwise the shape is
-//! the one that a derive gives. It takes no memory. The builders of std have no contract, so what they write
-//! is shown by tests.
+//! A location shows every field except that one, which has the same replacement as in `Display`; an error shows
+//! the length of the text that was refused, and never its bytes. Otherwise the format is that of a derived
+//! `Debug`. Allocates nothing. The builders of std have no contract, so tests check their output.
 //!
-//! Nothing else is hidden. A secret may also be where the grammar puts no password, and a log shows it there:
-//! as the user of `https://token@h/p`; in the host of `file://u:secret@h/p`, which is `u:secret@h`; in the
-//! path of `u:secret@h:p`, which is `secret@h:p` on the host `u`; in the path of `https://h/?token=secret`,
-//! and with escapes in the retained spelling too; in a local path and in the address of a remote helper.
+//! Nothing else is hidden. A secret may also be in a place that the grammar doesn't read as a password, and
+//! `Debug` shows it there: as the user of `https://token@h/p`; in the host of `file://u:secret@h/p`, which is
+//! `u:secret@h`; in the path of `u:secret@h:p`, which is `secret@h:p` on the host `u`; in the path of
+//! `https://h/?token=secret`, and with escapes in the retained spelling too; in a local path and in the address
+//! of a remote helper.
 
 ghost use Rattle.std.specs.Prelude.{◌≡◌, length};
 ghost use Rattle.bstr.specs.Owned.{bstring_bytes};
@@ -22,7 +21,7 @@ use git_syntax::debug::Length;
 use std::fmt;
 
 impl fmt::Debug for Url {
-    /// Shows all parts, with `redacted` in place of the field `password`.
+    /// Writes all fields, with `redacted` in place of the field `password`.
     fn fmt<W: fmt::Write>(&self, f: &mut fmt::Formatter<W>) -> fmt::Result {
         f.debug_struct("Url")
             .field("scheme", &self.scheme)
@@ -41,7 +40,7 @@ impl fmt::Debug for Url {
 }
 
 impl fmt::Debug for Error {
-    /// Shows the fields, with the length of a text in place of its bytes.
+    /// Writes the fields, with the length of a text in place of its bytes.
     fn fmt<W: fmt::Write>(&self, f: &mut fmt::Formatter<W>) -> fmt::Result {
         match self {
             Error::Memory => f.write_str("Memory"),
@@ -62,7 +61,7 @@ impl fmt::Debug for Error {
     }
 }
 
-/// Shows the fields of an error of reading; of any other error nothing.
+/// Writes the fields of a parse error, and nothing for any other error.
 fn show_refused<W: fmt::Write>(error: &Error, f: &mut fmt::Formatter<W>) -> fmt::Result {
     match error {
         Error::MissingPath { kind, input } => f

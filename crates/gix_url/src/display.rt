@@ -1,6 +1,4 @@
-//! Showing a location to people: as the borrowed location is shown.
-//!
-//! It uses `location`. It takes no memory.
+//! `Display` of locations, with the output of the borrowed location.
 
 ghost use Rattle.std.specs.Prelude.{◌≡◌, None, IsErr};
 ghost use Rattle.std.specs.Fmt.{DisplaysOnOk, DisplaysStyledOnOk};
@@ -14,10 +12,9 @@ impl fmt::Display for Url {
 
     ghost styled_output = { λ url _. display url };
 
-    /// Shows the text of the location with `redacted` in place of the field `password`, and U+FFFD in place
-    /// of what is no UTF-8. A secret that is in another field is shown. Width, precision and flags change
-    /// nothing. It fails where there is no such text, and then shows nothing; and where the formatter fails.
-    /// It takes no memory.
+    /// Writes the text of the location with `redacted` in place of the field `password`, and U+FFFD in place of
+    /// invalid UTF-8. A secret in another field is shown. Width, precision and flags have no effect. Fails if
+    /// there is no such text, and then writes nothing; and if the formatter fails. Allocates nothing.
     ///
     /// ```
     /// fn log_line(alloc: Global, url: &Url) -> Result<String, AllocError> {

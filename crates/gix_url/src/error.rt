@@ -1,7 +1,7 @@
-//! The errors of the library: what a text or a value is refused for.
+//! The errors of the library.
 //!
-//! No call answers an error whose contract doesn't name it. The words of an error hold no byte of the text
-//! that was refused, in which a password may be; those of `TooLong` report its length.
+//! A call returns only errors that its contract names. The words of an error contain no byte of the text that
+//! was refused, which may have a password; those of `TooLong` report its length.
 
 ghost use Rattle.std.specs.Prelude.{◌≡◌, ◌≢◌, ◌↔◌, ℕ, IsTrue, List, None};
 ghost use Rattle.gix_url.specs.Flaws.{Flaw, IsNotOfReading, ReturnsRefusal};
@@ -18,11 +18,11 @@ use thiserror::Error;
 
 /// Why a text or a value was refused.
 ///
-/// `Display` says it in words, `Debug` by its fields. Neither shows bytes of a text that was refused, which
-/// may hold a password: `Debug` shows their length, and the user of `NoHome` as it is. The bytes are in the
-/// fields.
+/// `Display` says it in words, `Debug` by its fields. Neither shows bytes of a text that was refused, which may
+/// have a password; this is tested, no clause says it. `Debug` shows the number of these bytes, but the user of
+/// `NoHome` unchanged. The bytes are in the fields.
 ///
-/// [`Error::refusal`] returns where and why the text of an error of reading is wrong.
+/// [`Error::refusal`] returns the place and the reason of the flaw in the text of a parse error.
 ///
 /// ```
 /// /// Whether the same text can be read at another time: nothing is wrong with it.
@@ -32,16 +32,16 @@ use thiserror::Error;
 /// ```
 #[derive(Drop, Error)]
 pub enum Error {
-    /// Memory was refused.
+    /// An allocation failed.
     #[error("out of memory")]
     Memory,
     /// The text is empty.
     #[error("the location is empty")]
     EmptyLocal,
-    /// A path is wanted and there is none.
+    /// The text needs a path and has none.
     #[error("the {kind} has no path")]
     MissingPath {
-        /// The form that the text was taken for.
+        /// The form that the text was read as.
         kind: UrlKind,
         /// The text.
         input: BString,
@@ -49,7 +49,7 @@ pub enum Error {
     /// The text is not UTF-8.
     #[error("the {kind} is not UTF-8")]
     NotUtf8 {
-        /// The form that the text was taken for.
+        /// The form that the text was read as.
         kind: UrlKind,
         /// The text.
         input: BString,
@@ -57,23 +57,23 @@ pub enum Error {
     /// The scheme or the authority is too long.
     #[error("the scheme or the authority of the URL is longer than 1024 bytes, in a text of {total} bytes")]
     TooLong {
-        /// The front of the text: the scheme, `://` and the 1,024 bytes behind it, or the whole where it is
+        /// The front of the text: the scheme, `://` and the 1,024 bytes after it, or the whole text if it is
         /// shorter.
         shown: BString,
         /// The length of the text, in bytes.
         total: usize,
     },
-    /// The text is no URL, or the host of the scp form is none.
+    /// The text isn't a URL, or the host of the scp form isn't valid.
     #[error("the {kind} has {fault}")]
     BadUrl {
-        /// The form that the text was taken for.
+        /// The form that the text was read as.
         kind: UrlKind,
-        /// What is wrong.
+        /// The fault.
         fault: UrlFault,
         /// The text.
         input: BString,
     },
-    /// The name of a remote helper is no such name.
+    /// The name of the remote helper isn't valid.
     #[error("the remote helper has no valid name")]
     HelperName {
         /// The name.
@@ -85,7 +85,7 @@ pub enum Error {
     /// No home folder is known for the user.
     #[error("no home folder is known for the user")]
     NoHome(ForUser),
-    /// A path that has to be text isn't UTF-8.
+    /// A path that must be text isn't UTF-8.
     #[error("the path isn't UTF-8")]
     PathNotUtf8,
     /// The path could not be resolved.
@@ -94,8 +94,8 @@ pub enum Error {
 }
 
 impl Error {
-    /// Whether memory was refused. No other error comes for that, and this one says nothing of what was
-    /// given: the same call can succeed later. It takes no memory.
+    /// Whether an allocation failed. No other error is returned for that, and this one says nothing about the
+    /// input: the same call can succeed later. Allocates nothing.
     ///
     /// ```
     /// /// Whether something is wrong with what was given, and not that memory was refused.
@@ -111,9 +111,9 @@ impl Error {
 }
 
 impl Error {
-    /// Why and where the text of an error of reading is refused: the one [`Refusal`] of that text, also of one
-    /// that is too long, of which the error keeps a front alone. None of any other error, and of one that a
-    /// program put together with a text that spells a location. The text is read again, without memory.
+    /// The reason and the place of the flaw in the text of a parse error: the one [`Refusal`] of that text,
+    /// also if the text is too long and the error has only its front. `None` for any other error, and for one
+    /// that a program made with a text that spells a location. The text is read again. Allocates nothing.
     ///
     /// ```
     /// /// How many bytes of a text are before what is wrong with it.

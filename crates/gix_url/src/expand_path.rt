@@ -1,7 +1,7 @@
-//! Home folders: whose folder a path means, and where the path lies then.
+//! Home folders: the user of a path's home folder, and the path below that folder.
 //!
-//! It uses `error`. What the world knows of home folders is given: by a closure or as a text. Its contracts
-//! are the definitions of home folders and of paths as text; besides them only memory can be wanting.
+//! A closure or a text says which home folders there are. If a path can be expanded, the only possible errors
+//! are failed allocations.
 
 ghost use Rattle.std.specs.Prelude.{◌≡◌, Err, IfErr, IfOk, IfSome, IsOk, IsUtf8, None, Ok, Some, false, option_map, string_bytes};
 ghost use Rattle.std.specs.Fn.{FnOnceReturnsAt};
@@ -28,8 +28,7 @@ use std::alloc::{AllocError, Global};
 use text::path_text;
 
 impl ForUser {
-    /// An equal user. It asks for memory once for a name that isn't empty, and not at all for the current
-    /// user.
+    /// A copy of the user. Allocates once for a name that isn't empty, and nothing for the current user.
     ///
     /// ```
     /// fn two_of(alloc: Global, user: ForUser) -> Result<(ForUser, ForUser), Error> {
@@ -40,7 +39,7 @@ impl ForUser {
     ///
     /// # Errors
     ///
-    /// [`Error::Memory`], where the name can't be copied, and never for the current user.
+    /// [`Error::Memory`] if the name can't be copied; never for the current user.
     pub fn clone(&self, alloc: Global) -> Result<ForUser, Error>
         ensures equal { IfOk result (λ copy. user_of copy ≡ user_of self.now) }
         ensures memory { IfErr result (λ e. e ≡ Error.Memory) }
@@ -67,13 +66,13 @@ impl From<ForUser> for Option<BString> {
 
 /// The user in whose home folder a path begins, if it begins with `/~`, and the path below that folder.
 ///
-/// `/~` and `/~/rest` mean the current user, `/~name` and `/~name/rest` the user of that name. What is left
-/// is `/` and the rest, in which U+FFFD stands for what is no UTF-8. Any other path has no user, and comes
-/// back unchanged.
+/// `/~` and `/~/rest` mean the current user, `/~name` and `/~name/rest` the user of that name. The path below
+/// the folder is `/` and the rest, with U+FFFD in place of invalid UTF-8. Any other path has no user, and is
+/// returned unchanged.
 ///
 /// # Errors
 ///
-/// [`Error::Memory`], where the name or the path can't be copied.
+/// [`Error::Memory`] if the name or the path can't be copied.
 ///
 /// ```
 /// /// Whether a path begins in the home folder of the current user.
@@ -98,13 +97,13 @@ pub fn parse(alloc: Global, path: BStr<'_>) -> Result<(Option<ForUser>, BString)
 
 /// The path as a shell takes it: `~name/rest` in place of `/~name/rest`.
 ///
-/// A path that doesn't begin with `/~` is returned as it is, and takes no memory.
+/// A path that doesn't begin with `/~` is returned unchanged, and nothing is allocated.
 ///
-/// Nothing is quoted: a shell has still to be kept from reading more than a path into it.
+/// Nothing is quoted: the caller has to quote the path for the shell.
 ///
 /// # Errors
 ///
-/// [`Error::Memory`], where the path of a user can't be written.
+/// [`Error::Memory`] if the path of a user can't be written.
 ///
 /// ```
 /// /// The path of a location, to be given to a shell on its host.
@@ -139,17 +138,17 @@ fn shell_path(alloc: Global, path: &[u8]) -> Result<Option<BString>, AllocError>
     Ok(Some(BString::new(text)))
 }
 
-/// The path, below the home folder that `home` answers for its user.
+/// The path, below the home folder that `home` returns for its user.
 ///
-/// Without a user it is the path itself, and `home` is not called. With a user `home` is called once, with
-/// that user; the path without its first component (the `/`, or the first segment) is joined to what it
-/// answers, without empty segments and `.`.
+/// Without a user it is the path itself, and `home` is not called. With a user `home` is called once, with that
+/// user; the path without its first component (the `/`, or the first segment) is joined to the result, without
+/// empty segments and `.`.
 ///
 /// # Errors
 ///
-/// [`Error::PathNotUtf8`], where the path is no text; that is tested first, and takes no memory.
-/// [`Error::NoHome`], with the user, where `home` answers none. [`Error::Memory`], where the path can't be
-/// appended or the user can't be copied.
+/// - [`Error::PathNotUtf8`] if the path is not text. This is tested first, and allocates nothing.
+/// - [`Error::NoHome`], with the user, if `home` returns `None`.
+/// - [`Error::Memory`] if the path can't be appended or the user can't be copied.
 ///
 /// ```
 /// /// The path, where all users have their home folders in `/home`.
@@ -188,18 +187,20 @@ pub fn with<F: FnOnce(&ForUser) -> Option<String> + Drop>(
     }
 }
 
-/// The path, below the home folder of its user, by that of the current user: others have theirs beside it.
+/// The path, below the home folder of its user. The home folders of other users are next to that of the current
+/// user.
 ///
-/// Without a user it is the path itself. The path of the current user lies below `home`; that of another user
-/// below the folder of that name in the parent of `home`, with U+FFFD for what is no UTF-8 in the name. The
-/// path without its first component (the `/`, or the first segment) is joined to that folder, without empty
+/// Without a user it is the path itself. The path of the current user is below `home`; that of another user is
+/// below the folder of that name in the parent of `home`, with U+FFFD in place of invalid UTF-8 in the name.
+/// The path without its first component (the `/`, or the first segment) is joined to that folder, without empty
 /// segments and `.`.
 ///
 /// # Errors
 ///
-/// [`Error::PathNotUtf8`], where the path is no text; that is tested first, and takes no memory.
-/// [`Error::NoHome`], with the user, where there is no `home`, or where another user's folder is wanted and
-/// `home` has no parent. [`Error::Memory`], where the answer or the user can't be copied.
+/// - [`Error::PathNotUtf8`] if the path is not text. This is tested first, and allocates nothing.
+/// - [`Error::NoHome`], with the user, if there is no `home`, or if another user's folder is needed and `home`
+///   has no parent.
+/// - [`Error::Memory`] if the result or the user can't be copied.
 ///
 /// ```
 /// /// A path below the home folder of its user, by the home folder that the environment names.
@@ -235,7 +236,7 @@ pub fn expand_path(
     }
 }
 
-/// The path below a home folder, which is changed in place, or the error that there is none for the user.
+/// The path below a home folder, which is changed in place, or the error that the user has none.
 fn enter(alloc: Global, home: Option<String>, user: &ForUser, path: &str) -> Result<String, Error>
     ensures { Expansion (λ folder. option_map string_bytes home ≡ folder)
         (user_of user.now) path.now result }
@@ -249,7 +250,7 @@ fn enter(alloc: Global, home: Option<String>, user: &ForUser, path: &str) -> Res
     }
 }
 
-/// The home folder of a user, by that of the current user.
+/// The home folder of a user, from that of the current user.
 fn home_folder(
     alloc: Global,
     user: &ForUser,
@@ -268,7 +269,7 @@ fn home_folder(
     }
 }
 
-/// The folder of this name beside another.
+/// The folder of this name next to another.
 fn folder_beside(alloc: Global, home: &str, name: &[u8]) -> Result<Option<String>, AllocError>
     ensures { IfOk result
         (λ r. HomeFolder (Some home.now) (named name.now) (option_map string_bytes r)) }

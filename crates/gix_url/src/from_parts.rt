@@ -1,8 +1,4 @@
-//! A location made of its parts: their text is written once, and what comes out is what that text is read as.
-//!
-//! It uses `reread`, and `bytes` for the names of remote helpers. Its contract: the answer is what is read of
-//! the text of the parts, and HTTP keeps the path that was given; settled parts come back equal; a name that
-//! no remote helper can have and a fault of that text are refused as such.
+//! A location from its fields: their text is written and then read.
 
 ghost use Rattle.std.specs.Prelude.{◌≡◌, None, Some, IfErr, IfOk, option_map, string_bytes};
 ghost use Rattle.bstr.specs.Owned.{bstring_bytes};
@@ -17,21 +13,21 @@ use git_syntax::bytes::is_helper_name;
 use std::alloc::Global;
 
 impl Url {
-    /// The location that the text of these parts means: they are written as one text, and that is read.
+    /// The location that the text of these fields means: they are written as one text, and that is read.
     ///
-    /// What comes out may have other parts than were given: a `https` host `h` with the path `repo` is
-    /// written `https://hrepo`, which names the host `hrepo`. Settled parts come back equal: every public
-    /// field as it was given, and no spelling. `Http` and `Https` keep the given path unless it is empty, and
-    /// no spelling of it; where the text meant another path, what comes out may be unsettled, see
-    /// [`Url::is_settled`]. The last argument asks for the form that is no URL, where the scheme has one;
-    /// what comes out has the form of the text.
+    /// The result may have other fields than the arguments: a `https` host `h` with the path `repo` is written
+    /// `https://hrepo`, which names the host `hrepo`. Settled fields come back equal: every public field as it
+    /// was given, and no spelling. `Http` and `Https` keep the given path unless it is empty, and no spelling
+    /// of it; if the text meant another path, the result may be unsettled, see [`Url::is_settled`]. The last
+    /// argument requests the alternative form, which is not a URL, if the scheme has one; the result has the
+    /// form of the text.
     ///
-    /// What to know of the parts: a path of HTTP holds the query and the fragment; an IPv6 text of Secure
-    /// Shell is without brackets; the port can be 0 outside of HTTP; user and host can begin with `-`, so ask
-    /// before they go into a command line.
+    /// A path of HTTP includes the query and the fragment; an IPv6 text of Secure Shell has no brackets; the
+    /// port can be 0 except in HTTP; user and host can begin with `-`, so test them before they are passed to a
+    /// command.
     ///
-    /// Memory is asked for once for the text, and then as [`crate::parse::parse`] does. The arguments are
-    /// used up, also by a refusal.
+    /// Allocates once for the text, and then like [`crate::parse::parse`]. The arguments are consumed, even if
+    /// an error is returned.
     ///
     /// ```
     /// /// A remote of a user on this host, by Secure Shell.
@@ -42,10 +38,11 @@ impl Url {
     ///
     /// # Errors
     ///
-    /// [`Error::HelperName`] exactly for a remote helper by a name that no helper can have, with that name.
-    /// Else [`Error::Unwritable`] exactly where the parts have no text. Both ask for no memory. Where the
-    /// text spells no location, what it is refused with, which reports on the text. [`Error::Memory`] where
-    /// memory is refused, and for settled parts no other.
+    /// - [`Error::HelperName`] exactly for a remote helper whose name isn't valid, with that name. Allocates
+    ///   nothing.
+    /// - [`Error::Unwritable`] otherwise, exactly if the fields have no text. Allocates nothing.
+    /// - The error of [`crate::parse::parse`] for the text, if that spells no location.
+    /// - [`Error::Memory`] if an allocation fails. For settled fields this is the only error.
     #[allow(clippy::too_many_arguments)]
     pub fn from_parts(
         alloc: Global,
@@ -78,7 +75,7 @@ impl Url {
     }
 }
 
-/// The scheme, unless it is a remote helper by a name that no helper can have.
+/// The scheme, unless it is a remote helper whose name is not a valid one.
 fn check_scheme(scheme: Scheme) -> Result<Scheme, Error>
     ensures ok { IfOk result (λ s. s ≡ scheme) }
     ensures valid { IfOk result (λ s. invalid_name (owned_scheme s) ≡ None) }
@@ -105,7 +102,7 @@ fn invalid(name: String) -> Error
     Error::HelperName { name }
 }
 
-/// What was read of the text of the given parts, with the path of those where it is kept.
+/// The location that was read from the text of the given fields, with their path if it is kept.
 fn keep_path(given: Url, read: Url) -> Url
     ensures { result ≡ keeping given.scheme given.path read }
 {
@@ -115,7 +112,7 @@ fn keep_path(given: Url, read: Url) -> Url
     }
 }
 
-/// What was read, with the path that was given, unless that is empty, and no spelling.
+/// The location that was read, with the given path unless that is empty, and without a spelling.
 fn with_given(path: BString, mut read: Url) -> Url
     ensures { result ≡ with_given (bstring_bytes path) read }
 {

@@ -1,6 +1,5 @@
-//! Locations in whose texts Git reads the same place, or every reader does: the answers of the borrowed location.
-//!
-//! It uses `location` and `git_readers`, and takes no memory.
+//! The classes of locations in whose texts Git, or every reader, reads the same place, like those of the
+//! borrowed location.
 
 ghost use Rattle.std.specs.Prelude.{◌↔◌, IsTrue, IsNone, IfSome};
 ghost use Rattle.git_location.specs.GitClass.{AgreesWithGit};
@@ -16,34 +15,22 @@ use git_readers::unambiguous::{Condition, is_unambiguous, unmet_condition};
 
 impl Url {
     /// Whether Git reads this very place in the text of the location: the same scheme, user, host, port and
-    /// path. The brackets around an address of IPv6 don't count: of `git://[::1]/p` the host here is `[::1]`,
-    /// and Git connects to `::1`. It takes no memory.
+    /// path; of `git://` the host without the brackets around it. The host of `git://[::1]/p` is `[::1]` here,
+    /// and Git connects to `::1`. Allocates nothing.
     ///
-    /// Hand Git the text that [`Url::to_bstring`] writes, and not another one that was read as the location:
-    /// of `ssh://@h/p`, which is written as `ssh://h/p`, the answer is yes, and Git would give Secure Shell
-    /// the word `@h`, which it refuses. What Git reads is a definition, `GitReads`. No proof says that Git
-    /// keeps to it: a second reading of it was compared with git 2.39.5 on Linux, text by text. `docs/GIT.md`
-    /// has the cases.
+    /// Git passes a text of HTTP to curl, and asks its credential code for a password. For such a location,
+    /// `true` means that this code reads in the text the location's own scheme, user, password, host with port,
+    /// and path, the path without the slashes around it, and that the text is a URI of RFC 3986 in the normal
+    /// form, whose components are the location's own (`ReadsOwnOverWeb`).
     ///
-    /// Git hands a text of HTTP to curl, and asks its credential code for a password. Of such a location, yes
-    /// says that in the text this code reads the location's own scheme, user, password, host with port, and
-    /// path, and that the text is a URI of RFC 3986 in the normal form, whose components are the location's
-    /// own (`ReadsOwnOverWeb`). Such a location is settled, and
+    /// Pass Git the text that [`Url::to_bstring`] writes, and not another one that was read as the location:
+    /// for `ssh://@h/p`, which is written as `ssh://h/p`, the result is `true`, but Git would pass Secure Shell
+    /// the word `@h`, which it refuses.
     ///
-    /// - its host is a name of lower-case letters, digits, `-`, `.` and `_` whose last label begins with a
-    ///   letter, an IPv4 address, or an IPv6 address in brackets;
-    /// - neither user, password nor path has a control character, and the user has no `:`;
-    /// - the path begins with one `/`, and has no `#`, no `?` at its end and no segment `.` or `..`, not in
-    ///   the query either; it is written in the bytes that a path and a query of a URI have;
-    /// - neither what is written for the password nor what is written for the path holds both a `:` and an
-    ///   escape.
-    ///
-    /// The answer is no for what Git hands to another remote helper, for an empty user of Secure Shell
-    /// (`@h:p`), for a local path that begins with `~`, where `git fetch` and `git push` open a home folder's
-    /// path and `git clone` this one, and for what comes from an unsettled location. It is no for some texts
-    /// that Git reads alike, too: except for HTTP, with an escape before the path, or with brackets that
-    /// aren't around an address; with a host that begins with `-`, of `git://` or behind a user (`u@-h:p`);
-    /// and with a `~` behind the one that begins the path (`ssh://h/~~a`).
+    /// `docs/GIT.md` lists the conditions, and Git's readings of texts that don't meet them. The result is `false`
+    /// for an unsettled location, for one that Git passes to another remote helper than that of HTTP, and for some
+    /// that Git reads alike. The definitions, such as `GitReads`, are a model of Git: that Git 2.39.5 on Linux
+    /// follows them is tested, not proved.
     ///
     /// ```
     /// /// The text for Git, if Git reads the same place in it.
@@ -60,10 +47,10 @@ impl Url {
         self.as_ref().agrees_with_git()
     }
 
-    /// The first condition that this location of HTTP doesn't meet: those conditions by which
-    /// [`Url::agrees_with_git`] accepts such a location, in the order of [`WebCondition`]. Of HTTP, none is
-    /// returned exactly where that answer is yes. For a location of another scheme none is returned, whatever
-    /// that answer is. It takes no memory.
+    /// The first condition that this location of HTTP doesn't meet: of those by which [`Url::agrees_with_git`]
+    /// accepts such a location, in the order of [`WebCondition`]. For HTTP, the result is `None` exactly if
+    /// `agrees_with_git` returns `true`. For a location of another scheme it is always `None`. Allocates
+    /// nothing.
     ///
     /// ```
     /// /// Whether the path is refused for a segment `.` or `..`, which other readers remove.
@@ -79,14 +66,14 @@ impl Url {
         self.as_ref().unmet_web_condition()
     }
 
-    /// Whether every reader of a family finds the same parts in the text of the location. It takes no memory.
+    /// Whether every reader of a family finds the same fields in the text of the location. Allocates nothing.
     ///
-    /// Where the answer is yes, Git agrees as well, and every reader of a family (`LeavesPlain`) finds the
+    /// If the result is `true`, Git agrees as well, and every reader of a family (`LeavesPlain`) finds the
     /// location's own scheme, user, password, host, port and path in its text
     /// ([`law_unambiguous`](crate::laws::law_unambiguous)): whichever `@` or `:` it cuts at, whether `?`, `#`,
-    /// `;` or `\` end its authority, and whatever it decodes. Hand on the text that [`Url::to_bstring`] writes.
-    /// The answer is no for many texts that most readers read alike. `docs/READERS.md` has the conditions, and
-    /// what readers that people use made of texts that don't meet them.
+    /// `;` or `\` end its authority, and whatever it decodes. Pass on the text that [`Url::to_bstring`] writes.
+    /// The result is `false` for many texts that most readers read alike. `docs/READERS.md` has the conditions,
+    /// and what readers in use find in texts that don't meet them.
     ///
     /// ```
     /// /// Whether what connects to a remote finds the host that was checked.
@@ -100,8 +87,8 @@ impl Url {
         is_unambiguous(&self.as_ref())
     }
 
-    /// The first condition that the location doesn't meet of those by which [`Url::is_unambiguous`] accepts one, in
-    /// the order of [`Condition`], or none where that answer is yes. It takes no memory.
+    /// The first condition that the location doesn't meet, of those by which [`Url::is_unambiguous`] accepts
+    /// one, in the order of [`Condition`], or `None` if it meets all of them. Allocates nothing.
     ///
     /// ```
     /// /// Whether readers may find another host in the text of the location.

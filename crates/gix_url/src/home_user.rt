@@ -1,7 +1,4 @@
-//! The type of users of home folders, in a module of its own, since errors hold one and what makes errors
-//! uses it.
-//!
-//! It uses nothing of this crate. What it is asked is in `expand_path`, which passes it on.
+//! The type of users of home folders. `expand_path` has its functions and re-exports it; errors contain it.
 
 use bstr::BString;
 

@@ -1,3 +1,3 @@
-//! The test for IPv6 texts, of `git_syntax`.
+//! The test for IPv6 texts, from `git_syntax`.
 
 pub use git_syntax::ipv6::is_ipv6;

@@ -1,9 +1,9 @@
 //! Laws of the library, over the definitions of its contracts alone.
 //!
-//! The functions have no code and answer nothing: the contract of each is its laws. (`law_value` looks at the
-//! fields of a location, and changes nothing.) Most are in `git_laws`, and some beside what they are laws of;
-//! here are those that speak of errors that own a text. Users rely on them together with the contracts of
-//! `parse`, of the writer, of the settled test and of `lines`, which name the same definitions.
+//! The functions have no effect: the contract of each is its laws. (`law_value` reads the fields of a
+//! location.) Most laws are in `git_laws`, and some in the modules that they are about; this module has those
+//! about errors that own a text. Users combine them with the contracts of `parse`, of the writer, of the
+//! settled test and of `lines`, which name the same definitions.
 
 ghost use Rattle.gix_url.specs.Laws.{ReadersAgree, SameWithRoom};
 ghost use Rattle.git_syntax.specs.Refusals.{Decided, Flawless};
@@ -22,32 +22,33 @@ pub use git_readers::law::{law_known_readers, law_unambiguous};
 pub use git_syntax::address_law::law_address_test;
 pub use git_syntax::escape::law_sets;
 
-/// Reading with memory and reading without it are one.
+/// Reading with allocation and reading without it have the same results.
 ///
-/// - `agree`: to the same bytes [`parse`](crate::parse::parse) and
-///   [`UrlRef::parse_in`](crate::UrlRef::parse_in) answer the same location, or both refuse them; else memory
-///   was refused to the first, or the room of the second is shorter than the bytes.
-/// - `same`: with room for as many bytes, the second answers a location exactly where the first does and
-///   memory isn't refused. So a program that has no memory to ask for reads every text as one that has.
+/// - `agree`: for the same bytes [`parse`](crate::parse::parse) and
+///   [`UrlRef::parse_in`](crate::UrlRef::parse_in) return the same location, or both refuse them; otherwise an
+///   allocation of the first failed, or the buffer of the second is shorter than the bytes.
+/// - `same`: with a buffer as long as the bytes, the second returns a location exactly if the first does when
+///   no allocation fails. So a program without an allocator reads every text like one that has one.
 pub fn law_readers()
     ensures agree { ReadersAgree }
     ensures same { SameWithRoom }
 {}
 
-/// A refusal is final: what its error names leaves nothing to read.
+/// A refused text spells no location.
 ///
-/// - `exclusive`: bytes in which the flaw of an error is spell no location, whichever error it is but lack of
-///   memory. So no reader that keeps to these definitions takes what [`parse`](crate::parse::parse) refuses.
-/// - `refusal`: so it is with a [`Refusal`](crate::Refusal), which reading into a buffer returns, and the
-///   answer to a line.
-/// - `one`: a text has one refusal at most. Of several flaws every call names the same, at the same place: the
-///   first in the order of checks.
+/// - `exclusive`: bytes with the flaw of an error spell no location, whichever error it is except a failed
+///   allocation. So no reader that implements these definitions accepts bytes that
+///   [`parse`](crate::parse::parse) refuses.
+/// - `refusal`: the same holds for a [`Refusal`](crate::Refusal), which reading into a buffer returns, and for
+///   the answer to a line.
+/// - `one`: a text has at most one refusal. If it has several flaws, every call names the same one, at the same
+///   place: the first in the order of checks.
 /// - `flaw`: the flaw that the error of a refusal names is in the text.
 /// - `within`: the place of a refusal is in its text, so the text can be cut there.
-/// - `flawless`: no flaw is in bytes that spell a location, whether or not there is an error that holds a
-///   copy of them.
-/// - `decided`: bytes spell a location, or one of these flaws is in them. There is no third case, and by
-///   `flawless` none is both: what a text lacks to be read, an error can name.
+/// - `flawless`: bytes that spell a location have no flaw, whether or not there is an error with a copy of
+///   them.
+/// - `decided`: bytes spell a location or have one of these flaws, and by `flawless` not both. So for every
+///   text that isn't read, there is a flaw that an error can name.
 pub fn law_refusals()
     ensures exclusive { Exclusive }
     ensures refusal { RefusedUnspelled }

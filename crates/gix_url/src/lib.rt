@@ -1,12 +1,12 @@
 //! Parses, writes and compares Git locations: remote helpers, URLs, the scp form and local paths.
 //!
-//! [`parse::parse`] reads bytes and [`Url::from_text`] text; [`Url::write_to`] and [`Url::to_bstring`] write
-//! a location, and one that [`Url::is_settled`] accepts comes back with the same public fields and the same
-//! text. [`Url::user_as_argument`] and its like report which parts a command may get.
+//! [`parse::parse`] reads bytes and [`Url::from_text`] text; [`Url::write_to`] and [`Url::to_bstring`] write a
+//! location. The text of a location that [`Url::is_settled`] accepts is read as the same public fields and
+//! written the same again. [`Url::user_as_argument`] and its like report which fields a command may receive.
 //!
-//! What owns bytes is here. What only looks at a location is defined on [`UrlRef`], in the crate
-//! `git_location`, and what finds the parts of a text in `git_syntax`; this crate passes on all that users
-//! name.
+//! This crate has the types that own bytes. Everything that only reads a location is defined on [`UrlRef`], in
+//! the crate `git_location`, and the reader of texts in `git_syntax`; this crate re-exports all that is public.
+//! How often a function allocates, and how long it takes, is tested, not proved.
 //!
 //! ```
 //! /// The host that a text names, if the location can be written and read again.

@@ -1,7 +1,5 @@
-//! The location itself: a [`Url`] and its parts, and the same location borrowed.
-//!
-//! It uses `scheme`, and the borrowed location of `git_location`. Its contract: to all others a location is
-//! one value of eight parts, and so it is borrowed.
+//! The type of locations, [`Url`], and the same location borrowed. To contracts both are one value of eight
+//! fields.
 
 ghost use Rattle.std.specs.Prelude.{◌≡◌};
 ghost use Rattle.git_location.specs.Settled.{IsValue};
@@ -14,11 +12,12 @@ use std::marker::Model;
 
 /// A Git location: a URL, a location in the scp form, a local path or the address of a remote helper.
 ///
-/// Contracts see all eight parts of it as one value, the retained spelling of its path among them.
+/// Contracts see all eight fields of it as one value, including the retained spelling of its path.
 ///
-/// The fields may be changed by hand. A location may have no text then, or one that is read as something
-/// else: [`Url::is_settled`] reports. `Debug` and `Display` show `redacted` in place of the field `password`,
-/// and hide nothing else: a secret that is in a path or a query, or in the user's place, is shown.
+/// A program may change the fields. Afterwards a location may have no text, or one that is read as something else:
+/// [`Url::is_settled`] reports this. `Display` shows `redacted` in place of the field `password`
+/// ([`law_hidden_password`](crate::laws::law_hidden_password), for a formatter that doesn't indent), and so does
+/// `Debug` (tested). They hide nothing else: a secret in a path or a query, or in the user's place, is shown.
 ///
 /// ```
 /// /// Whether a command of Secure Shell needs the option for a port.
@@ -28,30 +27,29 @@ use std::marker::Model;
 /// ```
 #[derive(Drop)]
 pub struct Url {
-    /// What the location is reached by.
+    /// The scheme.
     pub scheme: Scheme,
-    /// The user, decoded. It may be empty, and may begin with `-`: hand it to a command by
-    /// [`Url::user_as_argument`]. A user without a host has no text.
+    /// The user, decoded. It may be empty, and may begin with `-` ([`Url::user_as_argument`]). A location with a
+    /// user and without a host has no text.
     pub user: Option<String>,
     /// The password, decoded. It is not written without a user.
     pub password: Option<String>,
-    /// The host. It may be empty, and may begin with `-`: hand it to a command by [`Url::host_as_argument`].
-    /// Secure Shell has an IPv6 text without its brackets, other schemes with them where the text had them. A
-    /// `:` can be at its end, where the text had one without a port.
+    /// The host. It may be empty, and may begin with `-` ([`Url::host_as_argument`]). For Secure Shell an IPv6
+    /// text has no brackets, for other schemes it has them if the text had them. A `:` can be at its end, if the
+    /// text had one without a port.
     pub host: Option<String>,
-    /// Whether the form that is no URL is asked for: `host:path` of Secure Shell, or a path of local files.
-    /// With a password or a port the text is a URL all the same, a relative path of Secure Shell is only ever
-    /// written as `host:path`, and locations of other schemes have one form.
+    /// Whether to write the alternative form, which is not a URL: `host:path` for Secure Shell, or a path for
+    /// local files. With a password or a port the text is a URL anyway, a relative path of Secure Shell is
+    /// always written as `host:path`, and locations of other schemes have only one form.
     pub serialize_alternative_form: bool,
-    /// The port. It may be 0, which only HTTP's locations are refused with when they are read.
+    /// The port. It may be 0: reading refuses that only for HTTP.
     pub port: Option<u16>,
-    /// The path, decoded. It may be any bytes, and may begin with `-`. The path of an HTTP location holds its
-    /// query and its fragment too, where a decoded `?` or `#` looks like one that separates them:
-    /// [`Url::path_query_fragment`] keeps them apart. A home folder of Secure Shell and Git is at its front
+    /// The path, decoded. It may be any bytes, and may begin with `-`. The path of an HTTP location includes
+    /// its query and its fragment, and a decoded `?` or `#` in it looks like a delimiter:
+    /// [`Url::path_query_fragment`] distinguishes them. A home folder of Secure Shell and Git is at its front
     /// without a `/`, as in `~user/repo`.
     pub path: BString,
-    /// The escaped spelling of the path, where the text had one. It counts while it still stands for the
-    /// path.
+    /// The escaped spelling of the path, if the text had one. It is used while it decodes to the path.
     pub(crate) spelling: Option<BString>,
 }
 
@@ -66,7 +64,7 @@ impl Model for Url {
 }
 
 impl Url {
-    /// The same location, borrowed. It takes no memory.
+    /// The same location, borrowed. Allocates nothing.
     ///
     /// ```
     /// /// Whether the location is settled without its password.
@@ -96,10 +94,10 @@ impl Url {
     }
 }
 
-/// Every location is a value of which the laws speak: its texts are UTF-8, its bytes are bytes and its port
-/// is one.
+/// Every location is a value in the sense of the laws: its texts are UTF-8, its bytes are below 256 and its
+/// port is below 65,536.
 ///
-/// Users of `law_separation` meet that premise by this law, whatever they put into the public fields.
+/// By this law users of `law_separation` meet that premise, whatever they assign to the public fields.
 pub fn law_value(url: &Url)
     ensures value { IsValue url.now }
 {

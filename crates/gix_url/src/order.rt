@@ -1,7 +1,5 @@
-//! Equality, order and hash of schemes and of locations, by their bytes.
-//!
-//! It uses `scheme` and `location`. Its contract: the parts count in declared order, the retained spelling
-//! last, so that equality, order and hash agree, and what is equal is one value. It takes no memory.
+//! Equality, order and hash of schemes and of locations, by their bytes: the fields in declared order, the
+//! retained spelling last.
 
 ghost use Rattle.std.specs.Prelude.{◌≡◌, Some, fold, option_map, refl, string_bytes};
 ghost use Rattle.std.specs.Hash as fed;
@@ -23,7 +21,7 @@ impl PartialEq for Scheme {
 
     ghost laws = { on_per owned_scheme (partial_equiv_from_equiv scheme_equiv) };
 
-    /// Whether both schemes are of one kind with one name. It takes no memory.
+    /// Whether both schemes are of one kind with one name. Allocates nothing.
     ///
     /// Equal schemes are written alike, but schemes that are written alike can differ: the remote helper `x`
     /// isn't the scheme `x` of a URL.
@@ -56,8 +54,8 @@ impl Ord for Scheme {
 
     ghost matches_eq = { λ s t. scheme_ties (owned_scheme s) (owned_scheme t) };
 
-    /// The order of two schemes: as their kinds are declared, and then by the bytes of their names. It takes
-    /// no memory.
+    /// The order of two schemes: as their kinds are declared, and then by the bytes of their names. Allocates
+    /// nothing.
     fn cmp(&self, other: &Scheme) -> Ordering {
         rank(self)
             .cmp(&rank(other))
@@ -70,7 +68,7 @@ impl Hash for Scheme {
 
     ghost respects_eq = { λ s t. schemes_alike (owned_scheme s) (owned_scheme t) };
 
-    /// Feeds the hasher the kind of the scheme, and its name. It takes no memory.
+    /// Feeds the hasher the kind of the scheme, and its name. Allocates nothing.
     fn hash<H: Hasher>(&self, state: &mut H) {
         state.write_u8(rank(self));
         feed_text(held_name(self), state);
@@ -82,11 +80,11 @@ impl PartialEq for Url {
 
     ghost laws = { partial_equiv_from_equiv location_equiv };
 
-    /// Whether all parts are equal, texts by their bytes, the retained spelling of the path among them. It
-    /// takes no memory.
+    /// Whether all fields are equal, texts by their bytes, including the retained spelling of the path.
+    /// Allocates nothing.
     ///
     /// Equal locations are one value (`law_order`). Locations that name one place can differ: by a default
-    /// port, or by an escape that the path was written with.
+    /// port, or by an escape in the text of the path.
     ///
     /// ```
     /// /// Whether a remote is among those that are known.
@@ -129,8 +127,8 @@ impl Ord for Url {
 
     ghost matches_eq = { location_ties };
 
-    /// The order of two locations: by the first part that differs, in the order of the fields, the retained
-    /// spelling last. A part that is missing comes first, and `false` before `true`. It takes no memory.
+    /// The order of two locations: by the first field that differs, in the order of the fields, the retained
+    /// spelling last. A missing field comes first, and `false` before `true`. Allocates nothing.
     ///
     /// ```
     /// /// Puts remotes into order.
@@ -158,9 +156,8 @@ impl Hash for Url {
 
     ghost respects_eq = { locations_alike };
 
-    /// Feeds the hasher a byte for each part, which says what kind of scheme it is and which parts are there,
-    /// and then what the parts hold, in the order of the fields, the retained spelling last. It takes no
-    /// memory.
+    /// Feeds the hasher a byte for each field, with the kind of the scheme and which fields are there, and then
+    /// the contents of the fields, in their order, the retained spelling last. Allocates nothing.
     fn hash<H: Hasher>(&self, state: &mut H) {
         state.write(&outline(self));
         feed_text(held_name(&self.scheme), state);
@@ -173,7 +170,7 @@ impl Hash for Url {
     }
 }
 
-/// A byte for each part: the kind of the scheme, the flag, and whether each other part is there, as the path
+/// A byte for each field: the kind of the scheme, the flag, and whether each other field is there, as the path
 /// always is.
 fn outline(url: &Url) -> [u8; 8]
     ensures { result ≡ outline url.now }
@@ -210,7 +207,7 @@ fn spelling(url: &Url) -> Option<&[u8]>
     }
 }
 
-/// Where the scheme is among the kinds of them, as they are declared.
+/// The index of the scheme's kind in the order of declaration.
 fn rank(scheme: &Scheme) -> u8
     ensures { result ≡ rank (owned_scheme scheme.now) }
 {
@@ -226,7 +223,7 @@ fn rank(scheme: &Scheme) -> u8
     }
 }
 
-/// The name that the scheme brings with it, if its kind alone doesn't say which it is.
+/// The name in the scheme, if its kind has one.
 fn held_name(scheme: &Scheme) -> Option<&[u8]>
     ensures { option_map (λ name. name.now) result ≡ held_name (owned_scheme scheme.now) }
 {
@@ -237,7 +234,7 @@ fn held_name(scheme: &Scheme) -> Option<&[u8]>
     }
 }
 
-/// Whether both texts that own their bytes are missing, or both are there with the same bytes.
+/// Whether both owned texts are missing, or both are there with the same bytes.
 #[inline(always)]
 fn strings_equal(a: &Option<String>, b: &Option<String>) -> bool
     ensures { result ≡ text_eq (option_map string_bytes a.now) (option_map string_bytes b.now) }
@@ -259,8 +256,8 @@ pub(crate) fn texts_equal(a: Option<&[u8]>, b: Option<&[u8]>) -> bool
     }
 }
 
-/// The order of two parts. Equality, which takes less than an order, is asked first: all parts but one are
-/// equal.
+/// The order of two fields. Equality, which is faster, is tested first: it holds for every field except the one
+/// that decides.
 #[inline(always)]
 fn compare<T: Ord>(a: &T, b: &T) -> Ordering
     ensures { result ≡ T.cmp a.now b.now }
@@ -268,7 +265,7 @@ fn compare<T: Ord>(a: &T, b: &T) -> Ordering
     if a == b { Ordering::Equal } else { a.cmp(b) }
 }
 
-/// The order of two texts that own their bytes.
+/// The order of two owned texts.
 #[inline(always)]
 fn compare_strings(a: &Option<String>, b: &Option<String>) -> Ordering
     ensures { result ≡ text_cmp (option_map string_bytes a.now) (option_map string_bytes b.now) }
@@ -276,7 +273,7 @@ fn compare_strings(a: &Option<String>, b: &Option<String>) -> Ordering
     compare_texts(text_bytes(a), text_bytes(b))
 }
 
-/// The order of two texts: one that is missing comes first. Equality is asked first here, too.
+/// The order of two texts: a missing one comes first. Equality is tested first here, too.
 #[inline(always)]
 pub(crate) fn compare_texts(a: Option<&[u8]>, b: Option<&[u8]>) -> Ordering
     ensures { result ≡ text_cmp (option_map (λ t. t.now) a.entry)
@@ -289,7 +286,7 @@ pub(crate) fn compare_texts(a: Option<&[u8]>, b: Option<&[u8]>) -> Ordering
     }
 }
 
-/// The order of bytes, by the first that differs. Equality is asked first here, too.
+/// The order of bytes, by the first that differs. Equality is tested first here, too.
 #[inline(always)]
 fn compare_bytes(a: &[u8], b: &[u8]) -> Ordering
     ensures { result ≡ bytes_cmp a.now b.now }
@@ -301,8 +298,8 @@ fn compare_bytes(a: &[u8], b: &[u8]) -> Ordering
     }
 }
 
-/// The order of two texts, found without asking first whether they are equal. It is called where they are
-/// not, so it stays out of those that compare.
+/// The order of two texts, without a test for equality before. It is called if they differ, so it is not
+/// inlined into its callers.
 #[inline(never)]
 fn order_texts(a: Option<&[u8]>, b: Option<&[u8]>) -> Ordering
     ensures { result ≡ text_cmp (option_map (λ t. t.now) a.entry)
@@ -320,7 +317,7 @@ fn order_texts(a: Option<&[u8]>, b: Option<&[u8]>) -> Ordering
     }
 }
 
-/// Feeds a text, if it is there: its bytes, and 255 behind them, which no UTF-8 has.
+/// Feeds a text, if it is there: its bytes, and then 255, which is not in UTF-8.
 fn feed_text<H: Hasher>(text: Option<&[u8]>, state: &mut H)
     ensures { state.new ≡ fold H.write state.old (fed_text (option_map (λ t. t.now) text.entry)) }
 {
@@ -349,7 +346,7 @@ pub(crate) fn feed_bytes_there<H: Hasher>(bytes: Option<&[u8]>, state: &mut H)
     }
 }
 
-/// Feeds the length of the bytes, and then the bytes at once.
+/// Feeds the length of the bytes, and then all bytes at once.
 fn feed_bytes<H: Hasher>(bytes: &[u8], state: &mut H)
     ensures { state.new ≡ fold H.write state.old (fed_bytes bytes.now) }
 {

@@ -1,9 +1,4 @@
-//! Reading: the location that bytes spell, with bytes of its own.
-//!
-//! It uses `git_syntax::find`, which finds the slices of a text, and here `build`, which copies them, and
-//! `refusal`, which makes an error of a refusal. Its contract: the answer is the one location that the
-//! definitions spell with the bytes, a refusal comes only where they spell none, and its error is that of the
-//! one refusal of the bytes.
+//! Reads the location that bytes spell into an owned value.
 
 ghost use Rattle.std.specs.Prelude.{◌≡◌, [], Err, IfErr, IfOk};
 ghost use Rattle.bstr.specs.BStr.{bstr_bytes};
@@ -27,19 +22,20 @@ pub use git_syntax::refusal::UrlKind;
 use refusal::error_of;
 use std::alloc::Global;
 
-/// The one location that the bytes spell.
+/// Reads the one location that the bytes spell.
 ///
 /// They are a remote helper's address (`name::address`), a URL, the scp form (`user@host:path`) or a local
-/// path. Where they spell no location, the error names a flaw that is in them. `docs/GRAMMAR.md` says which
-/// texts are which, after gitremote-helpers, git-clone's "GIT URLS" and RFC 3986.
+/// path. If they spell no location, the error names a flaw that is in them. `docs/GRAMMAR.md` describes the
+/// forms, after gitremote-helpers, git-clone's "GIT URLS" and RFC 3986.
 ///
-/// Memory is asked for to copy each part. On a refusal it is asked for to copy the bytes into the error, of a
-/// text that is too long its front. The empty text is refused without memory.
+/// Allocates a copy of each field. For an error, allocates a copy of the bytes, or of their front if they are
+/// too long, and nothing for the empty text.
 ///
 /// # Errors
 ///
-/// [`Error::EmptyLocal`], [`Error::MissingPath`], [`Error::NotUtf8`], [`Error::TooLong`] and
-/// [`Error::BadUrl`], each where what it names is in the bytes. [`Error::Memory`] where memory is refused.
+/// - [`Error::EmptyLocal`], [`Error::MissingPath`], [`Error::NotUtf8`], [`Error::TooLong`] and
+///   [`Error::BadUrl`], each if its flaw is in the bytes.
+/// - [`Error::Memory`] if an allocation fails.
 ///
 /// ```
 /// /// Whether bytes that somebody sent spell a location; where memory is refused there is no answer.
@@ -66,7 +62,7 @@ pub fn parse(alloc: Global, input: BStr<'_>) -> Result<Url, Error>
 }
 
 impl Url {
-    /// The one location that the bytes spell: [`parse`], with its errors.
+    /// Reads the one location that the bytes spell: [`parse`], with its errors.
     ///
     /// ```
     /// fn of_line(alloc: Global, line: &[u8]) -> Result<Url, Error> {
@@ -79,7 +75,7 @@ impl Url {
         parse(alloc, input)
     }
 
-    /// The one location that the text spells: [`parse`] of its bytes, with its errors.
+    /// Reads the one location that the text spells: [`parse`] of its bytes, with its errors.
     ///
     /// ```
     /// fn port_of(alloc: Global, text: &str) -> Result<Option<u16>, Error> {
@@ -93,7 +89,7 @@ impl Url {
     }
 }
 
-/// The one location that the bytes spell: what is found in them, with bytes of its own.
+/// Reads the one location that the bytes spell: the slices that are found in them, copied.
 fn read(alloc: Global, bytes: &[u8]) -> Result<Url, Error>
     ensures found { IfOk result (λ v. Spells bytes.now v) }
     ensures refused { IfErr result (λ e. Refuses bytes.now e) }

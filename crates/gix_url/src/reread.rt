@@ -1,7 +1,4 @@
-//! Reading a location back: what its own text is read as.
-//!
-//! It uses the writer and `parse`. Its contract: the answer is what `parse` reads from the text of the
-//! location; a settled location comes back with the same public fields and the same text.
+//! Reads a location again from its own text.
 
 ghost use Rattle.std.specs.Prelude.{◌≡◌, ℕ, List, Ok, Err};
 ghost use Rattle.git_location.specs.declared.write_error.WriteFault.{WriteFault};
@@ -15,15 +12,15 @@ use crate::parse::parse;
 use std::alloc::Global;
 
 impl Url {
-    /// What [`parse`] reads from the text of the location.
+    /// Reads the text of the location by [`parse`].
     ///
     /// A settled location, see [`Url::is_settled`], comes back with the same public fields and the same text,
-    /// and is settled again. Any other may come back as another location or not at all: a field that was
-    /// changed by hand can leave a text that names another host, or none. The retained spelling of the path
-    /// is that of the text, so what comes back needn't be equal to the location: `http://h/a<b` is read
-    /// without a spelling, and its text `http://h/a%3Cb` with one.
+    /// and is settled again. Any other may come back as another location or not at all: after a program changed
+    /// a field, the text can name another host, or be missing. The retained spelling of the path is that of the
+    /// text, so the result need not be equal to the location: `http://h/a<b` is read without a spelling, and
+    /// its text `http://h/a%3Cb` with one.
     ///
-    /// Memory is asked for once for the text, and then as [`parse`] does.
+    /// Allocates once for the text, and then like [`parse`].
     ///
     /// ```
     /// /// Whether others who read the text of the location reach the same host.
@@ -35,9 +32,9 @@ impl Url {
     ///
     /// # Errors
     ///
-    /// [`Error::Unwritable`] exactly where the location has no text, and then no memory is asked for. Where
-    /// the text spells no location, what [`parse`] refuses it with; the error reports on the text.
-    /// [`Error::Memory`] where memory is refused, and for a settled location no other.
+    /// - [`Error::Unwritable`] exactly if the location has no text. Allocates nothing.
+    /// - The error of [`parse`] for the text, if that spells no location.
+    /// - [`Error::Memory`] if an allocation fails. For a settled location this is the only error.
     pub fn reread(&self, alloc: Global) -> Result<Url, Error>
         ensures read { (t : List ℕ) → text self.now ≡ Ok t → Reads t result }
         ensures fault { (f : WriteFault) → text self.now ≡ Err f → result

@@ -1,10 +1,8 @@
-//! Rows: what errors hold on to.
-//!
-//! It has no code and uses nothing: the contract of the function is a group of rows.
+//! Examples of the definition of errors.
 
 ghost use Rattle.gix_url.specs.Examples.OtherRows.{KeptRows};
 
-/// What errors hold on to.
+/// The texts that errors keep.
 fn law_others()
     ensures kept { KeptRows }
 {}

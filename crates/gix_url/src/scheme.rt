@@ -1,7 +1,4 @@
-//! Schemes that own their name.
-//!
-//! It uses the borrowed schemes of `git_syntax`, and the errors. Its contract: names and default ports are
-//! those of the definitions, and a scheme's text names it to the letter.
+//! Schemes that own their name. Names are compared exactly.
 
 ghost use Rattle.std.specs.Prelude.{◌≡◌, IfErr, IfOk, IsOk, true};
 ghost use Rattle.git_syntax.specs.Internal.SchemeRules.{scheme_named};
@@ -15,7 +12,7 @@ use serde::{Deserialize, Serialize};
 use std::alloc::{AllocError, Global};
 use std::fmt;
 
-/// What a location is reached by.
+/// The scheme of a location.
 ///
 /// ```
 /// fn is_encrypted(scheme: &Scheme) -> bool {
@@ -38,17 +35,17 @@ pub enum Scheme {
     Ext,
     /// Another remote helper, by its name, as in `name::address`.
     Helper(String),
-    /// The scheme of any other URL, which Git hands to the remote helper of that name.
+    /// The scheme of any other URL, which Git passes to the remote helper of that name.
     HelperUrl(String),
 }
 
 impl Scheme {
-    /// The scheme with this text, to the letter: one with a name of its own, or any other by its text. Letter
-    /// case counts. It takes no memory for a name of its own, and else asks once for the text.
+    /// The scheme of this text; letter case matters. `ssh+git` and `git+ssh` are `Ssh`; a text that isn't a known
+    /// scheme is a `HelperUrl`. Allocates nothing for a known scheme, and else once for the text.
     ///
     /// # Errors
     ///
-    /// [`Error::Memory`] where the text can't be copied.
+    /// [`Error::Memory`] if the text can't be copied.
     ///
     /// ```
     /// fn is_web(alloc: Global, name: &str) -> Result<bool, Error> {
@@ -64,8 +61,8 @@ impl Scheme {
         Ok(Scheme::of_known_scheme(alloc, scheme_of(text.as_bytes()), text)?)
     }
 
-    /// The scheme with this text, which names this known one. It asks for memory only for one without a name
-    /// of its own.
+    /// The scheme with this text, which names the known scheme `named`. Allocates only for a scheme that isn't
+    /// known.
     pub(crate) fn of_known_scheme(
         alloc: Global,
         named: KnownScheme,
@@ -85,8 +82,7 @@ impl Scheme {
         }
     }
 
-    /// The text that the scheme is written with. It takes no memory. `ssh+git` and `git+ssh` are read as
-    /// `ssh`.
+    /// The text that the scheme is written with. Allocates nothing. `ssh+git` and `git+ssh` are read as `ssh`.
     ///
     /// ```
     /// fn scheme_of(url: &Url) -> &str {
@@ -99,8 +95,7 @@ impl Scheme {
         self.as_ref().as_str()
     }
 
-    /// The port that the scheme stands for where a location names none: 80, 443, 22 or 9418. It takes no
-    /// memory.
+    /// The port of a location with this scheme that names none: 80, 443, 22 or 9418. Allocates nothing.
     ///
     /// ```
     /// fn port_of(scheme: &Scheme) -> u16 {
@@ -113,7 +108,7 @@ impl Scheme {
         self.as_ref().default_port()
     }
 
-    /// The same scheme, borrowed. It takes no memory.
+    /// The same scheme, borrowed. Allocates nothing.
     ///
     /// ```
     /// /// The place of a scheme and a host, the other parts of a location left out.
@@ -154,7 +149,7 @@ impl fmt::Display for Scheme {
 
     ghost styled_output = { λ scheme _. Some (scheme_text (owned_scheme scheme)) };
 
-    /// The text of [`Scheme::as_str`]. Width, precision and flags change nothing.
+    /// Writes the text of [`Scheme::as_str`]. Width, precision and flags have no effect.
     fn fmt<W: fmt::Write>(&self, f: &mut fmt::Formatter<W>) -> fmt::Result {
         f.write_str(self.as_str())
     }

@@ -1,9 +1,5 @@
-//! Stored locations: a record of every part of a location for `serde`, in the format of the Rust crate
-//! `gix-url`.
-//!
-//! It uses `location`, `scheme` and `copy`, and hides the password as Display does. Its contract: a record
-//! has every part of the location that it was made of, and a location is made of a record as the definitions
-//! say, which migrate the older form of records. Whoever stores what was read gets it back.
+//! Stored locations: a record of every field of a location for `serde`, in the format of the Rust crate
+//! `gix-url`. Legacy records are migrated. `Debug` hides the password like `Display`.
 
 ghost use Rattle.std.specs.Prelude.{◌≡◌, ◌↔◌, [], IfErr, IfOk, IsOk, IsTrue, MatchOption, length};
 ghost use Rattle.git_laws.specs.Records.{IsLegacy, SpellsFront, begins_escape, from_legacy, migrated, new_spelling};
@@ -22,9 +18,9 @@ use serde::{Deserialize, Serialize};
 use std::alloc::{AllocError, Global};
 use std::fmt;
 
-/// Every part of a location, to be stored and restored with `serde`.
+/// Every field of a location, to be stored and restored with `serde`.
 ///
-/// The format is that of the Rust crate `gix-url` with its feature `serde`: the parts by the names below, in
+/// The format is that of the Rust crate `gix-url` with its feature `serde`: the fields by the names below, in
 /// this order, and bytes as lists of numbers. As JSON:
 ///
 /// ```json
@@ -33,16 +29,15 @@ use std::fmt;
 /// ```
 ///
 /// A scheme is `"File"`, `"Git"`, `"Ssh"`, `"Http"`, `"Https"`, `"Ext"`, `{"Helper":"name"}` or
-/// `{"HelperUrl":"name"}`. A part that a location may lack is `null` then, and a record may leave it out. A
-/// part of another name is passed over. A record that lacks the scheme, the form or the path, that has a part
-/// twice, or one of another type, is refused by the reader of the format, which names the part or its place:
-/// no part of such a record is seen.
+/// `{"HelperUrl":"name"}`. An optional field that is missing is `null`, and a record may leave it out. A field
+/// of another name is skipped. The reader of the format refuses a record that lacks the scheme, the form or the
+/// path, that has a field twice, or one of another type; its error names the field or its place.
 ///
-/// The password is stored as it is, in the clear. `Debug` shows `redacted` in its place, and hides no other
-/// field. All fields are public, and are not checked: a record may be made by hand.
+/// The password is stored in the clear. `Debug` shows `redacted` in its place (tested), and hides no other field.
+/// All fields are public and are not checked: a program may make a record itself.
 #[derive(Drop, Serialize, Deserialize)]
 pub struct StoredUrl {
-    /// What the location is reached by.
+    /// The scheme.
     pub scheme: Scheme,
     /// The user, decoded.
     pub user: Option<String>,
@@ -50,20 +45,20 @@ pub struct StoredUrl {
     pub password: Option<String>,
     /// The host.
     pub host: Option<String>,
-    /// Whether the form that is no URL is asked for, where the location has one.
+    /// Whether to write the alternative form, which is not a URL, if the location has one.
     pub serialize_alternative_form: bool,
     /// The port.
     pub port: Option<u16>,
-    /// The path, decoded. It may be any bytes. In the older form of records it is the spelling.
+    /// The path, decoded. It may be any bytes. In legacy records it is the spelling.
     pub path: Vec<u8>,
-    /// The escaped spelling of the path, where the text had one. Records that were stored before there were
-    /// spellings lack it.
+    /// The escaped spelling of the path, if the text had one. Records from before spellings were stored lack
+    /// it.
     #[serde(default)]
     pub path_with_percent_escapes: Option<Vec<u8>>,
 }
 
 impl fmt::Debug for StoredUrl {
-    /// Shows all parts, with `redacted` in place of the field `password`.
+    /// Writes all fields, with `redacted` in place of the field `password`.
     fn fmt<W: fmt::Write>(&self, f: &mut fmt::Formatter<W>) -> fmt::Result {
         f.debug_struct("StoredUrl")
             .field("scheme", &self.scheme)
@@ -82,11 +77,10 @@ impl fmt::Debug for StoredUrl {
 }
 
 impl Url {
-    /// A record of the location, with all of its parts, the retained spelling of its path among them.
+    /// A record of the location, with all of its fields, including the retained spelling of its path.
     ///
-    /// Each part is copied once: memory is asked for once for each text and each list of bytes that isn't
-    /// empty, and for nothing else. The password is copied as well, so keep the record as secret as the
-    /// location.
+    /// Each field is copied once: allocates once for each text and each list of bytes that isn't empty. The
+    /// password is copied as well, so keep the record as secret as the location.
     ///
     /// ```
     /// fn json_of(alloc: Global, url: &Url) -> Option<String> {
@@ -97,7 +91,7 @@ impl Url {
     ///
     /// # Errors
     ///
-    /// [`Error::Memory`] where memory is refused.
+    /// [`Error::Memory`] if an allocation fails.
     #[inline(always)] // so that the record, which is large, is not copied once more for the caller
     pub fn to_stored(&self, alloc: Global) -> Result<StoredUrl, Error>
         ensures stored { IfOk result (λ stored. recorded_location stored ≡ self.now) }
@@ -118,18 +112,16 @@ impl Url {
         })
     }
 
-    /// The location of a record. What is given is moved into it, as it is: nothing is checked, so a record
-    /// that was edited may give a location without a text.
+    /// The location of a record. The fields are moved into it unchanged and unchecked, so an edited record may
+    /// give a location without a text.
     ///
-    /// A record whose spelling is its path, byte for byte, is one of the older form, in which the path was
-    /// kept as it was spelled. Its path is decoded. Its new spelling is the old path with its escapes as they
-    /// are (`%` and two hexadecimal digits, RFC 3986 section 2.1) and every other byte as it is written in a
-    /// path, so that both stand for the same bytes: `laws::law_stored`. No location that was read from a text
-    /// is taken for such a record: what
-    /// [`Url::to_stored`] stored of it comes back as it was.
+    /// A record whose spelling is its path, byte for byte, is a legacy one, in which the path was stored as it
+    /// was spelled. Its path is decoded. Its new spelling is the old path with its escapes unchanged (`%` and
+    /// two hexadecimal digits, RFC 3986 section 2.1) and every other byte as it is written in a path, so that
+    /// both decode to the same bytes: `laws::law_stored`. A location that was read from a text is never
+    /// mistaken for a legacy record: it is restored exactly as [`Url::to_stored`] stored it.
     ///
-    /// Memory is asked for twice for a record of the older form, once for each of the two, and never for
-    /// another.
+    /// Allocates twice for a legacy record, once for each of the two, and nothing for any other.
     ///
     /// ```
     /// fn url_of(alloc: Global, json: &str) -> Option<Url> {
@@ -140,7 +132,7 @@ impl Url {
     ///
     /// # Errors
     ///
-    /// [`Error::Memory`] where memory is refused for a record of the older form.
+    /// [`Error::Memory`] if an allocation for a legacy record fails.
     pub fn from_stored(alloc: Global, stored: StoredUrl) -> Result<Url, Error>
         ensures restored { IfOk result (λ url. url ≡ migrated (recorded_location stored)) }
         ensures current { ¬ IsLegacy (recorded_location stored) → IsOk result }
@@ -173,7 +165,7 @@ impl Url {
         }
     }
 
-    /// The location with its path taken for a spelled one: decoded, and spelled again.
+    /// The location with its path read as a spelling: decoded, and spelled again.
     fn migrate(self, alloc: Global) -> Result<Url, Error>
         ensures migrated { IfOk result (λ url. url ≡ from_legacy self) }
         ensures memory { IfErr result (λ e. e ≡ Error.Memory) }
@@ -188,8 +180,8 @@ impl Url {
     }
 }
 
-/// The new spelling of a path: its escapes as they are, and every other byte as it is written in a path.
-/// Memory is asked for once, and a length that no memory has counts as refused.
+/// The new spelling of a path: its escapes unchanged, and every other byte as it is written in a path.
+/// Allocates once. A length that no memory has counts as a failed allocation.
 fn respell(alloc: Global, path: &[u8]) -> Result<Vec<u8>, AllocError>
     ensures { IfOk result (λ spelling. spelling.items ≡ new_spelling path.now) }
 {
@@ -218,7 +210,7 @@ fn respelled_len(path: &[u8]) -> u128
     total
 }
 
-/// What the new spelling of a path has for its first byte, and the path behind that byte.
+/// The new spelling of the first byte of a path, and the rest of the path after it.
 fn spelled_front(path: &[u8]) -> Option<(&[u8], &[u8])>
     ensures { MatchOption result (path.now ≡ []) (λ p. SpellsFront path.now p.0.now p.1.now) }
 {
@@ -232,7 +224,7 @@ fn spelled_front(path: &[u8]) -> Option<(&[u8], &[u8])>
     Some(path.split_at(1))
 }
 
-/// Whether the byte is a `%` with two hexadecimal digits behind it.
+/// Whether the byte is a `%` that two hexadecimal digits follow.
 fn begins_escape(byte: u8, behind: &[u8]) -> bool
     ensures { result ≡ begins_escape byte behind.now }
 {

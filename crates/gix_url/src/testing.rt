@@ -1,6 +1,4 @@
-//! Values for tests: a location from its parts, with no check.
-//!
-//! It uses `location` and `scheme`. Its contract: the location has just these parts. It takes no memory.
+//! Values for tests: a location from its fields, without a check.
 
 ghost use Rattle.std.specs.Prelude.{◌≡◌, option_map, string_bytes};
 ghost use Rattle.bstr.specs.Owned.{bstring_bytes};
@@ -11,10 +9,10 @@ use crate::location::Url;
 use crate::scheme::Scheme;
 use bstr::BString;
 
-/// What tests want of a [`Url`] beyond what programs may have.
+/// Constructors of [`Url`] for tests only.
 pub trait TestUrlExtension {
-    /// The location with these parts and no retained spelling, as they are: nothing is read, nothing is
-    /// refused, and the location may have no text. It takes no memory.
+    /// The location with these fields and no retained spelling. Nothing is read, nothing is refused, and the
+    /// location may have no text. Allocates nothing.
     ///
     /// ```
     /// fn without_host(path: BString) -> Url {

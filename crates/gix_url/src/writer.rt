@@ -1,8 +1,5 @@
-//! Writing: the text of a location in memory, and what the borrowed location writes.
-//!
-//! It uses `location`, `error` and the writer of `git_location`, which lays a text out as pieces: here they
-//! are collected, with one request for memory. The contract of each public call is the text of the
-//! definitions.
+//! Writes a location into an owned text. The pieces that the writer of `git_location` lays out are collected
+//! with one allocation.
 
 ghost use Rattle.std.specs.Prelude.{◌≡◌, [], Ok, Err, IsOk, IfOk, IfErr, length};
 ghost use Rattle.bstr.specs.BStr.{bstr_bytes};
@@ -28,7 +25,7 @@ use std::alloc::{AllocError, Global};
 use std::io::Write;
 
 impl Url {
-    /// Writes the text of the location, the password in it. It takes no memory.
+    /// Writes the text of the location, including the password. Allocates nothing.
     ///
     /// ```
     /// fn append(out: &mut Vec<u8>, url: &Url) -> Result<(), WriteError> {
@@ -38,15 +35,15 @@ impl Url {
     ///
     /// # Errors
     ///
-    /// [`WriteError::Fault`] exactly where the location has no text; nothing was written then.
-    /// [`WriteError::Io`] where the writer failed; nothing is said of how much it took.
+    /// - [`WriteError::Fault`] exactly if the location has no text. Nothing was written then.
+    /// - [`WriteError::Io`] if the writer failed. How much it wrote is unspecified.
     pub fn write_to<W: Write>(&self, out: &mut W) -> Result<(), WriteError>
         ensures { Written W.contents out.old out.new (text self.now) result }
     {
         self.as_ref().write_to(out)
     }
 
-    /// The length of the text of the location, in bytes. It takes no memory.
+    /// The length of the text of the location, in bytes. Allocates nothing.
     ///
     /// ```
     /// /// Whether the text fits into a field of so many bytes.
@@ -57,18 +54,17 @@ impl Url {
     ///
     /// # Errors
     ///
-    /// The fault, exactly where the location has no text.
+    /// The fault, exactly if the location has no text.
     pub fn text_len(&self) -> Result<u128, WriteFault>
         ensures { result ≡ text_length (text self.now) }
     {
         self.as_ref().text_len()
     }
 
-    /// The text of the location. Memory is asked for once, for the whole text, and not at all where there is
-    /// none.
+    /// The text of the location. Allocates once, for the whole text, and nothing if there is none.
     ///
-    /// The text of a settled location spells a location with the same public fields and the same text. The
-    /// password is in it, with a user: `Display` hides that field.
+    /// The text of a settled location spells a location with the same public fields and the same text. It
+    /// contains the password if there is a user: `Display` hides that field.
     ///
     /// ```
     /// /// A text in the form that this library writes.
@@ -79,8 +75,9 @@ impl Url {
     ///
     /// # Errors
     ///
-    /// [`Error::Unwritable`] exactly where the location has no text. [`Error::Memory`] where memory is
-    /// refused, or where the text is longer than any memory; for a settled location no other.
+    /// - [`Error::Unwritable`] exactly if the location has no text.
+    /// - [`Error::Memory`] if the allocation fails, or if the text is longer than any memory. For a settled
+    ///   location this is the only error.
     pub fn to_bstring(&self, alloc: Global) -> Result<BString, Error>
         ensures text { IfOk result (λ s. text self.now ≡ Ok (bstring_bytes s)) }
         ensures fault { (f : WriteFault) → text self.now ≡ Err f → result
@@ -92,8 +89,7 @@ impl Url {
         Url::text_of(alloc, &self.as_ref())
     }
 
-    /// The path as it was spelled, with its escapes: the retained spelling where it still stands for the
-    /// path, and else the path itself. It takes no memory.
+    /// The escaped path as it was written, if it still decodes to `path`; otherwise `path`. Allocates nothing.
     ///
     /// ```
     /// fn spelled(url: &Url) -> BStr<'_> {
@@ -106,8 +102,8 @@ impl Url {
         self.as_ref().original_path()
     }
 
-    /// The text of a location that is borrowed, as [`Url::to_bstring`] has it. Memory is asked for once, for
-    /// the whole text, and not at all where there is none.
+    /// The text of a borrowed location, like [`Url::to_bstring`]. Allocates once, for the whole text, and
+    /// nothing if there is none.
     ///
     /// ```
     /// /// The text of a location without its password, which stays as it is.
@@ -120,8 +116,7 @@ impl Url {
     ///
     /// # Errors
     ///
-    /// [`Error::Unwritable`] exactly where the location has no text. [`Error::Memory`] where memory is
-    /// refused, or where the text is longer than any memory; for a settled location no other.
+    /// Those of [`Url::to_bstring`].
     pub fn text_of(alloc: Global, url: &UrlRef<'_>) -> Result<BString, Error>
         ensures text { IfOk result (λ s. text url.now ≡ Ok (bstring_bytes s)) }
         ensures fault { (f : WriteFault) → text url.now ≡ Err f → result
@@ -151,7 +146,7 @@ fn collect_in(alloc: Global, url: &UrlRef<'_>, form: Form) -> Result<BString, Er
     }
 }
 
-/// The bytes in this form. Each form is collected by itself, so that the compiler knows which pieces it
+/// The bytes in this form. Each form has its own call of `collect`, so that the compiler knows which pieces it
 /// lacks.
 #[inline(always)]
 fn collect_form(alloc: Global, url: &UrlRef<'_>, form: Form) -> Result<Vec<u8>, AllocError>
@@ -176,7 +171,7 @@ fn collect_canonical(alloc: Global, url: &UrlRef<'_>) -> Result<Vec<u8>, AllocEr
     collect(alloc, &url.canonical_pieces(url.password, &mut digits))
 }
 
-/// The text of the pieces. Memory is asked for once, and a length that no memory has counts as refused.
+/// The text of the pieces. Allocates once. A length that no memory has counts as a failed allocation.
 #[inline(always)]
 fn collect(alloc: Global, pieces: &Pieces<'_>) -> Result<Vec<u8>, AllocError>
     ensures text { IfOk result (λ s. s.items ≡ pieces_text pieces.now) }

@@ -6,5 +6,5 @@ pub mod EntryLemmas
 pub mod PieceLemmas
 pub mod ProblemLemmas
 pub mod ReadingLemmas
-pub mod RoomLemmas
+pub mod BufferLemmas
 pub mod ShownLemmas

@@ -46,12 +46,12 @@ numbers_of_all all done piece next h =
     ∙ length-append before behind
     ∙ ap (λ n. length before + n) (length-append (part_numbers (piece_part piece)) (flat_map part_numbers next))
 
--- so there is room for the next one
-pub next_fits : (all : List Part) (done : List Piece) (piece : Piece) (left next : List Part) (at size room : ℕ)
+-- so there is buffer for the next one
+pub next_fits : (all : List Part) (done : List Piece) (piece : Piece) (left next : List Part) (at size buffer : ℕ)
     → all ≡ map piece_part done ++ left → left ≡ piece_part piece ∷ next
-    → at ≡ length (flat_map part_numbers (map piece_part done)) → length (flat_map part_numbers all) ≤ size → room ≡ size
-    → at + length (part_numbers (piece_part piece)) ≤ room
-next_fits all done piece left next at size room h cut here fits same =
+    → at ≡ length (flat_map part_numbers (map piece_part done)) → length (flat_map part_numbers all) ≤ size → buffer ≡ size
+    → at + length (part_numbers (piece_part piece)) ≤ buffer
+next_fits all done piece left next at size buffer h cut here fits same =
     let sum = numbers_of_all all done piece next (h ∙ ap (λ parts. map piece_part done ++ parts) cut) in
     omega (arith, sum, here, fits, same)
 

@@ -1,4 +1,4 @@
--- The numbers by which C gets what a call returns.
+-- The numbers that C gets for results, errors and refusals.
 use Rattle.std.specs.Prelude.{◌≡◌, ℕ, ◌+◌, ◌⊎◌, Bool, not, nat_lt, ◌&&◌, List, length, Option, Some, None}
 use Rattle.bstr.specs.Owned.{bstring_bytes}
 use Rattle.git_syntax.specs.declared.refusal.UrlKind.{UrlKind}
@@ -22,7 +22,7 @@ use Rattle.gix_url.specs.declared.error.Error.TheVariants as error
 use Rattle.gix_url.specs.Flaws.{IsErrorOf, IsNotOfReading}
 use Rattle.gix_url_c.specs.declared.codes.Problem.{Problem}
 
--- the call was answered
+-- the call succeeded
 abbrev pub ok : ℕ
 ok = 0
 
@@ -34,11 +34,11 @@ memory = 1
 abbrev pub unwritable : ℕ
 unwritable = 8
 
--- what was given is no location
+-- the parts aren't a location
 abbrev pub no_location : ℕ
 no_location = 101
 
--- the answer doesn't fit into the room
+-- the result doesn't fit in the buffer
 abbrev pub no_room : ℕ
 no_room = 102
 
@@ -115,12 +115,12 @@ IsReason n = (r : Reason) × (reason_number r ≡ n)
 abbrev pub condition_number : Condition → ℕ
 condition_number condition = place condition + 1
 
--- the number of the first condition that a location doesn't meet, or 0 where it meets all
+-- the number of the first condition that a location doesn't meet, or 0 if it meets all
 abbrev pub condition_reported : Option Condition → ℕ
 condition_reported None = 0
 condition_reported (Some condition) = condition_number condition
 
--- the number of a refusal: that of the error which it becomes where the text is copied
+-- the number of a refusal, which is that of its error
 abbrev pub kind_code : RefusalKind → ℕ
 kind_code refusal.EmptyLocal = 2
 kind_code refusal.MissingPath = 3
@@ -131,7 +131,7 @@ kind_code (refusal.BadUrl fault) = 6
 abbrev pub refusal_code : Refusal → ℕ
 refusal_code r = kind_code (kind_of r.reason)
 
--- the number of the form that is reported of a refusal, or 0
+-- the number of the form in which a text is refused, or 0
 abbrev pub kind_told : UrlKind → RefusalKind → ℕ
 kind_told form refusal.EmptyLocal = 0
 kind_told form refusal.MissingPath = kind_number form
@@ -139,7 +139,7 @@ kind_told form refusal.NotUtf8 = kind_number form
 kind_told form refusal.TooLong = 0
 kind_told form (refusal.BadUrl fault) = kind_number form
 
--- the number of the fault that is reported of a refusal, or 0
+-- the number of the fault for which a URL is refused, or 0
 abbrev pub fault_told : RefusalKind → ℕ
 fault_told (refusal.BadUrl fault) = fault_number fault
 fault_told refusal.EmptyLocal = 0
@@ -147,7 +147,7 @@ fault_told refusal.MissingPath = 0
 fault_told refusal.NotUtf8 = 0
 fault_told refusal.TooLong = 0
 
--- what is reported of a refusal, with these lengths of the front and of the text
+-- the problem of a refusal, with these lengths of the front and the text
 abbrev pub refusal_problem : Refusal → ℕ → ℕ → Problem
 refusal_problem r shown total = record {
   kind = kind_told r.form (kind_of r.reason);
@@ -159,7 +159,7 @@ refusal_problem r shown total = record {
   len = r.len;
 }
 
--- a length that is reported of a text that is too long, and 0 of any other
+-- a length that is reported about a text that is too long, and 0 about any other
 abbrev pub if_too_long : RefusalKind → ℕ → ℕ
 if_too_long refusal.TooLong n = n
 if_too_long refusal.EmptyLocal n = 0
@@ -167,25 +167,25 @@ if_too_long refusal.MissingPath n = 0
 if_too_long refusal.NotUtf8 n = 0
 if_too_long (refusal.BadUrl fault) n = 0
 
--- what is reported of the refusal of a text
+-- the problem of the refusal of a text
 abbrev pub problem_of_refusal : List ℕ → Refusal → Problem
 problem_of_refusal b r = refusal_problem r (if_too_long (kind_of r.reason) (length (shown_front b r)))
     (if_too_long (kind_of r.reason) (length b))
 
--- what is reported where the number says all
+-- the problem of an error that is only a number
 abbrev pub no_problem : Problem
 no_problem = record { kind = 0; fault = 0; reason = 0; shown = 0; total = 0; at = 0; len = 0 }
 
--- what is reported of a location without a text
+-- the problem of a location without a text
 abbrev pub write_problem : WriteFault → Problem
 write_problem fault = record { kind = 0; fault = write_fault_number fault; reason = 0; shown = 0; total = 0; at = 0; len = 0 }
 
--- what is reported of an error that is none of reading
+-- the problem of an error that is not about reading
 abbrev pub problem_of_other : Error → Problem
 problem_of_other (error.Unwritable fault) = write_problem fault
 problem_of_other _ = no_problem
 
--- the lengths of the front and of the text that an error holds
+-- the lengths of the front and of the text in an error
 abbrev pub error_shown : Error → ℕ
 error_shown (error.TooLong shown total) = length (bstring_bytes shown)
 error_shown _ = 0
@@ -194,21 +194,21 @@ abbrev pub error_total : Error → ℕ
 error_total (error.TooLong shown total) = total
 error_total _ = 0
 
--- this is reported of an error
+-- this is the problem of an error
 pub record Tells (e : Error) (problem : Problem) : Type 0 where
   -- of one of reading, whatever text it is of, what is reported of the refusal of that text
   pub refused : (b : List ℕ) (r : Refusal) → Refused b r → IsErrorOf b r e → problem ≡ problem_of_refusal b r
   -- of any other what it holds
   pub other : IsNotOfReading e → problem ≡ problem_of_other e
 
--- the number is that of an error of reading or of writing, of which more may be reported
+-- the number is that of an error that may have a problem: of reading or of writing
 abbrev pub has_problem : ℕ → Bool
 has_problem code = nat_lt memory code && not (nat_lt unwritable code)
 
--- memory was refused, or else this holds
+-- memory was refused, or this is true
 abbrev pub UnlessMemory : ℕ → Type 0 → Type 0
 UnlessMemory code holds = (code ≡ memory) ⊎ holds
 
--- what was given is no location, and it is reported; or else it is one, and this holds
+-- the parts aren't a location, and that is reported; or they are one, and this is true
 abbrev pub UnlessNone : ℕ → Type 0 → Type 0 → Type 0
 UnlessNone code none holds = ((code ≡ no_location) × none) ⊎ ((¬ none) × holds)

@@ -1,20 +1,20 @@
--- Components as C gets them: numbers, and the bytes of all of them one behind the other.
+-- Components as C gets them: numbers, and the bytes of all of them one after the other.
 use Rattle.std.specs.Prelude.{◌≡◌, ℕ, List, [], ◌∷◌, ◌++◌, length, Option, Some, None}
 use Rattle.gix_url.specs.Location.{Location}
 use Rattle.gix_url.specs.Components.{Components, ComponentsOf}
 use Rattle.gix_url_c.specs.declared.components.ComponentNumbers.{ComponentNumbers}
-use Rattle.gix_url_c.specs.Handed.{PutsBoth, is_there, or_nothing}
+use Rattle.gix_url_c.specs.Output.{PutsBoth, is_there, or_nothing}
 
--- the names and values, or none
+-- the names and values; none without a query
 abbrev pub pairs_of : Option (List (List ℕ × List ℕ)) → List (List ℕ × List ℕ)
 pairs_of None = []
 pairs_of (Some pairs) = pairs
 
--- the bytes of a name and of its value
+-- the bytes of a name and its value
 abbrev pub joined_pair : List ℕ × List ℕ → List ℕ
 joined_pair pair = pair.0 ++ pair.1
 
--- their lengths
+-- the lengths of a name and its value
 abbrev pub lengths_of_pair : List ℕ × List ℕ → List ℕ
 lengths_of_pair pair = length pair.0 ∷ length pair.1 ∷ []
 
@@ -28,7 +28,7 @@ abbrev pub pair_lengths : List (List ℕ × List ℕ) → List ℕ
 pair_lengths [] = []
 pair_lengths (pair ∷ pairs) = lengths_of_pair pair ++ pair_lengths pairs
 
--- the bytes of the path, of the fragment, and of names and values
+-- the bytes of the path, the fragment, and all names and values
 abbrev pub component_bytes : Components → List ℕ
 component_bytes c = (c.path ++ or_nothing c.fragment) ++ joined_pairs (pairs_of c.query)
 
@@ -45,6 +45,6 @@ component_numbers c = record {
 
 -- the components of the location are reported
 abbrev pub ReportsComponents : Location → ComponentNumbers → List ℕ → List ℕ → List ℕ → List ℕ → ℕ → Type 0
-ReportsComponents v reported old_room new_room old_lengths new_lengths code =
+ReportsComponents v reported old_buffer new_buffer old_lengths new_lengths code =
     (c : Components) × ComponentsOf v c × (reported ≡ component_numbers c)
-    × PutsBoth (component_bytes c) (pair_lengths (pairs_of c.query)) old_room new_room old_lengths new_lengths code
+    × PutsBoth (component_bytes c) (pair_lengths (pairs_of c.query)) old_buffer new_buffer old_lengths new_lengths code

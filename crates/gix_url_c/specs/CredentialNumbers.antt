@@ -1,4 +1,4 @@
--- What Git's credential code uses of a configuration, for C.
+-- What Git's credential code takes from a configuration, for C.
 use Rattle.std.specs.Prelude.{◌≡◌, ℕ, ◌⊎◌, true, false, List, length}
 use Rattle.git_reads.specs.Credentials.{CredentialReading, CredentialReads}
 use Rattle.git_rules.specs.Config.{ConfigEntry}
@@ -8,7 +8,7 @@ use Rattle.git_rules.specs.declared.credentials.CredentialsError.TheVariants.{No
 use Rattle.gix_url_c.specs.declared.rules.credentials.CredentialNumbers.{CredentialNumbers}
 use Rattle.gix_url_c.specs.declared.rules.stops.Stop.{Stop}
 use Rattle.gix_url_c.specs.Codes.{ok}
-use Rattle.gix_url_c.specs.Handed.{PutsBoth, is_there, or_nothing}
+use Rattle.gix_url_c.specs.Output.{PutsBoth, is_there, or_nothing}
 use Rattle.gix_url_c.specs.ReadingNumbers.{LacksRequest}
 use Rattle.gix_url_c.specs.Stops.{StopsAt, no_boolean, no_stop, no_value}
 
@@ -22,16 +22,16 @@ credential_numbers used = record {
   user = length (or_nothing used.user);
 }
 
--- the numbers of a text in which nothing is read
+-- the numbers of a text in which Git's credential code reads nothing
 abbrev pub no_credentials : CredentialNumbers
 no_credentials = record { is_read = false; has_user = false; use_http_path = false; helpers = 0; user = 0 }
 
--- what Git uses is put
+-- what Git uses is copied
 abbrev pub PutsCredentials : CredentialUse → CredentialNumbers → List ℕ → List ℕ → List ℕ → List ℕ → ℕ → Type 0
-PutsCredentials used made old new old_indices new_indices code = (made ≡ credential_numbers used)
+PutsCredentials used built old new old_indices new_indices code = (built ≡ credential_numbers used)
     × PutsBoth (or_nothing used.user) used.helpers old new old_indices new_indices code
 
--- Git stops at the first entry that applies and has no value, or no boolean value, and that is reported
+-- Git stops at the first entry that applies and has no value, or no boolean value; that entry is reported
 abbrev pub StopsFor : CredentialReading → List ConfigEntry → Stop → ℕ → Type 0
 StopsFor r entries stop code =
     ((at : ℕ) × StopsFirst r entries (NoValue at) × StopsAt no_value at stop code)
@@ -39,14 +39,14 @@ StopsFor r entries stop code =
 
 -- what Git uses for a request is reported, or the entry at which it stops
 abbrev pub FindsCredentials : CredentialReading → List ConfigEntry → CredentialNumbers → List ℕ → List ℕ → List ℕ → List ℕ → Stop → ℕ → Type 0
-FindsCredentials r entries made old new old_indices new_indices stop code = StopsFor r entries stop code
+FindsCredentials r entries built old new old_indices new_indices stop code = StopsFor r entries stop code
     ⊎ ((used : CredentialUse) × AreCredentials r entries used × (stop ≡ no_stop)
-    × PutsCredentials used made old new old_indices new_indices code)
+    × PutsCredentials used built old new old_indices new_indices code)
 
--- what Git uses for a text is reported, or that nothing is read in it
+-- what Git uses for a text is reported, or that its credential code reads nothing in it
 abbrev pub ReportsCredentials : List ConfigEntry → List ℕ → CredentialNumbers → List ℕ → List ℕ → List ℕ → List ℕ → Stop → ℕ → Type 0
-ReportsCredentials entries text made old new old_indices new_indices stop code =
-    (LacksRequest text × (made ≡ no_credentials) × (new ≡ old) × (new_indices ≡ old_indices) × (stop ≡ no_stop)
+ReportsCredentials entries text built old new old_indices new_indices stop code =
+    (LacksRequest text × (built ≡ no_credentials) × (new ≡ old) × (new_indices ≡ old_indices) × (stop ≡ no_stop)
     × (code ≡ ok))
     ⊎ ((r : CredentialReading) × CredentialReads text r
-    × FindsCredentials r entries made old new old_indices new_indices stop code)
+    × FindsCredentials r entries built old new old_indices new_indices stop code)

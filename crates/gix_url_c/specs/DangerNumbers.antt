@@ -24,12 +24,12 @@ danger_number danger.MisreadHost = 10
 abbrev pub IsDanger : ℕ → Type 0
 IsDanger n = (d : Danger) × (danger_number d ≡ n)
 
--- the numbers of the dangers of a text and its location are put
+-- the numbers of the dangers of a text and its location are copied
 abbrev pub ReportsDangers : List ℕ → Location → List ℕ → List ℕ → ℕ → ℕ → Type 0
 ReportsDangers t v old new count code =
     (found : List Danger) × AreDangers t v found × PutsText (map danger_number found) old new count code
 
--- the text that the table has for the danger of this number is put; or no danger has the number, and the length is 0
+-- the text in the table for the danger with this number is copied; or no danger has the number, and the length is 0
 abbrev pub PutsDanger : (Danger → List ℕ) → ℕ → List ℕ → List ℕ → ℕ → ℕ → Type 0
 PutsDanger table n old new len code = ((d : Danger) × (danger_number d ≡ n) × PutsText (table d) old new len code)
     ⊎ ((¬ IsDanger n) × (code ≡ no_location) × (len ≡ 0))

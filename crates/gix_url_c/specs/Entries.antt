@@ -1,12 +1,12 @@
--- The entries of a configuration as C has them.
+-- The entries of a configuration in C's form.
 use Rattle.std.specs.Prelude.{List, map}
 use Rattle.git_rules.specs.Config.{ConfigEntry}
-use Rattle.gix_url_c.specs.Given.{present}
-use Rattle.gix_url_c.specs.declared.rules.entries.GivenEntry.{GivenEntry}
+use Rattle.gix_url_c.specs.Input.{present}
+use Rattle.gix_url_c.specs.declared.rules.entries.EntryBytes.{EntryBytes}
 
--- the entry with the parts that are given
-abbrev pub entry_given : GivenEntry → ConfigEntry
-entry_given e = record {
+-- the entry with these parts
+abbrev pub entry_passed : EntryBytes → ConfigEntry
+entry_passed e = record {
   section = e.section.now;
   subsection = present e.has_subsection e.subsection.now;
   name = e.name.now;
@@ -14,6 +14,6 @@ entry_given e = record {
   at = e.at;
 }
 
--- the same of each entry
-abbrev pub entries_given : List GivenEntry → List ConfigEntry
-entries_given entries = map entry_given entries
+-- the entries with these parts
+abbrev pub entries_passed : List EntryBytes → List ConfigEntry
+entries_passed entries = map entry_passed entries

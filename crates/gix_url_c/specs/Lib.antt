@@ -1,9 +1,9 @@
-pub mod Given
+pub mod Input
 pub mod Codes
 pub mod Left
-pub mod Handed
+pub mod Output
 pub mod Answers
-pub mod Lent
+pub mod Borrowed
 pub mod Looks
 pub mod ReasonTexts
 pub mod ComponentNumbers

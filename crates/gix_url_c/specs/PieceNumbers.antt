@@ -4,14 +4,14 @@ use Rattle.std.specs.List.{flat_map}
 use Rattle.git_audit.specs.Secrets.{Part, parts_of}
 use Rattle.git_audit.specs.Secrets.Part.{shown, hidden}
 use Rattle.gix_url_c.specs.Answers.{reported_length}
-use Rattle.gix_url_c.specs.Handed.{Puts}
+use Rattle.gix_url_c.specs.Output.{Puts}
 
 -- the length of a piece, and whether it is hidden
 abbrev pub part_numbers : Part → List ℕ
 part_numbers (shown bytes) = length bytes ∷ 0 ∷ []
 part_numbers (hidden bytes) = length bytes ∷ 1 ∷ []
 
--- the pieces of a text are put, and their number reported
+-- the pieces of a text are copied, and their number reported
 abbrev pub ReportsPieces : List ℕ → List ℕ → List ℕ → ℕ → ℕ → Type 0
 ReportsPieces text old new count code =
     (count ≡ reported_length (length (parts_of text))) × Puts (flat_map part_numbers (parts_of text)) old new code

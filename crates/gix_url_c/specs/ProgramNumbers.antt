@@ -9,20 +9,20 @@ use Rattle.git_rules.specs.declared.ssh.program.SshProgramError.TheVariants.{NoV
 use Rattle.gix_url_c.specs.declared.rules.programs.GivenVariables.{GivenVariables}
 use Rattle.gix_url_c.specs.declared.rules.programs.ProgramNumbers.{ProgramNumbers}
 use Rattle.gix_url_c.specs.declared.rules.stops.Stop.{Stop}
-use Rattle.gix_url_c.specs.Given.{present}
-use Rattle.gix_url_c.specs.Handed.{Puts}
+use Rattle.gix_url_c.specs.Input.{present}
+use Rattle.gix_url_c.specs.Output.{Puts}
 use Rattle.gix_url_c.specs.Stops.{StopsAt, no_stop, no_value}
 
--- the entries, and the variables that are given
-abbrev pub settings_given : List ConfigEntry → GivenVariables → Settings
-settings_given config given = record {
+-- the entries and the variables
+abbrev pub settings_passed : List ConfigEntry → GivenVariables → Settings
+settings_passed config passed = record {
   entries = config;
-  git_ssh_command = present given.has_command given.command.now;
-  git_ssh = present given.has_path given.path.now;
-  git_ssh_variant = present given.has_variant given.variant.now;
+  git_ssh_command = present passed.has_command passed.command.now;
+  git_ssh = present passed.has_path passed.path.now;
+  git_ssh_variant = present passed.has_variant passed.variant.now;
 }
 
--- the number of a variant, and one more where Git asks the program
+-- the number of a variant, and one more if Git asks the program
 abbrev pub variant_number : ProgramVariant → ℕ
 variant_number (Known variant.Ssh) = 0
 variant_number (Known variant.Simple) = 1
@@ -36,12 +36,12 @@ abbrev pub program_numbers : Program → ProgramNumbers
 program_numbers p =
     record { is_command_line = p.is_command_line; variant = variant_number p.variant; len = length p.text }
 
--- a program is put
+-- a program is copied
 abbrev pub PutsProgram : Program → ProgramNumbers → List ℕ → List ℕ → ℕ → Type 0
-PutsProgram p made old new code = (made ≡ program_numbers p) × Puts p.text old new code
+PutsProgram p built old new code = (built ≡ program_numbers p) × Puts p.text old new code
 
 -- the program by the settings is reported, or the entry at which Git stops
 abbrev pub ReportsProgram : Settings → ProgramNumbers → List ℕ → List ℕ → Stop → ℕ → Type 0
-ReportsProgram settings made old new stop code =
+ReportsProgram settings built old new stop code =
     ((at : ℕ) × (program_of settings ≡ Err (NoValue at)) × StopsAt no_value at stop code)
-    ⊎ ((p : Program) × (program_of settings ≡ Ok p) × (stop ≡ no_stop) × PutsProgram p made old new code)
+    ⊎ ((p : Program) × (program_of settings ≡ Ok p) × (stop ≡ no_stop) × PutsProgram p built old new code)

@@ -1,4 +1,4 @@
--- What Git reads in a text, as C gets it: numbers, and the bytes of all parts one behind the other.
+-- What Git reads in a text, as C gets it: numbers, and the bytes of all parts one after the other.
 use Rattle.std.specs.Prelude.{◌≡◌, ℕ, ◌⊎◌, true, false, List, [], ◌∷◌, length}
 use Rattle.std.specs.List.{concat}
 use Rattle.git_syntax.specs.Location.{Scheme}
@@ -11,7 +11,7 @@ use Rattle.git_reads.specs.declared.transport.Unread.TheVariants as why
 use Rattle.gix_url_c.specs.declared.rules.readings.PlaceNumbers.{PlaceNumbers}
 use Rattle.gix_url_c.specs.declared.rules.readings.RequestNumbers.{RequestNumbers}
 use Rattle.gix_url_c.specs.Codes.{ok}
-use Rattle.gix_url_c.specs.Handed.{Puts, is_there, or_nothing, or_zero}
+use Rattle.gix_url_c.specs.Output.{Puts, is_there, or_nothing, or_zero}
 
 -- ---- transports
 
@@ -40,9 +40,9 @@ place_numbers r = record {
 abbrev pub place_texts : GitReading → List (List ℕ)
 place_texts r = or_nothing r.user ∷ or_nothing r.host ∷ r.path ∷ []
 
--- a place is put
+-- a place is copied
 abbrev pub PutsPlace : GitReading → PlaceNumbers → List ℕ → List ℕ → ℕ → Type 0
-PutsPlace r made old new code = (made ≡ place_numbers r) × Puts (concat (place_texts r)) old new code
+PutsPlace r built old new code = (built ≡ place_numbers r) × Puts (concat (place_texts r)) old new code
 
 -- the number of the reason why Git reads no place: its place in the order of the header
 abbrev pub unread_number : Unread → ℕ
@@ -70,14 +70,14 @@ unread_numbers reason = record {
 
 -- the reason is reported, which isn't memory
 abbrev pub TellsUnread : Unread → PlaceNumbers → ℕ → Type 0
-TellsUnread reason made code =
-    (¬ (reason ≡ why.Memory)) × (made ≡ unread_numbers (unread_number reason)) × (code ≡ ok)
+TellsUnread reason built code =
+    (¬ (reason ≡ why.Memory)) × (built ≡ unread_numbers (unread_number reason)) × (code ≡ ok)
 
 -- the place that Git reads in the text is reported, or why there is none
 abbrev pub ReportsPlace : List ℕ → PlaceNumbers → List ℕ → List ℕ → ℕ → Type 0
-ReportsPlace text made old new code =
-    ((reason : Unread) × LacksReading text × Unreads text reason × (new ≡ old) × TellsUnread reason made code)
-    ⊎ ((r : GitReading) × GitReads text r × PutsPlace r made old new code)
+ReportsPlace text built old new code =
+    ((reason : Unread) × LacksReading text × Unreads text reason × (new ≡ old) × TellsUnread reason built code)
+    ⊎ ((r : GitReading) × GitReads text r × PutsPlace r built old new code)
 
 -- ---- credentials
 
@@ -99,11 +99,11 @@ request_numbers r = record {
 abbrev pub request_texts : CredentialReading → List (List ℕ)
 request_texts r = r.protocol ∷ or_nothing r.user ∷ or_nothing r.password ∷ r.host ∷ or_nothing r.path ∷ []
 
--- a request is put
+-- a request is copied
 abbrev pub PutsRequest : CredentialReading → RequestNumbers → List ℕ → List ℕ → ℕ → Type 0
-PutsRequest r made old new code = (made ≡ request_numbers r) × Puts (concat (request_texts r)) old new code
+PutsRequest r built old new code = (built ≡ request_numbers r) × Puts (concat (request_texts r)) old new code
 
--- the numbers of a text in which nothing is read
+-- the numbers of a text in which Git's credential code reads nothing
 abbrev pub no_request : RequestNumbers
 no_request = record {
   is_read = false;
@@ -121,8 +121,8 @@ no_request = record {
 abbrev pub LacksRequest : List ℕ → Type 0
 LacksRequest text = (r : CredentialReading) → ¬ CredentialReads text r
 
--- what Git's credential code reads in the text is reported, or that it reads nothing
+-- the request that Git's credential code reads in the text is reported, or that it reads nothing
 abbrev pub ReportsRequest : List ℕ → RequestNumbers → List ℕ → List ℕ → ℕ → Type 0
-ReportsRequest text made old new code =
-    (LacksRequest text × (made ≡ no_request) × (new ≡ old) × (code ≡ ok))
-    ⊎ ((r : CredentialReading) × CredentialReads text r × PutsRequest r made old new code)
+ReportsRequest text built old new code =
+    (LacksRequest text × (built ≡ no_request) × (new ≡ old) × (code ≡ ok))
+    ⊎ ((r : CredentialReading) × CredentialReads text r × PutsRequest r built old new code)

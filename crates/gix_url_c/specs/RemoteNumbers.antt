@@ -1,4 +1,4 @@
--- A remote as C gets it: numbers, and its texts one behind the other.
+-- A remote as C gets it: numbers, and its texts one after the other.
 use Rattle.std.specs.Prelude.{◌≡◌, ℕ, ◌⊎◌, List, ◌++◌, length, map}
 use Rattle.std.specs.List.{concat}
 use Rattle.git_rules.specs.Config.{ConfigEntry}
@@ -7,7 +7,7 @@ use Rattle.git_rules.specs.RewriteEntries.{rules_of}
 use Rattle.git_rules.specs.Remotes.{ArePushUrls, AreUrls, GitRemote, HaveValues, LacksFirst, first_of, last_of, proxy_key, receivepack_key, uploadpack_key, values_of, vcs_key}
 use Rattle.gix_url_c.specs.declared.rules.remotes.RemoteNumbers.{RemoteNumbers}
 use Rattle.gix_url_c.specs.declared.rules.stops.Stop.{Stop}
-use Rattle.gix_url_c.specs.Handed.{PutsBoth, is_there, or_nothing}
+use Rattle.gix_url_c.specs.Output.{PutsBoth, is_there, or_nothing}
 use Rattle.gix_url_c.specs.Rewriting.{FillsRules}
 use Rattle.gix_url_c.specs.Stops.{StopsAt, no_stop, no_value}
 
@@ -36,12 +36,12 @@ remote_numbers r = record {
   bytes = length (remote_bytes r);
 }
 
--- a remote is put
+-- a remote is copied
 abbrev pub PutsRemote : GitRemote → RemoteNumbers → List ℕ → List ℕ → List ℕ → List ℕ → ℕ → Type 0
-PutsRemote r made old new old_lengths new_lengths code = (made ≡ remote_numbers r)
+PutsRemote r built old new old_lengths new_lengths code = (built ≡ remote_numbers r)
     × PutsBoth (remote_bytes r) (remote_lengths r) old new old_lengths new_lengths code
 
--- this is what Git uses of the entries for the remote of this name
+-- this is the remote with this name that Git takes from the entries
 pub record IsRemoteOf (rules : Rules) (entries : List ConfigEntry) (name : List ℕ) (r : GitRemote) : Type 0 where
   pub urls : AreUrls rules name entries r.urls
   pub push_urls : ArePushUrls rules name entries r.push_urls
@@ -52,12 +52,12 @@ pub record IsRemoteOf (rules : Rules) (entries : List ConfigEntry) (name : List 
 
 -- by these rules Git stops at the first entry of a remote that lacks a value, or the remote is put
 abbrev pub FindsRemote : Rules → List ConfigEntry → List ℕ → RemoteNumbers → List ℕ → List ℕ → List ℕ → List ℕ → Stop → ℕ → Type 0
-FindsRemote rules entries name made old new old_lengths new_lengths stop code =
+FindsRemote rules entries name built old new old_lengths new_lengths stop code =
     ((at : ℕ) × LacksFirst entries at × StopsAt no_value at stop code)
     ⊎ (HaveValues entries × ((r : GitRemote) × IsRemoteOf rules entries name r × (stop ≡ no_stop)
-    × PutsRemote r made old new old_lengths new_lengths code))
+    × PutsRemote r built old new old_lengths new_lengths code))
 
 -- the remote of this name is reported, or the first entry at which Git stops
 abbrev pub ReportsRemote : List ConfigEntry → List ℕ → RemoteNumbers → List ℕ → List ℕ → List ℕ → List ℕ → Stop → ℕ → Type 0
-ReportsRemote entries name made old new old_lengths new_lengths stop code = FillsRules entries stop code
-    (FindsRemote (rules_of entries) entries name made old new old_lengths new_lengths stop code)
+ReportsRemote entries name built old new old_lengths new_lengths stop code = FillsRules entries stop code
+    (FindsRemote (rules_of entries) entries name built old new old_lengths new_lengths stop code)

@@ -1,14 +1,14 @@
--- What rewriting reports to C.
+-- A rewritten text as C gets it.
 use Rattle.std.specs.Prelude.{◌≡◌, ℕ, ◌⊎◌, List, length}
 use Rattle.git_rules.specs.Config.{ConfigEntry}
 use Rattle.git_rules.specs.Rewrites.{Outcome, outcome_text}
 use Rattle.git_rules.specs.RewriteEntries.{AllHaveValues, FirstLacks}
 use Rattle.gix_url_c.specs.declared.rules.rewriting.RewriteNumbers.{RewriteNumbers}
 use Rattle.gix_url_c.specs.declared.rules.stops.Stop.{Stop}
-use Rattle.gix_url_c.specs.Handed.{Puts, is_there, or_nothing}
+use Rattle.gix_url_c.specs.Output.{Puts, is_there, or_nothing}
 use Rattle.gix_url_c.specs.Stops.{StopsAt, no_stop, no_value}
 
--- the numbers of what became of a text
+-- the numbers of a rewritten text
 abbrev pub outcome_numbers : Outcome → RewriteNumbers
 outcome_numbers o = record {
   is_rewritten = is_there o.base;
@@ -16,17 +16,17 @@ outcome_numbers o = record {
   len = length (outcome_text o);
 }
 
--- what became of a text is reported
+-- a rewritten text is reported
 abbrev pub ReportsOutcome : Outcome → RewriteNumbers → List ℕ → List ℕ → ℕ → Type 0
-ReportsOutcome o made old new code = (made ≡ outcome_numbers o) × Puts (outcome_text o) old new code
+ReportsOutcome o built old new code = (built ≡ outcome_numbers o) × Puts (outcome_text o) old new code
 
--- Git stops at the first entry of rewriting that lacks a value, and that is reported; or it stops at none, and this
--- holds
+-- Git stops at the first entry of rewriting that lacks a value, and that entry is reported; or it stops at none, and
+-- this is true
 abbrev pub FillsRules : List ConfigEntry → Stop → ℕ → Type 0 → Type 0
 FillsRules entries stop code holds =
     ((at : ℕ) × FirstLacks entries at × StopsAt no_value at stop code) ⊎ (AllHaveValues entries × holds)
 
--- what the rules of the entries make of a text is reported
+-- a text is rewritten by the rules of the entries and reported
 abbrev pub ReportsRewriting : List ConfigEntry → (Outcome → Type 0) → RewriteNumbers → List ℕ → List ℕ → Stop → ℕ → Type 0
-ReportsRewriting entries IsOutcome made old new stop code = FillsRules entries stop code
-    ((o : Outcome) × IsOutcome o × (stop ≡ no_stop) × ReportsOutcome o made old new code)
+ReportsRewriting entries IsOutcome built old new stop code = FillsRules entries stop code
+    ((o : Outcome) × IsOutcome o × (stop ≡ no_stop) × ReportsOutcome o built old new code)

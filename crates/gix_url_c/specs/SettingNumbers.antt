@@ -8,7 +8,7 @@ use Rattle.git_rules.specs.declared.normal.NormalError.{NormalError}
 use Rattle.git_rules.specs.declared.normal.NormalError.TheVariants as flaw
 use Rattle.gix_url_c.specs.declared.rules.settings.SettingNumbers.{SettingNumbers}
 use Rattle.gix_url_c.specs.declared.rules.stops.Stop.{Stop}
-use Rattle.gix_url_c.specs.Handed.{Puts}
+use Rattle.gix_url_c.specs.Output.{Puts}
 use Rattle.gix_url_c.specs.Stops.{StopsAt, no_stop, no_value}
 
 -- the number of the reason why a URL has no normal form: its place in the order of the header
@@ -21,17 +21,17 @@ abnormal_number flaw.BadHost = 4
 abnormal_number flaw.BadPort = 5
 abnormal_number flaw.AboveRoot = 6
 
--- indices are put
+-- indices are copied
 abbrev pub PutsIndices : List ℕ → ℕ → SettingNumbers → List ℕ → List ℕ → ℕ → Type 0
-PutsIndices found number made old new code =
-    (made ≡ record { why = number; settings = length found }) × Puts found old new code
+PutsIndices found number built old new code =
+    (built ≡ record { why = number; settings = length found }) × Puts found old new code
 
 -- the settings for a place, or for none, are reported, or the first entry at which Git stops
 abbrev pub ReportsFor : List ConfigEntry → List ℕ → Option NormalPlace → ℕ → SettingNumbers → List ℕ → List ℕ → Stop → ℕ → Type 0
-ReportsFor entries name place number made old new stop code =
+ReportsFor entries name place number built old new stop code =
     ((at : ℕ) × IsListName name × FirstTakenLacks name place entries at × StopsAt no_value at stop code)
     ⊎ ((found : List ℕ) × AreSettings name place entries found × (stop ≡ no_stop)
-    × PutsIndices found number made old new code)
+    × PutsIndices found number built old new code)
 
 -- the text has this normal form, or none for the reason of this number, which isn't 0
 abbrev pub HasForm : List ℕ → Option NormalPlace → ℕ → Type 0
@@ -41,5 +41,5 @@ HasForm text None number = (why : NormalError) × HasFlaw false text why
 
 -- the settings for a URL are reported, by its normal form if it has one
 abbrev pub ReportsSettings : List ConfigEntry → List ℕ → List ℕ → SettingNumbers → List ℕ → List ℕ → Stop → ℕ → Type 0
-ReportsSettings entries name text made old new stop code = (place : Option NormalPlace) × (number : ℕ)
-    × HasForm text place number × ReportsFor entries name place number made old new stop code
+ReportsSettings entries name text built old new stop code = (place : Option NormalPlace) × (number : ℕ)
+    × HasForm text place number × ReportsFor entries name place number built old new stop code

@@ -1,4 +1,4 @@
--- Submodules for C: a resolved URL, what is refused in an entry, and the list of a file.
+-- Submodules for C: a resolved URL, the refused part of an entry, and the list of a file.
 use Rattle.std.specs.Prelude.{◌≡◌, ◌≢◌, ℕ, ◌-◌, ◌^◌, List, [], ◌∷◌, length, map, Option, Some, None, Result, Ok, Err, MatchOption}
 use Rattle.std.specs.List.{concat, flat_map}
 use Rattle.git_rules.specs.Config.{ConfigEntry}
@@ -16,7 +16,7 @@ use Rattle.gix_url_c.specs.declared.rules.submodules.ResolvedNumbers.{ResolvedNu
 use Rattle.gix_url_c.specs.declared.rules.submodules.SubmoduleSizes.{SubmoduleSizes}
 use Rattle.gix_url_c.specs.Answers.{reported_length}
 use Rattle.gix_url_c.specs.Codes.{ok}
-use Rattle.gix_url_c.specs.Handed.{Puts, PutsBoth}
+use Rattle.gix_url_c.specs.Output.{Puts, PutsBoth}
 
 -- ---- resolved URLs
 
@@ -34,21 +34,21 @@ resolved_numbers parent url number size = record {
   len = size;
 }
 
--- a resolved URL is put, or none
+-- a resolved URL is copied, or nothing
 abbrev pub PutsResolution : List ℕ → List ℕ → Result Resolution ResolveError → ResolvedNumbers → List ℕ → List ℕ → ℕ → Type 0
-PutsResolution parent url (Ok r) made old new code =
-    (made ≡ resolved_numbers parent url 0 (reported_length (length (resolved_text r))))
+PutsResolution parent url (Ok r) built old new code =
+    (built ≡ resolved_numbers parent url 0 (reported_length (length (resolved_text r))))
     × Puts (resolved_text r) old new code
-PutsResolution parent url (Err error) made old new code =
-    (made ≡ resolved_numbers parent url (unresolved_number error) 0) × (new ≡ old) × (code ≡ ok)
+PutsResolution parent url (Err error) built old new code =
+    (built ≡ resolved_numbers parent url (unresolved_number error) 0) × (new ≡ old) × (code ≡ ok)
 
--- what becomes of the URL of a submodule is reported
+-- the resolved URL of a submodule is reported, or why there is none
 abbrev pub ReportsResolution : List ℕ → List ℕ → ResolvedNumbers → List ℕ → List ℕ → ℕ → Type 0
-ReportsResolution parent url made old new code = PutsResolution parent url (resolution parent url) made old new code
+ReportsResolution parent url built old new code = PutsResolution parent url (resolution parent url) built old new code
 
 -- ---- entries
 
--- the number of what is refused, or 0
+-- the number of the refused part, or 0
 abbrev pub refused_number : Option Refused → ℕ
 refused_number None = 0
 refused_number (Some refused.Name) = 1
@@ -66,14 +66,14 @@ abbrev pub ChecksValue : ConfigEntry → Option Refused → Type 0
 ChecksValue e value = MatchOption value ((reason : Refused) → reason ≢ refused.Name → ¬ IsRefused e reason)
     (λ reason. (reason ≢ refused.Name) × IsRefused e reason)
 
--- what fsck refuses in an entry is reported
+-- what `git fsck` refuses of an entry is reported
 abbrev pub ChecksEntry : ConfigEntry → CheckNumbers → ℕ → Type 0
-ChecksEntry e made code = (name : Option Refused) × (value : Option Refused) × ChecksName e name × ChecksValue e value
-    × (made ≡ record { name = refused_number name; value = refused_number value }) × (code ≡ ok)
+ChecksEntry e built code = (name : Option Refused) × (value : Option Refused) × ChecksName e name × ChecksValue e value
+    × (built ≡ record { name = refused_number name; value = refused_number value }) × (code ≡ ok)
 
 -- ---- lists
 
--- the index of the entry that gives a value, or the largest number
+-- the index of the entry with a value, or the largest number
 abbrev pub index_or : Option UsedValue → ℕ
 index_or None = 2 ^ 64 - 1
 index_or (Some used) = used.index
@@ -82,12 +82,12 @@ index_or (Some used) = used.index
 abbrev pub submodule_numbers : GitSubmodule → List ℕ
 submodule_numbers s = length s.name ∷ index_or s.path ∷ index_or s.url ∷ index_or s.update ∷ index_or s.branch ∷ []
 
--- the bytes of the names, one behind the other
+-- the bytes of the names, one after the other
 abbrev pub submodule_names : List GitSubmodule → List ℕ
 submodule_names found = concat (map (λ s. s.name) found)
 
--- submodules are put
+-- submodules are copied
 abbrev pub PutsSubmodules : List GitSubmodule → SubmoduleSizes → List ℕ → List ℕ → List ℕ → List ℕ → ℕ → Type 0
-PutsSubmodules found made old new old_numbers new_numbers code =
-    (made ≡ record { submodules = length found; bytes = length (submodule_names found) })
+PutsSubmodules found built old new old_numbers new_numbers code =
+    (built ≡ record { submodules = length found; bytes = length (submodule_names found) })
     × PutsBoth (submodule_names found) (flat_map submodule_numbers found) old new old_numbers new_numbers code

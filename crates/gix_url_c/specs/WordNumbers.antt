@@ -1,4 +1,4 @@
--- A command of Secure Shell for C: what is asked for by numbers, and its words one behind the other.
+-- A command of Secure Shell for C: the request by numbers, and the words one after the other.
 use Rattle.std.specs.Prelude.{◌≡◌, ℕ, ◌<◌, ◌==◌, ◌⊎◌, List, Some, None, length, map, if◌then◌else◌}
 use Rattle.std.specs.List.{concat}
 use Rattle.std.specs.Option.{is_some}
@@ -14,15 +14,15 @@ use Rattle.git_rules.specs.declared.ssh.request.AddressFamily.TheVariants as fam
 use Rattle.git_rules.specs.declared.ssh.SshRefusal.{SshRefusal}
 use Rattle.git_rules.specs.declared.ssh.SshRefusal.TheVariants as refusal
 use Rattle.git_rules.specs.SecureShell.{Command, IsOwn, IsSafeCommand, Request, command_variable, command_words, ssh_refusal}
-use Rattle.gix_url_c.specs.declared.rules.commands.GivenRequest.{GivenRequest}
+use Rattle.gix_url_c.specs.declared.rules.commands.RequestBytes.{RequestBytes}
 use Rattle.gix_url_c.specs.declared.rules.commands.WordNumbers.{WordNumbers}
 use Rattle.gix_url_c.specs.Codes.{ok}
-use Rattle.gix_url_c.specs.Given.{present}
-use Rattle.gix_url_c.specs.Handed.{PutsBoth}
+use Rattle.gix_url_c.specs.Input.{present}
+use Rattle.gix_url_c.specs.Output.{PutsBoth}
 
--- ---- what is asked for
+-- ---- the request
 
--- the service, the variant, the version and the family that a number stands for
+-- the service, the variant, the version and the version of IP with a number
 abbrev pub service_numbered : ℕ → Service
 service_numbered n = if n == 0 then service.UploadPack else
     if n == 1 then service.ReceivePack else service.UploadArchive
@@ -41,9 +41,9 @@ abbrev pub family_numbered : ℕ → AddressFamily
 family_numbered n = if n == 0 then family.Any else
     if n == 4 then family.V4 else family.V6
 
--- the request that is given
-abbrev pub request_given : GivenRequest → Request
-request_given r = record {
+-- the request with these numbers
+abbrev pub request_passed : RequestBytes → Request
+request_passed r = record {
   service = service_numbered r.service;
   program = present r.has_program r.program.now;
   variant = variant_numbered r.variant;
@@ -51,15 +51,15 @@ request_given r = record {
   family = family_numbered r.family;
 }
 
--- the number is that of no family
+-- no version of IP has the number
 abbrev pub IsNoFamily : ℕ → Type 0
 IsNoFamily n = (¬ (n ≡ 0)) × (¬ (n ≡ 4)) × (¬ (n ≡ 6))
 
--- a number of what is given stands for nothing
-abbrev pub IsNoRequest : GivenRequest → Type 0
+-- a number of the request has no meaning
+abbrev pub IsNoRequest : RequestBytes → Type 0
 IsNoRequest r = (2 < r.service) ⊎ ((4 < r.variant) ⊎ ((2 < r.version) ⊎ IsNoFamily r.family))
 
--- ---- what is reported
+-- ---- the result
 
 -- the number of a reason why there is no command: its place in the order of the header
 abbrev pub refusal_number : SshRefusal → ℕ
@@ -90,7 +90,7 @@ version_number version.V0 = 0
 version_number version.V1 = 1
 version_number version.V2 = 2
 
--- the version that the variable of a command is to have, or 0
+-- the version for the environment variable of a command, or 0
 abbrev pub variable_number : Command → ℕ
 variable_number c = if is_some (command_variable c) then version_number c.request.version else 0
 
@@ -103,24 +103,24 @@ word_numbers c = record {
   bytes = length (concat (command_words c));
 }
 
--- the words of a command are put
+-- the words of a command are copied
 abbrev pub PutsWords : Command → WordNumbers → List ℕ → List ℕ → List ℕ → List ℕ → ℕ → Type 0
-PutsWords c made old new old_lengths new_lengths code = (made ≡ word_numbers c)
+PutsWords c built old new old_lengths new_lengths code = (built ≡ word_numbers c)
     × PutsBoth (concat (command_words c)) (map length (command_words c)) old new old_lengths new_lengths code
 
 -- the location has no command, for this reason
 abbrev pub ReportsRefusal : Request → Location → WordNumbers → List ℕ → List ℕ → List ℕ → List ℕ → ℕ → Type 0
-ReportsRefusal r v made old new old_lengths new_lengths code = (why : SshRefusal) × (ssh_refusal r v ≡ Some why)
-    × (made ≡ refused_numbers why) × (new ≡ old) × (new_lengths ≡ old_lengths) × (code ≡ ok)
+ReportsRefusal r v built old new old_lengths new_lengths code = (why : SshRefusal) × (ssh_refusal r v ≡ Some why)
+    × (built ≡ refused_numbers why) × (new ≡ old) × (new_lengths ≡ old_lengths) × (code ≡ ok)
 
--- the command is the location's own, for what is asked for
+-- the command is the location's own, for the request
 pub record IsCommandFor (v : Location) (r : Request) (c : Command) : Type 0 where
-  pub made : ssh_refusal r v ≡ None
+  pub built : ssh_refusal r v ≡ None
   pub own : IsOwn v c
   pub asked : c.request ≡ r
   pub safe : IsSafeCommand c
 
 -- the words for the location are reported, or why there are none
 abbrev pub ReportsWords : Location → Request → WordNumbers → List ℕ → List ℕ → List ℕ → List ℕ → ℕ → Type 0
-ReportsWords v r made old new old_lengths new_lengths code = ReportsRefusal r v made old new old_lengths new_lengths code
-    ⊎ ((c : Command) × IsCommandFor v r c × PutsWords c made old new old_lengths new_lengths code)
+ReportsWords v r built old new old_lengths new_lengths code = ReportsRefusal r v built old new old_lengths new_lengths code
+    ⊎ ((c : Command) × IsCommandFor v r c × PutsWords c built old new old_lengths new_lengths code)

@@ -1,7 +1,4 @@
-//! The numbers that C gets for what a call returns.
-//!
-//! It uses the library's errors and refusals alone. Its contract: the numbers are those of the definitions,
-//! which the header repeats; what is reported of an error of reading is that of the refusal of the text.
+//! The numbers that C gets for results, errors and refusals. The header repeats them.
 
 ghost use Rattle.std.specs.Prelude.{◌≡◌};
 ghost use Rattle.git_refusals.specs.Kinds.{kind_of};
@@ -14,33 +11,33 @@ use gix_url::parse::UrlKind;
 use gix_url::unambiguous::Condition;
 use gix_url::{Error, Reason, Refusal, RefusalKind, UrlFault, WriteFault};
 
-/// The call was answered.
+/// The call succeeded.
 pub const OK: u32 = 0;
 /// Memory was refused.
 pub const MEMORY: u32 = 1;
 /// The location has no text.
 pub const UNWRITABLE: u32 = 8;
-/// What was given is no location.
+/// The parts aren't a location.
 pub const NO_LOCATION: u32 = 101;
-/// The answer doesn't fit into the room.
+/// The result doesn't fit in the buffer.
 pub const NO_ROOM: u32 = 102;
 
-/// What is reported of an error beside its number.
+/// What is reported about an error, apart from its number.
 #[repr(C)]
 #[derive(Drop)]
 pub struct Problem {
-    /// The form that a text was taken for: 1 a URL, 2 the scp form, 3 a local path; 0 where none is reported.
+    /// The form in which the text is refused: 1 a URL, 2 the scp form, 3 a local path; otherwise 0.
     pub kind: u8,
-    /// The fault of a URL, or the fault of writing: 1 to 4; 0 where none is reported.
+    /// The fault of a URL or of writing: 1 to 4; otherwise 0.
     pub fault: u8,
-    /// The reason for which a text is refused: 1 to 28, in the order of [`gix_url::Reason`]; 0 where the error
-    /// is none of reading.
+    /// The reason for which the text is refused: 1 to 28, in the order of [`gix_url::Reason`]; 0 if the error is not
+    /// about reading.
     pub reason: u8,
-    /// Of a text that is too long, the length of the front that is shown.
+    /// The length of the front that an error about a long text shows, in bytes; otherwise 0.
     pub shown: usize,
-    /// Of a text that is too long, its length.
+    /// The length of that text, in bytes; otherwise 0.
     pub total: usize,
-    /// How many bytes of a refused text are before the flaw.
+    /// The place of the flaw in the refused text: how many bytes are before it.
     pub at: usize,
     /// The length of the flaw, in bytes.
     pub len: usize,
@@ -65,7 +62,7 @@ pub(crate) fn error_code(error: &Error) -> u32
     }
 }
 
-/// What is reported of an error: of one of reading, where and why its text is refused.
+/// What is reported about an error. An error about reading has the reason and the place of the flaw.
 pub(crate) fn problem_of(error: &Error) -> Problem
     ensures { Tells error.now result }
 {
@@ -75,7 +72,7 @@ pub(crate) fn problem_of(error: &Error) -> Problem
     }
 }
 
-/// What is reported of an error that is none of reading.
+/// What is reported about an error that is not about reading.
 fn problem_of_other(error: &Error) -> Problem
     ensures { result ≡ problem_of_other error.now }
 {
@@ -95,7 +92,7 @@ fn shown_of(error: &Error) -> usize
     }
 }
 
-/// The length of a text that is too long.
+/// The length of a text that is too long, or 0.
 fn total_of(error: &Error) -> usize
     ensures { result ≡ error_total error.now }
 {
@@ -105,7 +102,7 @@ fn total_of(error: &Error) -> usize
     }
 }
 
-/// The number of a refusal: that of the error which it becomes where the text is copied.
+/// The number of a refusal, which is that of its error.
 pub(crate) fn refusal_code(refusal: &Refusal) -> u32
     ensures { result ≡ refusal_code refusal.now }
 {
@@ -118,7 +115,7 @@ pub(crate) fn refusal_code(refusal: &Refusal) -> u32
     }
 }
 
-/// What is reported of the refusal of a text.
+/// What is reported about the refusal of a text.
 pub(crate) fn problem_of_refusal(text: &[u8], refusal: &Refusal) -> Problem
     requires { Refused text.now refusal.now }
     ensures { result ≡ problem_of_refusal text.now refusal.now }
@@ -129,7 +126,7 @@ pub(crate) fn problem_of_refusal(text: &[u8], refusal: &Refusal) -> Problem
     }
 }
 
-/// What is reported of a refusal, with these lengths of the front and of the text.
+/// What is reported about a refusal, with these lengths of the front and the text.
 fn told(refusal: &Refusal, shown: usize, total: usize) -> Problem
     ensures { result ≡ refusal_problem refusal.now shown total }
 {
@@ -144,7 +141,7 @@ fn told(refusal: &Refusal, shown: usize, total: usize) -> Problem
     }
 }
 
-/// What is reported where the number says all.
+/// What is reported about an error that is only a number.
 pub(crate) fn no_problem() -> Problem
     ensures { result ≡ no_problem }
 {
@@ -159,7 +156,7 @@ pub(crate) fn no_problem() -> Problem
     }
 }
 
-/// What is reported of a location without a text.
+/// What is reported about a location without a text.
 pub(crate) fn unwritable(fault: WriteFault) -> Problem
     ensures { result ≡ write_problem fault }
 {
@@ -169,7 +166,7 @@ pub(crate) fn unwritable(fault: WriteFault) -> Problem
     }
 }
 
-/// The number of the form that a refusal reports, or 0.
+/// The number of the form in which a text is refused, or 0.
 fn kind_told(refusal: &Refusal) -> u8
     ensures { result ≡ kind_told refusal.now.form (kind_of refusal.now.reason) }
 {
@@ -181,7 +178,7 @@ fn kind_told(refusal: &Refusal) -> u8
     }
 }
 
-/// The number of the fault that a refusal reports, or 0.
+/// The number of the fault for which a URL is refused, or 0.
 fn fault_told(refusal: &Refusal) -> u8
     ensures { result ≡ fault_told (kind_of refusal.now.reason) }
 {
@@ -227,7 +224,7 @@ pub(crate) fn reason_number(reason: Reason) -> u8
     }
 }
 
-/// The number of the first condition that a location doesn't meet, or 0 where it meets all.
+/// The number of the first condition that a location doesn't meet, or 0 if it meets all.
 pub(crate) fn condition_reported(unmet: Option<Condition>) -> u8
     ensures { result ≡ condition_reported unmet }
 {

@@ -1,20 +1,17 @@
-//! The export that takes the path of a location apart: path, query and fragment.
-//!
-//! It uses `given`. Its contract: what is reported are the components of the location. With an error the room
-//! and the lengths are as they were, and the numbers are, except with 102.
+//! The export that splits the path of a location into path, query and fragment.
 
 ghost use Rattle.std.specs.Prelude.{◌≡◌, ◌++◌, IfOk, OnOk, length, map, option_map};
 ghost use Rattle.bstr.specs.BStr.{bstr_bytes};
 ghost use Rattle.gix_url.specs.ComponentViews.{components, pair_bytes};
 ghost use Rattle.gix_url_c.specs.Codes.{UnlessMemory, UnlessNone};
-ghost use Rattle.gix_url_c.specs.Given.{IsNone, location_of};
-ghost use Rattle.gix_url_c.specs.Handed.{is_there, or_nothing};
-ghost use Rattle.gix_url_c.specs.Left.{LeavesLengths, LeavesRoom};
+ghost use Rattle.gix_url_c.specs.Input.{IsNone, location_of};
+ghost use Rattle.gix_url_c.specs.Output.{is_there, or_nothing};
+ghost use Rattle.gix_url_c.specs.Left.{LeavesLengths, LeavesBuffer};
 ghost use Rattle.gix_url_c.specs.ComponentNumbers.{ReportsComponents, component_bytes, joined_pair, joined_pairs, lengths_of_pair, pair_lengths, pairs_of, component_numbers};
 
+use crate::buffer::put_both;
 use crate::codes::{MEMORY, NO_LOCATION};
-use crate::given::{Given, location_of};
-use crate::room::put_both;
+use crate::input::{PartBytes, location_of};
 use gix_url::{PathComponents, QueryText, UrlRef};
 use std::alloc::{AllocError, Global};
 
@@ -30,49 +27,49 @@ pub struct ComponentNumbers {
     pub path: usize,
     /// The length of the fragment.
     pub fragment: usize,
-    /// How many names with their values the query has.
+    /// The number of pairs of the query: a name and its value.
     pub pairs: usize,
-    /// The length of all: the path, the fragment, and each name with its value.
+    /// The length of all components together: path, fragment, names and values.
     pub bytes: usize,
 }
 
-/// Puts the components into the room, the path first, then the fragment, then each name with its value, and
-/// the lengths of names and values in turn into `lengths`: [`gix_url::UrlRef::path_query_fragment`].
+/// Copies the components of the path to the buffer: the path, the fragment, and then each name and its value. The
+/// lengths of names and values, in turn, go to `lengths`. See [`gix_url::UrlRef::path_query_fragment`].
 ///
-/// It answers 0; 1 where memory is refused; 101 where the parts are none of a location; 102 where the bytes
-/// or the lengths don't fit, whose numbers are reported.
+/// Returns 0; 1 if memory is refused; 101 if the parts aren't a location; 102 if the bytes or the lengths don't fit.
+/// With 102 the numbers are reported.
 #[unsafe(no_mangle)]
 pub extern "C" fn gix_url_c_components(
     alloc: Global,
-    given: &Given<'_>,
+    passed: &PartBytes<'_>,
     reported: &mut ComponentNumbers,
-    room: &mut [u8],
+    buffer: &mut [u8],
     lengths: &mut [usize],
 ) -> u32
-    ensures reported { UnlessNone result (IsNone given.now)
+    ensures reported { UnlessNone result (IsNone passed.now)
         (UnlessMemory result
-        (ReportsComponents (location_of given.now) reported.new room.old room.new lengths.old lengths.new result)) }
-    ensures room { LeavesRoom result room.old room.new }
-    ensures lengths { LeavesRoom result lengths.old lengths.new }
+        (ReportsComponents (location_of passed.now) reported.new buffer.old buffer.new lengths.old lengths.new result)) }
+    ensures buffer { LeavesBuffer result buffer.old buffer.new }
+    ensures lengths { LeavesBuffer result lengths.old lengths.new }
     ensures numbers { LeavesLengths result reported.old reported.new }
 {
-    match location_of(given) {
-        Some(url) => part(alloc, &url, reported, room, lengths),
+    match location_of(passed) {
+        Some(url) => part(alloc, &url, reported, buffer, lengths),
         None => NO_LOCATION,
     }
 }
 
-/// Tells the components of the location.
+/// Copies and reports the components of the location.
 fn part(
     alloc: Global,
     url: &UrlRef<'_>,
     reported: &mut ComponentNumbers,
-    room: &mut [u8],
+    buffer: &mut [u8],
     lengths: &mut [usize],
 ) -> u32
-    ensures reported { UnlessMemory result (ReportsComponents url.now reported.new room.old room.new lengths.old lengths.new result) }
-    ensures room { LeavesRoom result room.old room.new }
-    ensures lengths { LeavesRoom result lengths.old lengths.new }
+    ensures reported { UnlessMemory result (ReportsComponents url.now reported.new buffer.old buffer.new lengths.old lengths.new result) }
+    ensures buffer { LeavesBuffer result buffer.old buffer.new }
+    ensures lengths { LeavesBuffer result lengths.old lengths.new }
     ensures numbers { LeavesLengths result reported.old reported.new }
 {
     let Ok(parts) = PathComponents::of(alloc, url) else {
@@ -85,10 +82,10 @@ fn part(
         return MEMORY;
     };
     *reported = sizes_of(&parts, bytes.len());
-    put_both(bytes.as_slice(), measured.as_slice(), room, lengths)
+    put_both(bytes.as_slice(), measured.as_slice(), buffer, lengths)
 }
 
-/// The names and values of the query, or none.
+/// The names and values of the query; empty without a query.
 fn pairs<'a, 'b>(parts: &'b PathComponents<'a>) -> &'b [(QueryText<'a>, QueryText<'a>)]
     ensures { map pair_bytes result.now ≡ pairs_of (components parts.now).query }
 {
@@ -98,7 +95,7 @@ fn pairs<'a, 'b>(parts: &'b PathComponents<'a>) -> &'b [(QueryText<'a>, QueryTex
     }
 }
 
-/// The fragment, or nothing.
+/// The fragment, or an empty one.
 fn fragment<'a>(parts: &PathComponents<'a>) -> &'a [u8]
     ensures { result.now ≡ or_nothing (option_map bstr_bytes parts.now.fragment) }
 {
@@ -108,7 +105,7 @@ fn fragment<'a>(parts: &PathComponents<'a>) -> &'a [u8]
     }
 }
 
-/// The bytes of the path, of the fragment, and of names and values.
+/// The bytes of the path, the fragment, and all names and values.
 fn join_bytes(alloc: Global, parts: &PathComponents<'_>) -> Result<Vec<u8>, AllocError>
     ensures { IfOk result (λ bytes. bytes.items ≡ component_bytes (components parts.now)) }
 {
@@ -118,7 +115,7 @@ fn join_bytes(alloc: Global, parts: &PathComponents<'_>) -> Result<Vec<u8>, Allo
     Ok(bytes)
 }
 
-/// Appends each name with its value.
+/// Appends each name and its value.
 #[tactic(auto, using(crate::proofs::ComponentLemmas::joined_more))]
 fn append_pairs(
     bytes: &mut Vec<u8>,
@@ -140,7 +137,7 @@ fn append_pair(bytes: &mut Vec<u8>, pair: &(QueryText<'_>, QueryText<'_>)) -> Re
     bytes.extend_from_slice(pair.1.as_bstr().as_bytes())
 }
 
-/// The lengths of names and values in turn.
+/// The lengths of names and values, in turn.
 #[tactic(auto, using(crate::proofs::ComponentLemmas::lengths_more))]
 fn lengths_of(
     alloc: Global,

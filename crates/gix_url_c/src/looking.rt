@@ -1,55 +1,51 @@
-//! The export that looks at a location: what its parts are to a command line, its original path and its port.
-//!
-//! It uses `given`. Its contract: what is reported is what the library's calls return; with an error the
-//! answer is as it was.
+//! The export for what a command line needs to know of a location, its original path and its port.
 
 ghost use Rattle.std.specs.Prelude.{◌≡◌, ◌↔◌, IsTrue, if◌then◌else◌};
 ghost use Rattle.gix_url.specs.Views.{judgement};
 ghost use Rattle.gix_url.specs.Text.{original_path};
 ghost use Rattle.gix_url_c.specs.Codes.{UnlessNone, memory, ok};
-ghost use Rattle.gix_url_c.specs.Given.{IsNone, location_of};
-ghost use Rattle.gix_url_c.specs.Handed.{or_nothing};
-ghost use Rattle.gix_url_c.specs.Left.{LeavesRoom};
-ghost use Rattle.gix_url_c.specs.Looks.{Looks, judgement_number};
+ghost use Rattle.gix_url_c.specs.Input.{IsNone, location_of};
+ghost use Rattle.gix_url_c.specs.Output.{or_nothing};
+ghost use Rattle.gix_url_c.specs.Left.{LeavesBuffer};
+ghost use Rattle.gix_url_c.specs.Looks.{Looks, ReportsSpelling, judgement_number};
 
 use crate::codes::{NO_LOCATION, OK};
-use crate::given::{Given, location_of};
+use crate::input::{PartBytes, location_of};
 use gix_url::{ArgumentSafety, UrlRef};
 
-/// What is seen of a location.
+/// What a command line needs to know of a location, its original path and its port.
 #[repr(C)]
 #[derive(Clone, Copy)]
 pub struct Seen {
-    /// The user as an argument of a command: 0 there is none, 1 it may be passed, 2 it may be taken for an
-    /// option.
+    /// The user as an argument of a command: 0 there is none, 1 it is safe, 2 a program may take it for an option.
     pub user: u8,
-    /// The host as an argument of a command, by the same numbers.
+    /// The host as an argument of a command, with the same numbers.
     pub host: u8,
-    /// Whether the path may be passed to a command.
+    /// Whether the path is safe as an argument of a command.
     pub path: bool,
     /// Whether the path is `/`.
     pub is_root: bool,
     /// Whether the original path is the retained spelling; else it is the path.
     pub is_spelled: bool,
-    /// Whether there is a port, or one that the scheme stands for.
+    /// Whether the location has a port, or its scheme a default port.
     pub has_port: bool,
     /// That port, if there is one.
     pub port: u16,
 }
 
-/// Looks at the location: [`gix_url::UrlRef::user_as_argument`], [`gix_url::UrlRef::host_as_argument`],
+/// Reports the results of [`gix_url::UrlRef::user_as_argument`], [`gix_url::UrlRef::host_as_argument`],
 /// [`gix_url::UrlRef::path_argument_safe`], [`gix_url::UrlRef::path_is_root`],
 /// [`gix_url::UrlRef::original_path`] and [`gix_url::UrlRef::port_or_default`].
 ///
-/// It answers 0, or 101 where the parts are none of a location. It takes no memory.
+/// Returns 0, or 101 if the parts aren't a location.
 #[unsafe(no_mangle)]
-pub extern "C" fn gix_url_c_look(given: &Given<'_>, seen: &mut Seen) -> u32
-    ensures reported { UnlessNone result (IsNone given.now)
-        ((result ≡ ok) × Looks (location_of given.now) seen.new) }
-    ensures left { LeavesRoom result seen.old seen.new }
+pub extern "C" fn gix_url_c_look(passed: &PartBytes<'_>, seen: &mut Seen) -> u32
+    ensures reported { UnlessNone result (IsNone passed.now)
+        ((result ≡ ok) × Looks (location_of passed.now) seen.new) }
+    ensures left { LeavesBuffer result seen.old seen.new }
     ensures no_memory { ¬ (result ≡ memory) }
 {
-    match location_of(given) {
+    match location_of(passed) {
         Some(url) => {
             *seen = look(&url);
             OK
@@ -58,7 +54,7 @@ pub extern "C" fn gix_url_c_look(given: &Given<'_>, seen: &mut Seen) -> u32
     }
 }
 
-/// What is seen of the location.
+/// The results for the location.
 fn look(url: &UrlRef<'_>) -> Seen
     ensures { Looks url.now result }
 {
@@ -76,7 +72,9 @@ fn look(url: &UrlRef<'_>) -> Seen
 
 /// Whether the original path is the retained spelling.
 fn shows_spelling(url: &UrlRef<'_>) -> bool
-    ensures { original_path url.now ≡ (if result then or_nothing url.now.spelling else url.now.path) }
+    ensures original { original_path url.now
+        ≡ (if result then or_nothing url.now.spelling else url.now.path) }
+    ensures spelled { ReportsSpelling url.now result }
 {
     match url.spelling {
         None => false,
@@ -84,7 +82,7 @@ fn shows_spelling(url: &UrlRef<'_>) -> bool
     }
 }
 
-/// The number of what a part is to a command line.
+/// The number that says whether a part is safe as an argument.
 fn judgement_number(part: ArgumentSafety<'_>) -> u8
     ensures { result ≡ judgement_number (judgement part.entry) }
 {

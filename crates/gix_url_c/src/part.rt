@@ -1,9 +1,7 @@
-//! The exports over one part of a location, for what no other part has a say in: what a text or a path is to
-//! a command line, whether a path is `/`, whether a spelling stands for it, and which port a scheme stands
-//! for.
+//! The exports for one part of a location: whether a text or a path is safe as an argument, whether a path is `/`,
+//! whether a spelling represents it, and the default port of a scheme.
 //!
-//! They use borrowed locations that have this part alone. Their contracts: what is answered is what the
-//! library's definitions say of the part. Any part will do, so there is no error; and they take no memory.
+//! Each is a call on a location that has this part alone. Any part is accepted, so there is no error.
 
 ghost use Rattle.std.specs.Prelude.{◌≡◌, ◌==◌, Some, None, [], ◌∷◌, bytes_eq, if◌then◌else◌, option_map};
 ghost use Rattle.std.specs.Option.{option_or};
@@ -11,7 +9,7 @@ ghost use Rattle.gix_url.specs.Arguments.{is_path_argument, judgement_of};
 ghost use Rattle.gix_url.specs.Bytes.{slash};
 ghost use Rattle.gix_url.specs.Schemes.{default_port_of};
 ghost use Rattle.gix_url.specs.Text.{matching_or};
-ghost use Rattle.gix_url_c.specs.Given.{present, scheme_numbered};
+ghost use Rattle.gix_url_c.specs.Input.{present, scheme_numbered};
 ghost use Rattle.gix_url_c.specs.Looks.{judgement_number, port_number, truth};
 
 use gix_url::{SchemeRef, UrlRef};
@@ -19,7 +17,7 @@ use gix_url::{SchemeRef, UrlRef};
 /// No port.
 const NO_PORT: u32 = 65_536;
 
-/// What a user or a host is to a command line: 0 there is none, 1 it may be passed, 2 it may be taken
+/// Whether a user or a host is safe as an argument of a command: 0 there is none, 1 it is safe, 2 a program may take it
 /// for an option.
 #[unsafe(no_mangle)]
 pub extern "C" fn gix_url_c_argument(is_there: bool, text: &[u8]) -> u32
@@ -34,7 +32,7 @@ pub extern "C" fn gix_url_c_argument(is_there: bool, text: &[u8]) -> u32
     }
 }
 
-/// Whether a path may be passed to a command, 1 or 0: [`gix_url::UrlRef::path_argument_safe`].
+/// Whether a path is safe as an argument of a command, 1 or 0: [`gix_url::UrlRef::path_argument_safe`].
 #[unsafe(no_mangle)]
 pub extern "C" fn gix_url_c_path_argument(path: &[u8]) -> u32
     ensures { result ≡ truth (is_path_argument path.now) }
@@ -50,16 +48,18 @@ pub extern "C" fn gix_url_c_path_is_root(path: &[u8]) -> u32
     truth(with_path(path, None).path_is_root())
 }
 
-/// Whether the original path is the spelling, 1; else it is the path, 0: [`gix_url::UrlRef::original_path`].
+/// 1 if the original path is the spelling, 0 if it is the path: [`gix_url::UrlRef::original_path`].
 #[unsafe(no_mangle)]
 pub extern "C" fn gix_url_c_is_spelled(path: &[u8], spelling: &[u8]) -> u32
-    ensures { matching_or (Some spelling.now) path.now path.now
+    ensures original { matching_or (Some spelling.now) path.now path.now
         ≡ (if result == 1 then spelling.now else path.now) }
+    ensures spelled { result
+        ≡ truth (bytes_eq (matching_or (Some spelling.now) path.now path.now) spelling.now) }
 {
     truth(with_path(path, Some(spelling)).original_path().as_bytes() == spelling)
 }
 
-/// The port, or else the one that the scheme of this number stands for; 65,536 where there is none:
+/// The port, or the default port of the scheme with this number; 65,536 if there is neither:
 /// [`gix_url::UrlRef::port_or_default`].
 #[unsafe(no_mangle)]
 pub extern "C" fn gix_url_c_port_or_default(scheme: u8, has_port: bool, port: u16) -> u32
@@ -75,7 +75,7 @@ pub extern "C" fn gix_url_c_port_or_default(scheme: u8, has_port: bool, port: u1
     }
 }
 
-/// The port that the scheme of this number stands for. One that holds a name stands for none.
+/// The default port of the scheme with this number. A scheme that has a name has none.
 fn default_port(scheme: u8) -> Option<u16>
     ensures { result ≡ default_port_of (scheme_numbered scheme []) }
 {
@@ -88,7 +88,7 @@ fn default_port(scheme: u8) -> Option<u16>
     }
 }
 
-/// A location with this path and this spelling of it, and no other part.
+/// A location with this path and spelling, and no other part.
 #[inline(always)]
 fn with_path<'a>(path: &'a [u8], spelling: Option<&'a [u8]>) -> UrlRef<'a>
     ensures path { result.path ≡ path.now }
@@ -106,7 +106,7 @@ fn with_path<'a>(path: &'a [u8], spelling: Option<&'a [u8]>) -> UrlRef<'a>
     }
 }
 
-/// A truth as a number.
+/// 1 for true, 0 for false.
 fn truth(holds: bool) -> u32
     ensures { result ≡ truth holds }
 {

@@ -1,55 +1,53 @@
-//! The exports that make a location: of bytes that are read, and of parts.
+//! The exports that return a location: one reads bytes, the other builds it from parts.
 //!
-//! They use `given`, `handed` and the reader that takes no memory. Their contracts: what is reported is what
-//! the library's call returns. With an error the room is as it was, and the numbers are, except with 102; the
-//! problem is that of the error, and all 0 where there is none.
+//! With 102 only the numbers are reported. The problem is that of the error, and all 0 if the error has none.
 
 ghost use Rattle.std.specs.Prelude.{◌≡◌, ◌≤◌, ◌⊎◌, Err, IfOk, [], length, option_map, string_bytes};
 ghost use Rattle.gix_url.specs.FromParts.{MadeOf};
 ghost use Rattle.gix_url.specs.Location.{fields};
 ghost use Rattle.gix_url.specs.Views.{lent_scheme, owned_scheme};
-ghost use Rattle.gix_url_c.specs.Answers.{Reports, ReportsMade, ReportsRead};
+ghost use Rattle.gix_url_c.specs.Answers.{Reports, ReportsBuilt, ReportsRead};
 ghost use Rattle.gix_url_c.specs.Codes.{UnlessMemory, UnlessNone, memory, no_problem};
-ghost use Rattle.gix_url_c.specs.Given.{IsNone, location_of};
-ghost use Rattle.gix_url_c.specs.Left.{LeavesLengths, LeavesProblem, LeavesRoom};
+ghost use Rattle.gix_url_c.specs.Input.{IsNone, location_of};
+ghost use Rattle.gix_url_c.specs.Left.{LeavesLengths, LeavesProblem, LeavesBuffer};
 
 use crate::codes::{
     MEMORY, NO_LOCATION, NO_ROOM, Problem, error_code, no_problem, problem_of, problem_of_refusal,
     refusal_code,
 };
-use crate::given::{Given, location_of};
-use crate::handed::{Made, put_location};
+use crate::input::{PartBytes, location_of};
+use crate::output::{PartLengths, put_location};
 use bstr::BString;
 use gix_url::{Error, ParseError, Scheme, SchemeRef, Url, UrlRef};
 use std::alloc::{AllocError, Global};
 
-/// How long a text is at most that is read without memory.
+/// The length of the longest text that is read without an allocation.
 const NEAR: usize = 256;
 
-/// Reads the one location that the bytes spell, and hands it out: [`gix_url::UrlRef::parse_in`]. Memory is
-/// only taken where the text is longer than 256 bytes.
+/// Reads the location that the bytes spell, by [`gix_url::UrlRef::parse_in`], and copies its parts to the buffer. It
+/// allocates only if there are more than 256 bytes.
 ///
-/// It answers 0, or why there is no location: 1 to 6, with what is reported of it. 102 says that there is a
-/// location, and that its parts don't fit into the room; their lengths are reported.
+/// Returns 0; 1 if memory is refused; 2 to 6 if the bytes spell no location, with the problem; 102 if they spell one
+/// and its parts don't fit in the buffer, with their lengths.
 #[unsafe(no_mangle)]
 pub extern "C" fn gix_url_c_read(
     alloc: Global,
     input: &[u8],
-    made: &mut Made,
-    room: &mut [u8],
+    built: &mut PartLengths,
+    buffer: &mut [u8],
     reported: &mut Problem,
 ) -> u32
-    ensures reported { UnlessMemory result (ReportsRead input.now made.new room.old room.new reported.new result) }
+    ensures reported { UnlessMemory result (ReportsRead input.now built.new buffer.old buffer.new reported.new result) }
     ensures near { length input.now ≤ 256 → ¬ (result ≡ memory) }
-    ensures room { LeavesRoom result room.old room.new }
-    ensures lengths { LeavesLengths result made.old made.new }
+    ensures buffer { LeavesBuffer result buffer.old buffer.new }
+    ensures lengths { LeavesLengths result built.old built.new }
     ensures problem { LeavesProblem result no_problem reported.new }
 {
     if input.len() <= NEAR {
-        return read_in(input, &mut [0; NEAR], made, room, reported);
+        return read_in(input, &mut [0; NEAR], built, buffer, reported);
     }
     match vec![in alloc; 0u8; input.len()] {
-        Ok(mut buffer) => read_in(input, buffer.as_mut_slice(), made, room, reported),
+        Ok(mut scratch) => read_in(input, scratch.as_mut_slice(), built, buffer, reported),
         Err(_) => {
             *reported = no_problem();
             MEMORY
@@ -57,25 +55,25 @@ pub extern "C" fn gix_url_c_read(
     }
 }
 
-/// Reads the bytes into a buffer that is long enough, and hands the location out.
+/// Reads the bytes with a scratch buffer that is long enough, and copies the parts of the location to the buffer.
 fn read_in(
     input: &[u8],
+    scratch: &mut [u8],
+    built: &mut PartLengths,
     buffer: &mut [u8],
-    made: &mut Made,
-    room: &mut [u8],
     reported: &mut Problem,
 ) -> u32
-    requires { length input.now ≤ length buffer.old }
-    ensures reported { ReportsRead input.now made.new room.old room.new reported.new result }
-    ensures room { LeavesRoom result room.old room.new }
-    ensures lengths { LeavesLengths result made.old made.new }
+    requires { length input.now ≤ length scratch.old }
+    ensures reported { ReportsRead input.now built.new buffer.old buffer.new reported.new result }
+    ensures buffer { LeavesBuffer result buffer.old buffer.new }
+    ensures lengths { LeavesLengths result built.old built.new }
     ensures problem { LeavesProblem result no_problem reported.new }
     ensures no_memory { ¬ (result ≡ memory) }
 {
     *reported = no_problem();
-    match UrlRef::parse_in(input, buffer) {
-        Ok(url) => put_location(&url, made, room),
-        // The buffer is long enough.
+    match UrlRef::parse_in(input, scratch) {
+        Ok(url) => put_location(&url, built, buffer),
+        // The scratch buffer is long enough.
         Err(ParseError::NoRoom) => NO_ROOM,
         Err(ParseError::Refused(refusal)) => {
             *reported = problem_of_refusal(input, &refusal);
@@ -84,29 +82,29 @@ fn read_in(
     }
 }
 
-/// Makes the location that the text of these parts means, and hands it out: [`gix_url::Url::from_parts`]. The
-/// spelling is not looked at.
+/// Writes the text of these parts and reads it again, by [`gix_url::Url::from_parts`], and copies the parts of the
+/// location to the buffer. The spelling is ignored.
 ///
-/// It answers 0, or why there is no location: 1 to 8, with what is reported of it, whose place is in the text
-/// of the parts; 101 where the parts are none. 102 says that there is a location, and that its parts don't fit
-/// into the room; their lengths are reported.
+/// Returns 0; 1 if memory is refused; 2 to 8 if there is no location, with the problem, whose place is in the text of
+/// the parts; 101 if the parts aren't a location; 102 if the parts of the result don't fit in the buffer, with their
+/// lengths.
 #[unsafe(no_mangle)]
 pub extern "C" fn gix_url_c_from_parts(
     alloc: Global,
-    given: &Given<'_>,
-    made: &mut Made,
-    room: &mut [u8],
+    passed: &PartBytes<'_>,
+    built: &mut PartLengths,
+    buffer: &mut [u8],
     reported: &mut Problem,
 ) -> u32
-    ensures reported { let parts = fields (location_of given.now) in
-        UnlessNone result (IsNone given.now)
-        (UnlessMemory result (ReportsMade parts made.new room.old room.new reported.new result)) }
-    ensures room { LeavesRoom result room.old room.new }
-    ensures lengths { LeavesLengths result made.old made.new }
+    ensures reported { let parts = fields (location_of passed.now) in
+        UnlessNone result (IsNone passed.now)
+        (UnlessMemory result (ReportsBuilt parts built.new buffer.old buffer.new reported.new result)) }
+    ensures buffer { LeavesBuffer result buffer.old buffer.new }
+    ensures lengths { LeavesLengths result built.old built.new }
     ensures problem { LeavesProblem result no_problem reported.new }
 {
-    match location_of(given) {
-        Some(parts) => report(of_parts(alloc, &parts), made, room, reported),
+    match location_of(passed) {
+        Some(parts) => report(of_parts(alloc, &parts), built, buffer, reported),
         None => {
             *reported = no_problem();
             NO_LOCATION
@@ -114,7 +112,7 @@ pub extern "C" fn gix_url_c_from_parts(
     }
 }
 
-/// The location that the text of these parts means; or memory was refused.
+/// The location that the text of these parts spells, or why there is none.
 fn of_parts(alloc: Global, parts: &UrlRef<'_>) -> Result<Url, Error>
     ensures { (result ≡ Err Error.Memory) ⊎ MadeOf (fields parts.now) result }
 {
@@ -146,7 +144,7 @@ fn scheme(alloc: Global, scheme: SchemeRef<'_>) -> Result<Scheme, AllocError>
     }
 }
 
-/// A copy of a text that may be missing.
+/// A copy of the text, if there is one.
 fn text(alloc: Global, part: Option<&str>) -> Result<Option<String>, AllocError>
     ensures { IfOk result (λ copy. option_map string_bytes copy ≡ option_map (λ t. t.now) part.entry) }
 {
@@ -156,22 +154,22 @@ fn text(alloc: Global, part: Option<&str>) -> Result<Option<String>, AllocError>
     }
 }
 
-/// Reports a result: the location, or an error by its numbers.
+/// Reports the location, or the error by its numbers.
 fn report(
     answer: Result<Url, Error>,
-    made: &mut Made,
-    room: &mut [u8],
+    built: &mut PartLengths,
+    buffer: &mut [u8],
     reported: &mut Problem,
 ) -> u32
-    ensures reported { Reports answer made.new room.old room.new reported.new result }
-    ensures room { LeavesRoom result room.old room.new }
-    ensures lengths { LeavesLengths result made.old made.new }
+    ensures reported { Reports answer built.new buffer.old buffer.new reported.new result }
+    ensures buffer { LeavesBuffer result buffer.old buffer.new }
+    ensures lengths { LeavesLengths result built.old built.new }
     ensures problem { LeavesProblem result no_problem reported.new }
 {
     match answer {
         Ok(url) => {
             *reported = no_problem();
-            put_location(&url.as_ref(), made, room)
+            put_location(&url.as_ref(), built, buffer)
         }
         Err(error) => {
             *reported = problem_of(&error);

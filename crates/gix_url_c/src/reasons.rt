@@ -1,46 +1,48 @@
-//! The exports over the table of reasons: a reason's name, and its sentence.
-//!
-//! They use `codes` and `room`. Their contract: what is put into the room is what the library's table has for
-//! the reason of the number; unless it is put there the room is as it was, and the length is 0 where there is
-//! no such reason. They take no memory.
+//! The exports for the table of reasons: the name of a reason, and its sentence.
 
 ghost use Rattle.std.specs.Prelude.{◌≡◌, IfSome, None};
 ghost use Rattle.git_refusals.specs.Words.{reason_name, reason_words};
 ghost use Rattle.gix_url_c.specs.Codes.{IsReason, no_location, reason_number};
-ghost use Rattle.gix_url_c.specs.Left.{LeavesRoom};
+ghost use Rattle.gix_url_c.specs.Left.{LeavesBuffer};
 ghost use Rattle.gix_url_c.specs.ReasonTexts.{PutsReason};
 
+use crate::buffer::put_text;
 use crate::codes::NO_LOCATION;
-use crate::room::put_text;
 use gix_url::Reason;
 
-/// Puts the name of the reason of this number into the room, and reports its length: [`gix_url::Reason::name`].
+/// Copies the name of the reason with this number to the buffer, and reports its length: [`gix_url::Reason::name`].
 ///
-/// It answers 0; 101, and a length of 0, where no reason has this number; 102 where the name doesn't fit.
+/// Returns 0; 101, with the length 0, if no reason has this number; 102 if the name doesn't fit.
 #[unsafe(no_mangle)]
-pub extern "C" fn gix_url_c_reason_name(reason: u8, room: &mut [u8], len: &mut usize) -> u32
-    ensures reported { PutsReason reason_name reason room.old room.new len.new result }
-    ensures room { LeavesRoom result room.old room.new }
+pub extern "C" fn gix_url_c_reason_name(reason: u8, buffer: &mut [u8], len: &mut usize) -> u32
+    ensures reported { PutsReason reason_name reason buffer.old buffer.new len.new result }
+    ensures buffer { LeavesBuffer result buffer.old buffer.new }
 {
     match reason_numbered(reason) {
-        Some(reason) => put_text(reason.name().as_bytes(), room, len),
+        Some(reason) => put_text(reason.name().as_bytes(), buffer, len),
         None => put_nothing(len),
     }
 }
 
-/// The same with the reason in one sentence: [`gix_url::Reason::words`].
+/// Copies the sentence of the reason with this number to the buffer, and reports its length:
+
+/// [`gix_url::Reason::words`].
+
+///
+
+/// Returns what [`gix_url_c_reason_name`] returns.
 #[unsafe(no_mangle)]
-pub extern "C" fn gix_url_c_reason_words(reason: u8, room: &mut [u8], len: &mut usize) -> u32
-    ensures reported { PutsReason reason_words reason room.old room.new len.new result }
-    ensures room { LeavesRoom result room.old room.new }
+pub extern "C" fn gix_url_c_reason_words(reason: u8, buffer: &mut [u8], len: &mut usize) -> u32
+    ensures reported { PutsReason reason_words reason buffer.old buffer.new len.new result }
+    ensures buffer { LeavesBuffer result buffer.old buffer.new }
 {
     match reason_numbered(reason) {
-        Some(reason) => put_text(reason.words().as_bytes(), room, len),
+        Some(reason) => put_text(reason.words().as_bytes(), buffer, len),
         None => put_nothing(len),
     }
 }
 
-/// Answers that nothing has the number.
+/// Reports that nothing has the number.
 pub(crate) fn put_nothing(len: &mut usize) -> u32
     ensures code { result ≡ no_location }
     ensures length { len.new ≡ 0 }
@@ -49,7 +51,7 @@ pub(crate) fn put_nothing(len: &mut usize) -> u32
     NO_LOCATION
 }
 
-/// The reason of this number.
+/// The reason with this number.
 fn reason_numbered(number: u8) -> Option<Reason>
     ensures found { IfSome result (λ reason. reason_number reason ≡ number) }
     ensures none { result ≡ None → ¬ IsReason number }

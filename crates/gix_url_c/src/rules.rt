@@ -1,9 +1,9 @@
-//! The exports over a configuration, and over texts that Git reads: `git_rules`, `git_modules`, `git_audit`
-//! and `git_reads` for C.
+//! The exports over a configuration, and over texts that Git reads: `git_rules`, `git_modules`, `git_audit` and
+//! `git_reads` for C.
 //!
-//! A configuration is a slice of entries ([`entries::GivenEntry`]), all of them the caller's. A call copies
-//! them into the library's own form, makes one call of the library, and reports its result by numbers and
-//! bytes. What Git stops at is reported by its place ([`stops::Stop`]).
+//! A configuration is a slice of entries ([`entries::EntryBytes`]). An export copies them into an array of the
+//! library's entries, makes one call of the library, and reports the result by numbers and bytes. If Git stops at an
+//! entry, the place of the entry is reported ([`stops::Stop`]).
 
 pub mod commands;
 pub mod config;

@@ -1,38 +1,36 @@
-//! The exports that look at the text of a location: whether it is settled, whether Git reads the same in it,
-//! why other readers may not, the text, and what is shown of it.
+//! The exports for the text of a location: whether it is settled, whether Git reads the same fields in it, the first
+//! condition that it doesn't meet, the text, and the text as it is displayed.
 //!
-//! They use `given` and `room`. Their contracts: what is reported is what the library's call returns. With an
-//! error the room and the answer are as they were, and the length is, except with 102; the problem is the
-//! fault with 8, and else all 0.
+//! With 102 only the length is reported. The problem is the fault with 8, and otherwise all 0.
 
 ghost use Rattle.std.specs.Prelude.{◌≡◌, if◌then◌else◌, nat_lt};
 ghost use Rattle.gix_url.specs.Text.{text};
 ghost use Rattle.gix_url_c.specs.Answers.{ReportsAgreement, ReportsCondition, ReportsDisplay, ReportsSettled, ReportsText, reported_length};
 ghost use Rattle.gix_url_c.specs.Codes.{UnlessMemory, UnlessNone, memory, no_problem, no_room, ok};
-ghost use Rattle.gix_url_c.specs.Given.{IsNone, location_of};
-ghost use Rattle.gix_url_c.specs.Left.{LeavesLengths, LeavesProblem, LeavesRoom};
+ghost use Rattle.gix_url_c.specs.Input.{IsNone, location_of};
+ghost use Rattle.gix_url_c.specs.Left.{LeavesLengths, LeavesProblem, LeavesBuffer};
 
+use crate::buffer::put_text;
 use crate::codes::{
     MEMORY, NO_LOCATION, NO_ROOM, OK, Problem, UNWRITABLE, condition_reported, no_problem,
     unwritable,
 };
-use crate::given::{Given, location_of};
-use crate::room::put_text;
+use crate::input::{PartBytes, location_of};
 use gix_url::UrlRef;
 use gix_url::unambiguous::unmet_condition;
 use std::alloc::Global;
 
-/// Tells whether the location is settled: [`gix_url::UrlRef::is_settled`].
+/// Reports whether the location is settled: [`gix_url::UrlRef::is_settled`].
 ///
-/// It answers 0, or 101 where the parts are none of a location. It takes no memory.
+/// Returns 0, or 101 if the parts aren't a location.
 #[unsafe(no_mangle)]
-pub extern "C" fn gix_url_c_is_settled(given: &Given<'_>, settled: &mut bool) -> u32
-    ensures reported { UnlessNone result (IsNone given.now)
-        (ReportsSettled (location_of given.now) settled.new result) }
-    ensures left { LeavesRoom result settled.old settled.new }
+pub extern "C" fn gix_url_c_is_settled(passed: &PartBytes<'_>, settled: &mut bool) -> u32
+    ensures reported { UnlessNone result (IsNone passed.now)
+        (ReportsSettled (location_of passed.now) settled.new result) }
+    ensures left { LeavesBuffer result settled.old settled.new }
     ensures no_memory { ¬ (result ≡ memory) }
 {
-    match location_of(given) {
+    match location_of(passed) {
         Some(url) => {
             *settled = url.is_settled();
             OK
@@ -41,17 +39,17 @@ pub extern "C" fn gix_url_c_is_settled(given: &Given<'_>, settled: &mut bool) ->
     }
 }
 
-/// Tells whether Git reads this very place in the text of the location: [`gix_url::UrlRef::agrees_with_git`].
+/// Reports whether Git reads the location's own fields in its text: [`gix_url::UrlRef::agrees_with_git`].
 ///
-/// It answers 0, or 101 where the parts are none of a location. It takes no memory.
+/// Returns 0, or 101 if the parts aren't a location.
 #[unsafe(no_mangle)]
-pub extern "C" fn gix_url_c_agrees_with_git(given: &Given<'_>, agrees: &mut bool) -> u32
-    ensures reported { UnlessNone result (IsNone given.now)
-        (ReportsAgreement (location_of given.now) agrees.new result) }
-    ensures left { LeavesRoom result agrees.old agrees.new }
+pub extern "C" fn gix_url_c_agrees_with_git(passed: &PartBytes<'_>, agrees: &mut bool) -> u32
+    ensures reported { UnlessNone result (IsNone passed.now)
+        (ReportsAgreement (location_of passed.now) agrees.new result) }
+    ensures left { LeavesBuffer result agrees.old agrees.new }
     ensures no_memory { ¬ (result ≡ memory) }
 {
-    match location_of(given) {
+    match location_of(passed) {
         Some(url) => {
             *agrees = url.agrees_with_git();
             OK
@@ -60,19 +58,19 @@ pub extern "C" fn gix_url_c_agrees_with_git(given: &Given<'_>, agrees: &mut bool
     }
 }
 
-/// Reports the first condition that the location doesn't meet, of those under which every reader finds the
-/// same parts in its text: [`gix_url::unambiguous::unmet_condition`]. The number is 1 to 11, in the order of
-/// [`gix_url::unambiguous::Condition`], and 0 where it meets all.
+/// Reports the first condition of an unambiguous text that the location doesn't meet:
+/// [`gix_url::unambiguous::unmet_condition`]. The number is 1 to 11, in the order of
+/// [`gix_url::unambiguous::Condition`], and 0 if the location meets all.
 ///
-/// It answers 0, or 101 where the parts are none of a location. It takes no memory.
+/// Returns 0, or 101 if the parts aren't a location.
 #[unsafe(no_mangle)]
-pub extern "C" fn gix_url_c_unmet_condition(given: &Given<'_>, unmet: &mut u8) -> u32
-    ensures reported { UnlessNone result (IsNone given.now)
-        (ReportsCondition (location_of given.now) unmet.new result) }
-    ensures left { LeavesRoom result unmet.old unmet.new }
+pub extern "C" fn gix_url_c_unmet_condition(passed: &PartBytes<'_>, unmet: &mut u8) -> u32
+    ensures reported { UnlessNone result (IsNone passed.now)
+        (ReportsCondition (location_of passed.now) unmet.new result) }
+    ensures left { LeavesBuffer result unmet.old unmet.new }
     ensures no_memory { ¬ (result ≡ memory) }
 {
-    match location_of(given) {
+    match location_of(passed) {
         Some(url) => {
             *unmet = condition_reported(unmet_condition(&url));
             OK
@@ -81,69 +79,68 @@ pub extern "C" fn gix_url_c_unmet_condition(given: &Given<'_>, unmet: &mut u8) -
     }
 }
 
-/// Puts the text of the location into the room, and reports its length: [`gix_url::UrlRef::write_into`].
+/// Copies the text of the location to the buffer, and reports its length: [`gix_url::UrlRef::write_into`]. A length
+/// above the largest `usize` is reported as that.
 ///
-/// It answers 0; 8 where there is no text, with the fault; 101 where the parts are none of a location; 102
-/// where the text doesn't fit. It takes no memory. Of a text that is longer than a number of C's the largest
-/// such number is reported.
+/// Returns 0; 8 if there is no text, with the fault; 101 if the parts aren't a location; 102 if the text doesn't fit.
 #[unsafe(no_mangle)]
 pub extern "C" fn gix_url_c_write(
-    given: &Given<'_>,
-    room: &mut [u8],
+    passed: &PartBytes<'_>,
+    buffer: &mut [u8],
     len: &mut usize,
     reported: &mut Problem,
 ) -> u32
-    ensures reported { UnlessNone result (IsNone given.now)
-        (ReportsText (text (location_of given.now)) room.old room.new len.new reported.new result) }
-    ensures room { LeavesRoom result room.old room.new }
+    ensures reported { UnlessNone result (IsNone passed.now)
+        (ReportsText (text (location_of passed.now)) buffer.old buffer.new len.new reported.new result) }
+    ensures buffer { LeavesBuffer result buffer.old buffer.new }
     ensures length { LeavesLengths result len.old len.new }
     ensures problem { LeavesProblem result no_problem reported.new }
     ensures no_memory { ¬ (result ≡ memory) }
 {
     *reported = no_problem();
-    match location_of(given) {
-        Some(url) => write(&url, room, len, reported),
+    match location_of(passed) {
+        Some(url) => write(&url, buffer, len, reported),
         None => NO_LOCATION,
     }
 }
 
-/// Puts what the location is shown as into the room, and reports its length: the `Display` of
-/// [`gix_url::UrlRef`].
+/// Copies the text that the `Display` of [`gix_url::UrlRef`] shows, which has no password, to the buffer, and reports
+/// its length.
 ///
-/// It answers 0; 1 where memory is refused; 8 where the location has no text, with the fault; 101 where the
-/// parts are none of a location; 102 where it doesn't fit.
+/// Returns 0; 1 if memory is refused; 8 if the location has no text, with the fault; 101 if the parts aren't a
+/// location; 102 if the text doesn't fit.
 #[unsafe(no_mangle)]
 pub extern "C" fn gix_url_c_display(
     alloc: Global,
-    given: &Given<'_>,
-    room: &mut [u8],
+    passed: &PartBytes<'_>,
+    buffer: &mut [u8],
     len: &mut usize,
     reported: &mut Problem,
 ) -> u32
-    ensures reported { UnlessNone result (IsNone given.now)
+    ensures reported { UnlessNone result (IsNone passed.now)
         (UnlessMemory result
-        (ReportsDisplay (location_of given.now) room.old room.new len.new reported.new result)) }
-    ensures room { LeavesRoom result room.old room.new }
+        (ReportsDisplay (location_of passed.now) buffer.old buffer.new len.new reported.new result)) }
+    ensures buffer { LeavesBuffer result buffer.old buffer.new }
     ensures length { LeavesLengths result len.old len.new }
     ensures problem { LeavesProblem result no_problem reported.new }
 {
     *reported = no_problem();
-    match location_of(given) {
-        Some(url) => show(alloc, &url, room, len, reported),
+    match location_of(passed) {
+        Some(url) => show(alloc, &url, buffer, len, reported),
         None => NO_LOCATION,
     }
 }
 
-/// Puts the text of the location into the room.
-fn write(url: &UrlRef<'_>, room: &mut [u8], len: &mut usize, reported: &mut Problem) -> u32
-    ensures reported { ReportsText (text url.now) room.old room.new len.new reported.new result }
-    ensures room { LeavesRoom result room.old room.new }
+/// Copies the text of the location to the buffer.
+fn write(url: &UrlRef<'_>, buffer: &mut [u8], len: &mut usize, reported: &mut Problem) -> u32
+    ensures reported { ReportsText (text url.now) buffer.old buffer.new len.new reported.new result }
+    ensures buffer { LeavesBuffer result buffer.old buffer.new }
     ensures length { LeavesLengths result len.old len.new }
     ensures problem { LeavesProblem result reported.old reported.new }
     ensures no_memory { ¬ (result ≡ memory) }
 {
-    let size = room.len();
-    match url.write_into(room) {
+    let size = buffer.len();
+    match url.write_into(buffer) {
         Ok(length) => report_length(length, size, len),
         Err(fault) => {
             *reported = unwritable(fault);
@@ -152,7 +149,7 @@ fn write(url: &UrlRef<'_>, room: &mut [u8], len: &mut usize, reported: &mut Prob
     }
 }
 
-/// Tells the length of a text, and whether it fits into room of this size.
+/// Reports the length of a text, and returns whether it fits in a buffer of this size.
 fn report_length(length: u128, size: usize, len: &mut usize) -> u32
     ensures length { len.new ≡ reported_length length }
     ensures code { result ≡ (if nat_lt size length then no_room else ok) }
@@ -161,16 +158,16 @@ fn report_length(length: u128, size: usize, len: &mut usize) -> u32
     if (size as u128) < length { NO_ROOM } else { OK }
 }
 
-/// Puts what the location is shown as into the room.
+/// Copies the text that the location is shown as to the buffer.
 fn show(
     alloc: Global,
     url: &UrlRef<'_>,
-    room: &mut [u8],
+    buffer: &mut [u8],
     len: &mut usize,
     reported: &mut Problem,
 ) -> u32
-    ensures reported { UnlessMemory result (ReportsDisplay url.now room.old room.new len.new reported.new result) }
-    ensures room { LeavesRoom result room.old room.new }
+    ensures reported { UnlessMemory result (ReportsDisplay url.now buffer.old buffer.new len.new reported.new result) }
+    ensures buffer { LeavesBuffer result buffer.old buffer.new }
     ensures length { LeavesLengths result len.old len.new }
     ensures problem { LeavesProblem result reported.old reported.new }
 {
@@ -179,7 +176,7 @@ fn show(
         return UNWRITABLE;
     }
     match url.to_string(alloc) {
-        Ok(shown) => put_text(shown.as_bytes(), room, len),
+        Ok(shown) => put_text(shown.as_bytes(), buffer, len),
         Err(_) => MEMORY,
     }
 }

@@ -3,7 +3,7 @@
 use bstr::BStr;
 use gix_url::{ArgumentSafety, Url};
 
-/// What a part is to a command, taken apart and put together.
+/// A judgement of a part as an argument, destructured and rebuilt.
 pub fn same_safety(safety: ArgumentSafety<'_>) -> ArgumentSafety<'_> {
     match safety {
         ArgumentSafety::Absent => ArgumentSafety::Absent,
@@ -12,7 +12,7 @@ pub fn same_safety(safety: ArgumentSafety<'_>) -> ArgumentSafety<'_> {
     }
 }
 
-/// A part that can be given to a command.
+/// A part that is safe as an argument of a command.
 pub fn usable(text: &str) -> ArgumentSafety<'_> {
     ArgumentSafety::Usable(text)
 }

@@ -1,4 +1,4 @@
-//! Canonical paths. What resolves a path is also `Drop`, since it may go uncalled.
+//! Canonical paths. The closure that resolves a path is also `Drop`, since it may not be called.
 
 ghost use Rattle.std.specs.Prelude.{◌≡◌, IsUtf8};
 ghost use Rattle.std.specs.Fn.{FnOnceTakesAt};

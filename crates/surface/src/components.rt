@@ -7,7 +7,7 @@ use std::alloc::Global;
 /// The names and values of a query.
 pub type Query<'a> = Vec<(QueryText<'a>, QueryText<'a>)>;
 
-/// Components, taken apart and put together.
+/// Components, destructured and rebuilt.
 pub fn same_components(components: PathComponents<'_>) -> PathComponents<'_> {
     let PathComponents {
         path,
@@ -30,7 +30,7 @@ pub fn components_of<'a>(
     }
 }
 
-/// A name or a value, taken apart and put together.
+/// A name or a value, destructured and rebuilt.
 pub fn same_text(text: QueryText<'_>) -> QueryText<'_> {
     match text {
         QueryText::Borrowed(text) => borrowed(text),
@@ -38,12 +38,12 @@ pub fn same_text(text: QueryText<'_>) -> QueryText<'_> {
     }
 }
 
-/// A name or a value that is lent.
+/// A borrowed name or value.
 pub fn borrowed(text: BStr<'_>) -> QueryText<'_> {
     QueryText::Borrowed(text)
 }
 
-/// A name or a value with bytes of its own.
+/// An owned name or value.
 pub fn owned<'a>(text: BString) -> QueryText<'a> {
     QueryText::Owned(text)
 }

@@ -6,7 +6,7 @@ use gix_url::parse::UrlKind;
 use gix_url::{Error, UrlFault, WriteError, WriteFault};
 use std::io;
 
-/// An error, taken apart and put together.
+/// An error, destructured and rebuilt.
 pub fn same_error(error: Error) -> Error {
     match error {
         Error::Memory => Error::Memory,
@@ -43,7 +43,7 @@ pub fn bad_url(kind: UrlKind, fault: UrlFault, input: BString) -> Error {
     Error::BadUrl { kind, fault, input }
 }
 
-/// The error of a helper's name.
+/// The error of an invalid helper's name.
 pub fn helper_name(name: BString) -> Error {
     Error::HelperName { name }
 }
@@ -58,7 +58,7 @@ pub fn no_home(user: ForUser) -> Error {
     Error::NoHome(user)
 }
 
-/// A fault of a URL, taken apart and put together.
+/// A fault of a URL, destructured and rebuilt.
 pub fn same_fault(fault: UrlFault) -> UrlFault {
     match fault {
         UrlFault::NoScheme => UrlFault::NoScheme,
@@ -68,7 +68,7 @@ pub fn same_fault(fault: UrlFault) -> UrlFault {
     }
 }
 
-/// A fault of writing, taken apart and put together.
+/// A write fault, destructured and rebuilt.
 pub fn same_write_fault(fault: WriteFault) -> WriteFault {
     match fault {
         WriteFault::HelperName => WriteFault::HelperName,
@@ -78,7 +78,7 @@ pub fn same_write_fault(fault: WriteFault) -> WriteFault {
     }
 }
 
-/// An error of writing, taken apart and put together.
+/// A write error, destructured and rebuilt.
 pub fn same_write_error(error: WriteError) -> WriteError {
     match error {
         WriteError::Fault(fault) => unwritten(fault),
@@ -86,12 +86,12 @@ pub fn same_write_error(error: WriteError) -> WriteError {
     }
 }
 
-/// The error of writing a location without a text.
+/// The write error of a location without a text.
 pub fn unwritten(fault: WriteFault) -> WriteError {
     WriteError::Fault(fault)
 }
 
-/// The error of a writer that failed.
+/// The write error of a writer that failed.
 pub fn failed(error: io::Error) -> WriteError {
     WriteError::Io(error)
 }

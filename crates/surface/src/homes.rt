@@ -1,5 +1,5 @@
-//! Home folders. `expand_path` is in its module, and not beside it at the crate's root: Rattle refuses a module
-//! and an item of one name there. What answers a home folder is also `Drop`, since it may go uncalled.
+//! Home folders. `expand_path` is in its module, and not also at the crate's root: Rattle refuses a module and an item
+//! with one name there. The closure that returns a home folder is also `Drop`, since it may not be called.
 
 ghost use Rattle.std.specs.Prelude.{IfSome, IsUtf8};
 ghost use Rattle.bstr.specs.BStr.{bstr_bytes};
@@ -9,7 +9,7 @@ use gix_url::Error;
 use gix_url::expand_path::{self, ForUser};
 use std::alloc::Global;
 
-/// A user, taken apart and put together.
+/// A user, destructured and rebuilt.
 pub fn same_user(user: ForUser) -> ForUser {
     match user {
         ForUser::Current => ForUser::Current,
@@ -17,7 +17,7 @@ pub fn same_user(user: ForUser) -> ForUser {
     }
 }
 
-/// The user of a name.
+/// The user with a name.
 pub fn named(name: BString) -> ForUser {
     ForUser::Name(name)
 }

@@ -1,4 +1,4 @@
-//! Laws over the definitions, which answer nothing.
+//! Laws over the definitions, which return nothing.
 
 use gix_url::laws;
 

@@ -1,9 +1,9 @@
-//! The specified surface of `gix_url`, item by item in its exact form, so that a change of a name, a field, a
-//! variant or a signature doesn't compile.
+//! The specified public items of `gix_url`, each in its exact form, so that a change of a name, a field, a variant or a
+//! signature doesn't compile.
 //!
-//! A type whose fields are public is taken apart by a pattern that names all of them, and put together by
-//! functions that take their exact types. A call is made with arguments of its exact types, and its result is
-//! returned as it is. Borrowed byte texts are `BStr<'_>` by value throughout.
+//! A type with public fields is destructured by a pattern that names all of them, and rebuilt by functions that take
+//! their exact types. A call is made with arguments of its exact types, and its result is returned unchanged. Borrowed
+//! byte texts are `BStr<'_>` by value throughout.
 #![tactic(auto)]
 
 pub mod arguments;

@@ -1,10 +1,10 @@
-//! The program's work.
+//! The run over lines.
 
 use gix_url::lines::{self, RunError};
 use std::alloc::Global;
 use std::io::{self, Read, Write};
 
-/// Why a run ended, taken apart and put together.
+/// The error of a run, destructured and rebuilt.
 pub fn same_fault(fault: RunError) -> RunError {
     match fault {
         RunError::Memory => RunError::Memory,
@@ -13,12 +13,12 @@ pub fn same_fault(fault: RunError) -> RunError {
     }
 }
 
-/// The fault of a reader.
+/// The error of a reader.
 pub fn unread(error: io::Error) -> RunError {
     RunError::Read(error)
 }
 
-/// The fault of a writer.
+/// The error of a writer.
 pub fn unwritten(error: io::Error) -> RunError {
     RunError::Write(error)
 }

@@ -1,4 +1,4 @@
-//! Locations: their fields, and the calls that make and change them.
+//! Locations: their fields, and the calls that build and change them.
 
 use bstr::{BStr, BString};
 use gix_url::testing::TestUrlExtension;
@@ -16,8 +16,8 @@ pub type Fields = (
     BString,
 );
 
-/// The public fields of a location. The pattern ends in `..`, since the retained spelling is private; so a
-/// location is put together by calls alone.
+/// The public fields of a location. The pattern ends in `..`, since the escaped path is private, so only calls can
+/// build a location.
 pub fn fields_of(url: Url) -> Fields {
     let Url {
         scheme,

@@ -1,7 +1,6 @@
-//! Reading, and the form that a text was taken for.
+//! Parsing, and the form that a text was taken for.
 //!
-//! `parse` is in its module, and not beside it at the crate's root: Rattle refuses a module and an item of one
-//! name there.
+//! `parse` is in its module, and not also at the crate's root: Rattle refuses a module and an item with one name there.
 
 use bstr::BStr;
 use gix_url::ipv6::is_ipv6;
@@ -9,7 +8,7 @@ use gix_url::parse::{UrlKind, parse};
 use gix_url::{Error, Url};
 use std::alloc::Global;
 
-/// A form, taken apart and put together.
+/// A form, destructured and rebuilt.
 pub fn same_kind(kind: UrlKind) -> UrlKind {
     match kind {
         UrlKind::Url => UrlKind::Url,

@@ -3,7 +3,7 @@
 use gix_url::{Error, Scheme};
 use std::alloc::Global;
 
-/// A scheme, taken apart and put together.
+/// A scheme, destructured and rebuilt.
 pub fn same_scheme(scheme: Scheme) -> Scheme {
     match scheme {
         Scheme::File => Scheme::File,

@@ -4,7 +4,7 @@ use gix_url::stored::StoredUrl;
 use gix_url::{Error, Scheme, Url};
 use std::alloc::Global;
 
-/// A record, taken apart and put together.
+/// A record, destructured and rebuilt.
 pub fn same_record(stored: StoredUrl) -> StoredUrl {
     let StoredUrl {
         scheme,
@@ -25,7 +25,7 @@ pub fn same_record(stored: StoredUrl) -> StoredUrl {
     )
 }
 
-/// The record of these parts: the texts are user, password and host, the paths the path and its spelling.
+/// The record of these parts: the texts are user, password and host, the paths are the path and its spelling.
 pub fn record_of(
     scheme: Scheme,
     texts: (Option<String>, Option<String>, Option<String>),

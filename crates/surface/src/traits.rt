@@ -1,4 +1,4 @@
-//! The traits of the types, each by a call with that bound.
+//! The traits of the types, each tested by a call with that bound.
 
 use gix_url::expand_path::ForUser;
 use gix_url::lines::RunError;
@@ -12,25 +12,25 @@ use std::error;
 use std::fmt::{Debug, Display};
 use std::hash::Hash;
 
-/// Takes what is ordered, compared, hashed and shown to programmers.
+/// Accepts values that have an order, equality, a hash and `Debug`.
 pub fn ordered<T: Debug + PartialEq + Eq + PartialOrd + Ord + Hash>(_value: &T) {}
 
-/// Takes what is copied, compared and shown to programmers.
+/// Accepts values that have copies, equality and `Debug`.
 pub fn plain<T: Debug + Clone + Copy + PartialEq + Eq>(_value: &T) {}
 
-/// Takes what is compared and shown to programmers.
+/// Accepts values that have equality and `Debug`.
 pub fn compared<T: Debug + PartialEq + Eq>(_value: &T) {}
 
-/// Takes what is shown to programmers.
+/// Accepts values that have `Debug`.
 pub fn debugged<T: Debug>(_value: &T) {}
 
-/// Takes what is shown to people.
+/// Accepts values that have `Display`.
 pub fn shown<T: Display>(_value: &T) {}
 
-/// Takes what is stored and restored.
+/// Accepts values that can be stored and restored.
 pub fn recorded<'a, T: Serialize + Deserialize<'a>>(_value: &T) {}
 
-/// Takes an error.
+/// Accepts errors.
 pub fn fallible<T: error::Error + Debug + Display>(_value: &T) {}
 
 /// The traits of locations, of their schemes and of users.
@@ -43,7 +43,7 @@ pub fn of_locations(url: &Url, scheme: &Scheme, user: &ForUser) {
     ordered(user);
 }
 
-/// The traits of forms, of faults, and of what a part is to a command.
+/// The traits of forms, of faults, and of judgements of parts as arguments.
 pub fn of_plain(
     kind: &UrlKind,
     fault: &UrlFault,

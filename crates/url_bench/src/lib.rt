@@ -1,8 +1,7 @@
-//! Calls for programs in C, over one text each, so that the instructions that they take can be counted.
+//! Exports for programs in C, over one text each, so that their instructions can be counted.
 //!
-//! Glue alone: it stands on `gix_url`, and each call says what the calls beneath it promise. The lines that
-//! are counted are `remotes.txt`, the program that makes the calls is `driver.c`, and `scripts/instructions`
-//! counts.
+//! The exports only call `gix_url`, and their contracts follow from those of the calls. The lines are `remotes.txt`,
+//! the program that calls the exports is `driver.c`, and `scripts/instructions` counts.
 #![tactic(auto)]
 
 ghost use Rattle.std.specs.Prelude.{◌≡◌, ◌<◌, ℕ, List, IsTrue, Ok, length};
@@ -15,7 +14,7 @@ use bstr::BStr;
 use gix_url::{Url, UrlRef};
 use std::alloc::Global;
 
-/// Whether the bytes are read as a location.
+/// Whether the bytes are a location.
 #[unsafe(no_mangle)]
 pub extern "C" fn url_bench_parse(alloc: Global, bytes: &[u8]) -> bool
     ensures { IsTrue result → (v : Location) × Spells bytes.now v }
@@ -23,7 +22,7 @@ pub extern "C" fn url_bench_parse(alloc: Global, bytes: &[u8]) -> bool
     matches!(Url::from_bytes(alloc, BStr::new(bytes)), Ok(_))
 }
 
-/// Whether the bytes are read as a location without memory, in this room.
+/// Whether the bytes are parsed as a location in this buffer, without allocation.
 #[unsafe(no_mangle)]
 pub extern "C" fn url_bench_parse_in(bytes: &[u8], room: &mut [u8]) -> bool
     ensures { IsTrue result → (v : Location) × Spells bytes.now v }
@@ -31,7 +30,7 @@ pub extern "C" fn url_bench_parse_in(bytes: &[u8], room: &mut [u8]) -> bool
     matches!(UrlRef::parse_in(bytes, room), Ok(_))
 }
 
-/// The length of the text of the location that the bytes are read as, or 0 where there is none.
+/// The length of the text of the location that the bytes are parsed as, or 0 if there is none.
 #[unsafe(no_mangle)]
 pub extern "C" fn url_bench_write(alloc: Global, bytes: &[u8]) -> usize
     ensures { 0 < result → (v : Location) × (text : List ℕ)
@@ -46,7 +45,7 @@ pub extern "C" fn url_bench_write(alloc: Global, bytes: &[u8]) -> usize
     }
 }
 
-/// Whether the bytes are read as a settled location.
+/// Whether the bytes are a settled location.
 #[unsafe(no_mangle)]
 pub extern "C" fn url_bench_settled(alloc: Global, bytes: &[u8]) -> bool
     ensures { IsTrue result → (v : Location) × Spells bytes.now v × IsSettled v }

@@ -1,4 +1,4 @@
-//! What users prove by the contracts of the library alone: the callers of `docs/CALLING.md`.
+//! Functions that users prove by the contracts of the library alone: the callers of `docs/CALLING.md`.
 
 ghost use Rattle.std.specs.Prelude.{◌≡◌, IfErr, IfOk, IfSome, IsSome, Some, string_bytes, true};
 ghost use Rattle.bstr.specs.Owned.{bstring_bytes};
@@ -90,12 +90,12 @@ fn text_for_git(alloc: Global, url: &Url) -> Result<Option<BString>, Error>
     Ok(Some(written))
 }
 
-/// Checks a part, where it is there.
+/// Checks a part, if there is one.
 fn is(rt: &impl Abort, part: Option<&str>, want: Option<&str>) {
     assert_eq!(rt; part, want);
 }
 
-/// Checks the text that was made of another, where there is one.
+/// Checks the text that was made from another one, if there is one.
 fn is_text(rt: &impl Abort, text: &str, made: &Option<BString>, want: Option<&str>) {
     let made = match made {
         None => None,
@@ -104,7 +104,7 @@ fn is_text(rt: &impl Abort, text: &str, made: &Option<BString>, want: Option<&st
     assert!(rt; made == bytes(want), "what is made of {text}");
 }
 
-/// The bytes of a text, where it is there.
+/// The bytes of a text, if there is one.
 fn bytes(text: Option<&str>) -> Option<&[u8]> {
     match text {
         None => None,
@@ -112,13 +112,13 @@ fn bytes(text: Option<&str>) -> Option<&[u8]> {
     }
 }
 
-/// Checks the host that a text names.
+/// Checks the host of a text.
 fn names(rt: &impl Abort, alloc: Global, text: &str, want: Option<&str>) -> Result<(), Fail> {
     is(rt, host_of(alloc, text)?.as_deref(), want);
     Ok(())
 }
 
-/// Checks that a text that names no host is refused.
+/// Checks that a text without a host is refused.
 fn is_refused(rt: &impl Abort, host: Result<Option<String>, Error>) {
     let is_refused = host.is_err();
     drop(host);
@@ -134,7 +134,7 @@ fn hosts_that_come_back(rt: HostRuntime) -> Result<(), Fail> {
     Ok(())
 }
 
-/// Checks the text for another user of what a text names.
+/// Checks the text for another user of the location of a text.
 fn renames(
     rt: &impl Abort,
     alloc: Global,
@@ -187,7 +187,7 @@ fn remotes_by_their_texts(rt: HostRuntime) -> Result<(), Fail> {
     Ok(())
 }
 
-/// Texts, and the text for Git of each, if Git reads it alike.
+/// Texts, and the text for Git of each if Git reads it alike.
 static FOR_GIT: [(&str, Option<&str>); 5] = [
     ("ssh+git://u@H:022/p", Some("ssh://u@h:22/p")),
     ("ssh://u:p@h/p", None),
@@ -233,7 +233,7 @@ fn user_and_path_come_through(rt: HostRuntime) -> Result<(), Fail> {
 static HEADERS: &[u8] =
     b"http.https://h/a.extraheader\na\0http.https://*.h.extraheader\nb\0http.extraheader\nc\0";
 
-/// Checks the one header that is sent for a text's location, by the index of its entry.
+/// Checks the one header that is sent for the location of a text, by the index of its entry.
 fn sends(rt: &impl Abort, alloc: Global, text: &str, want: Option<&usize>) -> Result<(), Fail> {
     let (mut buffer, mut other) = ([0u8; 256], [0u8; 256]);
     let entries = config::entries(alloc, HEADERS)?;
@@ -258,7 +258,7 @@ fn headers_go_to_their_place(rt: HostRuntime) -> Result<(), Fail> {
     sends(&rt, rt.alloc(), "ssh://h/a", None)
 }
 
-/// Checks what was read back.
+/// Checks a location that was parsed from a written text.
 fn is_back(rt: &impl Abort, back: &Url) {
     is(rt, back.user.as_deref(), Some("user@name"));
     is(rt, back.password.as_deref(), Some("p:/"));
@@ -267,7 +267,7 @@ fn is_back(rt: &impl Abort, back: &Url) {
     assert!(rt; back.path.as_bytes() == b"/a b?c#d".as_slice(), "the path");
 }
 
-/// What the text of a text's location is read as, if that is settled.
+/// Parses the written text of the location of a text, if that is settled.
 fn read_back_of(alloc: Global, text: &str) -> Result<Option<Box<Url>>, Fail> {
     let url = read(alloc, text)?;
     match read_back(alloc, &url)? {

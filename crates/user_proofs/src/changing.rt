@@ -1,4 +1,4 @@
-//! What users prove by the contracts alone of a location that they change.
+//! Functions that change a location, which users prove by the contracts alone.
 
 ghost use Rattle.std.specs.Prelude.{◌≡◌, IfErr, IfOk, IfSome, IsUtf8, None};
 ghost use Rattle.std.specs.Fn.{FnOnceTakesAt};
@@ -27,7 +27,7 @@ fn without_password(alloc: Global, mut url: Url) -> Result<Option<BString>, Erro
     Ok(Some(text))
 }
 
-/// Gives a local location the path that `resolve` answers: its host is as it was, whatever comes of it.
+/// Gives a local location the path that `resolve` returns. Its host stays the same, whatever the result is.
 fn resolved<F: FnOnce(&str) -> Option<String> + Drop>(
     url: &mut Url,
     resolve: F,
@@ -38,7 +38,7 @@ fn resolved<F: FnOnce(&str) -> Option<String> + Drop>(
     url.canonicalize(resolve)
 }
 
-/// Checks the text of a location without its password, where there is one.
+/// Checks the text of a location without its password, if there is one.
 fn is_without(rt: &impl Abort, text: &str, made: &Option<BString>, want: Option<&str>) {
     match (made, want) {
         (None, None) => {}

@@ -1,4 +1,5 @@
-//! The words of a command of Secure Shell: what a program that runs it proves by the contracts of `git_rules` alone.
+//! The words of a command of Secure Shell: the guarantees that a program that runs it needs, proved by the contracts of
+//! `git_rules` alone.
 
 ghost use Rattle.std.specs.Prelude.{IfErr, IfOk, map};
 ghost use Rattle.bstr.specs.Owned.{bstring_bytes};

@@ -1,4 +1,5 @@
-//! What a user proves of paths, queries and fragments by the contracts alone: a settled location of HTTP keeps them.
+//! Functions over paths, queries and fragments, which users prove by the contracts alone: a settled location of HTTP
+//! keeps them.
 
 ghost use Rattle.std.specs.Prelude.{◌≡◌, IfErr, IfOk, true};
 ghost use Rattle.gix_url.specs.Components.{Components, ComponentsOf};
@@ -12,7 +13,7 @@ use std::alloc::Global;
 use std::process::Abort;
 use std::test::Fail;
 
-/// Whether the paths of two locations are made of the same.
+/// Whether the paths of two locations have the same components.
 fn are_made_alike(alloc: Global, one: &Url, other: &Url) -> Result<bool, Error>
     ensures alike { IfOk result (λ alike. (c : Components) → ComponentsOf one.now c → ComponentsOf other.now c → alike ≡ true) }
     ensures memory { IfErr result (λ e. e ≡ error.Memory) }
@@ -23,8 +24,8 @@ fn are_made_alike(alloc: Global, one: &Url, other: &Url) -> Result<bool, Error>
     Ok(parts == others)
 }
 
-/// Whether the path of a location is made of the same once its text was read again: for a settled location of HTTP it
-/// is, and the only possible error is `Memory`.
+/// Whether the path of a location has the same components after its text is parsed again. For a settled location of
+/// HTTP it has, and the only possible error is `Memory`.
 fn keeps_components(alloc: Global, url: &Url) -> Result<bool, Error>
     ensures kept { IfOk result (λ kept. IsWeb url.now → IsSettled url.now → kept ≡ true) }
     ensures memory { IsSettled url.now → IfErr result (λ e. e ≡ error.Memory) }

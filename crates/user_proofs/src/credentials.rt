@@ -1,4 +1,5 @@
-//! The headers for a location: what a program that sends them proves by the contracts of `git_rules` alone.
+//! The headers for a location: the guarantees that a program that sends them needs, proved by the contracts of
+//! `git_rules` alone.
 
 ghost use Rattle.std.specs.Prelude.{◌↔◌, IfOk, IsTrue, length};
 ghost use Rattle.gix_url.specs.Settled.{IsWeb};
@@ -13,11 +14,11 @@ use gix_url::laws::law_value;
 use gix_url::{Scheme, Url};
 use std::alloc::Global;
 
-/// The indices of the entries of `extraHeader` whose headers Git sends for a location, in its order. No header of an entry
-/// for another place is among them: each is for all places, or is sent where Git and curl go for the text of the location,
-/// to the scheme, the host and the port of the entry's URL. For a location that is not of HTTP, or in whose text Git may read
-/// another place, there are none, nor where the first buffer is shorter than four times the text and one byte. The other
-/// buffer is for the URLs of the entries.
+/// The indices of the entries of `extraHeader` whose headers Git sends for a location, in its order. No header of an
+/// entry for another place is among them: each entry is for all places, or its header is sent to the scheme, the host
+/// and the port of the entry's URL, to which Git and curl connect for the text of the location. There are none for a
+/// location that is not of HTTP, for one in whose text Git may find another place, or if the first buffer is shorter
+/// than four times the text and one byte. The second buffer is for the URLs of the entries.
 pub fn headers_for(
     alloc: Global,
     url: &Url,
@@ -43,7 +44,7 @@ pub fn headers_for(
     settings_for(alloc, entries, "extraHeader", &place, other)
 }
 
-/// Whether the location is one of HTTP.
+/// Whether the location is of HTTP.
 fn is_web(url: &Url) -> bool
     ensures { IsTrue result ↔ IsWeb url.now }
 {

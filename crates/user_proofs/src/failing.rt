@@ -1,5 +1,5 @@
-//! What no contract says of streams that fail, at each of their calls in turn: that the error is the stream's own, and that
-//! what a writer or a formatter got before is a front of the right text.
+//! Tests of streams that fail at each of their calls in turn, which no contract specifies: the error is the stream's
+//! own, and a writer or a formatter has received a prefix of the right text before it.
 
 use std::alloc::Global;
 use std::test::Fail;
@@ -9,7 +9,7 @@ mod showing;
 mod streams;
 mod writing;
 
-/// A text that begins so, of more than 2 MiB.
+/// A text of more than 2 MiB with this beginning.
 fn long(alloc: Global, front: &str) -> Result<String, Fail> {
     let mut text = String::from_str(alloc, front)?;
     let path = "/a".repeat(alloc, 1_100_000)?;
@@ -19,7 +19,7 @@ fn long(alloc: Global, front: &str) -> Result<String, Fail> {
     Ok(text)
 }
 
-/// Whether a text came as a whole, by what is missing of it.
+/// Whether a text was written completely, by the rest of it that is missing.
 fn is_whole(left: Option<&[u8]>) -> bool {
     matches!(left, Some([]))
 }

@@ -1,4 +1,4 @@
-//! What users of `gix_url` and `git_rules` prove by their contracts alone, and the examples of the documents.
+//! Functions that users of `gix_url` and `git_rules` prove by their contracts alone, and the examples of the documents.
 #![tactic(auto)]
 
 #[cfg(test)]

@@ -1,4 +1,5 @@
-//! What users prove of texts by the contracts alone: whether they are locations, and that what is written is read back.
+//! Functions over texts, which users prove by the contracts alone: whether texts are locations, and that a written text
+//! is parsed as the same location.
 
 ghost use Rattle.std.specs.Prelude.{◌≡◌, ◌↔◌, IfErr, IfOk, IsTrue};
 ghost use Rattle.gix_url.specs.Grammar.{Spells};
@@ -31,8 +32,8 @@ fn is_location(alloc: Global, bytes: &[u8]) -> Result<bool, Error>
     }
 }
 
-/// What is read of the text of a location. Of a settled one it has the same public fields, and the only
-/// possible error is `Memory`.
+/// Parses the text of a location. For a settled location the result has the same public fields, and the only possible
+/// error is `Memory`.
 fn through_text(alloc: Global, url: &Url) -> Result<Url, Error>
     ensures same { IsSettled url.now → IfOk result (λ read. fields read ≡ fields url.now) }
     ensures memory { IsSettled url.now → IfErr result (λ e. e ≡ error.Memory) }
@@ -54,7 +55,7 @@ fn locations_are_told_from_other_bytes(rt: HostRuntime) -> Result<(), Fail> {
     is_read(&rt, rt.alloc(), b"", false)
 }
 
-/// Checks that the user, the host and the path of what is read of a location's text are those of the location.
+/// Checks that the text of a location is parsed as one with the same user, host and path.
 fn comes_back(rt: &impl Abort, alloc: Global, text: &str, url: &Url) -> Result<(), Fail> {
     let back = boxed(alloc, through_text(alloc, url)?)?;
     assert!(rt;

@@ -1,4 +1,4 @@
-//! The words of refusals of Secure Shell, which no contract says, nor any row.
+//! The words of refusals of Secure Shell, which neither a contract nor a row specifies.
 
 use git_rules::ssh::SshRefusal;
 use std::test::Fail;

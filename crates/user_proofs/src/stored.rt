@@ -1,4 +1,5 @@
-//! What a user proves of stored locations by the contracts alone, and that it holds of a location of each kind.
+//! Functions over stored locations, which users prove by the contracts alone, and tests of them for a location of each
+//! kind.
 
 ghost use Rattle.std.specs.Prelude.{◌≡◌, ◌⊎◌, ℕ, List, IfErr, IfOk};
 ghost use Rattle.bstr.specs.BStr.{bstr_bytes};
@@ -16,8 +17,8 @@ use std::alloc::Global;
 use std::process::Abort;
 use std::test::Fail;
 
-/// The location, stored and restored: what was read from a text comes back as it was, the retained spelling included,
-/// and the only possible error is `Memory`.
+/// The location, stored and restored. A location that was parsed from a text comes back unchanged, its escaped path
+/// included, and the only possible error is `Memory`.
 fn kept(alloc: Global, url: &Url) -> Result<Url, Error>
     ensures same { IfOk result (λ back. (b : List ℕ) → Spells b url.now → back ≡ url.now) }
     ensures memory { IfErr result (λ e. e ≡ error.Memory) }
@@ -27,8 +28,8 @@ fn kept(alloc: Global, url: &Url) -> Result<Url, Error>
     Url::from_stored(alloc, stored)
 }
 
-/// The text of what the bytes are read as, stored and restored in between: the bytes themselves, where they are a
-/// remote helper's form or a local path.
+/// The text of the location of these bytes, which is stored and restored in between. It is the bytes themselves for a
+/// remote helper's form and a local path.
 fn kept_text(alloc: Global, bytes: BStr<'_>) -> Result<BString, Error>
     ensures unchanged { IfOk result (λ text. (v : Location)
         → SpellsHelper (bstr_bytes bytes.entry) v ⊎ SpellsLocal (bstr_bytes bytes.entry) v
@@ -57,12 +58,12 @@ static TEXTS: [&str; 12] = [
     "ext::sh -c x",
 ];
 
-/// Checks bytes of what came back of a text.
+/// Checks the bytes that came back for a text.
 fn is_same(rt: &impl Abort, text: &str, back: &[u8], want: &[u8]) {
     assert_eq!(rt; BStr::new(back), BStr::new(want), "a part of {text}");
 }
 
-/// Checks that a location is another one, in all its parts.
+/// Checks that two locations are equal in all their parts.
 fn is_url(rt: &impl Abort, text: &str, back: &Url, url: &Url) {
     assert!(rt; *back == *url, "{text}");
 }

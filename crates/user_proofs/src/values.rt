@@ -1,4 +1,4 @@
-//! What users prove of locations as values by the contracts alone: what is sorted, what is equal, and what a copy is.
+//! Functions over locations as values, which users prove by the contracts alone: sorting, equality and copies.
 
 ghost use Rattle.std.specs.Prelude.{◌≡◌, ◌↔◌, IfErr, IfOk, IsSorted, IsTrue};
 ghost use Rattle.gix_url.specs.declared.error.Error.TheVariants as error;
@@ -10,7 +10,7 @@ use std::alloc::{AllocError, Global};
 use std::process::Abort;
 use std::test::Fail;
 
-/// Puts items into order, whatever they are.
+/// Sorts items of any type.
 fn sorted<T: Ord + Drop>(mut items: Vec<T>) -> Result<Vec<T>, AllocError>
     ensures { IfOk result (λ all. IsSorted T.cmp all.items) }
 {
@@ -18,7 +18,7 @@ fn sorted<T: Ord + Drop>(mut items: Vec<T>) -> Result<Vec<T>, AllocError>
     Ok(items)
 }
 
-/// Whether two locations are one value.
+/// Whether two locations are equal.
 fn are_one(a: &Url, b: &Url) -> bool
     ensures { IsTrue result ↔ (a.now ≡ b.now) }
 {
@@ -26,7 +26,7 @@ fn are_one(a: &Url, b: &Url) -> bool
     a == b
 }
 
-/// Whether a copy of the location is equal to it: it is, if there is memory for it.
+/// Whether a copy of the location is equal to it. It is, if memory isn't refused.
 fn equals_its_copy(alloc: Global, url: &Url) -> Result<bool, Error>
     ensures equal { IfOk result IsTrue }
     ensures memory { IfErr result (λ e. e ≡ error.Memory) }
@@ -55,7 +55,7 @@ fn read_all(alloc: Global, texts: &[&str]) -> Result<Vec<Url>, Fail> {
     Ok(all)
 }
 
-/// All locations, put into order from the last to the first.
+/// All locations, sorted from the last to the first.
 fn sorted_backwards(alloc: Global) -> Result<Vec<Url>, Fail> {
     let mut all = read_all(alloc, IN_ORDER.as_slice())?;
     all.reverse();
@@ -75,7 +75,7 @@ fn a_list_is_sorted(rt: HostRuntime) -> Result<(), Fail> {
     Ok(())
 }
 
-/// Checks whether a location is one with what a text is read as.
+/// Checks whether a location is equal to the location of a text.
 fn is_one(rt: &impl Abort, alloc: Global, url: &Url, text: &str, one: bool) -> Result<(), Fail> {
     let other = read(alloc, text)?;
     assert!(rt; are_one(url, &other) == one, "{url} and {text}");

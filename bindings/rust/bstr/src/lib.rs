@@ -1,5 +1,5 @@
-//! Replaces the crate `bstr` in builds inside of this repository, which need no registry: the byte strings that
-//! `gix-url-proved` has of its own.
+//! Replaces the crate `bstr` in builds inside of this repository, which need no registry, with the byte strings of
+//! `gix-url-proved` itself.
 
 #[path = "../../gix-url-proved/src/bytes.rs"]
 mod bytes;

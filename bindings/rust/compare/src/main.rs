@@ -1,20 +1,21 @@
-//! Asks `gix-url` and `gix-url-proved` the same questions about the same texts, and prints each text for which the
-//! answers differ: `compare COUNT FILE..` takes the lines of the files, and so many texts that are changed from them by
-//! chance. Its status is 1 where there is a difference, except for the form `user@[address]:path`, which is counted.
+//! Makes the same calls of `gix-url` and of `gix-url-proved` with the same texts, and prints each text for which the
+//! results differ. `compare COUNT FILE..` uses the lines of the files, and COUNT texts that are made from them by
+//! random changes. Its status is 1 if there is a difference, except for the form `user@[address]:path`, which is
+//! counted.
 //!
-//! `compare price PASSES` prints how many nanoseconds each call of both takes a line of the standard input.
+//! `compare price PASSES` prints how many nanoseconds each call of both crates takes per line of the standard input.
 
 #[path = "../../gix-url-proved/examples/price/calls.rs"]
 mod calls;
 
 use std::{env, fs, process};
 
-/// What both crates take for the same calls.
+/// The times of the same calls in both crates.
 mod price {
     crate::calls::priced_by!(gix_url);
     crate::calls::priced_by!(gix_url_proved);
 
-    /// Prints the nanoseconds of each call by both, and the ratio.
+    /// Prints the nanoseconds of each call in both crates, and the ratio.
     pub fn print(passes: usize) {
         let lines = crate::calls::lines();
         let (theirs, ours) = (gix_url::prices(&lines, passes), gix_url_proved::prices(&lines, passes));
@@ -24,14 +25,15 @@ mod price {
     }
 }
 
-/// What one of the two crates says of a text: the same code for both, as for any program that changes its dependency.
+/// The results of one of the two crates for a text: the same code for both, as in any program that changes its
+/// dependency.
 macro_rules! told_by {
     ($name:ident) => {
         mod $name {
             use bstr::ByteSlice;
             use $name::{PathComponents, Url};
 
-            /// All that the calls of the crate answer of a text; none where it is refused.
+            /// The results of all calls for a text; `None` if it is refused.
             pub fn told(text: &[u8]) -> Option<String> {
                 let url = Url::from_bytes(text.as_bstr()).ok()?;
                 Some([fields(&url), answers(&url), components(&url)].join("\n"))
@@ -61,7 +63,7 @@ macro_rules! told_by {
 told_by!(gix_url);
 told_by!(gix_url_proved);
 
-/// Numbers by chance, the same in each run.
+/// Pseudo-random numbers, the same in each run.
 struct Chance(u64);
 
 impl Chance {
@@ -72,7 +74,7 @@ impl Chance {
         (self.0 % bound as u64) as usize
     }
 
-    /// The text with one to four changes: a byte that is taken out, another one, or a piece that means something.
+    /// The text with one to four changes: a byte is removed or replaced, or a piece with a meaning is inserted.
     fn changed(&mut self, text: &[u8]) -> Vec<u8> {
         const PIECES: [&str; 24] = [
             ":", "/", "@", "[", "]", "%", "%2", "%20", "%ff", "?", "#", "&", "=", "+", "::", "://", "~", "-", "\\",
@@ -91,7 +93,7 @@ impl Chance {
     }
 }
 
-/// Whether the text is of the one form that is known to be read by `gix-url-proved` alone.
+/// Whether the text has the one form that is known to be parsed by `gix-url-proved` alone.
 fn is_known(text: &[u8]) -> bool {
     ::gix_url_proved::parse(text).is_ok_and(|url| {
         url.serialize_alternative_form && url.user().is_some() && url.host().is_some_and(|host| host.contains(':'))

@@ -1,5 +1,5 @@
-//! Says where each remote of the standard input leads: its host and port, or why it is refused. A host that may be taken for
-//! an option isn't printed, since who reads the answers may pass it to a command.
+//! Prints the destination of each remote on the standard input: its host and port, or why it is refused. A host that
+//! may be taken for an option isn't printed, since a reader of the output may pass it to a command.
 //!
 //! `cargo run --example hosts <../../../examples/remotes`
 
@@ -21,7 +21,7 @@ fn main() -> io::Result<()> {
     for line in io::stdin().lock().split(b'\n') {
         match parse(line?) {
             Ok(url) => println!("{}", lead(&url)),
-            // The words show no byte of the text, which may hold a password.
+            // The words have no byte of the text, which may have a password.
             Err(error) => println!("refused at byte {}: {error}", error.refusal().map_or(0, |it| it.at)),
         }
     }

@@ -1,4 +1,4 @@
-//! Makes one call on each line of the standard input, over and over: `measure CALL PASSES`, so that valgrind can count
+//! Makes one call on each line of the standard input, PASSES times: `measure CALL PASSES`, so that valgrind can count
 //! the instructions of a call. The calls are `read`, `settled`, `git`, `write` and `look`.
 
 use gix_url_proved::parse;

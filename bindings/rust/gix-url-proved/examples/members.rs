@@ -1,5 +1,5 @@
-//! Prints for each line of the standard input what the calls of the library return, in words separated by a space:
-//! bytes in hexadecimal digits behind a `.`, and `-` for what isn't there.
+//! Prints the results of the library's calls for each line of the standard input, in words separated by a space: bytes
+//! as hexadecimal digits after a `.`, and `-` for a missing value.
 
 use gix_url_proved::parse::Error;
 use gix_url_proved::{parse, ArgumentSafety, PathComponents, Url};
@@ -68,7 +68,7 @@ fn members(url: &Url) -> String {
     words.iter().fold("read".to_string(), |told, word| told + " " + word)
 }
 
-/// The names of the error, of its fault and of its kind, the place of the flaw and the name of the reason.
+/// The names of the error, of its fault and of its kind, the position of the flaw and the name of the reason.
 fn refusal(error: &Error) -> String {
     let names = match error {
         Error::EmptyLocal => "EmptyLocal - -".to_string(),

@@ -1,5 +1,5 @@
-//! Says what Git does to fetch from each remote of the configuration file that the standard input is: which words it passes to
-//! Secure Shell, or which transport and URL it uses; or why a program that audits remotes refuses it.
+//! Prints how Git fetches from each remote of the configuration file on the standard input: the words that it passes to
+//! Secure Shell, or the transport and the URL that it uses; or why a program that audits remotes refuses it.
 //!
 //! `cargo run --example remotes <../../../examples/config`
 
@@ -19,7 +19,7 @@ fn names(configuration: &Configuration) -> Vec<&BStr> {
     names
 }
 
-/// What Git does to fetch from a remote.
+/// How Git fetches from a remote.
 fn fetched(configuration: &Configuration, name: &BStr) -> Result<String, Box<dyn Error>> {
     let remote = configuration.remote(name)?;
     let text = &remote.urls[0];

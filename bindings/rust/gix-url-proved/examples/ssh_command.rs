@@ -1,4 +1,5 @@
-//! Says how each remote of the standard input is called by Secure Shell, and refuses what may be taken for an option.
+//! Prints the command of Secure Shell for each remote on the standard input, and refuses parts that may be taken for an
+//! option.
 //!
 //! `cargo run --example ssh_command <../../../examples/remotes`
 
@@ -19,7 +20,7 @@ fn command(url: &Url) -> String {
 
 fn main() -> io::Result<()> {
     for line in io::stdin().lock().split(b'\n') {
-        // Of a location that isn't settled, Git would read another host in its text.
+        // Git may find another host in the text of a location that isn't settled.
         match parse(line?).ok().filter(Url::is_settled) {
             Some(url) => println!("{}", command(&url)),
             None => println!("no location to rely on"),

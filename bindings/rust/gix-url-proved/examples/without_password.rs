@@ -1,4 +1,4 @@
-//! Writes each remote of the standard input without its password.
+//! Prints each remote on the standard input without its password.
 //!
 //! `cargo run --example without_password <../../../examples/remotes`
 

@@ -1,15 +1,15 @@
-//! What is dangerous in a text that a program uses as a remote, and what in a text may be a secret.
+//! Finds dangers in a text that a program uses as a remote, and possible secrets in any text.
 //!
-//! `docs/AUDIT.md` of the repository has programs that audit remotes and submodules of strangers.
+//! `docs/AUDIT.md` in the repository has programs that audit untrusted remotes and submodules.
 
 use crate::bstr::{BStr, BString, ByteSlice};
 use crate::rules::Error;
+use crate::words::worded;
 use crate::{ffi, Url};
 use std::fmt;
-use std::sync::{Mutex, PoisonError};
 
-/// What is dangerous in a text, or in the location that is read in it. `Display` says it in a few words, which hold no byte
-/// of the text.
+/// A danger in a text, or in the location that the text is parsed as. `Display` writes it in a few words, which have no
+/// byte of the text.
 ///
 /// ```
 /// use gix_url_proved::audit::Danger;
@@ -35,9 +35,9 @@ pub enum Danger {
     HostCharacter,
     /// A part has a line feed, a carriage return or a byte 0.
     LineEnd,
-    /// Git takes another host from the text.
+    /// Git finds another host in the text.
     OtherHost,
-    /// Other programs take another host or port from the text.
+    /// Other programs find another host or port in the text.
     MisreadHost,
 }
 
@@ -55,39 +55,12 @@ impl Danger {
         Danger::OtherHost,
         Danger::MisreadHost,
     ];
-
-    /// The danger of a number; none of 0.
-    pub(crate) fn numbered(number: u8) -> Option<Danger> {
-        Danger::ALL.get(usize::from(number).checked_sub(1)?).copied()
-    }
-
-    /// The name of the danger, as programs show it to programs.
-    pub fn name(self) -> &'static str {
-        &self.said().0
-    }
-
-    /// The danger in a few words.
-    pub fn words(self) -> &'static str {
-        &self.said().1
-    }
-
-    /// The name and the words of the library, which is asked once for those of all dangers.
-    fn said(self) -> &'static (String, String) {
-        static SAID: Mutex<Option<&[(String, String)]>> = Mutex::new(None);
-        let all = || (1..=10).map(|number| (ffi::danger_name(number), ffi::danger_words(number))).collect();
-        let mut said = SAID.lock().unwrap_or_else(PoisonError::into_inner);
-        &said.get_or_insert_with(|| Box::leak(all()))[self as usize]
-    }
 }
 
-impl fmt::Display for Danger {
-    fn fmt(&self, f: &mut fmt::Formatter<'_>) -> fmt::Result {
-        f.write_str(self.words())
-    }
-}
+worded!(Danger, ffi::danger_name, ffi::danger_words);
 
-/// The dangers of a text that a program uses as a remote, and of the location that is read in it: each once, in the order of
-/// [`Danger::ALL`]. It allocates the result, and what the library needs for it.
+/// The dangers of a text that a program uses as a remote, and of the location that the text is parsed as: each once, in
+/// the order of [`Danger::ALL`]. Allocates the result, and memory for the library.
 ///
 /// ```
 /// use gix_url_proved::audit::{dangers, Danger};
@@ -108,9 +81,9 @@ pub fn dangers(text: impl AsRef<[u8]>, url: &Url) -> Result<Vec<Danger>, Error> 
 /// A piece of a text.
 #[derive(Clone, Copy, PartialEq, Eq, Hash)]
 pub enum Piece<'a> {
-    /// It isn't known as a secret.
+    /// The piece isn't known as a secret.
     Shown(&'a BStr),
-    /// It may be a secret.
+    /// The piece may be a secret.
     Hidden(&'a BStr),
 }
 
@@ -124,7 +97,7 @@ impl<'a> Piece<'a> {
 }
 
 impl fmt::Debug for Piece<'_> {
-    /// Shows the length of a secret in place of its bytes.
+    /// Writes the length of a secret in place of its bytes.
     fn fmt(&self, f: &mut fmt::Formatter<'_>) -> fmt::Result {
         match self {
             Piece::Shown(bytes) => f.debug_tuple("Shown").field(bytes).finish(),
@@ -133,9 +106,9 @@ impl fmt::Debug for Piece<'_> {
     }
 }
 
-/// The pieces of a text, of which some may be secrets: passwords, and tokens of GitHub, GitLab and Bitbucket. Joined they are
-/// the text. Neighbours may be of one kind. The text may be a location or none, or a key or a value of a configuration. It
-/// allocates the lengths of the pieces.
+/// Splits a text into pieces, of which some may be secrets: passwords, and tokens of GitHub, GitLab and Bitbucket.
+/// Joined, the pieces are the text. Adjacent pieces may be of one kind. The text may be a location or not, or a key or
+/// a value of a configuration. Allocates the lengths of the pieces.
 ///
 /// ```
 /// use gix_url_proved::audit::{secrets, Piece};
@@ -153,7 +126,8 @@ pub fn secrets<T: AsRef<[u8]> + ?Sized>(text: &T) -> impl Iterator<Item = Piece<
     })
 }
 
-/// A text with `redacted` in place of each piece that may be a secret. It allocates the text, and the lengths of the pieces.
+/// The text with `redacted` in place of each piece that may be a secret. Allocates the result, and the lengths of the
+/// pieces.
 ///
 /// ```
 /// use gix_url_proved::audit::redacted;

@@ -1,5 +1,5 @@
-//! Byte strings: the part of the crate `bstr` that this crate's surface needs, by the same names and with the same traits,
-//! for use where `bstr` itself isn't to be had (without the feature `bstr`).
+//! Byte strings: the items of the crate `bstr` that this crate needs, with the same names and traits, for builds
+//! without the feature `bstr`.
 //!
 //! A byte string is text by convention: bytes that usually are UTF-8 and don't have to be.
 //!
@@ -69,16 +69,16 @@ pub trait ByteSlice {
         self.all()
     }
 
-    /// The text that the bytes are, without a copy.
+    /// The bytes as a text, without a copy.
     ///
     /// # Errors
     ///
-    /// Where the bytes are not UTF-8.
+    /// Returns an error if the bytes are not UTF-8.
     fn to_str(&self) -> Result<&str, Utf8Error> {
         std::str::from_utf8(self.all())
     }
 
-    /// The text with U+FFFD in place of what is not UTF-8. It is borrowed where all is.
+    /// The text, with U+FFFD in place of bytes that are not UTF-8. It is borrowed if all bytes are UTF-8.
     fn to_str_lossy(&self) -> Cow<'_, str> {
         String::from_utf8_lossy(self.all())
     }
@@ -101,17 +101,17 @@ pub trait ByteSlice {
         self.to_os_str().map(Path::new)
     }
 
-    /// Whether the bytes begin with these.
+    /// Whether the bytes begin with `front`.
     fn starts_with_str<B: AsRef<[u8]>>(&self, front: B) -> bool {
         self.all().starts_with(front.as_ref())
     }
 
-    /// Whether the bytes end with these.
+    /// Whether the bytes end with `end`.
     fn ends_with_str<B: AsRef<[u8]>>(&self, end: B) -> bool {
         self.all().ends_with(end.as_ref())
     }
 
-    /// The place of the first such byte.
+    /// The index of the first byte with this value, if there is one.
     fn find_byte(&self, byte: u8) -> Option<usize> {
         self.all().iter().position(|it| *it == byte)
     }
@@ -146,7 +146,7 @@ impl ByteVec for Vec<u8> {
 }
 
 impl fmt::Display for BStr {
-    /// Shows U+FFFD in place of each piece that is not UTF-8, and pads to a width where an alignment is asked for.
+    /// Writes U+FFFD in place of each piece that is not UTF-8, and pads to a width if an alignment is given.
     fn fmt(&self, f: &mut fmt::Formatter<'_>) -> fmt::Result {
         let text = String::from_utf8_lossy(&self.0);
         let align = match f.align() {
@@ -167,7 +167,8 @@ impl fmt::Display for BStr {
 }
 
 impl fmt::Debug for BStr {
-    /// Shows a text in quotes, with an escape for what doesn't print and for each byte that is part of no character.
+    /// Writes the text in quotes, with an escape for each character that doesn't print and each byte that isn't part of
+    /// a character.
     fn fmt(&self, f: &mut fmt::Formatter<'_>) -> fmt::Result {
         f.write_char('"')?;
         for (text, invalid) in chunks(&self.0) {
@@ -287,7 +288,7 @@ impl Default for &BStr {
     }
 }
 
-/// Conversions from what gives bytes: the type, and how its bytes are copied or taken over.
+/// Conversions from types that have bytes: the type, and the expression that copies or takes its bytes.
 macro_rules! from {
     ($($given:ty: $bytes:expr),*) => {
         $(impl From<$given> for BString {

@@ -1,8 +1,8 @@
-//! Bytes as the texts that are in them, and what is between those.
+//! Splits bytes into texts and the bytes between them that aren't UTF-8.
 
 use std::{iter, str};
 
-/// The texts in the bytes, each with the bytes after it that are part of no character.
+/// The texts in the bytes, each with the bytes after it that aren't part of a character.
 pub(crate) fn chunks(mut bytes: &[u8]) -> impl Iterator<Item = (&str, &[u8])> {
     iter::from_fn(move || {
         let fault = match str::from_utf8(bytes) {

@@ -1,15 +1,16 @@
-//! Locations by conversion, from a text, bytes or a file name: by [`parse()`] of its bytes.
+//! Conversions from texts, bytes and file names to locations, each by [`parse()`] of the bytes.
 
 use crate::bstr::{BStr, BString};
 use crate::parse::{parse, Error};
 use crate::Url;
 use std::borrow::Cow;
+use std::convert::Infallible;
 use std::ffi::OsStr;
 use std::os::unix::ffi::OsStrExt;
 use std::path::{Path, PathBuf};
 use std::str::FromStr;
 
-/// A conversion from a type, by an expression that gives its bytes.
+/// A conversion from a type, by an expression for its bytes.
 macro_rules! try_from {
     ($($given:ty, $it:ident => $bytes:expr;)*) => {
         $(impl TryFrom<$given> for Url {
@@ -43,10 +44,17 @@ impl<const COUNT: usize> TryFrom<&[u8; COUNT]> for Url {
     }
 }
 
+impl From<Infallible> for Error {
+    /// For a bound `Error: From<E>` on what becomes a location, which a location meets too.
+    fn from(never: Infallible) -> Error {
+        match never {}
+    }
+}
+
 impl FromStr for Url {
     type Err = Error;
 
-    /// The location that the text spells.
+    /// Parses the text.
     ///
     /// ```
     /// use gix_url_proved::Url;

@@ -1,8 +1,8 @@
-//! What a log may hold of a location and of an error: `Debug`, without the field `password` and without refused texts.
+//! `Debug` of locations and errors, for logs: without the field `password` and without refused texts.
 //!
-//! A location shows every part but that field; an error shows the length of a text that was refused, and never its
-//! bytes. Otherwise the shape is the one that a derive gives, with bytes as a text. Nothing else is hidden: a secret may
-//! also be where the grammar puts no password, as the user of `https://token@h/p`, and a log shows it there.
+//! A location shows every part except that field. An error shows the length of a refused text, and never its bytes.
+//! Otherwise the output is that of a derived `Debug`, with bytes as a text. Nothing else is hidden: a secret in a part
+//! other than the password, such as the user of `https://token@h/p`, is shown.
 
 use crate::chunks::chunks;
 use crate::expand_path::ForUser;
@@ -11,7 +11,7 @@ use crate::Url;
 use std::fmt::{self, Write};
 
 impl fmt::Debug for Url {
-    /// Shows all parts, with `redacted` in place of the field `password`.
+    /// Writes all parts, with `redacted` in place of the field `password`.
     fn fmt(&self, f: &mut fmt::Formatter<'_>) -> fmt::Result {
         f.debug_struct("Url")
             .field("scheme", &self.scheme)
@@ -27,7 +27,7 @@ impl fmt::Debug for Url {
 }
 
 impl fmt::Debug for Error {
-    /// Shows the fields, with the length of a text in place of its bytes.
+    /// Writes the fields, with the length of a text in place of its bytes.
     ///
     /// ```
     /// let error = gix_url_proved::parse("ssh://user:secret@h:99999/p").unwrap_err();
@@ -60,7 +60,7 @@ impl fmt::Debug for Error {
     }
 }
 
-/// What is shown in place of bytes: how many they are.
+/// Writes the number of bytes in place of the bytes.
 pub(crate) struct Length(usize);
 
 impl Length {
@@ -75,7 +75,7 @@ impl fmt::Debug for Length {
     }
 }
 
-/// A user without the bytes of the name.
+/// Writes a user without the bytes of the name.
 struct Hidden<'a>(&'a ForUser);
 
 impl fmt::Debug for Hidden<'_> {
@@ -87,7 +87,8 @@ impl fmt::Debug for Hidden<'_> {
     }
 }
 
-/// Bytes as a text in quotes, with an escape for what doesn't print and for each byte that is part of no character.
+/// Writes bytes as a text in quotes, with an escape for each character that doesn't print and each byte that isn't part
+/// of a character.
 pub(crate) struct Text<'a>(pub(crate) &'a [u8]);
 
 impl fmt::Debug for Text<'_> {

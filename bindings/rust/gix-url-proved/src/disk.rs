@@ -1,16 +1,16 @@
-//! The walk over symbolic links: what a path of the local file system is once none is left in it.
+//! Resolves symbolic links in paths of the local file system.
 
 use std::ffi::OsString;
 use std::fs;
 use std::os::unix::ffi::OsStrExt;
 use std::path::{Path, PathBuf};
 
-/// How many links are followed before a path counts as one that goes in a circle.
+/// How many links are followed before a path is taken for a cycle.
 const MAX_LINKS: usize = 32;
 
-/// The path, from the folder `current_dir` where it is relative, without `.`, `..` and symbolic links. The folder is taken
-/// as it is. What isn't there, as the end of a path may be, is kept. None where the path is empty, `..` is above the root,
-/// there are too many links, or one can't be read.
+/// Resolves a path to one without `.`, `..` and symbolic links. A relative path begins at the folder `current_dir`,
+/// which is taken as it is. A part that doesn't exist, such as the end of a path may be, is kept. `None` if the path is
+/// empty, `..` leads above the root, there are too many links, or a link can't be read.
 pub(crate) fn resolved(path: &Path, current_dir: &Path) -> Option<PathBuf> {
     let parts = |path: &Path| path.components().rev().map(|part| part.as_os_str().to_owned()).collect();
     let mut resolved = if path.is_relative() { current_dir.to_owned() } else { PathBuf::new() };
@@ -24,7 +24,7 @@ pub(crate) fn resolved(path: &Path, current_dir: &Path) -> Option<PathBuf> {
             b"." => continue,
             b".." if resolved.pop() => continue,
             b".." => return None,
-            // The root of an absolute path, or of a link's target, takes the place of what was resolved.
+            // The root of an absolute path, or of a link's target, replaces the path that was resolved so far.
             _ => resolved.push(part),
         }
         if resolved.is_symlink() {

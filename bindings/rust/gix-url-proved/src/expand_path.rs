@@ -1,4 +1,4 @@
-//! Paths in somebody's home folder, as `/~user/repo`: whose folder, what a shell takes for it, and where it lies.
+//! Expands paths in a home folder, such as `/~user/repo`.
 
 use crate::bstr::{BStr, BString};
 use crate::parse::Error;
@@ -7,13 +7,13 @@ use std::fmt;
 use std::os::unix::ffi::OsStrExt;
 use std::path::{Path, PathBuf};
 
-/// Whose home folder is meant.
+/// The user whose home folder a path is in.
 #[derive(Clone, PartialEq, Eq, PartialOrd, Ord, Hash)]
 #[cfg_attr(feature = "serde", derive(serde::Serialize, serde::Deserialize))]
 pub enum ForUser {
-    /// That of the current user: `~`.
+    /// The current user: `~`.
     Current,
-    /// That of the user of this name: `~name`.
+    /// The user with this name: `~name`.
     Name(#[cfg_attr(feature = "serde", serde(with = "crate::stored"))] BString),
 }
 
@@ -35,8 +35,8 @@ impl fmt::Debug for ForUser {
     }
 }
 
-/// The user whose home folder the path means, and the path below it. A path that doesn't begin with `/~` means none, and
-/// is copied. What follows the user is shown with U+FFFD in place of what is not UTF-8.
+/// Returns the user whose home folder the path names, and the path below that folder. A path that doesn't begin with
+/// `/~` names no user, and is copied. In a path below a home folder, U+FFFD replaces bytes that are not UTF-8.
 ///
 /// ```
 /// use gix_url_proved::expand_path::{self, ForUser};
@@ -48,7 +48,7 @@ impl fmt::Debug for ForUser {
 ///
 /// # Errors
 ///
-/// None: the result is that of `gix-url`.
+/// None: the result is always `Ok`, as in `gix-url`.
 pub fn parse(path: &BStr) -> Result<(Option<ForUser>, BString), Error> {
     let rest = match path.strip_prefix(b"/~") {
         Some(rest) => rest,
@@ -62,7 +62,7 @@ pub fn parse(path: &BStr) -> Result<(Option<ForUser>, BString), Error> {
     Ok((Some(user), String::from_utf8_lossy(below).into_owned().into()))
 }
 
-/// The path as a shell takes it: `~user/repo` for `/~user/repo`. Any other path is returned as it is.
+/// The path as a shell reads it: `~user/repo` for `/~user/repo`. Any other path is returned unchanged.
 ///
 /// ```
 /// use gix_url_proved::expand_path;
@@ -79,8 +79,8 @@ pub fn for_shell(path: BString) -> BString {
     }
 }
 
-/// Where the path lies in the home folder that the closure returns for this user; the path itself without a user, and
-/// the closure isn't called then.
+/// The path in the home folder that the closure returns for this user. Without a user it is the path itself, and the
+/// closure isn't called.
 ///
 /// ```
 /// use gix_url_proved::expand_path::{self, ForUser};
@@ -92,7 +92,7 @@ pub fn for_shell(path: BString) -> BString {
 ///
 /// # Errors
 ///
-/// [`Error::NoHome`] where the closure returns none.
+/// [`Error::NoHome`] if the closure returns `None`.
 pub fn with(
     user: Option<&ForUser>,
     path: &BStr,
@@ -107,15 +107,15 @@ pub fn with(
     Ok(home.join(path.components().skip(1).collect::<PathBuf>()))
 }
 
-/// Where the path lies in the home folder of this user: [`with`] the current user's home folder as the environment has
-/// it, and for a name the folder of that name beside it.
+/// The path in the home folder of this user: [`with`] the current user's home folder from the environment, and for a
+/// name the folder of that name beside it.
 ///
 /// # Errors
 ///
-/// [`Error::NoHome`] where the environment has no home folder, or there is none beside it.
+/// [`Error::NoHome`] if the environment has no home folder, or that folder has no parent.
 pub fn expand_path(user: Option<&ForUser>, path: &BStr) -> Result<PathBuf, Error> {
     with(user, path, |user| {
-        // It was deprecated for what it did on Windows.
+        // It was deprecated for its result on Windows.
         #[allow(deprecated)]
         let home = std::env::home_dir()?;
         match user {

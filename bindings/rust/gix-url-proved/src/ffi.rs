@@ -1,11 +1,12 @@
-//! The calls of the static library: the only `unsafe` code, except byte strings where they are this crate's own.
+//! Declares and calls the exports of the static library. All `unsafe` code is here, except that of this crate's own
+//! byte strings.
 //!
-//! Each declaration says what `crates/gix_url_c/src` exports: a slice is a pointer that isn't null and a length, and what
-//! an answer is stored in must not overlap what is read. Each call passes slices and structs that live until it
-//! returns, and the library keeps no pointer. It returns numbers, bytes in buffers of this crate, of which no more is
-//! read than the library says it filled, and for a text that is read its parts, as slices of the text and of such
-//! buffers. Buffers are on the stack where that is enough, so a question allocates nothing; those of the calls over a
-//! configuration, and over what Git reads, are in memory, and grow.
+//! Each declaration matches an export of `crates/gix_url_c/src`. A slice is a pointer that isn't null and a length.
+//! Memory for results must not overlap the inputs. Each call passes slices and structs that live until it returns, and
+//! the library keeps no pointer. A call returns numbers, and bytes in buffers of this crate, of which no more is read
+//! than the library reports as filled. The parser returns the parts of a text as slices of the text and of such a
+//! buffer. Buffers are on the stack if that is large enough, so queries allocate nothing. The calls over a
+//! configuration, and over texts that Git reads, allocate their buffers, which grow.
 
 use crate::bstr::BString;
 use crate::lent::lent;
@@ -19,16 +20,18 @@ const OK: u32 = 0;
 const TOO_LONG: u32 = 5;
 const BAD_URL: u32 = 6;
 const NO_ROOM: u32 = 102;
-/// What a buffer holds before a call in a debug build, which checks it after each error: a rarely written byte.
+/// The byte that fills a buffer before a call in a debug build, which checks the buffer after each error. It is rarely
+/// written.
 const BLANK: u8 = 0xA5;
-/// How many bytes a buffer on the stack has.
+/// The size of a buffer on the stack, in bytes.
 const NEAR: usize = 1024;
-/// How many bytes an error shows of a text whose authority is too long: a scheme, `://`, and so many as an authority has.
+/// How many bytes an error keeps of a text whose authority is too long: a scheme, `://` and an authority of the
+/// greatest length.
 const FRONT: usize = 1024 + 3 + 1024;
 /// How many lengths of names and values fit on the stack.
 const NEAR_LENGTHS: usize = 32;
 
-/// What of a location is a number.
+/// The fields of a location that are numbers.
 #[repr(C)]
 #[derive(Clone, Copy, Default)]
 struct Front {
@@ -80,7 +83,7 @@ pub(crate) struct Parted {
     bytes: usize,
 }
 
-/// A slice, as the library takes it.
+/// A slice, in the form that the library takes.
 #[repr(C)]
 #[derive(Clone, Copy)]
 struct Bytes<'a> {
@@ -94,18 +97,19 @@ impl<'a> Bytes<'a> {
         Bytes { at: bytes.as_ptr(), len: bytes.len(), lent: PhantomData }
     }
 
-    /// The bytes that are there; no bytes where there are none.
+    /// The bytes, or none if they are missing.
     fn of_some(bytes: Option<&'a [u8]>) -> Bytes<'a> {
         Bytes::of(bytes.unwrap_or_default())
     }
 
     fn get(self) -> &'a [u8] {
-        // SAFETY: it was made of such a slice, or the library lent it of the slices that a call borrowed for so long.
+        // SAFETY: it was made from such a slice, or the library returned it as part of slices that a call borrowed for
+        // so long.
         unsafe { std::slice::from_raw_parts(self.at, self.len) }
     }
 }
 
-/// The parts of a location as slices; what isn't there is empty.
+/// The parts of a location as slices. A missing part is empty.
 #[repr(C)]
 #[derive(Clone, Copy)]
 struct Given<'a> {
@@ -120,24 +124,24 @@ struct Given<'a> {
 
 #[rustfmt::skip]
 extern "C" {
-    fn gix_url_c_read_in(input: *const u8, len: usize, room: *mut u8, room_len: usize, lent: &mut Given, told: &mut Problem) -> u32;
-    fn gix_url_c_from_parts(given: &Given, made: &mut Made, room: *mut u8, room_len: usize, told: &mut Problem) -> u32;
+    fn gix_url_c_read_in(input: *const u8, len: usize, buffer: *mut u8, buffer_len: usize, lent: &mut Given, told: &mut Problem) -> u32;
+    fn gix_url_c_from_parts(given: &Given, made: &mut Made, buffer: *mut u8, buffer_len: usize, told: &mut Problem) -> u32;
     fn gix_url_c_is_settled(given: &Given, settled: &mut bool) -> u32;
     fn gix_url_c_agrees_with_git(given: &Given, agrees: &mut bool) -> u32;
     fn gix_url_c_unmet_condition(given: &Given, unmet: &mut u8) -> u32;
-    fn gix_url_c_write(given: &Given, room: *mut u8, room_len: usize, len: &mut usize, told: &mut Problem) -> u32;
-    fn gix_url_c_components(given: &Given, told: &mut Parted, room: *mut u8, room_len: usize, lengths: *mut usize, lengths_len: usize) -> u32;
+    fn gix_url_c_write(given: &Given, buffer: *mut u8, buffer_len: usize, len: &mut usize, told: &mut Problem) -> u32;
+    fn gix_url_c_components(given: &Given, told: &mut Parted, buffer: *mut u8, buffer_len: usize, lengths: *mut usize, lengths_len: usize) -> u32;
     fn gix_url_c_argument(is_there: bool, text: *const u8, len: usize) -> u32;
     fn gix_url_c_path_argument(path: *const u8, len: usize) -> u32;
     fn gix_url_c_path_is_root(path: *const u8, len: usize) -> u32;
     fn gix_url_c_is_spelled(path: *const u8, len: usize, spelling: *const u8, spelling_len: usize) -> u32;
     fn gix_url_c_port_or_default(scheme: u8, has_port: bool, port: u16) -> u32;
-    fn gix_url_c_reason_name(reason: u8, room: *mut u8, room_len: usize, len: &mut usize) -> u32;
-    fn gix_url_c_reason_words(reason: u8, room: *mut u8, room_len: usize, len: &mut usize) -> u32;
+    fn gix_url_c_reason_name(reason: u8, buffer: *mut u8, buffer_len: usize, len: &mut usize) -> u32;
+    fn gix_url_c_reason_words(reason: u8, buffer: *mut u8, buffer_len: usize, len: &mut usize) -> u32;
 }
 
 impl<'a> Given<'a> {
-    /// No part at all.
+    /// No parts.
     fn none() -> Given<'a> {
         let none = Bytes::of(&[]);
         Given {
@@ -151,7 +155,7 @@ impl<'a> Given<'a> {
         }
     }
 
-    /// The parts in the bytes, one behind the other.
+    /// The parts in the bytes, which follow each other.
     fn made(made: &Made, mut bytes: &'a [u8]) -> Given<'a> {
         let mut part = |len| Bytes::of(next(&mut bytes, len));
         Given {
@@ -188,13 +192,13 @@ impl<'a> Given<'a> {
         }
     }
 
-    /// How many bytes the parts have.
+    /// The number of bytes in all parts.
     fn bytes(&self) -> usize {
         [self.name, self.user, self.password, self.host, self.path].iter().map(|part| part.len).sum::<usize>()
             + self.spelling.len
     }
 
-    /// The location with only what determines its components.
+    /// The location with only the fields that determine its components.
     fn path_of(url: &'a Url) -> Given<'a> {
         let given = Given::of(url);
         let (scheme, has_spelling) = (given.front.scheme, given.front.has_spelling);
@@ -203,11 +207,12 @@ impl<'a> Given<'a> {
     }
 }
 
-/// Calls an export with what it takes.
+/// Calls an export with these arguments.
 macro_rules! call {
     ($export:ident, $($given:expr),*) => {
-        // SAFETY: the declaration above fits the export. Pointers and lengths are those of slices that are borrowed for
-        // the call; what is written to is borrowed for the call alone, as `&mut`, and overlaps with nothing.
+        // SAFETY: the declaration above matches the export. Pointers and lengths are those of slices that are borrowed
+        // for the call. Memory that the call writes is borrowed for the call alone, as `&mut`, and overlaps with
+        // nothing.
         unsafe { $export($($given),*) }
     };
 }
@@ -225,7 +230,7 @@ pub(crate) use texts::{
     credential_reading, danger_name, danger_words, dangers, git_reading, resolve, secrets, ssh_words, transport,
 };
 
-/// The number of a scheme, and the name that it holds: each by itself, so that a number takes no jump.
+/// The number of a scheme, and the name that it holds. Each has a match of its own, so that the number needs no jump.
 fn number(scheme: &Scheme) -> (u8, &[u8]) {
     let number = match scheme {
         Scheme::File => 0,
@@ -243,7 +248,7 @@ fn number(scheme: &Scheme) -> (u8, &[u8]) {
     }
 }
 
-/// The scheme of this number, and of this name where it holds one.
+/// The scheme with this number, and with this name if it holds one.
 fn scheme(number: u8, name: Bytes<'_>) -> Scheme {
     match number {
         0 => Scheme::File,
@@ -257,22 +262,22 @@ fn scheme(number: u8, name: Bytes<'_>) -> Scheme {
     }
 }
 
-/// Makes a call that fills the front of the room. It returns its number and how many bytes it needs; an error leaves
-/// the room as it was.
-fn fill(room: &mut [MaybeUninit<u8>], call: &mut impl FnMut(*mut u8, usize) -> (u32, usize)) -> (u32, usize) {
+/// Makes a call that fills the front of the buffer. Returns its number and how many bytes it needs. A debug build tests
+/// that an error leaves the buffer as it was, which is proved of each call but `gix_url_c_read_in`.
+fn fill(buffer: &mut [MaybeUninit<u8>], call: &mut impl FnMut(*mut u8, usize) -> (u32, usize)) -> (u32, usize) {
     if cfg!(debug_assertions) {
-        room.fill(MaybeUninit::new(BLANK));
+        buffer.fill(MaybeUninit::new(BLANK));
     }
-    let (code, needed) = call(room.as_mut_ptr().cast(), room.len());
+    let (code, needed) = call(buffer.as_mut_ptr().cast(), buffer.len());
     if cfg!(debug_assertions) && code != OK {
-        // SAFETY: all of the room was filled above.
-        let is_blank = room.iter().all(|byte| unsafe { byte.assume_init() } == BLANK);
-        assert!(is_blank, "error {code} leaves something in the room");
+        // SAFETY: all of the buffer was filled above.
+        let is_blank = buffer.iter().all(|byte| unsafe { byte.assume_init() } == BLANK);
+        assert!(is_blank, "error {code} leaves something in the buffer");
     }
     (code, needed)
 }
 
-/// Fills memory with what a call returns, and once more with as much as is needed where it was too little.
+/// Allocates a buffer that a call fills, and makes the call again with as much as it needs if the buffer was too small.
 fn filled(ample: usize, mut call: impl FnMut(*mut u8, usize) -> (u32, usize)) -> (u32, Vec<u8>) {
     let mut bytes = Vec::with_capacity(ample);
     let (mut code, mut needed) = fill(bytes.spare_capacity_mut(), &mut call);
@@ -281,31 +286,32 @@ fn filled(ample: usize, mut call: impl FnMut(*mut u8, usize) -> (u32, usize)) ->
         (code, needed) = fill(bytes.spare_capacity_mut(), &mut call);
     }
     if code == OK {
-        assert!(needed <= bytes.capacity(), "the library fills no more than the room");
-        // SAFETY: with no error the library has filled as many bytes as it says.
+        assert!(needed <= bytes.capacity(), "the library fills no more than the buffer");
+        // SAFETY: without an error the library has filled as many bytes as it reports.
         unsafe { bytes.set_len(needed) };
     }
     (code, bytes)
 }
 
-/// A buffer for what a call returns: on the stack, and in memory where that is too little.
-struct Room {
+/// A buffer for the result of a call: on the stack, and allocated if that is too small.
+struct Buffer {
     near: [MaybeUninit<u8>; NEAR],
     far: Vec<u8>,
 }
 
-impl Room {
-    fn new() -> Room {
-        Room { near: [MaybeUninit::uninit(); NEAR], far: Vec::new() }
+impl Buffer {
+    fn new() -> Buffer {
+        Buffer { near: [MaybeUninit::uninit(); NEAR], far: Vec::new() }
     }
 
-    /// Fills the room with what a call answers, of which so many bytes are ample.
+    /// Fills the buffer with the result of a call, for which this many bytes are ample.
     fn filled(&mut self, ample: usize, mut call: impl FnMut(*mut u8, usize) -> (u32, usize)) -> (u32, &[u8]) {
         if ample <= NEAR {
             let (code, needed) = fill(&mut self.near, &mut call);
             if code != NO_ROOM {
                 let answer = &self.near[..if code == OK { needed } else { 0 }];
-                // SAFETY: with no error the library has filled as many bytes as it says, and else there are none.
+                // SAFETY: without an error the library has filled as many bytes as it reports, and otherwise there are
+                // none.
                 return (code, unsafe { std::slice::from_raw_parts(answer.as_ptr().cast(), answer.len()) });
             }
         }
@@ -315,14 +321,14 @@ impl Room {
     }
 }
 
-/// The front of the bytes, which are left with the rest.
+/// Splits off the front of the bytes, and leaves the rest.
 pub(crate) fn next<'a>(bytes: &mut &'a [u8], len: usize) -> &'a [u8] {
     let (front, rest) = bytes.split_at(len);
     *bytes = rest;
     front
 }
 
-/// A name, a user, a password or a host of the library, as a text.
+/// A name, a user, a password or a host from the library, as a text.
 fn text(bytes: Bytes<'_>) -> String {
     String::from_utf8(bytes.get().to_vec()).expect("names, users, passwords and hosts are UTF-8")
 }
@@ -342,7 +348,7 @@ fn located(parts: &Given<'_>) -> Url {
     }
 }
 
-/// How many bytes the parts have.
+/// The number of bytes in all parts.
 fn bytes_of(made: &Made) -> usize {
     made.name + made.user + made.password + made.host + made.path + made.spelling
 }
@@ -373,7 +379,7 @@ fn write_fault(number: u8) -> WriteFault {
     }
 }
 
-/// The error of this number; `input` is the text that was refused, and `name` that of a remote helper.
+/// The error with this number. `input` is the refused text, and `name` that of a remote helper.
 fn error(code: u32, told: &Problem, input: impl FnOnce() -> BString, name: &[u8]) -> Error {
     match code {
         1 => Error::Memory,
@@ -392,18 +398,18 @@ fn error(code: u32, told: &Problem, input: impl FnOnce() -> BString, name: &[u8]
     }
 }
 
-/// What the bytes are read as. The parts are slices of the bytes, or of a buffer where they differ, and are copied.
+/// Parses the bytes. The library returns the parts as slices of the bytes or of a buffer, and they are copied.
 pub(crate) fn read(input: &[u8]) -> Result<Url, Error> {
     let (mut lent, mut told) = (Given::none(), Problem::default());
     let (mut near, mut far) = ([MaybeUninit::<u8>::uninit(); NEAR], Vec::<u8>::new());
-    let room = if input.len() <= NEAR {
+    let buffer = if input.len() <= NEAR {
         &mut near[..input.len()]
     } else {
         far.reserve_exact(input.len());
         &mut far.spare_capacity_mut()[..input.len()]
     };
-    let (code, _) = fill(room, &mut |room, len| {
-        (call!(gix_url_c_read_in, input.as_ptr(), input.len(), room, len, &mut lent, &mut told), 0)
+    let (code, _) = fill(buffer, &mut |buffer, len| {
+        (call!(gix_url_c_read_in, input.as_ptr(), input.len(), buffer, len, &mut lent, &mut told), 0)
     });
     match code {
         OK => Ok(located(&lent)),
@@ -411,19 +417,19 @@ pub(crate) fn read(input: &[u8]) -> Result<Url, Error> {
     }
 }
 
-/// Why the bytes are refused, and where; none where they spell a location. They are read without room, which takes no
-/// memory.
+/// The reason and the position of the parse error; `None` if the bytes are a location. They are parsed without a
+/// buffer, so nothing is allocated.
 pub(crate) fn refusal(input: &[u8]) -> Option<Refusal> {
     let (mut lent, mut told) = (Given::none(), Problem::default());
     let code = call!(gix_url_c_read_in, input.as_ptr(), input.len(), [].as_mut_ptr(), 0, &mut lent, &mut told);
-    // Of a text that is too long no form is reported, since only a URL can be.
+    // No form is reported for a text that is too long, since only a URL can be.
     let form = if code == TOO_LONG { UrlKind::Url } else { kind(told.kind) };
     let fault = (code == BAD_URL).then(|| url_fault(told.fault));
     Some(Refusal { form, reason: Reason::numbered(told.reason)?, at: told.at, len: told.len, fault })
 }
 
-/// The refusal of a text that is too long, of which an error shows this front. One byte behind it makes an authority too
-/// long again, since no path begins in the front; a scheme that is too long is in it.
+/// The refusal of a text that is too long, of which an error keeps this front. With one more byte an authority is too
+/// long again, since no path begins in the front. A scheme that is too long is in the front.
 pub(crate) fn refusal_of_front(shown: &[u8]) -> Option<Refusal> {
     let mut longer = [b'a'; FRONT + 1];
     if shown.len() > FRONT {
@@ -433,32 +439,32 @@ pub(crate) fn refusal_of_front(shown: &[u8]) -> Option<Refusal> {
     refusal(&longer[..=shown.len()])
 }
 
-/// The name of the reason of this number.
+/// The name of the reason with this number.
 pub(crate) fn reason_name(reason: u8) -> String {
-    said(|room, room_len, len| call!(gix_url_c_reason_name, reason, room, room_len, len))
+    said(|buffer, buffer_len, len| call!(gix_url_c_reason_name, reason, buffer, buffer_len, len))
 }
 
-/// The reason of this number in words.
+/// The words of the reason with this number.
 pub(crate) fn reason_words(reason: u8) -> String {
-    said(|room, room_len, len| call!(gix_url_c_reason_words, reason, room, room_len, len))
+    said(|buffer, buffer_len, len| call!(gix_url_c_reason_words, reason, buffer, buffer_len, len))
 }
 
-/// What a call says of a reason.
+/// The text that a call returns for a reason.
 fn said(call: impl Fn(*mut u8, usize, &mut usize) -> u32) -> String {
-    let (code, said) = filled(128, |room, room_len| {
+    let (code, said) = filled(128, |buffer, buffer_len| {
         let mut len = 0;
-        (call(room, room_len, &mut len), len)
+        (call(buffer, buffer_len, &mut len), len)
     });
     assert!(code == OK, "every reason has a name and words");
     String::from_utf8(said).expect("names and words are UTF-8")
 }
 
-/// What the text of these parts means.
+/// Builds the location that the text of these parts means.
 pub(crate) fn from_parts(parts: &Url) -> Result<Url, Error> {
     let given = Given::of(parts);
-    let (mut made, mut told, mut room) = (Made::default(), Problem::default(), Room::new());
-    let (code, bytes) = room.filled(NEAR, |room, len| {
-        let code = call!(gix_url_c_from_parts, &given, &mut made, room, len, &mut told);
+    let (mut made, mut told, mut buffer) = (Made::default(), Problem::default(), Buffer::new());
+    let (code, bytes) = buffer.filled(NEAR, |buffer, len| {
+        let code = call!(gix_url_c_from_parts, &given, &mut made, buffer, len, &mut told);
         (code, bytes_of(&made))
     });
     match code {
@@ -467,19 +473,20 @@ pub(crate) fn from_parts(parts: &Url) -> Result<Url, Error> {
     }
 }
 
-/// Whether the location is of the settled class.
+/// Whether the location is in the settled class.
 pub(crate) fn is_settled(url: &Url) -> bool {
     let mut settled = false;
     is_answered(call!(gix_url_c_is_settled, &Given::of(url), &mut settled)) && settled
 }
 
-/// Whether the location is of the class in whose texts Git reads the same place.
+/// Whether the location is in the class for which Git finds the same place in the text.
 pub(crate) fn agrees_with_git(url: &Url) -> bool {
     let mut agrees = false;
     is_answered(call!(gix_url_c_agrees_with_git, &Given::of(url), &mut agrees)) && agrees
 }
 
-/// The first condition that the location doesn't meet, of those under which every reader finds the same parts in its text.
+/// The first condition that the location doesn't meet, of those under which every reader finds the same parts in its
+/// text.
 pub(crate) fn unmet_condition(url: &Url) -> Option<Condition> {
     let mut unmet = 0;
     if !is_answered(call!(gix_url_c_unmet_condition, &Given::of(url), &mut unmet)) {
@@ -498,9 +505,9 @@ fn is_answered(code: u32) -> bool {
 pub(crate) fn write(url: &Url) -> Result<Vec<u8>, Error> {
     let given = Given::of(url);
     let mut told = Problem::default();
-    let (code, bytes) = filled(given.bytes() + 32, |room, room_len| {
+    let (code, bytes) = filled(given.bytes() + 32, |buffer, buffer_len| {
         let mut len = 0;
-        let code = call!(gix_url_c_write, &given, room, room_len, &mut len, &mut told);
+        let code = call!(gix_url_c_write, &given, buffer, buffer_len, &mut len, &mut told);
         (code, len)
     });
     match code {
@@ -518,12 +525,12 @@ pub(crate) fn text_len(url: &Url) -> Result<usize, WriteFault> {
     }
 }
 
-/// Passes on the text of the location, without memory where it is short.
+/// Calls a function with the text of the location. Allocates nothing if the text is short.
 pub(crate) fn with_text<T>(url: &Url, take: impl FnOnce(&[u8]) -> T) -> Result<T, Error> {
     with_text_of(&Given::of(url), take)
 }
 
-/// Passes on what the location is shown as: the text that it has with another password, if it has one.
+/// Calls a function with the text that shows the location: the text that it has with another password, if it has one.
 pub(crate) fn display<T>(url: &Url, take: impl FnOnce(&[u8]) -> T) -> Result<T, Error> {
     let mut given = Given::of(url);
     if url.password.is_some() {
@@ -533,10 +540,10 @@ pub(crate) fn display<T>(url: &Url, take: impl FnOnce(&[u8]) -> T) -> Result<T, 
 }
 
 fn with_text_of<T>(given: &Given<'_>, take: impl FnOnce(&[u8]) -> T) -> Result<T, Error> {
-    let (mut told, mut room) = (Problem::default(), Room::new());
-    let (code, bytes) = room.filled(given.bytes() + 32, |room, room_len| {
+    let (mut told, mut buffer) = (Problem::default(), Buffer::new());
+    let (code, bytes) = buffer.filled(given.bytes() + 32, |buffer, buffer_len| {
         let mut len = 0;
-        let code = call!(gix_url_c_write, given, room, room_len, &mut len, &mut told);
+        let code = call!(gix_url_c_write, given, buffer, buffer_len, &mut len, &mut told);
         (code, len)
     });
     match code {
@@ -545,7 +552,7 @@ fn with_text_of<T>(given: &Given<'_>, take: impl FnOnce(&[u8]) -> T) -> Result<T
     }
 }
 
-/// What a part is to a command line.
+/// Whether a part is safe as an argument of a command.
 pub(crate) fn argument(part: Option<&str>) -> ArgumentSafety<'_> {
     let bytes = part.unwrap_or("").as_bytes();
     match (call!(gix_url_c_argument, part.is_some(), bytes.as_ptr(), bytes.len()), part) {
@@ -565,28 +572,29 @@ pub(crate) fn is_root(path: &[u8]) -> bool {
     call!(gix_url_c_path_is_root, path.as_ptr(), path.len()) == 1
 }
 
-/// Whether a path was spelled so: the spelling stands for it.
+/// Whether the escaped path decodes to the path.
 pub(crate) fn is_spelled(path: &[u8], spelling: &[u8]) -> bool {
     let answer = call!(gix_url_c_is_spelled, path.as_ptr(), path.len(), spelling.as_ptr(), spelling.len());
     debug_assert!(answer <= 1, "{answer} is neither yes nor no");
     answer == 1
 }
 
-/// The port, or else the one that the scheme stands for.
+/// The port, or else the default port of the scheme.
 pub(crate) fn port_or_default(scheme: &Scheme, port: Option<u16>) -> Option<u16> {
     let told = call!(gix_url_c_port_or_default, number(scheme).0, port.is_some(), port.unwrap_or(0));
     u16::try_from(told).ok()
 }
 
-/// Takes the path of the location apart. What the library copies into a buffer is found in the path, and borrowed.
+/// Splits the path of the location. The components that the library copies into a buffer are found in the path, and
+/// borrowed.
 pub(crate) fn components(url: &Url) -> Result<PathComponents<'_>, Error> {
     let given = Given::path_of(url);
-    let (mut told, mut room) = (Parted::default(), Room::new());
+    let (mut told, mut buffer) = (Parted::default(), Buffer::new());
     let (mut near, mut far) = ([0; NEAR_LENGTHS], vec![0; 0]);
-    let (code, bytes) = room.filled(url.path.len() + 1, |room, len| {
+    let (code, bytes) = buffer.filled(url.path.len() + 1, |buffer, len| {
         far.resize(if told.pairs > NEAR_LENGTHS / 2 { 2 * told.pairs } else { 0 }, 0);
         let lengths = if far.is_empty() { &mut near[..] } else { &mut far };
-        let code = call!(gix_url_c_components, &given, &mut told, room, len, lengths.as_mut_ptr(), lengths.len());
+        let code = call!(gix_url_c_components, &given, &mut told, buffer, len, lengths.as_mut_ptr(), lengths.len());
         (code, told.bytes)
     });
     match code {

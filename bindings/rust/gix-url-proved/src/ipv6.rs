@@ -1,8 +1,8 @@
-//! Which texts are IPv6 addresses.
+//! A test for IPv6 addresses.
 
 use std::net::Ipv6Addr;
 
-/// Whether the text is an IPv6 address: without brackets, port or zone. It allocates nothing.
+/// Whether the text is an IPv6 address, without brackets, port or zone. Allocates nothing.
 ///
 /// ```
 /// use gix_url_proved::ipv6::is_ipv6;

@@ -1,17 +1,17 @@
-//! Components as parts of the path that they are of: what the library copied is found again in it, so that it is lent.
+//! Borrows components from the path of a location, in which the bytes that the library copied are found again.
 
 use crate::bstr::BStr;
 use crate::ffi::{next, Parted};
 use crate::{PathComponents, QueryPair};
 use std::borrow::Cow;
 
-/// How many separators of empty fields are looked behind for a name that begins as one: the search takes no longer than the
-/// query is.
+/// How many separators of empty fields are skipped to find a name that begins with a separator itself. It keeps the
+/// time of the search proportional to the length of the query.
 const EMPTY_FIELDS: usize = 8;
 
-/// The components in these bytes, borrowed from the path that they are of as far as they can be.
+/// The components in these bytes, borrowed from the path as far as possible.
 pub(crate) fn lent<'a>(whole: &'a [u8], told: &Parted, mut bytes: &[u8], lengths: &[usize]) -> PathComponents<'a> {
-    // The path of a location that has none is not a part of it, and is `/`.
+    // If there is no path before the query and the fragment, the path is `/`, which isn't part of `whole`.
     let path = if whole.starts_with(next(&mut bytes, told.path)) { &whole[..told.path] } else { b"/" };
     next(&mut bytes, told.fragment);
     let (query, fragment) = whole.split_at(whole.len() - told.fragment);
@@ -25,7 +25,7 @@ pub(crate) fn lent<'a>(whole: &'a [u8], told: &Parted, mut bytes: &[u8], lengths
     }
 }
 
-/// A name or a value, borrowed where it follows separators in the query, which then goes on behind it.
+/// A name or a value, borrowed from the query if it follows separators there. The query then begins after it.
 fn lent_part<'a>(query: &mut &'a [u8], part: &[u8]) -> Cow<'a, BStr> {
     let is_same = |(raw, byte): (&u8, &u8)| raw == byte || (*raw, *byte) == (b'+', b' ');
     let separators = if part.first() == Some(&b'&') { EMPTY_FIELDS } else { query.len() };

@@ -1,11 +1,11 @@
 //! Parses, writes and compares Git locations: remote helpers, URLs, the scp form and local paths.
 //!
-//! The surface is that of `gix-url` 0.40.1, by the same names, so that a program changes the line that names its
-//! dependency and little else; `docs/FROM_RUST.md` of the repository has each line that changes. The answers come from the
-//! library `gix_url`, whose code is proved, by the static library that is linked in; what is here turns values into
-//! pointers and lengths and back. All `unsafe` code is in the module `ffi`, and in the byte strings that replace those
-//! of the crate `bstr` without the feature `bstr`. Two modules are new: [`rules`], what Git does by its configuration, and
-//! [`audit`], dangers and secrets.
+//! The public items have the names that they have in `gix-url` 0.40.1, so a program changes the line that names its
+//! dependency, and little else. `docs/FROM_RUST.md` in the repository lists each line that changes. The results come
+//! from the library `gix_url`, whose code is proved and which is linked in as a static library; this crate converts
+//! values to pointers with lengths, and back. All `unsafe` code is in the module `ffi`, and in the byte strings that
+//! replace those of the crate `bstr` if the feature `bstr` is off. Two modules are new: [`rules`] applies Git's
+//! configuration, and [`audit`] finds dangers and secrets.
 //!
 //! ```
 //! let url = gix_url_proved::parse("ssh://git@example.com/gitoxide")?;
@@ -17,11 +17,11 @@
 //!
 //! # Features
 //!
-//! - `bstr`, on by default: paths and texts are the `BString` and `BStr` of the crate `bstr`. Without it they are types of
+//! - `bstr`, on by default: paths and texts are `BString` and `BStr` of the crate `bstr`. Without it they are types of
 //!   this crate's own module [`bstr`](mod@bstr), which have the same names and traits.
-//! - `serde`: [`Url`], [`Scheme`] and [`expand_path::ForUser`] are serialized and deserialized, in the format of `gix-url`.
-//! - `compare` and `measure` are for work on this crate: `cargo test` compares with `gix-url` itself, where that is
-//!   installed, and the examples that count instructions and take times are built.
+//! - `serde`: serializes and deserializes [`Url`], [`Scheme`] and [`expand_path::ForUser`], in the format of `gix-url`.
+//! - `compare` and `measure` are for work on this crate. With `compare`, `cargo test` compares with `gix-url` itself if
+//!   that is installed. With `measure`, the examples that count instructions and measure times are built.
 
 #![deny(missing_docs, unsafe_op_in_unsafe_fn)]
 
@@ -49,6 +49,7 @@ mod stored;
 pub mod testing;
 pub mod unambiguous;
 mod url;
+mod words;
 
 pub use expand_path::expand_path;
 pub use parse::parse;

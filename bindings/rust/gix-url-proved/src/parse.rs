@@ -1,4 +1,4 @@
-//! Reading, and what a text or a value is refused for.
+//! The parser, and the errors of calls over locations.
 
 use crate::bstr::BString;
 use crate::expand_path::ForUser;
@@ -6,8 +6,7 @@ use crate::ffi;
 use crate::{Refusal, Url};
 use std::fmt;
 
-/// The one location that the bytes spell, which may come as a text, as bytes or as a byte string. It allocates the parts,
-/// and what the library needs to read.
+/// Parses a location, from a text, bytes or a byte string. Allocates the parts, and memory for the library.
 ///
 /// ```
 /// use gix_url_proved::{Scheme, parse};
@@ -21,7 +20,8 @@ use std::fmt;
 ///
 /// # Errors
 ///
-/// Exactly where the bytes spell no location; the error names a flaw in them, and [`Error::refusal`] the place of it.
+/// Returns an error exactly if the bytes are not a location. The error names a flaw in them, and [`Error::refusal`] its
+/// position.
 pub fn parse(input: impl AsRef<[u8]>) -> Result<Url, Error> {
     ffi::read(input.as_ref())
 }
@@ -37,14 +37,14 @@ pub enum UrlKind {
     Local,
 }
 
-/// What is wrong with a URL, or with the host of the scp form.
+/// A flaw in a URL, or in the host of the scp form.
 #[derive(Clone, Copy, Debug, PartialEq, Eq)]
 pub enum UrlFault {
-    /// What is before `://` isn't a scheme.
+    /// The text before `://` isn't a scheme.
     NoScheme,
-    /// What is in a port's place isn't a port.
+    /// The text in place of a port isn't a port.
     BadPort,
-    /// A byte or a character is where it is not allowed, or an escape is broken or stands for no text.
+    /// A byte or a character is in a place that doesn't allow it, or an escape is broken or doesn't decode to text.
     BadCharacter,
     /// The scheme, or the scp form, needs a host.
     HostRequired,
@@ -57,14 +57,14 @@ pub enum WriteFault {
     HelperName,
     /// A remote helper has a user, a password, a host or a port.
     HelperParts,
-    /// A relative path of Secure Shell comes without a host, or with a password or a port.
+    /// A relative path of Secure Shell has no host, or has a password or a port.
     RelativeSsh,
-    /// A user comes without a host.
+    /// There is a user without a host.
     UserWithoutHost,
 }
 
-/// Why a text or a value was refused. What was refused may hold a password: neither the words that the error is shown by
-/// nor `Debug` show a byte of it, and the fields hold it.
+/// Why a text or a value was refused. The refused text may have a password. The fields hold it; neither `Display` nor
+/// `Debug` shows a byte of it.
 #[derive(Clone, PartialEq, Eq)]
 pub enum Error {
     /// Memory was refused.
@@ -87,7 +87,7 @@ pub enum Error {
     },
     /// The scheme or the authority is too long.
     TooLong {
-        /// The front of the text.
+        /// The beginning of the text.
         shown: BString,
         /// The length of the text, in bytes.
         total: usize,
@@ -96,7 +96,7 @@ pub enum Error {
     BadUrl {
         /// The form that the text was taken for.
         kind: UrlKind,
-        /// What is wrong.
+        /// The flaw.
         fault: UrlFault,
         /// The text.
         input: BString,
@@ -108,16 +108,16 @@ pub enum Error {
     },
     /// The location has no text.
     Unwritable(WriteFault),
-    /// There is no home folder for the user: of the module [`expand_path`](mod@crate::expand_path) alone.
+    /// There is no home folder for the user. Only the module [`expand_path`](mod@crate::expand_path) returns this.
     NoHome(ForUser),
-    /// The path has no resolution on this file system: of [`Url::canonicalize`] alone.
+    /// The path can't be resolved on this file system. Only [`Url::canonicalize`] returns this.
     Unresolved,
 }
 
 impl Error {
-    /// Why and where the text of an error of reading is refused, also of one that is too long, of which the error keeps
-    /// a front alone. None of any other error, and of one that a program put together with a text that spells a
-    /// location. The text is read again, without memory.
+    /// The reason and the position of a parse error. A text that is too long has them as well, although the error keeps
+    /// only its beginning. `None` for any other error, and for one that a program built with a text that is a location.
+    /// Parses the text again, and allocates nothing.
     ///
     /// ```
     /// use gix_url_proved::{parse, Reason};

@@ -1,11 +1,11 @@
-//! Why a text is refused, and where it is wrong.
+//! The reasons and positions of parse errors.
 
 use crate::ffi;
 use crate::parse::{UrlFault, UrlKind};
+use crate::words::worded;
 use std::fmt;
-use std::sync::{Mutex, PoisonError};
 
-/// For which reason a text spells no location. `Display` says it in one sentence, which holds no byte of the text.
+/// The reason why a text is not a location. `Display` writes it in one sentence, which has no byte of the text.
 ///
 /// ```
 /// use gix_url_proved::{parse, Reason};
@@ -27,11 +27,11 @@ pub enum Reason {
     NotUtf8,
     /// White space is in a URL.
     WhiteSpace,
-    /// A `%` begins no escape.
+    /// A `%` doesn't begin an escape.
     BrokenEscape,
     /// Nothing is before `://`.
     SchemeMissing,
-    /// A scheme begins with no letter of ASCII.
+    /// A scheme doesn't begin with an ASCII letter.
     SchemeStart,
     /// A character in a scheme isn't a letter, a digit, `+`, `-` or `.`.
     SchemeCharacter,
@@ -41,7 +41,7 @@ pub enum Reason {
     Backslash,
     /// A backslash is in the host of the scp form.
     BackslashInHost,
-    /// Bytes or escapes decode to no UTF-8.
+    /// Bytes or escapes don't decode to UTF-8.
     EscapesNotUtf8,
     /// A bracket is not closed.
     UnclosedBracket,
@@ -57,7 +57,7 @@ pub enum Reason {
     HostBeforePort,
     /// A port isn't a decimal number.
     PortNotANumber,
-    /// A character that the host of HTTP may not hold.
+    /// The host of HTTP has a character that isn't allowed.
     HostCharacter,
     /// A port is greater than 65,535.
     PortTooLarge,
@@ -107,40 +107,13 @@ impl Reason {
         Reason::FilePathMissing,
         Reason::ScpPathMissing,
     ];
-
-    /// The reason of a number; none of 0.
-    pub(crate) fn numbered(number: u8) -> Option<Reason> {
-        Reason::ALL.get(usize::from(number).checked_sub(1)?).copied()
-    }
-
-    /// The name of the reason, as programs show it to programs: that of its variant.
-    pub fn name(self) -> &'static str {
-        &self.said().0
-    }
-
-    /// The reason in one sentence, which holds no byte of the text.
-    pub fn words(self) -> &'static str {
-        &self.said().1
-    }
-
-    /// The name and the words of the library, which is asked once for those of all reasons.
-    fn said(self) -> &'static (String, String) {
-        static SAID: Mutex<Option<&[(String, String)]>> = Mutex::new(None);
-        let all = || (1..=28).map(|number| (ffi::reason_name(number), ffi::reason_words(number))).collect();
-        let mut said = SAID.lock().unwrap_or_else(PoisonError::into_inner);
-        &said.get_or_insert_with(|| Box::leak(all()))[self as usize]
-    }
 }
 
-impl fmt::Display for Reason {
-    fn fmt(&self, f: &mut fmt::Formatter<'_>) -> fmt::Result {
-        f.write_str(self.words())
-    }
-}
+worded!(Reason, ffi::reason_name, ffi::reason_words);
 
-/// Why a text spells no location, and where: what is wrong are the `len` bytes of the text behind its first `at`. Of
-/// several flaws it is the first in the order of checks, so a text has one refusal. It holds no byte of the text, and
-/// `Display` shows the words of the reason.
+/// Why a text is not a location, and where: the flaw is the `len` bytes after the first `at` bytes of the text. If a
+/// text has several flaws, this is the first in the order of checks, so a text has one refusal. It holds no byte of the
+/// text, and `Display` writes the words of the reason.
 ///
 /// ```
 /// let text = "http://h:abc/";
@@ -150,19 +123,19 @@ impl fmt::Display for Reason {
 /// ```
 #[derive(Clone, Copy, Debug, PartialEq, Eq)]
 pub struct Refusal {
-    /// The form that the text was taken for: of the empty text a local path.
+    /// The form that the text was taken for. It is a local path for the empty text.
     pub form: UrlKind,
     /// The reason.
     pub reason: Reason,
-    /// How many bytes of the text are before what is wrong.
+    /// How many bytes of the text come before the flaw.
     pub at: usize,
-    /// The length of what is wrong, in bytes. It is 0 where something is missing.
+    /// The length of the flaw, in bytes. It is 0 if something is missing.
     pub len: usize,
     pub(crate) fault: Option<UrlFault>,
 }
 
 impl Refusal {
-    /// What is wrong with the URL, or with the host of the scp form: none where the error is another one than `BadUrl`.
+    /// The flaw in the URL, or in the host of the scp form; `None` if the error isn't `BadUrl`.
     pub fn fault(&self) -> Option<UrlFault> {
         self.fault
     }

@@ -1,10 +1,11 @@
-//! What Git does by its configuration before it connects: rewriting, remotes, transports and permission, words of Secure
-//! Shell, settings of `http.*`, credentials and submodules; and what Git reads in a text.
+//! Applies Git's configuration as Git does before it connects: rewriting of URLs, remotes, transports and permissions,
+//! words of Secure Shell, settings of `http.*`, credentials and submodules. Also reads texts as Git does.
 //!
-//! The rules are those of Git 2.39.5 on Linux; `docs/RULES.md` of the repository has them. No call reads a file or the
-//! environment, or runs a program: the caller passes texts. The answers come from proved code, as those about locations.
+//! The rules are those of Git 2.39.5 on Linux; `docs/RULES.md` in the repository describes them. No call reads a file
+//! or the environment, or runs a program: the caller passes texts. The results come from proved code, like those for
+//! locations.
 //!
-//! A program that finds what `git fetch origin` connects to:
+//! This program finds the words with which `git fetch origin` runs Secure Shell:
 //!
 //! ```
 //! use gix_url_proved::rules::{ssh_words, transport_of, Configuration, Policy, SshRequest};

@@ -1,9 +1,9 @@
-//! What a location is reached by.
+//! The schemes of locations.
 
 use crate::ffi;
 use std::fmt;
 
-/// What a location is reached by.
+/// The scheme of a location.
 ///
 /// ```
 /// use gix_url_proved::Scheme;
@@ -46,8 +46,8 @@ impl Scheme {
         }
     }
 
-    /// The port that the scheme stands for: 80 for HTTP, 443 where it is encrypted, 22 for Secure Shell, 9418 for Git's own
-    /// protocol, and none for any other.
+    /// The default port of the scheme: 80 for HTTP, 443 for HTTP with encryption, 22 for Secure Shell, 9418 for Git's
+    /// own protocol, and none for any other.
     ///
     /// ```
     /// use gix_url_proved::Scheme;

@@ -1,5 +1,5 @@
-//! Locations and their parts as records of `serde`, in the format of `gix-url`: bytes are a list of numbers, and are read
-//! from a text as well.
+//! Serializes and deserializes locations and their parts, in the format of `gix-url`. Bytes are a list of numbers, and
+//! a text is accepted for them as well.
 
 use crate::bstr::BString;
 use crate::{Scheme, Url};
@@ -7,7 +7,7 @@ use serde::de::{SeqAccess, Visitor};
 use serde::{Deserialize, Deserializer, Serialize, Serializer};
 use std::fmt;
 
-/// A location as it is stored.
+/// The serialized form of a location.
 #[derive(Serialize)]
 #[serde(rename = "Url")]
 struct Shown<'a> {
@@ -21,7 +21,7 @@ struct Shown<'a> {
     path_with_percent_escapes: Option<Bytes<&'a [u8]>>,
 }
 
-/// A location as it is restored: an older record has no escapes.
+/// The form that a location is deserialized from. An older record has no escaped path.
 #[derive(Deserialize)]
 #[serde(rename = "Url")]
 struct Read {
@@ -69,8 +69,8 @@ impl<'de> Deserialize<'de> for Url {
     }
 }
 
-/// The path and its spelling of a record. Older records hold the spelling in both places, where it may have bytes that are
-/// escaped today.
+/// The path and the escaped path of a record. Older records have the escaped path in both fields, perhaps with bytes
+/// that are escaped today.
 fn migrated(path: Vec<u8>, spelling: Option<Vec<u8>>) -> (Vec<u8>, Option<Vec<u8>>) {
     if spelling.as_ref() != Some(&path) {
         return (path, spelling);
@@ -101,7 +101,7 @@ fn escape(bytes: &[u8]) -> Option<u8> {
     u8::try_from(value).ok().filter(|_| bytes.first() == Some(&b'%'))
 }
 
-/// Appends a byte of the path of a URL, as an escape where it may not be there itself.
+/// Appends a byte of the path of a URL, as an escape if the byte may not be there itself.
 fn push_escaped(escaped: &mut Vec<u8>, byte: u8) {
     match byte {
         0..=b' ' | b'"' | b'%' | b'<' | b'>' | b'`' | b'{' | b'}' | 127.. => {
@@ -111,12 +111,12 @@ fn push_escaped(escaped: &mut Vec<u8>, byte: u8) {
     }
 }
 
-/// Writes a byte string of another type, by the attribute `with`.
+/// Serializes a byte string of another type, for the attribute `with`.
 pub(crate) fn serialize<S: Serializer>(bytes: &BString, serializer: S) -> Result<S::Ok, S::Error> {
     Bytes(bytes.as_slice()).serialize(serializer)
 }
 
-/// Reads a byte string of another type, by the attribute `with`.
+/// Deserializes a byte string of another type, for the attribute `with`.
 pub(crate) fn deserialize<'de, D: Deserializer<'de>>(deserializer: D) -> Result<BString, D::Error> {
     Bytes::deserialize(deserializer).map(|bytes| bytes.0.into())
 }
@@ -136,7 +136,7 @@ impl<'de> Deserialize<'de> for Bytes<Vec<u8>> {
     }
 }
 
-/// Takes bytes in each form that a format has for them.
+/// Accepts bytes in each form that a format has for them.
 struct AnyBytes;
 
 impl<'de> Visitor<'de> for AnyBytes {

@@ -1,11 +1,11 @@
-//! What tests need and programs shouldn't.
+//! A constructor without checks, for tests.
 
 use crate::bstr::BString;
 use crate::{Scheme, Url};
 
-/// Makes locations that reading never gives.
+/// Builds locations that the parser never returns.
 pub trait TestUrlExtension {
-    /// The location of these parts as they are, without any check and without a retained spelling of the path.
+    /// Builds a location from these parts as they are. Nothing is checked, and there is no escaped path.
     ///
     /// ```
     /// use gix_url_proved::testing::TestUrlExtension;

@@ -1,5 +1,6 @@
-//! The short inputs and the remotes that the binding for C is tested with too, whose answers are those of the program
-//! `locations`: `scripts/bindings` writes those of the remotes. What errors keep, the order, and a spelling that lapses.
+//! Tests the short inputs and the remotes that the binding for C is tested with too. The expected results are those of
+//! the program `locations`; `scripts/bindings` writes those of the remotes. Also tests which bytes errors keep, the
+//! order, and an escaped path that no longer decodes to the path.
 
 use gix_url_proved::parse::{parse, Error, UrlKind};
 use gix_url_proved::unambiguous::Condition;
@@ -18,7 +19,7 @@ fn lossy(bytes: &[u8]) -> String {
     String::from_utf8_lossy(bytes).into_owned()
 }
 
-/// The error in the words of `locations`: its name, and what is wrong with a URL.
+/// The error in the words of `locations`: its name, and the flaw of a URL.
 fn told_error(error: &Error) -> String {
     match error {
         Error::MissingPath { .. } => "MissingPath".to_owned(),
@@ -29,7 +30,7 @@ fn told_error(error: &Error) -> String {
     }
 }
 
-/// The refusal of an error has its form and its fault, and its place is in the line.
+/// Checks that the refusal of an error has its form and its fault, and that its position is in the line.
 fn is_placed(error: &Error, line: &[u8]) {
     let refusal = error.refusal().unwrap();
     let told = match error {
@@ -42,7 +43,7 @@ fn is_placed(error: &Error, line: &[u8]) {
     assert!(refusal.at + refusal.len <= line.len(), "{}", lossy(line));
 }
 
-/// The answer of the program `locations` to a line.
+/// The output of the program `locations` for a line.
 fn answer(line: &[u8]) -> Vec<u8> {
     let url = match parse(line) {
         Ok(url) => url,
@@ -61,8 +62,8 @@ fn answer(line: &[u8]) -> Vec<u8> {
     }
 }
 
-/// A settled location comes back from its text with the same public fields; and from its parts, which have no spelling,
-/// if those are settled.
+/// Checks that a settled location comes back from its text with the same public fields, and from its parts, which have
+/// no escaped path, if those are settled.
 fn comes_back(url: &Url) {
     if !url.is_settled() {
         return;

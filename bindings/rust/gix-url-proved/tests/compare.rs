@@ -1,5 +1,5 @@
-//! The same questions to `gix-url` 0.40.1 and to this crate, by the program `bindings/rust/compare` of the repository, where
-//! `gix-url` is installed: `cargo test --features compare`. Where it isn't, that is printed, and nothing is compared.
+//! Compares this crate with `gix-url` 0.40.1 by the program `bindings/rust/compare` of the repository:
+//! `cargo test --features compare`. If `gix-url` isn't installed, that is printed, and nothing is compared.
 //!
 //! The program is built in the folder `GIX_URL_COMPARE_IN`, or in that of temporary files, since inside of the repository
 //! other crates replace those of a registry. A `.cargo/config.toml` of that folder may name a source.
@@ -9,7 +9,7 @@ use std::env;
 use std::path::PathBuf;
 use std::process::{Command, Output};
 
-/// How many texts are changed by chance and compared.
+/// How many randomly changed texts are compared.
 const CHANGED: &str = "200000";
 
 fn cargo(words: &[&str]) -> Output {

@@ -1,4 +1,4 @@
-//! Locations by conversion, from each type that has a text or bytes.
+//! Conversions to locations from each type that has a text or bytes.
 // Arguments have each type on purpose.
 #![allow(clippy::unnecessary_to_owned)]
 
@@ -50,7 +50,7 @@ fn a_text_is_refused_with_the_same_error() {
     assert_eq!(Url::try_from(b"http://h:x/".to_vec()), Err(error));
 }
 
-/// As a library of command lines asks for a type that it reads from a word.
+/// Parses a word by `FromStr`, as a library for command lines does.
 fn read<T: FromStr>(word: &str) -> Result<T, T::Err> {
     word.parse()
 }

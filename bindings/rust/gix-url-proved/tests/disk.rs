@@ -1,4 +1,4 @@
-//! The walk over symbolic links, in a folder of its own.
+//! Resolution of symbolic links, in a temporary folder.
 
 use gix_url_proved::parse::Error;
 use gix_url_proved::{parse, Url};
@@ -6,7 +6,7 @@ use std::os::unix::fs::symlink;
 use std::path::{Path, PathBuf};
 use std::{env, fs, process};
 
-/// A folder that goes with its value. Its own path has no link in it.
+/// A folder that is removed with its value. Its own path has no link in it.
 struct Folder(PathBuf);
 
 impl Folder {
@@ -20,7 +20,7 @@ impl Folder {
         self.0.join(below).to_str().unwrap().to_owned()
     }
 
-    /// The path of the location that is resolved from this folder.
+    /// The path of the location, resolved from this folder.
     fn resolved(&self, path: &str) -> Result<String, Error> {
         let url = Url::try_from(Path::new(path)).unwrap();
         url.canonicalized(&self.0).map(|url| url.path.to_string())

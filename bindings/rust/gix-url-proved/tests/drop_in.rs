@@ -1,5 +1,5 @@
-//! Code as it is written for `gix-url` 0.40.1, its public items one by one, which compiles unchanged here: the first lines
-//! alone say that the dependency has another name. `docs/FROM_RUST.md` lists what changes in a program.
+//! Code as it is written for the public items of `gix-url` 0.40.1, one by one. It compiles unchanged here: only the
+//! first lines say that the dependency has another name. `docs/FROM_RUST.md` lists the changes in a program.
 // Arguments have each type on purpose.
 #![allow(clippy::unnecessary_to_owned, clippy::needless_borrows_for_generic_args)]
 

@@ -1,4 +1,4 @@
-//! The programs of `examples` print what was written by hand: three of them what the ones in C do.
+//! The programs of `examples` print output that was written by hand: three of them print that of the programs in C.
 
 use std::env;
 use std::fs::{self, File};
@@ -10,7 +10,7 @@ fn file(name: &str) -> String {
     format!("{}/examples/{name}", env::var("GIX_URL_REPOSITORY").unwrap_or(here.to_owned()))
 }
 
-/// What an example prints of a file.
+/// The output of an example for a file.
 fn printed(example: &str, input: &str) -> String {
     let tests = env::current_exe().unwrap();
     let program = tests.parent().unwrap().with_file_name("examples").join(example);
@@ -20,7 +20,7 @@ fn printed(example: &str, input: &str) -> String {
     String::from_utf8(ran.stdout).unwrap()
 }
 
-/// What is wanted, by a file.
+/// The expected output in a file.
 fn wanted(name: &str) -> String {
     fs::read_to_string(file(name)).unwrap()
 }

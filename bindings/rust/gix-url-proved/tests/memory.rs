@@ -1,4 +1,4 @@
-//! Questions take no memory, and answer for all values of the fields.
+//! Queries allocate nothing, and return a result for all values of the fields.
 #![deny(unsafe_op_in_unsafe_fn)]
 
 use gix_url_proved::audit;
@@ -15,7 +15,7 @@ thread_local! {
     static REQUESTS: Cell<usize> = const { Cell::new(0) };
 }
 
-// SAFETY: all is passed on to the allocator of the system.
+// SAFETY: every call is passed to the allocator of the system.
 unsafe impl GlobalAlloc for Counts {
     unsafe fn alloc(&self, layout: Layout) -> *mut u8 {
         REQUESTS.with(|count| count.set(count.get() + 1));
@@ -32,18 +32,18 @@ unsafe impl GlobalAlloc for Counts {
 #[global_allocator]
 static ALLOCATOR: Counts = Counts;
 
-/// Takes what nothing else is done with, so that it is made.
+/// Uses a value that nothing else uses, so that it is computed.
 #[inline(never)]
 fn used<T>(_: T) {}
 
-/// How often memory is asked for by the call.
+/// How often the call requests memory.
 fn requests<T>(call: impl FnOnce() -> T) -> usize {
     let before = REQUESTS.with(Cell::get);
     used(call());
     REQUESTS.with(Cell::get) - before
 }
 
-/// Asks each question about a location that takes no memory.
+/// Makes each query of a location that allocates nothing.
 fn ask(url: &Url) {
     used((url.user(), url.password(), url.host(), url.port_or_default(), url.path_is_root()));
     used((url.user_as_argument(), url.host_as_argument(), url.user_argument_safe(), url.host_argument_safe()));

@@ -1,5 +1,5 @@
-//! Why and where each text is refused: an example of each reason, as `docs/EXPLAIN.md` of the repository has them, and texts
-//! with several flaws.
+//! The reason and the position of parse errors: an example of each reason, as `docs/EXPLAIN.md` of the repository has
+//! them, and texts with several flaws.
 
 use gix_url_proved::parse::{Error, UrlFault, UrlKind, WriteFault};
 use gix_url_proved::{parse, Reason, Refusal};
@@ -55,7 +55,7 @@ fn refusal(text: &[u8]) -> Refusal {
     parse(text).unwrap_err().refusal().expect("an error of reading has a refusal")
 }
 
-/// What a refusal says: the form, the reason, the place and the fault.
+/// The form, the reason, the position and the fault of a refusal.
 fn told(refusal: Refusal) -> (UrlKind, Reason, usize, usize, Option<UrlFault>) {
     (refusal.form, refusal.reason, refusal.at, refusal.len, refusal.fault())
 }
@@ -75,7 +75,7 @@ fn a_text_that_is_too_long_has_its_place() {
     let found = refusal(&long("x:///", 1024));
     assert_eq!(told(found), (Url, Reason::AuthorityTooLong, 4, 1024, None));
     assert_eq!(refusal(&[long("x://", 1025), b"://".to_vec(), long("", 3000)].concat()), found);
-    // A program may put the error together with another form and the whole text.
+    // A program may build the error with another form and the whole text.
     let error = Error::MissingPath { kind: Scp, input: long("x://", 1025).into() };
     assert_eq!(error.refusal(), Some(found));
     let error = Error::TooLong { shown: long("x://", 2000).into(), total: 2004 };
@@ -92,7 +92,7 @@ fn the_front_of_a_long_text_is_refused_as_the_text_is() {
         {
             for end in ["", "a", "/", "/p"] {
                 let text = format!("{front}://{}{end}", piece.repeat(count)).into_bytes();
-                // The library is asked about all of the text where the error has it.
+                // The library gets the whole text if the error has it.
                 let whole = Error::MissingPath { kind: Url, input: text.as_slice().into() };
                 if let Err(error @ Error::TooLong { .. }) = parse(&text) {
                     assert_eq!(error.refusal(), whole.refusal(), "{}", text.escape_ascii());

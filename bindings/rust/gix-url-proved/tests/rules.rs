@@ -1,5 +1,5 @@
-//! What Git does by its configuration, through the crate: results that don't fit into the first buffer, errors with their
-//! places, entries that are put together by hand, and what `Debug` shows.
+//! Git's rules by a configuration, through the crate: results that don't fit into the first buffer, errors with their
+//! positions, entries that a program builds, and the output of `Debug`.
 
 use gix_url_proved::audit::{redacted, secrets, Piece};
 use gix_url_proved::bstr::{BStr, BString};
@@ -56,7 +56,7 @@ fn a_file_repeats_a_long_section_for_each_entry() {
 #[test]
 fn many_entries_are_on_one_line_of_a_file() {
     let text = "[a]b=1".repeat(300);
-    // A header ends the line of no value, so the last bytes are one value.
+    // A header doesn't end the line of a value, so the last bytes are one value.
     assert_eq!(Configuration::from_file(&text).unwrap().entry(0).unwrap().value.unwrap(), &text[5..]);
     let headers: String = (0..300).map(|number| format!("[a{number}][b]")).collect();
     let configuration = Configuration::from_file(headers + "c").unwrap();

@@ -1,4 +1,4 @@
-//! No error shows a byte of what was refused, however it is shown, and no location shows its password.
+//! No error shows a byte of the refused text, however it is formatted, and no location shows its password.
 
 use gix_url_proved::expand_path::{self, ForUser};
 use gix_url_proved::parse::Error;
@@ -18,13 +18,13 @@ const REFUSED: [&[u8]; 8] = [
     b"secret@::p",
 ];
 
-/// All that is shown of an error, in each way.
+/// An error, formatted in each way.
 fn shown(error: &(dyn std::error::Error + 'static)) -> String {
     let below = error.source().map(shown).unwrap_or_default();
     format!("{error} {error:?} {error:#?} {error:>90} {below}")
 }
 
-/// Sees that nothing of a secret is shown, as a text or as numbers.
+/// Checks that nothing of a secret is shown, as a text or as numbers.
 fn hides(shown: &str) {
     let numbers = format!("{:?}", b"secret");
     assert!(!shown.contains("secret") && !shown.contains(numbers.trim_matches(&['[', ']'][..])), "{shown}");

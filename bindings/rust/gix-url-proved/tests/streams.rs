@@ -1,9 +1,9 @@
-//! A writer that fails once, and would take everything behind that: no row has one.
+//! A writer that fails once, and would accept everything after that. No row has one.
 
 use gix_url_proved::parse;
 use std::io;
 
-/// A writer that takes one byte a call, fails once behind some bytes, and then takes bytes again.
+/// A writer that accepts one byte a call, fails once after some bytes, and then accepts bytes again.
 struct FailsOnce {
     taken: Vec<u8>,
     fails_behind: Option<usize>,

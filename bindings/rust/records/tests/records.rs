@@ -1,4 +1,4 @@
-//! Locations as JSON: the rows of `vectors/` that restore a record and store it again, with what `gix-url` makes of them.
+//! Locations as JSON: the rows of `vectors/` that restore a record and store it again, with the results of `gix-url`.
 
 use gix_url_proved::expand_path::ForUser;
 use gix_url_proved::{parse, Scheme, Url};
@@ -15,7 +15,7 @@ fn rows(call: &str) -> Vec<Value> {
     all.map(|line| from_str::<Value>(line).unwrap()).filter(|row| row["call"] == call).collect()
 }
 
-/// A text of a row: as it is, or of pieces, each as often as it says.
+/// A text of a row: a string, or pieces with the number of times that each is repeated.
 fn text(value: &Value) -> Option<String> {
     let piece = |it: &Value| match it {
         Value::String(text) => text.clone(),

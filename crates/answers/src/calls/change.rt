@@ -1,4 +1,4 @@
-//! Calls that change a location, or take it.
+//! Calls that change or consume a location.
 
 use crate::halt::Halt;
 use crate::order::{Order, unknown};
@@ -7,7 +7,7 @@ use bstr::BString;
 use gix_url::Url;
 use std::alloc::Global;
 
-/// The member that a call takes beside a location that it changes or takes.
+/// The member that is a call's second input, if the call changes or consumes a location.
 pub fn given_of(name: &str) -> Option<&'static str> {
     match name {
         "Url::set_user" => Some("user"),
@@ -18,7 +18,7 @@ pub fn given_of(name: &str) -> Option<&'static str> {
     }
 }
 
-/// Calls that change a location or take it: what the call returns, and what has become of the location.
+/// Calls that change or consume a location: the result of the call, and the location after it.
 pub fn change(
     alloc: Global,
     order: Order<'_>,
@@ -43,7 +43,7 @@ pub fn change(
     }
 }
 
-/// What it counts that a path is asked for: once, and of another path a hundred times.
+/// The number to add when a path is requested: 1 for the path of the location, and 100 for another.
 fn times(path: &BString, asked: &str) -> u8 {
     if path.as_bytes() == asked.as_bytes() {
         1
@@ -52,7 +52,7 @@ fn times(path: &BString, asked: &str) -> u8 {
     }
 }
 
-/// Canonicalizes a location in its place, and reports how often its path was asked for.
+/// Canonicalizes a location in place, and reports how often its path was requested.
 fn canonicalize(
     mut url: Url,
     path: &BString,
@@ -67,7 +67,7 @@ fn canonicalize(
     report_owned(out, ((outcome, asked), url))
 }
 
-/// Canonicalizes a copy of a location, and reports how often its path was asked for.
+/// Canonicalizes a copy of a location, and reports how often its path was requested.
 fn canonicalized(
     alloc: Global,
     url: Url,

@@ -5,7 +5,7 @@ use crate::order::{Order, unknown};
 use crate::report::{Out, report_lent};
 use std::hash::{DefaultHasher, Hash, Hasher};
 
-/// What a hasher makes of a value.
+/// The hash of a value.
 pub fn hash_of<T: Hash>(value: &T) -> u64 {
     let mut hasher = DefaultHasher::new();
     value.hash(&mut hasher);

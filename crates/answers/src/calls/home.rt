@@ -9,7 +9,7 @@ use bstr::{BStr, BString};
 use gix_url::expand_path::{self, ForUser};
 use std::alloc::Global;
 
-/// Calls over a path, and over a user and a home folder beside it.
+/// Calls over a path, with a user and a home folder.
 pub fn over_path(alloc: Global, order: Order<'_>, out: &mut Out) -> Result<(), Halt> {
     let path = BString::new(order.bytes(alloc, "path")?);
     let user = build::user(alloc, order, "user")?;
@@ -49,8 +49,8 @@ fn over_home(
     }
 }
 
-/// Expands a path, and reports how often the home folder of the user was asked for; of another one it would
-/// be a hundred.
+/// Expands a path, and reports how often the home folder of the user was requested. A request for another user counts
+/// as 100.
 fn expand_with(
     alloc: Global,
     user: &Option<ForUser>,
@@ -66,7 +66,7 @@ fn expand_with(
     report_owned(out, (outcome, asked))
 }
 
-/// Calls over a user, and over another one beside it.
+/// Calls over a user, or over two users.
 pub fn over_user(alloc: Global, order: Order<'_>, out: &mut Out) -> Result<(), Halt> {
     let Some(user) = build::user(alloc, order, "user")? else {
         return Err(Halt::Unprepared);
@@ -81,7 +81,7 @@ pub fn over_user(alloc: Global, order: Order<'_>, out: &mut Out) -> Result<(), H
     }
 }
 
-/// Calls that look at a user, or at another one beside it.
+/// Calls that inspect a user, or compare it with a second one.
 fn look_at_user(
     alloc: Global,
     order: Order<'_>,

@@ -29,14 +29,14 @@ pub fn over_record(alloc: Global, order: Order<'_>, out: &mut Out) -> Result<(),
     }
 }
 
-/// Reports the text of a record in JSON.
+/// Reports a record as a JSON text.
 fn to_json(alloc: Global, record: StoredUrl, out: &mut Out) -> Result<(), Halt> {
     let json = serde_json::to_string(alloc, &record);
     drop(record);
     report_owned(out, json)
 }
 
-/// What is made of the parts of a record but its spelling.
+/// The result of building a location from the parts of a record, without its spelling.
 fn from_parts(alloc: Global, record: StoredUrl) -> Result<Url, Error> {
     Url::from_parts(
         alloc,
@@ -50,7 +50,7 @@ fn from_parts(alloc: Global, record: StoredUrl) -> Result<Url, Error> {
     )
 }
 
-/// The location of the parts of a record but its spelling.
+/// The location with the parts of a record, without its spelling.
 fn from_parts_unchecked(record: StoredUrl) -> Url {
     <Url as TestUrlExtension>::from_parts_unchecked(
         record.scheme,
@@ -76,12 +76,12 @@ pub fn over_json(alloc: Global, order: Order<'_>, out: &mut Out) -> Result<(), H
     }
 }
 
-/// The record of a text of JSON.
+/// The record in a JSON text.
 fn of_json(alloc: Global, json: &str) -> Result<StoredUrl, serde_json::Error> {
     serde_json::from_str(alloc, json)
 }
 
-/// Shows the record of a text of JSON.
+/// Shows the record in a JSON text.
 fn show_record(alloc: Global, order: Order<'_>, json: &str, out: &mut Out) -> Result<(), Halt> {
     let Ok(record) = of_json(alloc, json) else {
         return Err(Halt::Unprepared);
@@ -94,7 +94,7 @@ fn show_record(alloc: Global, order: Order<'_>, json: &str, out: &mut Out) -> Re
     shown
 }
 
-/// Restores the location of a text of JSON, and reports the JSON that is stored of it.
+/// Restores the location in a JSON text, and reports the JSON that is stored for it.
 fn again(alloc: Global, json: &str, out: &mut Out) -> Result<(), Halt> {
     match of_json(alloc, json) {
         Err(error) => report_owned(out, Err::<(), serde_json::Error>(error)),
@@ -105,7 +105,7 @@ fn again(alloc: Global, json: &str, out: &mut Out) -> Result<(), Halt> {
     }
 }
 
-/// Reports the JSON that is stored of a location.
+/// Reports the JSON that is stored for a location.
 fn store(alloc: Global, url: Url, out: &mut Out) -> Result<(), Halt> {
     let stored = url.to_stored(alloc);
     drop(url);

@@ -17,7 +17,7 @@ pub fn over_scheme(alloc: Global, order: Order<'_>, out: &mut Out) -> Result<(),
     outcome
 }
 
-/// Calls that look at a scheme, or at another one beside it.
+/// Calls that inspect a scheme, or compare it with a second one.
 fn look_at_scheme(
     alloc: Global,
     order: Order<'_>,
@@ -36,7 +36,7 @@ fn look_at_scheme(
     }
 }
 
-/// Compares a scheme with another one.
+/// Compares two schemes.
 fn over_two_schemes(
     alloc: Global,
     order: Order<'_>,

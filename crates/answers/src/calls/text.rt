@@ -1,4 +1,4 @@
-//! Calls over a text: those that read it, into memory or into a buffer, and those that answer its lines.
+//! Calls over a text: those that parse it, with or without a buffer, and those that print results for its lines.
 
 use crate::halt::Halt;
 use crate::order::{Order, unknown};
@@ -15,7 +15,7 @@ use gix_url::{
 use std::alloc::Global;
 use std::io::Write;
 
-/// Calls that read a text, or judge it.
+/// Calls that parse a text, or judge it.
 pub fn over_text(alloc: Global, order: Order<'_>, out: &mut Out) -> Result<(), Halt> {
     let bytes = order.bytes(alloc, "text")?;
     let outcome = if is_in_room(order.name()) {
@@ -31,7 +31,7 @@ pub fn over_text(alloc: Global, order: Order<'_>, out: &mut Out) -> Result<(), H
     outcome
 }
 
-/// Whether a call reads into a room, or shows what such a call refuses.
+/// Whether a call parses into a buffer, or shows the refusal of such a call.
 fn is_in_room(name: &str) -> bool {
     name == "UrlRef::parse_in"
         || name == "crate::parts_of"
@@ -39,12 +39,12 @@ fn is_in_room(name: &str) -> bool {
         || is_over_refusal(name)
 }
 
-/// Whether a call returns what Git reads in a text.
+/// Whether a call returns Git's reading of a text.
 fn is_of_git(name: &str) -> bool {
     name == "transport::reading" || name == "credential::reading" || name == "Buffers::new"
 }
 
-/// Calls that return what Git reads in a text.
+/// Calls that return Git's readings of a text.
 fn read_as_git(alloc: Global, order: Order<'_>, text: &[u8], out: &mut Out) -> Result<(), Halt> {
     match order.call() {
         "" => Ok(()),
@@ -59,13 +59,13 @@ fn read_as_git(alloc: Global, order: Order<'_>, text: &[u8], out: &mut Out) -> R
     }
 }
 
-/// Makes the buffers of both readings, and drops them.
+/// Creates the buffers of both readings, and drops them.
 fn make_buffers(alloc: Global) {
     drop(transport::Buffers::new(alloc));
     drop(credential::Buffers::new(alloc));
 }
 
-/// Reports what Git's credential code asks helpers for in a text.
+/// Reports the request that Git's credential code makes for a text.
 fn ask_for_credential(alloc: Global, text: &[u8], out: &mut Out) -> Result<(), Halt> {
     let mut buffers = credential::Buffers::new(alloc);
     let reported = match credential::reading(text, &mut buffers) {
@@ -76,7 +76,7 @@ fn ask_for_credential(alloc: Global, text: &[u8], out: &mut Out) -> Result<(), H
     reported
 }
 
-/// Calls over an authority and what follows it.
+/// Calls over an authority and the text after it.
 fn over_pieces(
     alloc: Global,
     order: Order<'_>,
@@ -97,7 +97,7 @@ fn over_pieces(
     outcome
 }
 
-/// Reports what Git's credential code reads in pieces.
+/// Reports what Git's credential code finds in pieces.
 fn read_pieces(alloc: Global, pieces: TextPieces<'_>, out: &mut Out) -> Result<(), Halt> {
     let mut buffers = credential::Buffers::new(alloc);
     let reported = match decode_pieces(pieces, &mut buffers) {
@@ -113,8 +113,8 @@ fn is_over_refusal(name: &str) -> bool {
     name == "Refusal:fmt" || name == "Refusal::fault" || name.starts_with("Reason:")
 }
 
-/// Calls over a text and a room: of as many bytes as the order says, and else as the text has. It isn't
-/// empty: what the library leaves there is none of a location.
+/// Calls over a text and a buffer: its size is the number in the order, or else the length of the text. The buffer is
+/// filled with `#`: bytes that the library doesn't write aren't part of a location.
 fn over_room(alloc: Global, order: Order<'_>, text: &[u8], out: &mut Out) -> Result<(), Halt> {
     let size = match order.number("room") {
         Some(size) => usize::try_from(size).unwrap_or(0),
@@ -126,7 +126,7 @@ fn over_room(alloc: Global, order: Order<'_>, text: &[u8], out: &mut Out) -> Res
     outcome
 }
 
-/// Reads a text into a room, and reports the location or the error, or looks at the refusal.
+/// Parses a text into a buffer, and reports the location or the error, or inspects the refusal.
 fn read_in(order: Order<'_>, text: &[u8], room: &mut [u8], out: &mut Out) -> Result<(), Halt> {
     match order.call() {
         "" => Ok(()),
@@ -143,7 +143,7 @@ fn read_in(order: Order<'_>, text: &[u8], room: &mut [u8], out: &mut Out) -> Res
     }
 }
 
-/// Reads a text into a buffer, and reports the location, or the error, with which the buffer has to be as it was.
+/// Parses a text into a buffer, and reports the location or the error. With an error the buffer has to be unchanged.
 fn read_url_in(text: &[u8], buffer: &mut [u8], out: &mut Out) -> Result<(), Halt> {
     let read = UrlRef::parse_in(text, buffer);
     let is_read = read.is_ok();
@@ -155,7 +155,7 @@ fn read_url_in(text: &[u8], buffer: &mut [u8], out: &mut Out) -> Result<(), Halt
     }
 }
 
-/// Shows why a text was not read.
+/// Shows why a text isn't a location.
 fn show_unread(
     order: Order<'_>,
     outcome: Result<UrlRef<'_>, ParseError>,
@@ -167,7 +167,7 @@ fn show_unread(
     }
 }
 
-/// Calls that look at a refusal or at its reason, or show one of them.
+/// Calls that inspect a refusal or its reason, or show one of them.
 fn look_at_refusal(order: Order<'_>, refusal: Refusal, out: &mut Out) -> Result<(), Halt> {
     let reason = refusal.reason;
     match order.call() {
@@ -181,7 +181,7 @@ fn look_at_refusal(order: Order<'_>, refusal: Refusal, out: &mut Out) -> Result<
     }
 }
 
-/// Calls over bytes, or over the text that they are.
+/// Calls over bytes, or over the text that they encode.
 fn read(alloc: Global, order: Order<'_>, bytes: BStr<'_>, out: &mut Out) -> Result<(), Halt> {
     let text = order.needed("text")?;
     match order.call() {
@@ -195,8 +195,8 @@ fn read(alloc: Global, order: Order<'_>, bytes: BStr<'_>, out: &mut Out) -> Resu
     }
 }
 
-/// Calls that answer lines. The answers go into memory that is taken before: a line is a byte at the least,
-/// and its answer is at most 40 bytes longer than thrice the line.
+/// Calls that print results for lines. The results are written into memory that is allocated before the call: a line
+/// has at least one byte, and its result has at most 40 bytes more than three times the line.
 pub fn over_lines(alloc: Global, order: Order<'_>, out: &mut Out) -> Result<(), Halt> {
     let bytes = order.bytes(alloc, "text")?;
     let mut answers = Vec::with_capacity(alloc, bytes.len().saturating_mul(44).saturating_add(44))?;

@@ -1,4 +1,4 @@
-//! Calls over a location, owned or borrowed: those that look at it, copy it, write it or cut its components.
+//! Calls over a location, owned or borrowed: those that inspect it, copy it, write it or split its components.
 
 use crate::build;
 use crate::calls::change::{change, given_of};
@@ -14,7 +14,7 @@ use gix_url::{Error, PathComponents, Url, UrlRef, WriteError, laws};
 use std::alloc::Global;
 use std::io::Write;
 
-/// Calls that look at a location or copy it, and leave it as it was; others take what is made of it, too.
+/// Calls that inspect a location or copy it, and leave it unchanged. Some of them also consume what they build from it.
 pub fn over_url(alloc: Global, order: Order<'_>, out: &mut Out) -> Result<(), Halt> {
     let url = build::url(alloc, order, "url")?;
     match given_of(order.name()) {
@@ -33,7 +33,7 @@ pub fn over_url(alloc: Global, order: Order<'_>, out: &mut Out) -> Result<(), Ha
     }
 }
 
-/// Calls over a location, and over another one beside it.
+/// Calls over a location, or over two locations.
 fn look_or_copy(alloc: Global, order: Order<'_>, url: &Url, out: &mut Out) -> Result<(), Halt> {
     if order.has("other") {
         return over_two(alloc, order, url, out);
@@ -51,8 +51,8 @@ fn look_or_copy(alloc: Global, order: Order<'_>, url: &Url, out: &mut Out) -> Re
     }
 }
 
-/// Whether a copy of a location, made of one that is there no more, is equal to it and has its hash: as it
-/// is, and with another path.
+/// Whether a copy of a location whose original was dropped is equal to it and has its hash: unchanged, and with another
+/// path.
 fn copy_apart(alloc: Global, url: &Url) -> Result<((bool, bool), (bool, bool)), Error> {
     let original = url.clone(alloc)?;
     let copied = original.clone(alloc);
@@ -65,7 +65,7 @@ fn copy_apart(alloc: Global, url: &Url) -> Result<((bool, bool), (bool, bool)), 
     Ok((before, behind))
 }
 
-/// Calls that look at a location.
+/// Calls that inspect a location.
 fn look(alloc: Global, order: Order<'_>, url: &Url, out: &mut Out) -> Result<(), Halt> {
     match order.call() {
         "Url::is_settled" => report_lent(out, &url.is_settled()),
@@ -85,7 +85,7 @@ fn look(alloc: Global, order: Order<'_>, url: &Url, out: &mut Out) -> Result<(),
     }
 }
 
-/// Calls that hand a part of a location to a command, or write it.
+/// Calls that judge a part of a location as an argument, or write the location.
 fn hand_out(alloc: Global, order: Order<'_>, url: &Url, out: &mut Out) -> Result<(), Halt> {
     match order.call() {
         "Url::user_as_argument" => report_lent(out, &url.user_as_argument()),
@@ -98,7 +98,7 @@ fn hand_out(alloc: Global, order: Order<'_>, url: &Url, out: &mut Out) -> Result
     }
 }
 
-/// Calls that borrow a location, and look at what is borrowed or write it.
+/// Calls that borrow a location, and inspect or write the borrowed location.
 fn look_at_borrowed(alloc: Global, order: Order<'_>, url: &Url, out: &mut Out) -> Result<(), Halt> {
     let borrowed = url.as_ref();
     match order.call() {
@@ -125,7 +125,7 @@ fn look_at_borrowed(alloc: Global, order: Order<'_>, url: &Url, out: &mut Out) -
     }
 }
 
-/// Calls that put a borrowed location into room, and those over components.
+/// Calls that write a borrowed location into a buffer, and calls over components.
 fn fill_or_cut(alloc: Global, order: Order<'_>, url: &Url, out: &mut Out) -> Result<(), Halt> {
     if order.name() == "UrlRef::write_into" {
         fill(alloc, order, &url.as_ref(), out)
@@ -134,8 +134,8 @@ fn fill_or_cut(alloc: Global, order: Order<'_>, url: &Url, out: &mut Out) -> Res
     }
 }
 
-/// Puts a location into room that holds these bytes, and reports what the call answers and what the room
-/// holds then.
+/// Writes a location into a buffer with these bytes, and reports the result of the call and the buffer's bytes after
+/// it.
 fn fill(alloc: Global, order: Order<'_>, url: &UrlRef<'_>, out: &mut Out) -> Result<(), Halt> {
     let mut room = order.bytes(alloc, "room")?;
     let outcome = if order.call().is_empty() {
@@ -148,27 +148,27 @@ fn fill(alloc: Global, order: Order<'_>, url: &UrlRef<'_>, out: &mut Out) -> Res
     outcome
 }
 
-/// Writes a location to a writer that takes no memory.
+/// Writes a location to a writer that doesn't allocate.
 fn write_to(url: &Url, out: &mut Out) -> Result<(), Halt> {
     begin_written(out)?;
     let outcome = url.write_to(&mut Taking { out });
     end_written(outcome, out)
 }
 
-/// The same of a location that is borrowed.
+/// Writes a borrowed location to a writer that doesn't allocate.
 fn write_borrowed(url: &UrlRef<'_>, out: &mut Out) -> Result<(), Halt> {
     begin_written(out)?;
     let outcome = url.write_to(&mut Taking { out });
     end_written(outcome, out)
 }
 
-/// Reports what is before a text that is written.
+/// Reports the text before a written location.
 fn begin_written(out: &mut Out) -> Result<(), Halt> {
     report_name(out, "{", "written")?;
     Ok(out.write_all(b"\"")?)
 }
 
-/// Reports what is behind it, and the fault where there is no text.
+/// Reports the text after a written location, and the fault if it has no text.
 fn end_written(outcome: Result<(), WriteError>, out: &mut Out) -> Result<(), Halt> {
     out.write_all(b"\"")?;
     match outcome {
@@ -191,7 +191,7 @@ fn over_components(alloc: Global, order: Order<'_>, url: &Url, out: &mut Out) ->
     outcome
 }
 
-/// What the path of a location is made of.
+/// The components of a location's path.
 fn components(alloc: Global, url: &Url) -> Result<PathComponents<'_>, Halt> {
     url.path_query_fragment(alloc).map_err(build::unprepared)
 }
@@ -222,7 +222,7 @@ fn over_two(alloc: Global, order: Order<'_>, url: &Url, out: &mut Out) -> Result
     outcome
 }
 
-/// Calls over what two paths are made of.
+/// Calls over the components of two paths.
 fn over_two_paths(
     alloc: Global,
     order: Order<'_>,

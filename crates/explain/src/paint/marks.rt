@@ -1,6 +1,4 @@
-//! A refused line, with a caret under what is wrong.
-//!
-//! It uses `line`, `cut` and `short`, and has no contract but that it can't abort.
+//! A refused line, with a caret under the fault.
 
 use crate::paint::short::{INDENT, Keep, fill, is_long, write_kept};
 use crate::paint::{Colors, DANGER, PLAIN, is_empty};
@@ -8,7 +6,7 @@ use explain_report::text::cut::{Cut, Piece};
 use explain_report::text::line::{halves, is_hidden};
 use std::alloc::AllocError;
 
-/// The columns between some bytes of a line.
+/// The columns of some bytes of a line.
 #[derive(Clone, Copy)]
 struct Marked {
     from: Option<usize>,
@@ -22,8 +20,8 @@ struct Region {
     len: usize,
 }
 
-/// Appends the line, and below it a caret under the byte `at` with a line under the rest of `len` bytes. A
-/// place in what is hidden is under the word. Nothing is appended for an empty line.
+/// Appends the line, and below it a caret under the byte `at` with a line under the rest of the `len` bytes. If the
+/// byte is in a hidden piece, the caret is under the word for that. Appends nothing for an empty line.
 pub fn caret(
     out: &mut String,
     cut: &Cut<'_>,
@@ -82,7 +80,7 @@ fn write_marked(out: &mut String, cut: &Cut<'_>, region: Region) -> Result<Marke
     Ok(marked)
 }
 
-/// Appends a piece, and marks the part of it that the region takes.
+/// Appends a piece, and marks its part that is in the region.
 fn write_open(
     out: &mut String,
     piece: &Piece<'_>,
@@ -103,7 +101,7 @@ fn write_open(
     Ok(before.saturating_add(inside).saturating_add(behind))
 }
 
-/// Appends the word for a piece that is hidden, and marks it where the region takes some of the piece.
+/// Appends the word for a hidden piece, and marks it if the region has a byte of the piece.
 fn write_hidden(
     out: &mut String,
     piece: &Piece<'_>,

@@ -1,8 +1,7 @@
 //! The names of pieces below a line.
 //!
-//! They are laid out as compilers lay them out: each begins at the column of its piece, in the first row
-//! where it fits, with `|` in the rows above. It uses `cut` and `short`, and has no contract but that it
-//! can't abort.
+//! The layout is that of compilers: each name begins at the column of its piece, in the first row that has space for
+//! it, with `|` in the rows above.
 
 use crate::paint::short::{INDENT, fill};
 use explain_report::text::cut::{PIECES, Part, Piece};
@@ -23,7 +22,7 @@ pub(crate) const NO_SPAN: Span = Span {
     columns: 0,
 };
 
-/// Appends the names of pieces below lines under them, if some have one.
+/// Appends lines under the pieces that have names, and the names below them.
 pub(crate) fn write_names(out: &mut String, spans: &[Span; PIECES]) -> Result<(), AllocError> {
     if spans.iter().all(|span| span.columns == 0) {
         return Ok(());
@@ -32,7 +31,7 @@ pub(crate) fn write_names(out: &mut String, spans: &[Span; PIECES]) -> Result<()
     names(out, spans)
 }
 
-/// The place of a piece that has a name.
+/// The columns of a piece, if it has a name.
 pub(crate) fn span_of(piece: &Piece<'_>, from: usize, columns: usize) -> Span {
     match name(piece.part()) {
         Some(name) => Span {
@@ -44,7 +43,7 @@ pub(crate) fn span_of(piece: &Piece<'_>, from: usize, columns: usize) -> Span {
     }
 }
 
-/// Leaves a column between pieces that touch, if the second one takes more than that.
+/// Leaves a column between adjacent pieces, if the second one takes more than one.
 pub(crate) fn part_touching(spans: &mut [Span; PIECES]) {
     let mut behind = None;
     for span in spans.iter_mut() {
@@ -84,7 +83,7 @@ fn names(out: &mut String, spans: &[Span; PIECES]) -> Result<(), AllocError> {
     Ok(())
 }
 
-/// Appends a row of names, with a `|` for each that is below it.
+/// Appends a row of names, with a `|` for each name of a later row.
 fn names_in(
     out: &mut String,
     spans: &[Span; PIECES],
@@ -104,7 +103,7 @@ fn names_in(
     out.push('\n')
 }
 
-/// The row in which each name is, from the last one on.
+/// The row of each name. The last name is placed first.
 fn rows_of(spans: &[Span; PIECES]) -> [usize; PIECES] {
     let mut rows = [0; PIECES];
     let mut taken = [usize::MAX; PIECES];
@@ -116,7 +115,8 @@ fn rows_of(spans: &[Span; PIECES]) -> [usize; PIECES] {
     rows
 }
 
-/// The first row in which a name fits before what is taken of it. It takes its column in all rows to there.
+/// The first row in which a name fits before the columns that are taken in it. Takes the name's column in all rows up
+/// to that one.
 fn row_for(span: Span, taken: &mut [usize; PIECES]) -> usize {
     let end = span.from.saturating_add(span.name.len());
     for (row, next) in taken.iter_mut().enumerate() {
@@ -129,7 +129,7 @@ fn row_for(span: Span, taken: &mut [usize; PIECES]) -> usize {
     PIECES
 }
 
-/// The name of what a piece is.
+/// The name of a piece's part.
 fn name(part: Part) -> Option<&'static str> {
     match part {
         Part::Scheme => Some("scheme"),

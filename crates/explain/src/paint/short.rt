@@ -1,12 +1,10 @@
-//! Texts of a line in short where it is long, and columns filled in.
-//!
-//! It uses `line` for how many columns a text takes, and has no contract but that it can't abort.
+//! Shortens texts of a long line, and fills columns.
 
 use explain_report::text::cut::Cut;
 use explain_report::text::line::{columns, end, front, write_shown};
 use std::alloc::AllocError;
 
-/// What of a text stays where it is too long.
+/// The ends of a text that are kept if it is too long.
 #[derive(Clone, Copy)]
 pub(crate) enum Keep {
     Both,
@@ -14,15 +12,15 @@ pub(crate) enum Keep {
     End,
 }
 
-/// What is before each line.
+/// The text before each line.
 pub(crate) const INDENT: &str = "    ";
-/// The most columns of a line that is shown whole.
+/// The greatest number of columns of a line that isn't shortened.
 const WIDEST: usize = 200;
 
-/// How many columns of a text stay at an end of it in a longer line.
+/// How many columns are kept at an end of a text in a longer line.
 const KEPT: usize = 30;
 
-/// Whether the line is too long to be shown whole.
+/// Whether the line is too long to be shown in full.
 pub fn is_long(cut: &Cut<'_>) -> bool {
     let mut sum = 0usize;
     for piece in cut.pieces() {
@@ -31,7 +29,7 @@ pub fn is_long(cut: &Cut<'_>) -> bool {
     WIDEST < sum
 }
 
-/// Appends a text, in short where it is to be kept in part, and returns the columns that it takes.
+/// Appends a text, shortened to the ends that `keep` names if it is too long. Returns the columns that it takes.
 pub(crate) fn write_kept(
     out: &mut String,
     text: &[u8],
@@ -57,7 +55,7 @@ pub(crate) fn write_kept(
     )
 }
 
-/// Appends a character up to a column, and returns that.
+/// Appends a character up to a column, and returns that column.
 pub(crate) fn fill(
     out: &mut String,
     column: usize,

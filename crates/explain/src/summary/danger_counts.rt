@@ -1,6 +1,4 @@
-//! How many lines have each danger.
-//!
-//! It has no contract but that it can't abort.
+//! The number of lines with each danger.
 
 use crate::summary::bump;
 use git_audit::danger::Danger;
@@ -58,7 +56,7 @@ impl DangerCounts {
         }
     }
 
-    /// Whether no line has one.
+    /// Whether no line has a danger.
     pub(super) fn is_empty(&self) -> bool {
         DANGERS.iter().all(|danger| self.of(*danger) == 0)
     }
@@ -79,7 +77,7 @@ impl DangerCounts {
         }
     }
 
-    /// The number of lines that have this danger, to be changed.
+    /// The count of this danger, for changes.
     fn of_mut(&mut self, danger: Danger) -> &mut u64 {
         match danger {
             Danger::Command => &mut self.command,

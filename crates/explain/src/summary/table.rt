@@ -1,6 +1,4 @@
-//! The text of a summary: a heading for each group, and below it a row for each number of lines.
-//!
-//! It has no contract but that it can't abort.
+//! The text of a summary: a heading for each group, and below it a row for each count.
 
 use crate::summary::danger_counts::DANGERS;
 use crate::summary::{Forms, Summary, Verdicts};
@@ -63,7 +61,7 @@ fn push_verdicts(out: &mut String, verdicts: Verdicts) -> Result<(), AllocError>
     row(out, verdicts.dangerous, "dangerous")
 }
 
-/// Appends the rows of the dangers that lines have, if there are any.
+/// Appends the rows of the dangers, if a line has one.
 fn push_dangers(out: &mut String, summary: &Summary) -> Result<(), AllocError> {
     if summary.dangers.is_empty() {
         return Ok(());
@@ -75,7 +73,7 @@ fn push_dangers(out: &mut String, summary: &Summary) -> Result<(), AllocError> {
     Ok(())
 }
 
-/// Appends the rows of what else is found, if there is anything.
+/// Appends the rows of the other findings, if there are any.
 fn push_others(out: &mut String, verdicts: Verdicts) -> Result<(), AllocError> {
     if verdicts.git_differs == 0 && verdicts.policy == 0 {
         return Ok(());
@@ -85,7 +83,7 @@ fn push_others(out: &mut String, verdicts: Verdicts) -> Result<(), AllocError> {
     row_of_some(out, verdicts.policy, "doesn't use the transport")
 }
 
-/// Appends the rows of the hosts: of those with most lines, of all others together, and of lines without a host.
+/// Appends the rows of the hosts: those with the most lines, all others together, and lines without a host.
 fn push_hosts(alloc: Global, out: &mut String, summary: &Summary) -> Result<(), AllocError> {
     let mut hosts = Vec::new(alloc);
     for (name, lines) in summary.hosts.iter() {
@@ -103,7 +101,7 @@ fn host_of(name: &str, lines: u64) -> Host<'_> {
     Host { name, lines }
 }
 
-/// Appends the rows of the hosts, which are in order.
+/// Appends the rows of the hosts, which are sorted.
 fn push_most(out: &mut String, hosts: &[Host<'_>]) -> Result<(), AllocError> {
     let (own, others) = hosts.split_at(hosts.len().min(HOSTS));
     out.push_str("host\n")?;
@@ -117,7 +115,7 @@ fn push_most(out: &mut String, hosts: &[Host<'_>]) -> Result<(), AllocError> {
     row(out, sum_of(others), format_args!("of {count} other hosts"))
 }
 
-/// The lines of all these hosts.
+/// The number of lines with one of these hosts.
 fn sum_of(hosts: &[Host<'_>]) -> u64 {
     let mut sum = 0u64;
     for host in hosts {

@@ -1,6 +1,4 @@
-//! What may be a token: a secret that stands for a user, or for a user and a password.
-//!
-//! It takes no memory. Its contract: a text is taken for a token exactly by the definitions.
+//! Possible tokens: a token is a secret that replaces a user, or a user and a password.
 
 ghost use Rattle.std.specs.Prelude.{◌≡◌, option_map};
 ghost use Rattle.std.specs.List.{list_any};
@@ -10,10 +8,10 @@ ghost use Rattle.git_audit.specs.Dangers as spec;
 
 use git_syntax::scheme::SchemeRef;
 
-/// The bytes of a token in a path, at least: a shorter word may be the name of a repository.
+/// The least length of a token in a path: a shorter word may be the name of a repository.
 const LEAST_TOKEN: usize = 24;
 
-/// The bytes of a user that may be a token whatever it begins with.
+/// The least length of a user that may be a token whatever its prefix.
 const LEAST_USER: usize = 20;
 
 /// Whether there is a user, and it may be a token.
@@ -31,7 +29,7 @@ pub(super) fn has_token_user(
     }
 }
 
-/// Whether there is a part.
+/// Whether the part is present.
 pub(super) fn is_there(part: Option<&str>) -> bool
     ensures { result ≡ is_some (option_map (λ t. t.now) part.entry) }
 {
@@ -48,14 +46,14 @@ fn is_token_user(scheme: SchemeRef<'_>, user: &[u8], has_password: bool) -> bool
     begins_as_token(user) || is_long_user(scheme, user, has_password)
 }
 
-/// Whether HTTP gets the user without a password, and the user is long.
+/// Whether this is a long user of an HTTP location without a password.
 fn is_long_user(scheme: SchemeRef<'_>, user: &[u8], has_password: bool) -> bool
     ensures { result ≡ spec.is_long_user (lent_scheme scheme.entry) user.now has_password }
 {
     is_of_http(scheme) && !has_password && user.len() >= LEAST_USER
 }
 
-/// Whether the scheme is one of HTTP.
+/// Whether the scheme is `http` or `https`.
 pub(super) fn is_of_http(scheme: SchemeRef<'_>) -> bool
     ensures { result ≡ spec.is_of_http (lent_scheme scheme.entry) }
 {
@@ -70,14 +68,14 @@ pub(super) fn holds_token(text: &[u8]) -> bool
         .any(|word| is_token_word(word))
 }
 
-/// Whether the byte is none of a token.
+/// Whether no token contains the byte.
 pub(crate) fn is_gap(byte: u8) -> bool
     ensures { result ≡ spec.is_gap byte }
 {
     !(byte.is_ascii_alphanumeric() || byte == b'_' || byte == b'-')
 }
 
-/// Whether the word begins as a token does, and is as long as one.
+/// Whether the word begins as a token, and is as long as one.
 #[tactic(auto, unfolding(crate::specs::Dangers::is_token_word))]
 pub(crate) fn is_token_word(word: &[u8]) -> bool
     ensures { result ≡ spec.is_token_word word.now }
@@ -85,7 +83,7 @@ pub(crate) fn is_token_word(word: &[u8]) -> bool
     word.len() >= LEAST_TOKEN && begins_as_token(word)
 }
 
-/// Whether the text begins as a token of GitHub, GitLab or Bitbucket does, by their manuals.
+/// Whether the text begins with the prefix of a token of GitHub, GitLab or Bitbucket, by their manuals.
 fn begins_as_token(text: &[u8]) -> bool
     ensures { result ≡ spec.begins_as_token text.now }
 {
@@ -114,14 +112,14 @@ fn begins_as_token(text: &[u8]) -> bool
     )
 }
 
-/// Whether the text begins with one of these fronts.
+/// Whether the text begins with one of these prefixes.
 fn begins_as_one_of(text: &[u8], fronts: &[&str]) -> bool
     ensures { result ≡ list_any (λ front. spec.has_front text.now front.now) fronts.now }
 {
     fronts.iter().any(|front| has_front(text, front))
 }
 
-/// Whether the text begins with this front.
+/// Whether the text begins with this prefix.
 pub(crate) fn has_front(text: &[u8], front: &str) -> bool
     ensures { result ≡ spec.has_front text.now front.now }
 {

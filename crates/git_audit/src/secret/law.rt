@@ -1,6 +1,4 @@
-//! The law of what is hidden of a text.
-//!
-//! It has no code and uses nothing.
+//! The law on the pieces of a text.
 
 ghost use Rattle.git_audit.specs.SecretLaws.{AreWhole};
 

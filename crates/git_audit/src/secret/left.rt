@@ -1,7 +1,4 @@
-//! What is left of a text that is cut into pieces.
-//!
-//! It uses `place` for what may be a password, and takes no memory. Its contract: the pieces that are left are those
-//! of the definition (`specs/Secrets.antt`).
+//! The rest of a text that is split into pieces.
 
 ghost use Rattle.std.specs.Prelude.{◌≡◌, ◌≢◌, ◌∷◌, [], MatchOption};
 ghost use Rattle.git_audit.specs.Left.{left};
@@ -13,27 +10,27 @@ use crate::secret::mark::Class;
 use crate::secret::place::{helper_len, is_web, password, wide_password};
 use git_syntax::bytes::is_path_start;
 
-/// What is left of a text, in its order.
+/// The rest of a text, in its order.
 #[derive(Clone, Copy)]
 pub(super) struct Left<'a> {
-    /// Whether it is of HTTP.
+    /// Whether the text is an HTTP URL.
     web: bool,
-    /// Shown, but for its tokens.
+    /// Shown, except for its tokens.
     words: &'a [u8],
     /// Hidden.
     secret: &'a [u8],
-    /// Shown, but for its tokens.
+    /// Shown, except for its tokens.
     more: &'a [u8],
-    /// What may have passwords between bytes at which a path may start.
+    /// May contain passwords between bytes at which a path may start.
     plain: &'a [u8],
-    /// Hidden, but for the bytes at which a path may start.
+    /// Hidden, except for the bytes at which a path may start.
     wide: &'a [u8],
-    /// Shown, but for its tokens.
+    /// Shown, except for its tokens.
     end: &'a [u8],
 }
 
 impl<'a> Left<'a> {
-    /// All of a text.
+    /// A whole text.
     pub(super) fn of(text: &'a [u8]) -> Left<'a>
         ensures { left result ≡ spec.parts_of text.now }
     {
@@ -44,7 +41,7 @@ impl<'a> Left<'a> {
         }
     }
 
-    /// All of a text without the name of a helper.
+    /// A whole text without the name of a helper.
     fn of_url(web: bool, text: &'a [u8]) -> Left<'a>
         ensures parts { left result ≡ spec.authority_parts web (spec.wide_password web text.now) text.now }
         ensures words { result.words.now ≡ [] }
@@ -61,7 +58,7 @@ impl<'a> Left<'a> {
         }
     }
 
-    /// A text that may have passwords between bytes at which a path may start.
+    /// A text that may contain passwords between bytes at which a path may start.
     fn plain(web: bool, text: &'a [u8]) -> Left<'a>
         ensures plain { (result.web ≡ web) × (result.plain.now ≡ text.now) }
         ensures rest { (result.words.now ≡ []) × (result.secret.now ≡ []) × (result.more.now ≡ [])
@@ -78,14 +75,14 @@ impl<'a> Left<'a> {
         }
     }
 
-    /// The next piece, and what is left behind it.
+    /// Returns the next piece, and the rest after it.
     pub(super) fn next(self) -> Option<(Piece<'a>, Left<'a>)>
         ensures { MatchOption result (left self.entry ≡ []) (λ p. left self.entry ≡ spec.piece_part p.0 ∷ left p.1) }
     {
         self.filled().taken()
     }
 
-    /// The next piece, if what is first is cut.
+    /// Returns the next piece, if the first part is already split.
     fn taken(self) -> Option<(Piece<'a>, Left<'a>)>
         requires { self.words.now ≡ [] → self.secret.now ≡ []
             → (self.more.now ≡ []) × (self.plain.now ≡ []) × (self.wide.now ≡ [] → self.end.now ≡ []) }
@@ -111,7 +108,7 @@ impl<'a> Left<'a> {
         Some((wide_piece(self.web, run), Left { wide, ..self }))
     }
 
-    /// What is left, with what is first cut.
+    /// The same rest, with its first part split.
     fn filled(self) -> Left<'a>
         ensures same { left result ≡ left self.entry }
         ensures filled { result.words.now ≡ [] → result.secret.now ≡ []
@@ -140,7 +137,7 @@ impl<'a> Left<'a> {
         self
     }
 
-    /// What is left, with the first run cut that may have a password.
+    /// The same rest, with the first run split that may contain a password.
     fn with_run(self) -> Left<'a>
         requires words { self.words.now ≡ [] }
         requires secret { self.secret.now ≡ [] }
@@ -182,7 +179,7 @@ fn cut_run(class: Class, text: &[u8]) -> (&[u8], &[u8])
     }
 }
 
-/// A word as a piece: hidden, if it is a token.
+/// A word as a piece: hidden if it is a token.
 fn word_piece(word: &[u8]) -> Piece<'_>
     ensures { spec.piece_part result ≡ spec.word_part word.now }
 {
@@ -193,7 +190,7 @@ fn word_piece(word: &[u8]) -> Piece<'_>
     }
 }
 
-/// A run of a password with a `/` as a piece: shown, if a path may start at it.
+/// A run of a password with a `/` as a piece: shown if a path may start at it.
 fn wide_piece(web: bool, run: &[u8]) -> Piece<'_>
     ensures { spec.piece_part result ≡ spec.wide_part web run.now }
 {

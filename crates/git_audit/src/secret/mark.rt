@@ -1,7 +1,4 @@
-//! Marks and classes of bytes: where the first and the last one of a text is.
-//!
-//! It uses the tests of `git_syntax` on bytes, and takes no memory. Its contract: the place is that of the definition
-//! (`specs/Secrets.antt`), and what a mark takes is of the text.
+//! Marks and classes of bytes, and the search for the first and the last one in a text.
 
 ghost use Rattle.std.specs.Prelude.{◌≡◌, ◌<◌, ◌≤◌, ◌||◌, IfSome, codes, drop, length};
 ghost use Rattle.git_audit.specs.Secrets as spec;
@@ -9,7 +6,7 @@ ghost use Rattle.git_audit.specs.Secrets as spec;
 use crate::danger::token::{has_front, is_gap};
 use git_syntax::bytes::{is_path_start, starts_with_byte};
 
-/// What ends or begins a part of a text.
+/// A mark that ends or begins a part of a text.
 #[derive(Clone, Copy)]
 pub(super) enum Mark {
     /// `:`, or its escape.
@@ -23,7 +20,7 @@ pub(super) enum Mark {
 }
 
 impl Mark {
-    /// Whether the text begins with it.
+    /// Whether the text begins with the mark.
     fn begins(self, text: &[u8]) -> bool
         ensures { result ≡ spec.begins_as self text.now }
     {
@@ -35,7 +32,7 @@ impl Mark {
         }
     }
 
-    /// How many bytes it takes at the front of a text.
+    /// The length of the mark at the front of a text, in bytes.
     fn width(self, text: &[u8]) -> usize
         ensures { result ≡ spec.mark_width self text.now }
     {
@@ -47,7 +44,7 @@ impl Mark {
         }
     }
 
-    /// How many bytes are before the first one.
+    /// The index of the first mark.
     pub(super) fn first(self, text: &[u8]) -> Option<usize>
         ensures place { result ≡ spec.first_mark self text.now }
         ensures within { IfSome result (λ n. spec.mark_end self text.now n ≤ length text.now) }
@@ -60,7 +57,7 @@ impl Mark {
         None
     }
 
-    /// How many bytes end with the first one, where so many are before it.
+    /// The index after the first mark, which is at index `at`.
     pub(super) fn end(self, text: &[u8], at: usize) -> usize
         requires { spec.mark_end self text.now at ≤ length text.now }
         ensures { result ≡ spec.mark_end self text.now at }
@@ -68,7 +65,7 @@ impl Mark {
         at + self.width(text.split_at(at).1)
     }
 
-    /// How many bytes are before the last one.
+    /// The index of the last mark.
     pub(super) fn last(self, text: &[u8]) -> Option<usize>
         ensures place { result ≡ spec.last_mark self text.now }
         ensures within { IfSome result (λ n. n ≤ length text.now) }
@@ -89,17 +86,17 @@ fn begins_as_colon(text: &[u8]) -> bool
     starts_with_byte(text, b':') || has_front(text, "%3A") || has_front(text, "%3a")
 }
 
-/// Bytes between which the runs of a text are.
+/// A class of bytes that separate the runs of a text.
 #[derive(Clone, Copy)]
 pub(super) enum Class {
-    /// What no token has.
+    /// The bytes that no token contains.
     Gap,
-    /// Where a path may start, of HTTP or not.
+    /// The bytes at which a path may start, in an HTTP URL or in another text.
     Path(bool),
 }
 
 impl Class {
-    /// Whether the byte is of it.
+    /// Whether the byte is of the class.
     fn has(self, byte: u8) -> bool
         ensures { result ≡ spec.is_of self byte }
     {
@@ -109,7 +106,7 @@ impl Class {
         }
     }
 
-    /// How many bytes are before the first one.
+    /// The index of the first byte of the class.
     pub(super) fn first(self, text: &[u8]) -> Option<usize>
         ensures place { result ≡ spec.first_of self text.now }
         ensures within { IfSome result (λ n. n < length text.now) }

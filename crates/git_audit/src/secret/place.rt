@@ -1,7 +1,4 @@
-//! Where in a text what may be a password is.
-//!
-//! It uses `mark`, and takes no memory. Its contract: the place is that of the definition (`specs/Secrets.antt`), and
-//! is one of the text.
+//! The position of a possible password in a text.
 
 ghost use Rattle.std.specs.Prelude.{◌≡◌, ◌+◌, ◌≤◌, ◌||◌, ◌==◌, IfSome, codes, length};
 ghost use Rattle.std.specs.List.{list_all, list_any};
@@ -13,14 +10,14 @@ use crate::danger::token::has_front;
 use crate::secret::mark::{Class, Mark};
 use git_syntax::bytes::{is_helper_name, starts_with_byte};
 
-/// What may be a password: so many bytes, with so many before it.
+/// A possible password: its index and its length, in bytes.
 #[derive(Clone, Copy)]
 pub(super) struct Secret {
     pub(super) at: usize,
     pub(super) len: usize,
 }
 
-/// What may be a password in a text in which no path starts.
+/// A possible password in a text in which no path starts.
 pub(super) fn password(text: &[u8]) -> Option<Secret>
     ensures place { result ≡ spec.password text.now }
     ensures within { IfSome result (λ s. s.at + s.len ≤ length text.now) }
@@ -29,7 +26,7 @@ pub(super) fn password(text: &[u8]) -> Option<Secret>
     up_to_at(text, Mark::Colon.end(text, colon))
 }
 
-/// What goes on from a place to the last `@`, if there is one behind it.
+/// The bytes from an index to the last `@`, if there is one after it.
 fn up_to_at(text: &[u8], at: usize) -> Option<Secret>
     requires { at ≤ length text.now }
     ensures place { result ≡ spec.up_to_at text.now at }
@@ -39,7 +36,7 @@ fn up_to_at(text: &[u8], at: usize) -> Option<Secret>
     Some(Secret { at, len })
 }
 
-/// What may be a password with a `/` in it.
+/// A possible password with a `/` in it.
 pub(super) fn wide_password(web: bool, text: &[u8]) -> Option<Secret>
     ensures place { result ≡ spec.wide_password web text.now }
     ensures within { IfSome result (λ s. s.at + s.len ≤ length text.now) }
@@ -48,7 +45,7 @@ pub(super) fn wide_password(web: bool, text: &[u8]) -> Option<Secret>
     wide_behind(web, text, Mark::Authority.end(text, authority))
 }
 
-/// What may be a password with a `/` in it, behind so many bytes.
+/// A possible password with a `/` in it, after this many bytes.
 fn wide_behind(web: bool, text: &[u8], at: usize) -> Option<Secret>
     requires { at ≤ length text.now }
     ensures place { result ≡ spec.wide_behind web text.now at }
@@ -62,7 +59,7 @@ fn wide_behind(web: bool, text: &[u8], at: usize) -> Option<Secret>
     })
 }
 
-/// What is before the first byte at which a path may start, or all.
+/// The text before the first byte at which a path may start, or all of it.
 fn before_path(web: bool, text: &[u8]) -> &[u8]
     ensures { result.now ≡ spec.before_path web text.now }
 {
@@ -72,7 +69,7 @@ fn before_path(web: bool, text: &[u8]) -> &[u8]
     }
 }
 
-/// What may be a password with a `/` in it, in a text that begins with this authority.
+/// A possible password with a `/` in it, in a text that begins with this authority.
 fn wide_in(authority: &[u8], text: &[u8]) -> Option<Secret>
     requires { length authority.now ≤ length text.now }
     ensures place { result ≡ spec.wide_in authority.now text.now }
@@ -86,7 +83,8 @@ fn wide_in(authority: &[u8], text: &[u8]) -> Option<Secret>
     up_to_at(text, at)
 }
 
-/// Whether an authority, whose first `:` ends at this place, has a password to its own last `@`, a port, or brackets.
+/// Whether an authority, whose first `:` ends at this index, has a password to its own last `@`, a port, or
+/// brackets.
 fn is_whole(authority: &[u8], at: usize) -> bool
     requires { at ≤ length authority.now }
     ensures { result ≡ spec.is_whole authority.now at }
@@ -109,7 +107,7 @@ fn holds_bracket(text: &[u8]) -> bool
     text.iter().any(|byte| *byte == b']')
 }
 
-/// How many bytes the name of a remote helper takes with its `::`, where a text begins with one.
+/// The length of the name of a remote helper with its `::` at the front of a text, or 0 if there is none.
 pub(super) fn helper_len(text: &[u8]) -> usize
     ensures place { result ≡ spec.helper_len text.now }
     ensures within { result ≤ length text.now }
@@ -120,14 +118,14 @@ pub(super) fn helper_len(text: &[u8]) -> usize
     }
 }
 
-/// Whether the text is of digits alone.
+/// Whether the text consists of digits.
 fn are_digits(text: &[u8]) -> bool
     ensures { result ≡ list_all is_ascii_digit text.now }
 {
     text.iter().all(|byte| byte.is_ascii_digit())
 }
 
-/// Whether the text begins as a URL of HTTP does.
+/// Whether the text begins as an HTTP URL.
 pub(super) fn is_web(text: &[u8]) -> bool
     ensures { result ≡ spec.is_web text.now }
 {

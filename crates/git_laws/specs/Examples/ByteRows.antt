@@ -24,7 +24,7 @@ escaped_members set = members (λ b. nat_lt 1 (length (percent_encode set (b ∷
 
 -- ---- names
 
--- letters and digits, and what the names of schemes and of remote helpers are made of
+-- letters and digits, and the bytes of the names of schemes and of remote helpers
 abbrev pub NameByteRows : Type 0
 NameByteRows =
     (members is_ascii_digit ≡ codes "0123456789")
@@ -38,7 +38,7 @@ NameByteRows =
 
 -- ---- hosts, zones and marks
 
--- what hosts and zones are made of, where a path starts, and what the length test skips
+-- the bytes of hosts and zones, the bytes at which a path starts, and those that the length test skips
 abbrev pub HostByteRows : Type 0
 HostByteRows =
     (members is_dns_byte ≡ codes "*-.0123456789ABCDEFGHIJKLMNOPQRSTUVWXYZ_abcdefghijklmnopqrstuvwxyz")
@@ -59,7 +59,7 @@ WhiteSpaceRows =
     × (filter is_whitespace (range_with_len 8180 120) ≡ range_with_len 8192 11 ++ (8232 ∷ 8233 ∷ 8239 ∷ 8287 ∷ []))
     × (filter is_whitespace (range_with_len 12280 20) ≡ 12288 ∷ [])
 
--- what Git takes for white space before a port, and by what it cuts a text otherwise
+-- the bytes that Git reads as white space before a port, and those at which it cuts a text differently
 abbrev pub GitByteRows : Type 0
 GitByteRows =
     (members is_c_space ≡ 9 ∷ 10 ∷ 11 ∷ 12 ∷ 13 ∷ 32 ∷ [])
@@ -67,22 +67,22 @@ GitByteRows =
 
 -- ---- escapes
 
--- the bytes that quick tests pass: those of plain text, and those that a path and a user are surely written
--- with
+-- the bytes that quick tests accept: those of plain text, and some that are written unescaped in a path and in
+-- a user
 abbrev pub QuickByteRows : Type 0
 QuickByteRows =
     (members is_plain_byte ≡ codes "!\"#$&'()*+,-./0123456789:;<=>?@ABCDEFGHIJKLMNOPQRSTUVWXYZ[\\]^_`abcdefghijklmnopqrstuvwxyz{|}~")
     × (members is_unescaped_in_path ≡ codes "&'()*+,-./0123456789:;?@ABCDEFGHIJKLMNOPQRSTUVWXYZ[\\]^_abcdefghijklmnopqrstuvwxyz")
     × (members is_unescaped_in_user ≡ codes "&'()*+,-.0123456789ABCDEFGHIJKLMNOPQRSTUVWXYZabcdefghijklmnopqrstuvwxyz")
 
--- the ASCII bytes that a path, a password and a user aren't written with
+-- the ASCII bytes that are escaped in a path, a password and a user
 abbrev pub EscapedByteRows : Type 0
 EscapedByteRows =
     (members is_path_escaped ≡ range_with_len 0 32 ++ (codes " \"%<>`{}" ++ 127 ∷ []))
     × (members is_password_escaped ≡ range_with_len 0 32 ++ (codes " \"#%/<>?@[\\]^`{|}" ++ 127 ∷ []))
     × (members is_user_escaped ≡ range_with_len 0 32 ++ (codes " \"#%/:<>?@[\\]^`{|}" ++ 127 ∷ []))
 
--- the bytes that the sets escape: those, and every byte past ASCII
+-- the bytes that the sets escape: those, and every byte that is not ASCII
 abbrev pub EscapeSetRows : Type 0
 EscapeSetRows =
     (escaped_members path_set ≡ range_with_len 0 32 ++ (codes " \"%<>`{}" ++ 127 ∷ range_with_len 128 128))

@@ -1,8 +1,8 @@
 -- Rows: what Git reads in texts that are written out, as git 2.39.5 reports it (`git fetch-pack --diag-url`,
--- `git ls-remote`); of the end of a line in `git://`, where that transport is allowed. OpenSSH 9.2 reports
--- that it refuses the word `@h`, and reads `ssh://u@x:22` as user `u`, host `x` and port 22 (`ssh -G`). Of
--- `~/x` `git clone` takes another repository than `git fetch`. A text with byte 0 can't be given to a
--- command. What Git's credential code reads was shown by `git credential fill`.
+-- `git ls-remote`); for the end of a line in `git://`, with that transport allowed. OpenSSH 9.2 reports that it
+-- refuses the word `@h`, and reads `ssh://u@x:22` as user `u`, host `x` and port 22 (`ssh -G`). For `~/x`, `git
+-- clone` uses another repository than `git fetch`. A text with byte 0 can't be an argument of a command. `git
+-- credential fill` shows what Git's credential code reads.
 use Rattle.std.specs.Prelude.{ℕ, List, [], ◌∷◌, ◌++◌, codes, Option, Some, None}
 use Rattle.git_syntax.specs.Location.Scheme.{git, ssh}
 use Rattle.git_syntax.specs.Bytes.{tab}
@@ -54,7 +54,8 @@ GitTextRows =
     × GitReads (codes "./~/x") (on_this_machine (codes "./~/x"))
     × GitReads (codes "/~root/x") (on_this_machine (codes "/~root/x"))
 
--- texts that Git refuses, takes for an option or hands to a remote helper, and one that it doesn't get whole
+-- texts that Git refuses, reads as an option or passes to a remote helper, and one that it doesn't receive
+-- whole
 abbrev pub NoGitRows : Type 0
 NoGitRows =
     ((reading : GitReading) → ¬ GitReads (codes "-h:p") reading)

@@ -1,4 +1,4 @@
--- Rows of exceptions, and one for each slip in a definition that the laws would let pass.
+-- Rows of exceptions, and one row for each error in a definition that the laws would not detect.
 use Rattle.std.specs.Prelude.{◌≡◌, ℕ, true, false, List, codes, Some, None}
 use Rattle.git_syntax.specs.Location.{Scheme, Location, path_alone}
 use Rattle.git_syntax.specs.Location.Scheme.{file, git, http, https}
@@ -11,8 +11,8 @@ use Rattle.git_laws.specs.Laws.{IsException}
 abbrev pub at_host : Scheme → List ℕ → List ℕ → Location
 at_host scheme host path = record (path_alone scheme false path) { host = Some host }
 
--- FTP needs a host; in a path without a spelling an escape stands for itself; in a record of the older form a
--- `%` without digits is no escape
+-- FTP needs a host; in a path without a spelling, an escape is literal; in a legacy record, a `%` without
+-- digits is not an escape
 abbrev pub SlipRows : Type 0
 SlipRows =
     (requires_host (codes "ftps") ≡ true)
@@ -28,7 +28,7 @@ abbrev pub ExceptionRows : Type 0
 ExceptionRows = IsException (at_host file (codes "a:%") (codes "/p"))
     × IsException (at_host http (codes "h%41:") (codes "/p"))
 
--- unsettled locations that are in none
+-- unsettled locations that are not exceptions
 abbrev pub NoExceptionRows : Type 0
 NoExceptionRows =
     ¬ IsException (at_host file (codes "a:b/c") (codes "/p"))

@@ -4,10 +4,10 @@ use Rattle.std.specs.declared.io.Error.{Error}
 use Rattle.git_lines.specs.declared.lines.RunError.TheVariants as run
 use Rattle.git_lines.specs.Answers.{Ran, RanToEnd}
 
--- a run that memory ended left the writer as it was
+-- a run that a failed allocation ended left the writer unchanged
 abbrev pub UnwrittenRow : Type 0
 UnwrittenRow = (input old new : List ℕ) → Ran Some (Some input) old new (Err run.Memory) → new ≡ old
 
--- a run that the writer ended left nothing of its input
+-- a run that a fault of the writer ended left nothing of its input
 abbrev pub ReadRow : Type 0
 ReadRow = (rest : List ℕ) (e : Error) → RanToEnd (Some rest) (Err (run.Write e)) → rest ≡ []

@@ -1,5 +1,4 @@
--- What room of a caller's is after it took a text: the front of the room is filled, and the rest of it is as
--- it was.
+-- A caller's buffer after a text was written: its front is filled, and the rest is unchanged.
 use Rattle.std.specs.Prelude.{◌≡◌, ℕ, ◌≤◌, ◌+◌, MatchBool, nat_lt, List, [], ◌∷◌, ◌++◌, length, drop, refl, zero, suc}
 use Rattle.std.specs.Prelude.{Result, Ok, Err}
 use Rattle.std.proofs.Math.Seq.{drop-nil}
@@ -7,14 +6,14 @@ use Rattle.std.proofs.Common.{sym, ap, ◌∙◌, arith, append_assoc, append-ni
 use Rattle.git_location.specs.declared.write_error.WriteFault.{WriteFault}
 use Rattle.git_location.specs.declared.writer.fill.Filled.{Filled}
 
--- the text is at the front of the room, if it fits, and the rest is as it was; where it doesn't fit, or
--- there is none, all of the room is
+-- the text is at the front of the buffer, if it fits, and the rest is unchanged; if it doesn't fit, or there is
+-- no text, the whole buffer is unchanged
 abbrev pub Placed : Result (List ℕ) WriteFault → List ℕ → List ℕ → Type 0
 Placed (Ok t) old new =
     MatchBool (nat_lt (length old) (length t)) (new ≡ old) (new ≡ t ++ drop (length t) old)
 Placed (Err fault) old new = new ≡ old
 
--- the same room is filled by the text behind what filled it before, where it fits
+-- the text was added to the same buffer after the bytes that filled it before, if it fits
 abbrev pub Fills : Filled → List ℕ → Filled → Type 0
 Fills old text new =
     (new.room.ghost_name ≡ old.room.ghost_name)
@@ -27,7 +26,7 @@ fills_nothing a = (
   λ front back whole place fits. (whole ∙ ap (λ x. x ++ back) (sym (append-nil front)), ap length (append-nil front) ∙ place),
 )
 
--- what is dropped in two steps
+-- two drops in sequence
 dropped_twice : (m n : ℕ) (l : List ℕ) → drop n (drop m l) ≡ drop (m + n) l
 dropped_twice zero n l = let none : n ≡ 0 + n = omega arith in ap (λ k. drop k l) none
 dropped_twice (suc m) n [] = drop-nil n ∙ sym (drop-nil (suc m + n))

@@ -1,4 +1,4 @@
--- The pieces of a text, and what they make up.
+-- The pieces of a text, and the text that they make up.
 use Rattle.std.specs.Prelude.{◌≡◌, ℕ, List, [], ◌∷◌, ◌++◌, length, Option, Some, None, IfSome, Result, Ok, Err}
 use Rattle.std.specs.Option.{option_copied}
 use Rattle.std.specs.Borrow.{Bor}
@@ -24,7 +24,7 @@ use Rattle.git_syntax.specs.Location.{Location}
 use Rattle.git_location.specs.Text.{Form, text}
 use Rattle.git_location.specs.Text.Form.{helper_form, path_form, scp_form, canonical_form}
 
--- the text of a piece: raw, with the escapes of a user or of a password, or with each `%` escaped
+-- the text of a piece: unescaped, with the escapes of a user or of a password, or with each `%` escaped
 abbrev pub piece_text : Piece → List ℕ
 piece_text (piece.Raw text) = text.now
 piece_text (piece.User text) = percent_encode USER text.now
@@ -49,12 +49,12 @@ host_text host.None = []
 host_text (host.Open name) = piece_text name
 host_text (host.Bracketed name) = left_bracket ∷ (piece_text name ++ right_bracket ∷ [])
 
--- the port behind its colon
+-- the port after its colon
 abbrev pub port_text : Option (Bor (List ℕ)) → List ℕ
 port_text None = []
 port_text (Some digits) = colon ∷ digits.now
 
--- the path behind its mark
+-- the path after its mark
 abbrev pub path_end_text : PathPieces → List ℕ
 path_end_text (path.Raw mark bytes) = mark.now ++ bytes.now
 path_end_text (path.Escaped mark bytes) = mark.now ++ percent_encode PATH bytes.now
@@ -66,14 +66,14 @@ pieces_text p = scheme_piece_text p.scheme
 
 -- ---- forms
 
--- the form of the definitions that a form of the code is
+-- the form of the definitions for that of the code
 abbrev pub form_of : Code → Form
 form_of code.Helper = helper_form
 form_of code.Path = path_form
 form_of code.Scp = scp_form
 form_of code.Canonical = canonical_form
 
--- the choice of the definitions that a choice of the code is
+-- the form of the definitions that the code's form represents, or the fault
 abbrev pub form_chosen : Result Code WriteFault → Result Form WriteFault
 form_chosen (Ok form) = Ok (form_of form)
 form_chosen (Err fault) = Err fault
@@ -82,14 +82,14 @@ form_chosen (Err fault) = Err fault
 abbrev pub with_password : Location → Option (Bor (List ℕ)) → Location
 with_password v other = record v { password = option_copied other }
 
--- ---- what the pieces of a location are
+-- ---- the pieces of a location
 
 -- the text that pieces make up, or the fault
 abbrev pub text_of_pieces : Result Pieces WriteFault → Result (List ℕ) WriteFault
 text_of_pieces (Ok p) = Ok (pieces_text p)
 text_of_pieces (Err fault) = Err fault
 
--- pieces that are at hand, if there are any, make up the location's text
+-- the pieces, if there are any, make up the location's text
 abbrev pub AreOwn : Option (Bor Pieces) → Location → Type 0
 AreOwn laid v = IfSome laid (λ p. text v ≡ Ok (pieces_text p.now))
 

@@ -1,4 +1,4 @@
--- What the tests of the settled class report of hosts and of texts on the way.
+-- Hosts and texts that the tests of the settled class decide.
 use Rattle.std.specs.Prelude.{◌≡◌, ℕ, ◌+◌, false, ◌⊎◌, List, [], ◌∷◌, ◌++◌, length, drop, Option, MatchOption, Ok}
 use Rattle.std.specs.Borrow.{Bor}
 use Rattle.git_syntax.specs.Location.{Location}
@@ -10,41 +10,41 @@ use Rattle.git_location.specs.Text.{text, canonical_text}
 use Rattle.git_syntax.specs.Authority.{Fits}
 use Rattle.git_location.specs.Settled.{HasCredentials, HasFittingText, HasUrlPath, IsHosted, IsRawPath, IsWebName}
 
--- a literal that stays as it is
+-- a literal that is read unchanged
 abbrev pub IsNormalLiteral : List ℕ → Type 0
 IsNormalLiteral text = Literal text text
 
--- brackets around such a literal
+-- a literal that is read unchanged, in brackets
 abbrev pub IsBracketedLiteral : List ℕ → Type 0
 IsBracketedLiteral host = (n : List ℕ) × Literal n n
     × (host ≡ left_bracket ∷ (n ++ right_bracket ∷ []))
 
--- what is between brackets, or none where the text isn't in brackets
+-- the text in brackets, or `None` if the text isn't in brackets
 abbrev pub StripsBrackets : List ℕ → Option (Bor (List ℕ)) → Type 0
 StripsBrackets host r = MatchOption r
     ((inner : List ℕ) → ¬ (host ≡ left_bracket ∷ (inner ++ right_bracket ∷ [])))
     (λ inner. host ≡ left_bracket ∷ (inner.now ++ right_bracket ∷ []))
 
--- a host of HTTP that may have a colon behind it
+-- a host of HTTP that a colon may follow
 abbrev pub IsClosedHost : List ℕ → Type 0
 IsClosedHost host = IsBracketedLiteral host ⊎ (IsWebName host × (has_percent host ≡ false))
 
--- a path of a settled URL, which is raw where no spelling matches it
+-- a path of a settled URL, which is raw if no spelling matches it
 abbrev pub HasRawPath : Location → Type 0
 HasRawPath v = HasUrlPath v × IsRawPath v
 
--- what the settled URLs have in common beside their paths
+-- the conditions that settled URLs have in common, except for those on paths
 pub record IsSettledBesidePath (v : Location) : Type 0 where
   pub unflagged : v.flag ≡ false
   pub credentials : HasCredentials v
   pub hosted : IsHosted v
   pub fits : HasFittingText v
 
--- the scheme is free of `:`, and the text is the canonical one, where the location has the parts of a URL
+-- the scheme lacks `:`, and the text is the canonical one if the location has the fields of a URL
 pub record IsWrittenAsUrl (v : Location) : Type 0 where
   pub no_colon : FreeOf colon (scheme_text v.scheme)
   pub canonical : v.flag ≡ false → IsHosted v → text v ≡ Ok (canonical_text v)
 
--- the scheme is short enough, and so is what follows it and its mark in the text
+-- the scheme is short enough, and so is the text after it and its mark
 abbrev pub IsPiecesShort : List ℕ → List ℕ → Type 0
 IsPiecesShort scheme whole = Fits scheme (drop (length scheme + 3) whole)

@@ -1,5 +1,5 @@
--- What a place is after it took a text, for each sink, and that two texts taken are one: a formatter, and the
--- walk of the length test. What is behind the text is any, so that texts join without counting.
+-- The effect of putting a text into a sink, and that two texts have the effect of the joined one: for a
+-- formatter, and for the length check. The text that follows is arbitrary, so texts join without counting.
 use Rattle.std.specs.Prelude.{◌≡◌, ℕ, List, [], ◌∷◌, ◌++◌, refl}
 use Rattle.std.proofs.Common.{sym, ap, subst, ◌∙◌, append_assoc}
 use Rattle.std.specs.List.{FoldsTo}
@@ -13,24 +13,24 @@ use Rattle.git_syntax.specs.Internal.LengthChecks.{is_text_in_time}
 -- ---- a formatter
 
 module _ {W : Type 0} (took : W → List ℕ → W → Type 0) where
-  -- a formatter that indents nothing took a text that is shown as it is, whatever comes behind it, and
-  -- whatever its options
+  -- a formatter that doesn't indent wrote a text that is output unchanged, whatever follows it and whatever its
+  -- options
   abbrev pub ShowsText : Formatter W → List ℕ → Formatter W → Type 0
   ShowsText old text new =
       ((behind : List ℕ) → lossy_text (text ++ behind) ≡ text ++ lossy_text behind)
       × (IsFlush old → HasWrittenStyled took old text new)
 
-  -- it took the end of a text, which may be any bytes
+  -- it wrote the end of a text, which may be any bytes
   abbrev pub ShowsEnd : Formatter W → List ℕ → Formatter W → Type 0
   ShowsEnd old end new = IsFlush old → HasWrittenStyled took old (lossy_text end) new
 
-  -- calls one behind the other
+  -- two sequences of calls, joined
   calls_joined : (w : W) (xs : List (List ℕ)) (v : W) (ys : List (List ℕ)) (u : W)
       → FoldsTo took w xs v → FoldsTo took v ys u → FoldsTo took w (xs ++ ys) u
   calls_joined w [] v ys u p q = subst (λ x. FoldsTo took x ys u) (sym p) q
   calls_joined w (x ∷ xs) v ys u p q = (p.0, p.1, calls_joined p.0 xs v ys u p.2 q)
 
-  -- two texts that were written, one behind the other
+  -- two written texts, joined
   joined : (a b c : Formatter W) (x y : List ℕ) → HasWrittenStyled took a x b
       → HasWrittenStyled took b y c → HasWrittenStyled took a (x ++ y) c
   joined a b c x y first second = let p = first.wrote in let q = second.wrote in record {
@@ -73,9 +73,9 @@ module _ {W : Type 0} (took : W → List ℕ → W → Type 0) where
       subst (λ t. HasWrittenStyled took a t c) (sym (first.0 y))
       (joined a b c x (lossy_text y) before (second before.flush))
 
--- ---- a walk
+-- ---- a length check
 
--- a walk past a text has the outcome that it has with the text before it, whatever comes behind
+-- the check after a text has the outcome of the check before it, whatever follows
 abbrev pub ChecksPast : LengthCheck → List ℕ → LengthCheck → Type 0
 ChecksPast old text new = (behind : List ℕ)
     → is_text_in_time new behind ≡ is_text_in_time old (text ++ behind)

@@ -1,7 +1,4 @@
-//! Tests of one part of a location.
-//!
-//! It uses bytes, escapes, addresses and the hosts of `git_syntax`. Its contract: each test decides the
-//! definition that it is named for. It takes no memory.
+//! Tests of single fields of a location.
 
 ghost use Rattle.std.specs.Prelude.{◌≡◌, ◌↔◌, IsTrue, codes};
 ghost use Rattle.git_syntax.specs.Bytes.{Holds};
@@ -22,7 +19,7 @@ pub(crate) fn has_at_most_host(url: &UrlRef<'_>) -> bool
     url.user.is_none() && url.password.is_none() && url.port.is_none()
 }
 
-/// Whether the location has the flag and a path, and nothing else.
+/// Whether the location has the flag and a path only.
 pub(crate) fn is_flagged_path(url: &UrlRef<'_>) -> bool
     ensures { IsTrue result ↔ IsFlaggedPath url.now }
 {
@@ -49,7 +46,7 @@ pub(crate) fn begins_with_slashes(text: &[u8]) -> bool
     }
 }
 
-/// Whether `://` is nowhere in the text. Few texts hold a colon.
+/// Whether the text lacks `://`. Few texts have a colon.
 pub(crate) fn lacks_mark(text: &[u8]) -> bool
     ensures { IsTrue result ↔ ¬ Holds (codes "://") text.now }
 {
@@ -63,14 +60,14 @@ pub(crate) fn is_normal(host: &[u8]) -> bool
     !looks_like_domain(host) || is_lowercase(host)
 }
 
-/// Whether the text is not empty, and free of `:`, `[` and `]`.
+/// Whether the text is not empty and lacks `:`, `[` and `]`.
 fn is_open_name(host: &[u8]) -> bool
     ensures { IsTrue result ↔ IsOpenName host.now }
 {
     !host.is_empty() && is_free_of(host, b':') && is_free_of(host, b'[') && is_free_of(host, b']')
 }
 
-/// Whether the text is a settled name of a host. Most are simple hosts, which one look finds.
+/// Whether the text is a settled name of a host. Most are simple hosts, which one pass finds.
 pub(crate) fn is_normal_name(host: &[u8]) -> bool
     ensures { IsTrue result ↔ IsNormalName host.now }
 {

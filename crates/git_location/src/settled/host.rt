@@ -1,7 +1,4 @@
 //! The settled hosts of URLs.
-//!
-//! It uses `fields`, and bytes, escapes and the hosts of `git_syntax`. Its contract: the answer is yes
-//! exactly for the hosts that the definitions settle. It takes no memory.
 
 ghost use Rattle.std.specs.Prelude.{◌≡◌, ◌↔◌, IsTrue, Option};
 ghost use Rattle.git_location.specs.Settled.{IsBareHost, IsBracketedAddress, IsBracketedHost, IsWebHost, IsWebName};
@@ -13,14 +10,14 @@ use git_syntax::escape::{has_percent, is_sound};
 use git_syntax::host::bytes::{are_http_host_bytes, is_escaped_zone};
 use git_syntax::host::is_simple_host;
 
-/// Whether the text is a settled host of HTTP, beside this port. Most are simple hosts, which one look finds.
+/// Whether the text is a settled host of HTTP, beside this port. Most are simple hosts, which one pass finds.
 pub(crate) fn is_web_host(host: &[u8], port: Option<u16>) -> bool
     ensures { IsTrue result ↔ IsWebHost port host.now }
 {
     is_simple_host(host) || is_any_web_host(host, port)
 }
 
-/// The same by a look at each of its parts.
+/// Whether the text is a settled host of HTTP, beside this port, by testing each form.
 fn is_any_web_host(host: &[u8], port: Option<u16>) -> bool
     ensures { IsTrue result ↔ IsWebHost port host.now }
 {
@@ -30,21 +27,21 @@ fn is_any_web_host(host: &[u8], port: Option<u16>) -> bool
     }
 }
 
-/// Whether the text is a settled host of HTTP that may have a colon behind it.
+/// Whether the text is a settled host of HTTP that a colon may follow.
 fn is_closed_host(host: &[u8]) -> bool
     ensures { IsTrue result ↔ IsClosedHost host.now }
 {
     is_bracketed_literal(host) || (is_web_name(host) && !has_percent(host))
 }
 
-/// Whether the text is a host of HTTP outside brackets that stays as it is.
+/// Whether the text is a host of HTTP outside brackets that is read unchanged.
 fn is_web_name(host: &[u8]) -> bool
     ensures { IsTrue result ↔ IsWebName host.now }
 {
     !host.is_empty() && are_http_host_bytes(host) && is_sound(host) && is_normal(host)
 }
 
-/// Whether the text is brackets around a literal that stays as it is.
+/// Whether the text is a literal in brackets that is read unchanged.
 fn is_bracketed_literal(host: &[u8]) -> bool
     ensures { IsTrue result ↔ IsBracketedLiteral host.now }
 {
@@ -54,14 +51,14 @@ fn is_bracketed_literal(host: &[u8]) -> bool
     }
 }
 
-/// What is between a first `[` and a last `]`.
+/// The text between a first `[` and a last `]`.
 fn in_brackets(host: &[u8]) -> Option<&[u8]>
     ensures { StripsBrackets host.now result }
 {
     before(after(host, b'[')?, b']')
 }
 
-/// Whether the text is a literal that stays as it is.
+/// Whether the text is a literal that is read unchanged.
 fn is_normal_literal(text: &[u8]) -> bool
     ensures { IsTrue result ↔ IsNormalLiteral text.now }
 {
@@ -78,14 +75,14 @@ pub(crate) fn is_bare_host(host: &[u8]) -> bool
     is_normal_name(host) || is_normal_address(host)
 }
 
-/// Whether the text is a settled host of a URL that has its addresses between brackets.
+/// Whether the text is a settled host of a URL whose addresses are in brackets.
 pub(crate) fn is_bracketed_host(host: &[u8]) -> bool
     ensures { IsTrue result ↔ IsBracketedHost host.now }
 {
     is_normal_name(host) || is_bracketed_address(host)
 }
 
-/// Whether the text is brackets around an IPv6 text in lower case.
+/// Whether the text is an IPv6 text in lower case, in brackets.
 pub(crate) fn is_bracketed_address(host: &[u8]) -> bool
     ensures { IsTrue result ↔ IsBracketedAddress host.now }
 {

@@ -1,8 +1,4 @@
-//! The length test of a text that is nowhere as a whole: a walk past its pieces.
-//!
-//! It uses the walk of `length`, the pieces of the writer and `value`. Its contract: the answer is yes
-//! exactly where the text of the location is short enough. The lengths of the parts decide for nearly all. It
-//! takes no memory.
+//! The length test of a location's text, piece by piece. The lengths of the fields decide nearly all cases.
 
 ghost use Rattle.std.specs.Prelude.{◌≡◌, ◌≤◌, ◌^◌, ◌↔◌, ◌+◌, IsTrue, Ok, drop, length, option_map};
 ghost use Rattle.git_syntax.specs.Bytes.{FreeOf, colon};
@@ -24,8 +20,8 @@ use git_syntax::length::{LIMIT, LengthCheck};
 use itoa::Buffer;
 use std::convert::Infallible;
 
-/// Whether the text of the location, which is that of a URL, is short enough. It is laid out where neither
-/// its pieces are at hand nor its parts are short.
+/// Whether the text of the location, which is a URL, is short enough. It is laid out only if the caller doesn't
+/// have its pieces and the fields aren't short.
 pub(crate) fn has_fitting_text(url: &UrlRef<'_>, laid: Option<&Pieces<'_>>) -> bool
     requires no_colon { FreeOf colon (scheme_text url.now.scheme) }
     requires canonical { text url.now ≡ Ok (canonical_text url.now) }
@@ -38,7 +34,8 @@ pub(crate) fn has_fitting_text(url: &UrlRef<'_>, laid: Option<&Pieces<'_>>) -> b
     }
 }
 
-/// Whether the parts of the location are so short that its text is, whatever of them is written as escapes.
+/// Whether the fields of the location are so short that its text is, however much of them is written as
+/// escapes.
 fn has_short_parts(url: &UrlRef<'_>) -> bool
     requires no_colon { FreeOf colon (scheme_text url.now.scheme) }
     requires canonical { text url.now ≡ Ok (canonical_text url.now) }
@@ -47,8 +44,8 @@ fn has_short_parts(url: &UrlRef<'_>) -> bool
     longest_len(url) <= LIMIT as u128
 }
 
-/// A length that the location's text as a URL is not longer than: an escape has three bytes, and the marks
-/// and the port have at most 14.
+/// An upper bound for the length of the location's text as a URL: an escape has three bytes, and the marks and
+/// the port have at most 14.
 fn longest_len(url: &UrlRef<'_>) -> u128
     ensures { length (canonical_text url.now) ≤ result }
 {
@@ -61,7 +58,7 @@ fn longest_len(url: &UrlRef<'_>) -> u128
     kept + 3 * escaped + 14
 }
 
-/// The length of the part, where there is one.
+/// The length of the text, or 0 if it is missing.
 fn part_len(part: Option<&str>) -> u128
     ensures exact { result ≡ optional_length (option_map (λ t. t.now) part.entry) }
     ensures bound { result ≤ 2 ^ 64 }
@@ -72,7 +69,7 @@ fn part_len(part: Option<&str>) -> u128
     }
 }
 
-/// The length of the spelling, where there is one.
+/// The length of the spelling, or 0 if it is missing.
 fn spelling_len(spelling: Option<&[u8]>) -> u128
     ensures exact { result ≡ optional_length (option_map (λ t. t.now) spelling.entry) }
     ensures bound { result ≤ 2 ^ 64 }
@@ -83,8 +80,8 @@ fn spelling_len(spelling: Option<&[u8]>) -> u128
     }
 }
 
-/// Whether the text of the location, which is laid out now, is short enough. Few come here, and the code that
-/// all go through doesn't grow by it.
+/// Whether the text of the location, which is laid out here, is short enough. Few locations come here; the
+/// function is separate so that the common code stays small.
 #[inline(never)]
 fn is_own_short(url: &UrlRef<'_>) -> bool
     requires no_colon { FreeOf colon (scheme_text url.now.scheme) }
@@ -105,8 +102,7 @@ fn are_short(scheme: &[u8], pieces: &Pieces<'_>) -> bool
     scheme.len() <= LIMIT && is_rest_short(scheme, pieces)
 }
 
-/// Whether what is behind the scheme is short enough. Where it has no more bytes than the limit, none need be
-/// looked at.
+/// Whether the text after the scheme is short enough. If it is no longer than the limit, it isn't read.
 fn is_rest_short(scheme: &[u8], pieces: &Pieces<'_>) -> bool
     ensures { result ≡ is_rest_short (spec.is_web_scheme scheme.now)
         (drop (length scheme.now + 3) (pieces_text pieces.now)) }
@@ -117,7 +113,7 @@ fn is_rest_short(scheme: &[u8], pieces: &Pieces<'_>) -> bool
     is_in_time(LengthCheck::over(scheme), pieces)
 }
 
-/// Whether a path starts in time where the walk goes past the pieces.
+/// Whether a path starts in time in the text of the pieces.
 fn is_in_time(walk: LengthCheck, pieces: &Pieces<'_>) -> bool
     ensures { result ≡ is_text_in_time walk (pieces_text pieces.now) }
 {
@@ -126,7 +122,7 @@ fn is_in_time(walk: LengthCheck, pieces: &Pieces<'_>) -> bool
     walk.is_in_time()
 }
 
-/// The walk of the length test.
+/// The sink that advances the length check.
 struct LengthSink;
 
 impl Sink<LengthCheck> for LengthSink {

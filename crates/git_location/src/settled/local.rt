@@ -1,7 +1,4 @@
 //! The settled remote helpers, local paths and file URLs.
-//!
-//! It uses `fields`, `bytes`, `escape`, `text`, and `classify` for the form of a path. Its contract: the
-//! answer is yes exactly for those that the definitions settle. It takes no memory.
 
 ghost use Rattle.std.specs.Prelude.{◌↔◌, IsTrue, IfSome};
 ghost use Rattle.git_syntax.specs.Grammar.{LocalForm};
@@ -47,7 +44,7 @@ pub(crate) fn is_settled_file(url: &UrlRef<'_>) -> bool
         && starts_with_byte(url.path, b'/')
 }
 
-/// Whether the host, where there is one, is one of a file URL that stays as it is.
+/// Whether the host is missing or is one of a file URL that is read unchanged.
 fn has_file_host(url: &UrlRef<'_>) -> bool
     ensures { IsTrue result ↔ IfSome url.now.host IsFileHost }
 {
@@ -57,7 +54,7 @@ fn has_file_host(url: &UrlRef<'_>) -> bool
     }
 }
 
-/// Whether the text is a host of a file URL that stays as it is.
+/// Whether the text is a host of a file URL that is read unchanged.
 fn is_file_host(host: &[u8]) -> bool
     ensures { IsTrue result ↔ IsFileHost host.now }
 {

@@ -1,7 +1,4 @@
 //! The settled locations in the scp form.
-//!
-//! It uses `fields`, `bytes`, `escape`, `home`, `host` and `text`. Its contract: the answer is yes exactly
-//! for those that the definitions settle. It takes no memory.
 
 ghost use Rattle.std.specs.Prelude.{◌↔◌, IsTrue, IfSome};
 ghost use Rattle.git_location.specs.Settled.{HasScpHost, IsScpHost, IsScpName, IsScpPath, IsScpUser, IsSettledScp, LooksLikeHelper};
@@ -37,7 +34,7 @@ fn is_scp_path(path: &[u8]) -> bool
         && lacks_mark(path)
 }
 
-/// Whether the user, where there is one, is settled in the scp form.
+/// Whether the user is missing or settled in the scp form.
 fn has_scp_user(url: &UrlRef<'_>) -> bool
     ensures { IsTrue result ↔ IfSome url.now.user IsScpUser }
 {
@@ -54,7 +51,7 @@ fn is_scp_user(user: &[u8]) -> bool
     is_free_of(user, b':') && is_free_of(user, b'/') && !starts_with_byte(user, b'[')
 }
 
-/// Whether there is a host, settled in the scp form.
+/// Whether there is a host that is settled in the scp form.
 fn has_scp_host(url: &UrlRef<'_>) -> bool
     ensures { IsTrue result ↔ HasScpHost url.now }
 {
@@ -71,14 +68,15 @@ fn is_scp_host(host: &str) -> bool
     is_scp_name(host) || is_normal_address(host.as_bytes())
 }
 
-/// Whether the text is a settled name of a host in the scp form. Most are simple hosts, which one look finds.
+/// Whether the text is a settled name of a host in the scp form. Most are simple hosts, which one pass finds.
 fn is_scp_name(host: &str) -> bool
     ensures { IsTrue result ↔ IsScpName host.now }
 {
     is_simple_host(host.as_bytes()) || is_any_scp_name(host)
 }
 
-/// The same by a look for each byte that such a name lacks.
+/// Whether the text is a settled name of a host in the scp form, by testing for each byte that such a name
+/// lacks.
 fn is_any_scp_name(host: &str) -> bool
     ensures { IsTrue result ↔ IsScpName host.now }
 {

@@ -1,7 +1,4 @@
-//! The settled URLs, except for those of files.
-//!
-//! It uses `host`, `length_check`, `fields`, `bytes`, `escape`, `home`, `scheme` and `text`. Its contract:
-//! the answer is yes exactly for those that the definitions settle. It takes no memory.
+//! The settled URLs, except for file URLs.
 
 ghost use Rattle.std.specs.Prelude.{◌≡◌, ◌↔◌, IsTrue, IsUtf8, true, IfSome};
 ghost use Rattle.git_syntax.specs.Location.Scheme.{git, helper_url, ssh};
@@ -21,7 +18,7 @@ use git_syntax::home::begins_at_home;
 use git_syntax::scheme::{is_ftp, is_known_scheme};
 use git_syntax::text::{is_plain, is_text};
 
-/// Whether the location is a settled one of HTTP.
+/// Whether the location is a settled URL of HTTP.
 pub(crate) fn is_settled_web(url: &UrlRef<'_>, laid: Option<&Pieces<'_>>) -> bool
     requires scheme { IsWeb url.now }
     requires laid { AreOwn laid url.now }
@@ -33,7 +30,7 @@ pub(crate) fn is_settled_web(url: &UrlRef<'_>, laid: Option<&Pieces<'_>>) -> boo
         && is_settled_url(url, laid)
 }
 
-/// Whether there is a host, settled for HTTP.
+/// Whether there is a host that is settled for HTTP.
 fn has_web_host(url: &UrlRef<'_>) -> bool
     ensures { IsTrue result ↔ HasWebHost url.now }
 {
@@ -62,7 +59,7 @@ pub(crate) fn is_settled_secure(url: &UrlRef<'_>, laid: Option<&Pieces<'_>>) -> 
     has_bare_host(url) && is_transport_path(url) && is_settled_raw(url, laid)
 }
 
-/// Whether there is a host, settled for Secure Shell.
+/// Whether there is a host that is settled for Secure Shell.
 fn has_bare_host(url: &UrlRef<'_>) -> bool
     ensures { IsTrue result ↔ HasBareHost url.now }
 {
@@ -81,7 +78,7 @@ pub(crate) fn is_settled_git(url: &UrlRef<'_>, laid: Option<&Pieces<'_>>) -> boo
     has_bracketed_host(url) && is_transport_path(url) && is_settled_raw(url, laid)
 }
 
-/// Whether there is a host, settled with its addresses between brackets.
+/// Whether there is a settled host whose addresses are in brackets.
 fn has_bracketed_host(url: &UrlRef<'_>) -> bool
     ensures { IsTrue result ↔ HasBracketedHost url.now }
 {
@@ -91,14 +88,14 @@ fn has_bracketed_host(url: &UrlRef<'_>) -> bool
     }
 }
 
-/// Whether the path is rooted, or below a home folder, and then no spelling matches it.
+/// Whether the path is rooted, or is below a home folder and has no spelling that matches it.
 fn is_transport_path(url: &UrlRef<'_>) -> bool
     ensures { IsTrue result ↔ IsTransportPath url.now }
 {
     is_homeless(url.path) || (starts_with_byte(url.path, b'~') && !has_match(url))
 }
 
-/// Whether the text begins with `/`, and not with `/~`.
+/// Whether the text begins with `/`, but not with `/~`.
 fn is_homeless(path: &[u8]) -> bool
     ensures { IsTrue result ↔ IsHomeless path.now }
 {
@@ -123,7 +120,7 @@ pub(crate) fn is_settled_helper_url(
         && is_settled_raw(url, laid)
 }
 
-/// Whether the host, where there is one, is settled.
+/// Whether the host is missing or settled.
 fn has_other_host(url: &UrlRef<'_>) -> bool
     ensures { IsTrue result ↔ IfSome url.now.host IsBracketedHost }
 {
@@ -140,7 +137,7 @@ fn is_rooted_or_empty(path: &[u8]) -> bool
     path.is_empty() || starts_with_byte(path, b'/')
 }
 
-/// Whether the location is a settled URL, and its path is written raw where no spelling matches it.
+/// Whether the location is a settled URL whose path is written raw if no spelling matches it.
 fn is_settled_raw(url: &UrlRef<'_>, laid: Option<&Pieces<'_>>) -> bool
     requires form { IsWrittenAsUrl url.now }
     requires laid { AreOwn laid url.now }
@@ -149,14 +146,14 @@ fn is_settled_raw(url: &UrlRef<'_>, laid: Option<&Pieces<'_>>) -> bool
     has_raw_path(url) && is_settled_beside_path(url, laid)
 }
 
-/// Whether the path is one of a settled URL, and raw where no spelling matches it.
+/// Whether the path is that of a settled URL, and is raw if no spelling matches it.
 fn has_raw_path(url: &UrlRef<'_>) -> bool
     ensures { IsTrue result ↔ HasRawPath url.now }
 {
     is_plain_path(url) || (has_url_path(url) && is_raw_path(url))
 }
 
-/// Whether the path is plain and has no spelling, as most have none. One look at it is enough then.
+/// Whether the path is plain and has no spelling. Most paths are and have none; one pass decides for them.
 fn is_plain_path(url: &UrlRef<'_>) -> bool
     ensures { IsTrue result → HasRawPath url.now }
 {
@@ -166,7 +163,7 @@ fn is_plain_path(url: &UrlRef<'_>) -> bool
     }
 }
 
-/// Whether the path is written raw where no spelling matches it.
+/// Whether the path is written raw if no spelling matches it.
 fn is_raw_path(url: &UrlRef<'_>) -> bool
     requires { IsUtf8 url.now.path }
     ensures { IsTrue result ↔ IsRawPath url.now }
@@ -174,7 +171,7 @@ fn is_raw_path(url: &UrlRef<'_>) -> bool
     has_match(url) || is_raw(url.path)
 }
 
-/// Whether the text holds neither `%` nor white space.
+/// Whether the text has neither `%` nor white space.
 fn is_raw(path: &[u8]) -> bool
     requires { IsUtf8 path.now }
     ensures { IsTrue result ↔ IsRaw path.now }
@@ -185,7 +182,7 @@ fn is_raw(path: &[u8]) -> bool
     }
 }
 
-/// Whether the location has what the settled URLs have in common.
+/// Whether the location meets the conditions that all settled URLs have in common.
 fn is_settled_url(url: &UrlRef<'_>, laid: Option<&Pieces<'_>>) -> bool
     requires form { IsWrittenAsUrl url.now }
     requires laid { AreOwn laid url.now }
@@ -194,7 +191,7 @@ fn is_settled_url(url: &UrlRef<'_>, laid: Option<&Pieces<'_>>) -> bool
     has_url_path(url) && is_settled_beside_path(url, laid)
 }
 
-/// Whether the location has what the settled URLs have in common beside their paths.
+/// Whether the location meets the conditions that all settled URLs have in common, except for those on paths.
 pub(crate) fn is_settled_beside_path(url: &UrlRef<'_>, laid: Option<&Pieces<'_>>) -> bool
     requires form { IsWrittenAsUrl url.now }
     requires laid { AreOwn laid url.now }
@@ -206,7 +203,7 @@ pub(crate) fn is_settled_beside_path(url: &UrlRef<'_>, laid: Option<&Pieces<'_>>
         && has_fitting_text(url, laid)
 }
 
-/// Whether a password comes with a user and isn't empty, and an empty user comes with a password.
+/// Whether a password has a user and isn't empty, and an empty user has a password.
 fn has_credentials(url: &UrlRef<'_>) -> bool
     ensures { IsTrue result ↔ HasCredentials url.now }
 {
@@ -216,7 +213,7 @@ fn has_credentials(url: &UrlRef<'_>) -> bool
     }
 }
 
-/// Whether a user and a port come with a host.
+/// Whether the location has a host if it has a user or a port.
 fn is_hosted(url: &UrlRef<'_>) -> bool
     ensures { IsTrue result ↔ IsHosted url.now }
 {
@@ -230,7 +227,7 @@ fn has_url_path(url: &UrlRef<'_>) -> bool
     is_text(url.path) && has_fair_spelling(url)
 }
 
-/// Whether the spelling of the path, where it matches, is fair.
+/// Whether the spelling of the path is fair if it matches.
 fn has_fair_spelling(url: &UrlRef<'_>) -> bool
     ensures { IsTrue result ↔ HasFairSpelling url.now }
 {
@@ -242,7 +239,7 @@ fn has_fair_spelling(url: &UrlRef<'_>) -> bool
     }
 }
 
-/// Whether the spelling is written and read again as itself.
+/// Whether the spelling is written and read again unchanged.
 pub(crate) fn is_fair_spelling(spelling: &[u8], path: &[u8]) -> bool
     ensures { IsTrue result ↔ IsFairSpelling spelling.now path.now }
 {
@@ -257,7 +254,7 @@ pub(crate) fn is_fair_spelling(spelling: &[u8], path: &[u8]) -> bool
     }
 }
 
-/// Whether the texts have the same first byte, or none.
+/// Whether the texts have the same first byte, or are both empty.
 fn begin_alike(text: &[u8], other: &[u8]) -> bool
     ensures { IsTrue result ↔ (first_byte text.now ≡ first_byte other.now) }
 {

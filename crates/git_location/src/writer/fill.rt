@@ -1,7 +1,4 @@
-//! The sink that fills room of a caller's, from its front on.
-//!
-//! It uses `piece` and `sink`. Its contract: the room begins with the text, and the rest of it is as it was.
-//! It takes no memory.
+//! The sink that fills the front of a caller's buffer. The rest of the buffer is unchanged.
 
 ghost use Rattle.std.specs.Prelude.{◌≡◌, ◌≤◌, ◌+◌, ◌++◌, drop, length, take};
 ghost use Rattle.git_location.specs.Internal.Fills.{Fills, fills_joined, fills_nothing};
@@ -11,16 +8,16 @@ use crate::writer::piece::Pieces;
 use crate::writer::sink::Sink;
 use std::convert::Infallible;
 
-/// Room of a caller's, and how many bytes at its front are filled.
+/// A caller's buffer, and the number of bytes at its front that are filled.
 #[derive(Drop)]
 pub(crate) struct Filled<'a> {
-    /// The room.
+    /// The buffer.
     room: &'a mut [u8],
-    /// How many bytes of it are filled.
+    /// The number of its bytes that are filled.
     at: usize,
 }
 
-/// Puts the text of the pieces at the front of the room, which has room for it.
+/// Writes the text of the pieces to the front of the buffer, which is long enough.
 #[inline(always)]
 pub fn fill(room: &mut [u8], pieces: &Pieces<'_>)
     requires { length (pieces_text pieces.now) ≤ length room.old }
@@ -30,7 +27,7 @@ pub fn fill(room: &mut [u8], pieces: &Pieces<'_>)
     let Ok(()) = pieces.put::<Filled<'_>, Front>(&mut place);
 }
 
-/// The front of room that has room for the whole text: nothing is refused.
+/// The sink for the front of a buffer that is long enough for the whole text. It never fails.
 struct Front;
 
 impl<'a> Sink<Filled<'a>> for Front {
@@ -45,7 +42,7 @@ impl<'a> Sink<Filled<'a>> for Front {
     }
 
     fn put_end(place: &mut Filled<'a>, end: &[u8]) -> Result<(), Infallible> {
-        // Nothing is promised where there is no room.
+        // Nothing is promised if the buffer is too short.
         if place.at <= place.room.len() && end.len() <= place.room.len() - place.at {
             put_at(place.room, place.at, end);
             place.at += end.len();
@@ -60,7 +57,7 @@ impl<'a> Sink<Filled<'a>> for Front {
     ghost ends_joined = { fills_joined };
 }
 
-/// Puts the bytes at this place of the room.
+/// Writes the bytes at this index of the buffer.
 fn put_at(room: &mut [u8], at: usize, bytes: &[u8])
     requires { at + length bytes.now ≤ length room.old }
     ensures { room.new ≡ take at room.old ++ (bytes.now ++ drop (length bytes.now) (drop at room.old)) }

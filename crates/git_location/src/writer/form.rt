@@ -1,7 +1,4 @@
-//! The form of a text: how a location is written, or why it can't be.
-//!
-//! It uses `bytes` and `url_ref`. Its contract: the form is the one that the definition chooses, and a fault
-//! comes exactly where the definition has it. It takes no memory.
+//! The form of a text: how a location is written, or the fault for which it can't be.
 
 ghost use Rattle.std.specs.Prelude.{◌≡◌};
 ghost use Rattle.git_syntax.specs.Bytes.{is_helper_name};
@@ -18,16 +15,16 @@ use git_syntax::scheme::SchemeRef;
 pub enum Form {
     /// The name of a remote helper, `::` and the path.
     Helper,
-    /// User, host and path, all of them raw.
+    /// User, host and path, all unescaped.
     Path,
-    /// The same with a `:` before the path.
+    /// User, host, `:` and path, all unescaped.
     Scp,
     /// A URL.
     Canonical,
 }
 
 impl UrlRef<'_> {
-    /// The form that the location has with this password in place of its own.
+    /// The form of the location with this password in place of its own.
     #[inline(always)]
     pub fn form(&self, password: Option<&str>) -> Result<Form, WriteFault>
         ensures { form_chosen result ≡ choice (with_password self.now password.entry) }
@@ -49,7 +46,7 @@ impl UrlRef<'_> {
         }
     }
 
-    /// The helper form with this name, which has nothing but a path.
+    /// The helper form with this name. Such a location has a path only.
     fn helper_form(&self, name: &[u8], password: Option<&str>) -> Result<Form, WriteFault>
         ensures { form_chosen result
             ≡ helper_choice name.now (with_password self.now password.entry) }
@@ -80,7 +77,7 @@ impl UrlRef<'_> {
         }
     }
 
-    /// The form, in which a user comes only with a host.
+    /// The form, in which a user needs a host.
     fn with_host(&self, form: Form) -> Result<Form, WriteFault>
         ensures { form_chosen result ≡ with_host self.now (form_of form) }
     {
@@ -98,7 +95,7 @@ impl UrlRef<'_> {
         self.user.is_some() || password.is_some() || self.host.is_some() || self.port.is_some()
     }
 
-    /// Whether the form that is no URL is asked for and can be had.
+    /// Whether the alternative form, which is not a URL, is requested and possible.
     fn is_alternative(&self, password: Option<&str>) -> bool
         ensures { result ≡ is_alternative (with_password self.now password.entry) }
     {
@@ -106,7 +103,7 @@ impl UrlRef<'_> {
     }
 }
 
-/// Whether the path is neither empty nor rooted nor below a home folder.
+/// Whether the path is not empty, not rooted and not below a home folder.
 fn is_relative(path: &[u8]) -> bool
     ensures { result ≡ is_relative path.now }
 {

@@ -1,7 +1,4 @@
-//! The layout of a text: which pieces are in it, in which order.
-//!
-//! It uses `bytes`, `escape` and `ipv6`, and the forms and pieces of this module's siblings. Its contract:
-//! the pieces of a location make up its text, and a fault is the location's own. It takes no memory.
+//! The layout of a text: its pieces and their order.
 
 ghost use Rattle.std.specs.Prelude.{◌≡◌, ℕ, List, ◌++◌, option_map, unwrap_or};
 ghost use Rattle.git_syntax.specs.Location.Scheme.{ssh};
@@ -20,8 +17,8 @@ use git_syntax::{bytes, escape, ipv6};
 use itoa::Buffer;
 
 impl<'a> UrlRef<'a> {
-    /// The pieces of the text that the location has with this password in place of its own, or why it has
-    /// none. The digits of the port are in the buffer.
+    /// The pieces of the text that the location has with this password in place of its own, or the fault if it
+    /// has none. `digits` is the buffer for the digits of the port.
     pub fn pieces<'b>(
         &'b self,
         password: Option<&'b str>,
@@ -94,7 +91,7 @@ impl<'a> UrlRef<'a> {
         }
     }
 
-    /// The user and `@`, as they are.
+    /// The user and `@`, unescaped.
     fn raw_user(&self) -> UserPieces<'_>
         ensures { user_text result ≡ spec.raw_user self.now.user }
     {
@@ -104,7 +101,7 @@ impl<'a> UrlRef<'a> {
         }
     }
 
-    /// The host as it is, between brackets where it needs them.
+    /// The host, unescaped, in brackets if it needs them.
     fn raw_host(&self) -> HostPieces<'_>
         ensures { host_text result ≡ spec.raw_host self.now.host }
     {
@@ -120,7 +117,7 @@ impl<'a> UrlRef<'a> {
         }
     }
 
-    /// The user, this password and their marks, with escapes. A password without a user is left out.
+    /// The user, this password and their marks, with escapes. Without a user, the password is left out.
     #[inline(always)]
     fn user_information<'b>(&'b self, password: Option<&'b str>) -> UserPieces<'b>
         ensures { user_text result
@@ -150,7 +147,7 @@ impl<'a> UrlRef<'a> {
         }
     }
 
-    /// The path of a URL: the spelling where it matches, and else the path as the scheme has it written.
+    /// The path of a URL: the spelling if it matches, and else the path as it is written for the scheme.
     #[inline(always)]
     fn canonical_path(&self) -> PathPieces<'_>
         ensures { path_end_text result ≡ spec.canonical_path self.now }
@@ -162,7 +159,7 @@ impl<'a> UrlRef<'a> {
         }
     }
 
-    /// The path without a spelling, behind a mark: with escapes for HTTP, as it is else.
+    /// The path without a spelling, after a mark: with escapes for HTTP, unescaped for any other scheme.
     fn plain_path<'b>(&'b self, mark: &'b str) -> PathPieces<'b>
         ensures { path_end_text result ≡ mark.now ++ spec.plain_path self.now.scheme self.now.path }
     {
@@ -177,7 +174,7 @@ impl<'a> UrlRef<'a> {
         }
     }
 
-    /// The `/` before a path that has none, where one is needed.
+    /// The `/` before a path that lacks it, if one is needed.
     fn root(&self) -> &str
         ensures { result.now ≡ spec.root_part self.now }
     {
@@ -198,7 +195,7 @@ impl<'a> UrlRef<'a> {
         }
     }
 
-    /// The retained spelling of the path where it matches.
+    /// The retained spelling of the path, if it decodes to the path.
     #[inline(always)]
     pub fn matching_spelling(&self) -> Option<&'a [u8]>
         ensures { (other : List ℕ) → unwrap_or (option_map (λ s. s.now) result) other
@@ -227,7 +224,7 @@ fn port_digits<'a>(port: Option<u16>, digits: &'a mut Buffer) -> Option<&'a str>
     }
 }
 
-/// A host outside brackets: as it is, or escaped, except for the colons of an address.
+/// A host outside brackets: unescaped, or escaped except for the colons of an address.
 #[inline(always)]
 fn open_host<'a>(scheme: SchemeRef<'_>, host: &'a str) -> Piece<'a>
     ensures { piece_text result ≡ spec.open_host (lent_scheme scheme.entry) host.now }
@@ -242,7 +239,7 @@ fn open_host<'a>(scheme: SchemeRef<'_>, host: &'a str) -> Piece<'a>
     }
 }
 
-/// A host outside brackets as most schemes have it: escaped, except for the colons of an address.
+/// A host outside brackets, escaped except for the colons of an address, as most schemes have it.
 #[inline(never)]
 fn escaped_host(host: &str) -> Piece<'_>
     ensures { piece_text result ≡ spec.open_host ssh host.now }
@@ -254,28 +251,28 @@ fn escaped_host(host: &str) -> Piece<'_>
     }
 }
 
-/// Whether the host is an IPv6 text, which holds a colon, as few hosts do.
+/// Whether the host is an IPv6 text. It has a colon then, as few hosts have.
 fn is_address(host: &[u8]) -> bool
     ensures { result ≡ is_ipv6_text host.now }
 {
     has_colon(host) && ipv6::is_address(host)
 }
 
-/// Whether the host holds `:` and doesn't begin with `[`.
+/// Whether the host has a `:` and doesn't begin with `[`.
 fn wants_brackets(host: &[u8]) -> bool
     ensures { result ≡ spec.wants_brackets host.now }
 {
     has_colon(host) && !bytes::starts_with_byte(host, b'[')
 }
 
-/// Whether `:` is somewhere in the host.
+/// Whether the host has a `:`.
 fn has_colon(host: &[u8]) -> bool
     ensures { result ≡ spec.has_colon host.now }
 {
     host.contains(&b':')
 }
 
-/// Whether the host of a URL goes between brackets: it needs them, and there is a port, or a `%` in it.
+/// Whether the host of a URL is written in brackets: it needs them, and there is a port or the host has a `%`.
 fn needs_brackets(port: Option<u16>, host: &[u8]) -> bool
     ensures { result ≡ spec.needs_brackets port host.now }
 {

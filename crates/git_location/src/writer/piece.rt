@@ -1,8 +1,6 @@
-//! The pieces of a text: what a text is made of, in its order, each slice with the way that it is written.
+//! The pieces of a text, in their order: slices of the location, each with the way that it is written.
 //!
-//! It uses the crate `percent_encoding`, the sets of `escape`, and this module's siblings `unescaped` and
-//! `sink`. The pieces are lent from the location. They are the one description of a text: `len` adds them up,
-//! and `put` puts them into any sink. It takes no memory.
+//! They are the only description of a text: `len` adds up their lengths, and `put` puts them into any sink.
 
 ghost use Rattle.std.specs.Prelude.{◌≡◌, ◌≤◌, ◌*◌, ◌^◌, ◌==◌, ◌++◌, IsTrue, OnOk, length, [], count_by};
 ghost use Rattle.percent_encoding.specs.AsciiSet.{should_percent_encode};
@@ -16,32 +14,32 @@ use crate::writer::unescaped::{needs_no_escape, user_needs_no_escape};
 use git_syntax::escape::{PASSWORD, PATH, USER};
 use percent_encoding::AsciiSet;
 
-/// A slice and the way that it is written. What is written is always UTF-8.
+/// A slice and the way that it is written. The written text is UTF-8.
 #[derive(Clone, Copy)]
 pub enum Piece<'a> {
-    /// The slice as it is.
+    /// The slice, unescaped.
     Raw(&'a str),
     /// The slice with the escapes of a user.
     User(&'a str),
     /// The slice with the escapes of a password.
     Password(&'a str),
-    /// The slice with each `%` as its escape.
+    /// The slice with each `%` escaped.
     Percents(&'a str),
 }
 
-/// A scheme or a helper's name, and the mark behind it.
+/// A scheme or a helper's name, and the mark after it.
 #[derive(Clone, Copy)]
 pub enum SchemePieces<'a> {
-    /// None.
+    /// No scheme.
     None,
     /// The name and its mark.
     Marked(&'a str, &'a str),
 }
 
-/// A user, a password and the marks behind them.
+/// A user, a password and the marks after them.
 #[derive(Clone, Copy)]
 pub enum UserPieces<'a> {
-    /// None.
+    /// No user.
     None,
     /// A user and `@`.
     User(Piece<'a>),
@@ -49,21 +47,21 @@ pub enum UserPieces<'a> {
     Both(Piece<'a>, Piece<'a>),
 }
 
-/// A host, perhaps between brackets.
+/// A host, perhaps in brackets.
 #[derive(Clone, Copy)]
 pub enum HostPieces<'a> {
-    /// None.
+    /// No host.
     None,
     /// The host.
     Open(Piece<'a>),
-    /// The host between `[` and `]`.
+    /// The host in brackets.
     Bracketed(Piece<'a>),
 }
 
-/// The mark before a path, and the path: any bytes as they are, or with escapes.
+/// The mark before a path, and the path: any bytes, unescaped or with escapes.
 #[derive(Clone, Copy)]
 pub enum PathPieces<'a> {
-    /// The mark, and the path as it is.
+    /// The mark, and the path unescaped.
     Raw(&'a str, &'a [u8]),
     /// The mark, and the path with the escapes of HTTP.
     Escaped(&'a str, &'a [u8]),
@@ -78,14 +76,14 @@ pub struct Pieces<'a> {
     pub user: UserPieces<'a>,
     /// The host.
     pub host: HostPieces<'a>,
-    /// The digits of the port, which are behind a colon.
+    /// The digits of the port, which follow a colon.
     pub port: Option<&'a str>,
     /// The path.
     pub path: PathPieces<'a>,
 }
 
 impl<'a> Piece<'a> {
-    /// The slice with the escapes of a user, if it has to have any.
+    /// The slice with the escapes of a user, if it needs any.
     pub fn user(text: &'a str) -> Piece<'a>
         ensures { piece_text result ≡ percent_encode USER text.now }
     {
@@ -96,7 +94,7 @@ impl<'a> Piece<'a> {
         }
     }
 
-    /// The slice with the escapes of a password, if it has to have any.
+    /// The slice with the escapes of a password, if it needs any.
     pub fn password(text: &'a str) -> Piece<'a>
         ensures { piece_text result ≡ percent_encode PASSWORD text.now }
     {
@@ -122,7 +120,7 @@ impl<'a> Piece<'a> {
         }
     }
 
-    /// Puts the text of the piece.
+    /// Puts the text of the piece into the sink.
     #[inline(always)]
     fn put<T, S: Sink<T>>(self, place: &mut T) -> Result<(), S::Fault>
         ensures { OnOk result (S.takes place.old (piece_text self.entry) place.new) }
@@ -149,7 +147,7 @@ impl<'a> SchemePieces<'a> {
         }
     }
 
-    /// Puts the text.
+    /// Puts the text into the sink.
     #[inline(always)]
     fn put<T, S: Sink<T>>(self, place: &mut T) -> Result<(), S::Fault>
         ensures { OnOk result (S.takes place.old (scheme_piece_text self.entry) place.new) }
@@ -178,7 +176,7 @@ impl<'a> UserPieces<'a> {
         }
     }
 
-    /// Puts the text.
+    /// Puts the text into the sink.
     #[inline(always)]
     fn put<T, S: Sink<T>>(self, place: &mut T) -> Result<(), S::Fault>
         ensures { OnOk result (S.takes place.old (user_text self.entry) place.new) }
@@ -213,7 +211,7 @@ impl<'a> HostPieces<'a> {
         }
     }
 
-    /// Puts the text.
+    /// Puts the text into the sink.
     #[inline(always)]
     fn put<T, S: Sink<T>>(self, place: &mut T) -> Result<(), S::Fault>
         ensures { OnOk result (S.takes place.old (host_text self.entry) place.new) }
@@ -231,7 +229,7 @@ impl<'a> HostPieces<'a> {
 }
 
 impl<'a> PathPieces<'a> {
-    /// The path behind a mark, with the escapes of HTTP, if it has to have any.
+    /// The path after a mark, with the escapes of HTTP if it needs any.
     pub fn escaped(mark: &'a str, path: &'a [u8]) -> PathPieces<'a>
         ensures { path_end_text result ≡ mark.now ++ percent_encode PATH path.now }
     {
@@ -254,7 +252,7 @@ impl<'a> PathPieces<'a> {
         }
     }
 
-    /// Puts the text, which is the end of its own.
+    /// Puts the text, which ends the whole text, into the sink.
     #[inline(always)]
     fn put<T, S: Sink<T>>(self, place: &mut T) -> Result<(), S::Fault>
         ensures { OnOk result (S.ends place.old (path_end_text self.entry) place.new) }
@@ -288,7 +286,7 @@ impl<'a> Pieces<'a> {
             + self.path.len()
     }
 
-    /// Puts the whole text.
+    /// Puts the whole text into the sink.
     #[inline(always)]
     pub fn put<T, S: Sink<T>>(&self, place: &mut T) -> Result<(), S::Fault>
         ensures { OnOk result (S.ends place.old (pieces_text self.now) place.new) }
@@ -312,7 +310,7 @@ fn port_len(digits: Option<&str>) -> u128
     }
 }
 
-/// Puts a port behind its colon.
+/// Puts a colon and a port into the sink.
 #[inline(always)]
 fn put_port<T, S: Sink<T>>(place: &mut T, digits: Option<&str>) -> Result<(), S::Fault>
     ensures { OnOk result (S.takes place.old (port_text digits.entry) place.new) }
@@ -333,7 +331,7 @@ fn is_kept(text: &[u8], set: AsciiSet) -> bool
     count_escaped(text, set) == 0
 }
 
-/// The length of the text with the bytes of the set, and those past ASCII, as escapes.
+/// The length of the text with the bytes of the set, and those that aren't ASCII, as escapes.
 fn escaped_len(text: &[u8], set: AsciiSet) -> u128
     ensures exact { result ≡ length (percent_encode set text.now) }
     ensures bound { result ≤ 3 * 2 ^ 64 }
@@ -341,7 +339,7 @@ fn escaped_len(text: &[u8], set: AsciiSet) -> u128
     text.len() as u128 + 2 * count_escaped(text, set) as u128
 }
 
-/// How many bytes of the text are written as escapes.
+/// The number of bytes of the text that are written as escapes.
 pub(crate) fn count_escaped(text: &[u8], set: AsciiSet) -> usize
     ensures { result ≡ count_by (should_percent_encode set) text.now }
 {
@@ -350,7 +348,7 @@ pub(crate) fn count_escaped(text: &[u8], set: AsciiSet) -> usize
         .count()
 }
 
-/// How many times `%` is in the text.
+/// The number of `%` in the text.
 fn count_percents(text: &[u8]) -> usize
     ensures { result ≡ count_by (λ b. b == percent_sign) text.now }
 {

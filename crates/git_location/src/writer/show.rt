@@ -1,8 +1,7 @@
-//! The sink that shows a text to people: a formatter.
+//! The sink that writes a text to a formatter.
 //!
-//! It uses `fill`, `piece` and `sink`. Its contract: what is shown is the text as UTF-8, with U+FFFD in place
-//! of what is none, whatever options the formatter has. A text of common length is shown in one call, so that
-//! a formatter over memory that grows has to ask for it once. It takes no memory.
+//! The output is the text as UTF-8, with U+FFFD in place of invalid bytes, whatever options the formatter has.
+//! A text of common length is written in one call, so that a formatter over a growing buffer allocates once.
 
 ghost use Rattle.std.specs.Prelude.{◌≡◌, ◌≤◌, length};
 ghost use Rattle.std.specs.Fmt.{WritesOnOk, WritesStyledOnOk};
@@ -16,10 +15,10 @@ use crate::writer::sink::Sink;
 use bstr::ByteSlice;
 use std::fmt;
 
-/// How long a text is at most that is shown in one call.
+/// The maximal length of a text that is written in one call.
 const ROOM: usize = 128;
 
-/// Shows the pieces.
+/// Writes the pieces to the formatter.
 pub fn show_pieces<W: fmt::Write>(f: &mut fmt::Formatter<W>, pieces: &Pieces<'_>) -> fmt::Result
     ensures writes { WritesOnOk W.write_str_gives f.old result
         (lossy_text (pieces_text pieces.now)) f.new }
@@ -34,7 +33,7 @@ pub fn show_pieces<W: fmt::Write>(f: &mut fmt::Formatter<W>, pieces: &Pieces<'_>
     }
 }
 
-/// Shows the pieces of a text that has this length, for which there is room.
+/// Writes the pieces of a text of this length, which fits into the buffer, in one call.
 fn show_at_once<W: fmt::Write>(
     f: &mut fmt::Formatter<W>,
     pieces: &Pieces<'_>,
@@ -50,7 +49,7 @@ fn show_at_once<W: fmt::Write>(
     show_lossy(f, room.split_at(size).0)
 }
 
-/// A formatter.
+/// The sink for a formatter.
 struct Shown;
 
 impl<W: fmt::Write> Sink<fmt::Formatter<W>> for Shown {
@@ -75,7 +74,7 @@ impl<W: fmt::Write> Sink<fmt::Formatter<W>> for Shown {
     ghost ends_joined = { shows_to_end W.write_str_gives };
 }
 
-/// Shows bytes, which may be any.
+/// Writes any bytes to the formatter.
 fn show_lossy<W: fmt::Write>(f: &mut fmt::Formatter<W>, bytes: &[u8]) -> fmt::Result
     ensures { WritesStyledOnOk W.write_str_gives f.old result (lossy_text bytes.now) f.new }
 {
@@ -85,7 +84,7 @@ fn show_lossy<W: fmt::Write>(f: &mut fmt::Formatter<W>, bytes: &[u8]) -> fmt::Re
     }
 }
 
-/// Shows bytes, one character a call.
+/// Writes bytes to the formatter, one character a call.
 fn show_characters<W: fmt::Write>(f: &mut fmt::Formatter<W>, bytes: &[u8]) -> fmt::Result
     ensures { WritesStyledOnOk W.write_str_gives f.old result (lossy_text bytes.now) f.new }
 {

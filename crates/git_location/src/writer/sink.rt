@@ -1,9 +1,8 @@
 //! Sinks: the places that a text is put into, slice by slice.
 //!
-//! It uses the crate `percent_encoding` and nothing else of this crate. The contract of a [`Sink`]: a place
-//! that took two slices is one that took them joined, so what puts a text slice by slice puts the whole text.
-//! `Output` is a writer; `fill` adds room that is there, `show` formatters, and `settled` the walk of its
-//! length test. It takes no memory.
+//! Putting two slices has the same effect as putting them joined, so putting a text slice by slice puts the
+//! whole text. `Output` is a writer. `fill` has the sink for buffers, `show` the one for formatters, and
+//! `settled` the one of the length test.
 
 ghost use Rattle.std.specs.Prelude.{ℕ, List, [], ◌++◌, OnOk};
 ghost use Rattle.std.specs.Io.KnownBytes.{Appends};
@@ -16,15 +15,15 @@ ghost use Rattle.git_syntax.specs.Escapes.{escaped_percents};
 use percent_encoding::{AsciiSet, percent_encode};
 use std::io::{self, Write};
 
-/// A way of putting a text into a place of type `T`: slices that are UTF-8, and an end that may be any bytes.
+/// A way to put a text into a place of type `T`: slices that are UTF-8, and an end that may be any bytes.
 pub trait Sink<T> {
-    /// Why a place doesn't take a slice.
+    /// Why a place didn't accept a slice.
     type Fault: Drop;
 
-    // What a place is after it took a slice.
+    // The place after a slice was put.
     ghost takes: { T → List ℕ → T → Type 0 };
 
-    // What it is after it took the end.
+    // The place after the end was put.
     ghost ends: { T → List ℕ → T → Type 0 };
 
     /// Puts a slice.
@@ -44,7 +43,7 @@ pub trait Sink<T> {
         → ends a (x ++ y) c };
 }
 
-/// Puts the text with the bytes of the set, and those past ASCII, as escapes.
+/// Puts the text with the bytes of the set, and those that aren't ASCII, as escapes.
 #[inline(never)]
 pub fn put_escaped<T, S: Sink<T>>(place: &mut T, text: &[u8], set: AsciiSet) -> Result<(), S::Fault>
     ensures { OnOk result (S.takes place.old (percent_encode set text.now) place.new) }
@@ -55,7 +54,7 @@ pub fn put_escaped<T, S: Sink<T>>(place: &mut T, text: &[u8], set: AsciiSet) -> 
     Ok(())
 }
 
-/// Puts the text with each `%` as its escape.
+/// Puts the text with each `%` escaped.
 #[inline(never)]
 pub fn put_percents<T, S: Sink<T>>(place: &mut T, text: &str) -> Result<(), S::Fault>
     ensures { OnOk result (S.takes place.old (escaped_percents text.now) place.new) }
@@ -69,14 +68,14 @@ pub fn put_percents<T, S: Sink<T>>(place: &mut T, text: &str) -> Result<(), S::F
     S::put(place, rest)
 }
 
-/// What is before and behind the first `%`.
+/// The text before and after the first `%`.
 fn cut_at_percent(text: &str) -> Option<(&str, &str)>
     ensures { CutsAt percent_sign text.now result }
 {
     text.split_once('%')
 }
 
-/// A writer.
+/// The sink for a writer.
 pub struct Output;
 
 impl<W: Write> Sink<W> for Output {

@@ -1,7 +1,6 @@
-//! Texts that need no escape: quick tests for texts that are written without an escape, as most are.
+//! Quick tests for texts that are written without an escape, as most are.
 //!
-//! It uses nothing of this crate, and asks for no memory. Its contract, in the words of `escape`: a text that
-//! passes is written as it is. One that doesn't pass may be written so too.
+//! A text that passes is written as it is. One that doesn't pass may also be.
 
 ghost use Rattle.std.specs.Prelude.{◌≡◌, IsTrue};
 ghost use Rattle.std.specs.List.{list_all};
@@ -9,14 +8,14 @@ ghost use Rattle.percent_encoding.specs.Percent.{percent_encode};
 ghost use Rattle.git_syntax.specs.declared.escape.TheConstants.{PATH, PASSWORD, USER};
 ghost use Rattle.git_location.specs.Internal.KeptBytes as spec;
 
-/// Whether each byte is one of those that a path is mostly made of.
+/// Whether each byte is one of those that most paths consist of.
 pub(crate) fn needs_no_escape(text: &[u8]) -> bool
     ensures { IsTrue result → percent_encode PATH text.now ≡ text.now }
 {
     are_unescaped_in_path(text)
 }
 
-/// Whether each byte is one of those that a user, a password and a host are mostly made of.
+/// Whether each byte is one of those that most users, passwords and hosts consist of.
 pub(crate) fn user_needs_no_escape(text: &[u8]) -> bool
     ensures user { IsTrue result → percent_encode USER text.now ≡ text.now }
     ensures password { IsTrue result → percent_encode PASSWORD text.now ≡ text.now }
@@ -28,7 +27,7 @@ pub(crate) fn user_needs_no_escape(text: &[u8]) -> bool
 fn are_unescaped_in_path(text: &[u8]) -> bool
     ensures { result ≡ list_all spec.is_unescaped_in_path text.now }
 {
-    // A loop without an early exit is compiled to look at many bytes at once.
+    // A loop without an early exit is compiled to test many bytes at once.
     let mut ready = true;
     for byte in text {
         ready &= is_unescaped_in_path(*byte);
@@ -47,7 +46,7 @@ fn are_unescaped_in_user(text: &[u8]) -> bool
     ready
 }
 
-/// Whether the byte is one from `&` to `;`, from `?` to `_`, or a small letter.
+/// Whether the byte is one from `&` to `;`, from `?` to `_`, or a lower-case letter.
 fn is_unescaped_in_path(byte: u8) -> bool
     ensures { result ≡ spec.is_unescaped_in_path byte }
 {

@@ -1,13 +1,11 @@
-//! The bytes of a text in turn, where a carriage return before a line feed is left out.
-//!
-//! It uses nothing. Its contract: what is left behind a byte is what Git has left to read.
+//! The bytes of a text in turn, without the carriage returns before line feeds.
 
 ghost use Rattle.std.specs.Prelude.{◌≡◌, ◌≤◌, length};
 ghost use Rattle.git_modules.specs.ConfigFileBytes as spec;
 ghost use Rattle.git_modules.specs.ConfigFilePieces as piece;
 
-/// The byte at a place of a text, and the place behind it; none at the end. Of a carriage return and a line
-/// feed it is the line feed.
+/// The byte at an offset of a text, and the offset after it, or `None` at the end. A carriage return and a line
+/// feed count as one line feed.
 pub(super) fn byte_at(text: &[u8], at: usize) -> Option<(u8, usize)>
     ensures { piece.GivesByte text.now at result }
 {
@@ -25,7 +23,7 @@ pub(super) fn byte_at(text: &[u8], at: usize) -> Option<(u8, usize)>
     Some((byte, at + 1))
 }
 
-/// Whether a line ends at a place of a text.
+/// Whether a line ends at an offset of a text.
 pub(super) fn ends_line(text: &[u8], at: usize) -> bool
     ensures { result ≡ piece.ends_line (spec.left_at text.now at) }
 {
@@ -35,7 +33,7 @@ pub(super) fn ends_line(text: &[u8], at: usize) -> bool
     }
 }
 
-/// The place behind the line that a place is in.
+/// The offset after the line that an offset is in.
 pub(super) fn past_line(text: &[u8], start: usize) -> usize
     requires { start ≤ length text.now }
     ensures left { spec.left_at text.now result ≡ spec.past_line (spec.left_at text.now start) }

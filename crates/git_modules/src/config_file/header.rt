@@ -1,6 +1,6 @@
 //! Headers: `[section]`, `[section "subsection"]` and the old form `[section.subsection]`.
 //!
-//! It uses `bytes`, `word` and `place`. What the keys below a header begin with is written as it is read.
+//! The prefix of the keys below a header is written to a buffer as it is read.
 
 ghost use Rattle.std.specs.Prelude.{◌≡◌, ◌+◌, ◌<◌, ◌≤◌, ◌==◌, ◌&&◌, length, take, false, not};
 ghost use Rattle.git_syntax.specs.Bytes.{backslash, newline};
@@ -14,8 +14,8 @@ use crate::config_file::flaw::Flaw;
 use crate::config_file::place::{Wrong, flaw_at, flaw_behind};
 use crate::config_file::word::{Class, past_word, read_word};
 
-/// Writes what the keys below a header begin with into the front of the room: how long it is, and the place
-/// behind the header, which goes on at a place behind its `[`.
+/// Writes the prefix of the keys below a header to the front of the buffer; returns its length, and the offset
+/// after the header. Reading starts after the header's `[`.
 pub(super) fn read_header(
     text: &[u8],
     start: usize,
@@ -31,7 +31,7 @@ pub(super) fn read_header(
     read_behind(text, at, len, room)
 }
 
-/// Reads on behind the section of a header, which is the front of the room.
+/// Reads the rest of a header after its section, which is in the front of the buffer.
 fn read_behind(
     text: &[u8],
     start: usize,
@@ -58,7 +58,7 @@ fn read_behind(
     }
 }
 
-/// Writes a dot and a subsection behind the section that is the front of the room.
+/// Writes a dot and a subsection after the section, which is in the front of the buffer.
 fn read_subsection(
     text: &[u8],
     start: usize,
@@ -83,7 +83,7 @@ fn read_subsection(
     }
 }
 
-/// Reads the `]` behind a subsection.
+/// Reads the `]` after a subsection.
 fn read_end(text: &[u8], start: usize, len: usize) -> Result<(usize, usize), Wrong>
     requires { start ≤ length text.now }
     ensures { piece.ReadsEnd text.now start len result }
@@ -94,7 +94,7 @@ fn read_end(text: &[u8], start: usize, len: usize) -> Result<(usize, usize), Wro
     }
 }
 
-/// Writes what stands up to the last quote behind the front of the room.
+/// Writes the bytes up to the closing quote after the front of the buffer.
 fn read_quoted(
     text: &[u8],
     start: usize,
@@ -127,14 +127,15 @@ fn read_quoted(
     Err(flaw_at(Flaw::OpenSubsection, at))
 }
 
-/// Whether a byte is the quote behind a subsection.
+/// Whether a byte is the closing quote of a subsection.
 fn is_last_quote(byte: u8, is_escaped: bool) -> bool
     ensures { result ≡ (not is_escaped && (byte == spec.quote_mark)) }
 {
     !is_escaped && byte == b'"'
 }
 
-/// Writes a byte of a subsection, unless it begins an escape: how much is written, and whether it did.
+/// Writes a byte of a subsection, unless it begins an escape. Returns the number of bytes written, and whether an
+/// escape begins.
 fn put_quoted(byte: u8, is_escaped: bool, len: usize, room: &mut [u8]) -> (usize, bool)
     requires { len < length room.old }
     ensures bytes { piece.PutsQuoted byte is_escaped len room.old room.new result }

@@ -1,7 +1,4 @@
-//! The section and the subsection of entries, and entries in a list.
-//!
-//! It uses `step`, and the cuts of `git_syntax`. Its contract: what is read behind an item has the entries
-//! that it has below the item's header.
+//! The section and the subsection of entries, and the list of entries.
 
 ghost use Rattle.std.specs.Prelude.{IfOk};
 ghost use Rattle.git_modules.specs.ConfigFileKeeping as shown;
@@ -19,8 +16,8 @@ pub(super) struct Owner<'a> {
     subsection: Option<&'a [u8]>,
 }
 
-/// The owner of entries below a header, by what their keys begin with; that of entries before any header
-/// begins with nothing.
+/// The owner of the entries below a header, by the prefix of their keys. The prefix of entries before any header is
+/// empty.
 pub(super) fn owner_of(stem: &[u8]) -> Owner<'_>
     ensures { shown.Owns stem.now result }
 {
@@ -36,7 +33,7 @@ pub(super) fn owner_of(stem: &[u8]) -> Owner<'_>
     }
 }
 
-/// Keeps what was read at a place, if it is a setting, and returns the owner of what follows.
+/// Stores the step at an offset if it is a setting, and returns the owner of the next entries.
 pub(super) fn keep<'a>(
     found: &mut Vec<FileEntry<'a>>,
     owner: Owner<'a>,

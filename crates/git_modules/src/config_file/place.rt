@@ -1,6 +1,4 @@
-//! Places of a text: where it begins, the lines before a place, and errors.
-//!
-//! It uses `bytes` and `flaw`.
+//! Offsets in a text: its start, the lines before an offset, and errors.
 
 ghost use Rattle.std.specs.Prelude.{◌≡◌, ◌+◌, ◌≤◌, ◌==◌, count_by, length, false};
 ghost use Rattle.git_syntax.specs.Bytes.{newline};
@@ -12,17 +10,17 @@ ghost use Rattle.git_modules.specs.ConfigFiles.{line_at, named_line};
 use crate::config_file::bytes::{byte_at, ends_line};
 use crate::config_file::flaw::{FileError, Flaw};
 
-/// Why reading ends at a place.
+/// The reason why reading ends at an offset.
 #[derive(Clone, Copy)]
 pub(super) struct Wrong {
     pub(super) flaw: Flaw,
     /// The byte offset.
     pub(super) at: usize,
-    /// Whether Git names the line behind the one that the offset is in.
+    /// Whether Git names the line after the one of the offset.
     pub(super) is_late: bool,
 }
 
-/// A flaw at a place: Git names its line.
+/// An error at an offset, for which Git names its line.
 pub(super) fn flaw_at(flaw: Flaw, at: usize) -> Wrong
     ensures { result ≡ record { flaw = flaw; at = at; is_late = false } }
 {
@@ -33,7 +31,7 @@ pub(super) fn flaw_at(flaw: Flaw, at: usize) -> Wrong
     }
 }
 
-/// A flaw at a place: where a line ends there, Git has counted it.
+/// An error at an offset. If a line ends there, Git has already counted it.
 pub(super) fn flaw_behind(flaw: Flaw, at: usize, text: &[u8]) -> Wrong
     ensures { result
         ≡ record { flaw = flaw; at = at; is_late = piece.ends_line (spec.left_at text.now at) } }
@@ -45,7 +43,7 @@ pub(super) fn flaw_behind(flaw: Flaw, at: usize, text: &[u8]) -> Wrong
     }
 }
 
-/// The first place of a text behind its byte order mark, if it has one.
+/// The offset after the byte order mark of a text, if it has one, otherwise 0.
 pub(super) fn first_place(text: &[u8]) -> Result<usize, Wrong>
     ensures { piece.IsReached text.now (start_of (spec.unix_text text.now)) result }
 {
@@ -55,7 +53,7 @@ pub(super) fn first_place(text: &[u8]) -> Result<usize, Wrong>
     }
 }
 
-/// The place behind the second and the third byte of a byte order mark.
+/// The offset after the second and the third byte of a byte order mark.
 fn second_place(text: &[u8], at: usize) -> Result<usize, Wrong>
     requires { at ≤ length text.now }
     ensures { piece.IsReached text.now (mark_rest (spec.left_at text.now at)) result }
@@ -66,7 +64,7 @@ fn second_place(text: &[u8], at: usize) -> Result<usize, Wrong>
     }
 }
 
-/// The place behind the third byte of a byte order mark.
+/// The offset after the third byte of a byte order mark.
 fn third_place(text: &[u8], at: usize) -> Result<usize, Wrong>
     requires { at ≤ length text.now }
     ensures { piece.IsReached text.now (mark_end (spec.left_at text.now at)) result }
@@ -77,7 +75,7 @@ fn third_place(text: &[u8], at: usize) -> Result<usize, Wrong>
     }
 }
 
-/// How many line feeds there are between two places.
+/// The number of line feeds between two offsets.
 pub(super) fn lines_between(text: &[u8], from: usize, to: usize) -> usize
     requires order { from ≤ to }
     requires within { to ≤ length text.now }
@@ -86,14 +84,14 @@ pub(super) fn lines_between(text: &[u8], from: usize, to: usize) -> usize
     count_feeds(&text[from..to])
 }
 
-/// How many line feeds there are in a text.
+/// The number of line feeds in a text.
 fn count_feeds(text: &[u8]) -> usize
     ensures { result ≡ count_by (λ c. c == newline) text.now }
 {
     text.iter().filter(|byte| **byte == b'\n').count()
 }
 
-/// The error of a flaw, by a place before it and its line.
+/// The public error, by an earlier offset and its line.
 pub(super) fn error_at(text: &[u8], from: usize, line: usize, wrong: Wrong) -> FileError
     requires line { line ≡ line_at text.now from }
     requires order { from ≤ wrong.at }

@@ -1,7 +1,6 @@
-//! What begins at a place of a text: white space, a comment, a header or a setting.
+//! The item at an offset of a text: white space, a comment, a header or a setting.
 //!
-//! It uses `bytes`, `word`, `header` and `value`. What an item is made of is written into the front of the
-//! room, and the rest of the room is returned.
+//! The texts of an item are written to the front of the buffer, and the rest of the buffer is returned.
 
 ghost use Rattle.std.specs.Prelude.{◌≡◌, ◌+◌, ◌<◌, ◌≤◌, length, take, true};
 ghost use Rattle.git_syntax.specs.Bytes.{begins_by, lowercase};
@@ -17,18 +16,18 @@ use crate::config_file::place::{Wrong, flaw_at};
 use crate::config_file::value::read_value;
 use crate::config_file::word::{Class, past_word, read_word};
 
-/// What was read at a place.
+/// The item at an offset.
 #[derive(Clone, Copy)]
 pub(super) enum Step<'a> {
     /// White space or a comment.
     Nothing,
-    /// A header: what the keys below it begin with.
+    /// A header, with the prefix of the keys below it.
     Header(&'a [u8]),
     /// A name, and its value if it has one.
     Setting(&'a [u8], Option<&'a [u8]>),
 }
 
-/// Reads what begins at a place: what it is, what is left of the room, and the place behind it.
+/// Reads the item at an offset. Returns the item, the rest of the buffer, and the offset after the item.
 pub(super) fn read_step<'a>(
     text: &[u8],
     at: usize,
@@ -55,7 +54,7 @@ pub(super) fn read_step<'a>(
     }
 }
 
-/// Reads a header behind its `[`.
+/// Reads a header after its `[`.
 fn read_stem<'a>(
     text: &[u8],
     start: usize,
@@ -99,7 +98,7 @@ fn read_setting<'a>(
     }
 }
 
-/// Writes a name into the front of the room, in lower case: how long it is, and the place behind it.
+/// Writes a name in lower case to the front of the buffer. Returns its length, and the offset after it.
 fn read_name(text: &[u8], start: usize, room: &mut [u8]) -> (usize, usize)
     requires start { start ≤ length text.now }
     requires room { length text.now ≤ start + length room.old }

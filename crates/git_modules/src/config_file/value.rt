@@ -1,7 +1,7 @@
 //! Values: their quotes, escapes, continued lines, comments and white space.
 //!
-//! It uses `bytes` and `place`. A value is written as it is read, with the white space at its end, of which
-//! only so much counts as other bytes follow.
+//! A value is written as it is read, including the white space at its end, which only counts if other bytes follow
+//! it.
 
 ghost use Rattle.std.specs.Prelude.{◌≡◌, ◌+◌, ◌<◌, ◌≤◌, length};
 ghost use Rattle.git_modules.specs.ConfigFileBytes as spec;
@@ -13,39 +13,39 @@ use crate::config_file::bytes::byte_at;
 use crate::config_file::flaw::Flaw;
 use crate::config_file::place::{Wrong, flaw_at};
 
-/// How a byte of a value is read.
+/// The mode in which a byte of a value is read.
 #[derive(Clone, Copy)]
 pub(super) enum Mode {
     /// Outside quotes.
     Plain,
     /// Within quotes.
     Quoted,
-    /// Behind a `\`.
+    /// After a `\`.
     Escape,
-    /// Behind a `\` within quotes.
+    /// After a `\` within quotes.
     QuotedEscape,
     /// In a comment, up to the end of the line.
     Comment,
 }
 
-/// What a byte of a value stands for, and how the next one is read.
+/// The meaning of a byte of a value, with the mode for the next byte.
 #[derive(Clone, Copy)]
 pub(super) enum Part {
-    /// The line ends, and the value.
+    /// The line and the value end.
     End,
     /// The value can't be read.
     Flaw(Flaw),
     /// White space outside quotes.
     Blank,
-    /// Nothing: a comment.
+    /// No byte of the value: a comment.
     Nothing,
-    /// Nothing: a quote, a `\` or the end of a continued line.
+    /// No byte of the value: a quote, a `\` or the end of a continued line.
     Mark(Mode),
     /// This byte of the value.
     Byte(u8, Mode),
 }
 
-/// What a byte stands for.
+/// The meaning of a byte.
 pub(super) fn part_of(mode: Mode, byte: u8) -> Part
     ensures { result ≡ value.part_of mode byte }
 {
@@ -64,7 +64,7 @@ pub(super) fn part_of(mode: Mode, byte: u8) -> Part
     }
 }
 
-/// What a byte outside quotes stands for.
+/// The meaning of a byte outside quotes.
 fn plain_part(byte: u8) -> Part
     ensures { result ≡ value.plain_part byte }
 {
@@ -79,7 +79,7 @@ fn plain_part(byte: u8) -> Part
     }
 }
 
-/// What a byte within quotes stands for.
+/// The meaning of a byte within quotes.
 fn quoted_part(byte: u8) -> Part
     ensures { result ≡ value.quoted_part byte }
 {
@@ -92,7 +92,7 @@ fn quoted_part(byte: u8) -> Part
     }
 }
 
-/// What a byte behind a `\` stands for.
+/// The meaning of a byte after a `\`.
 fn escape_part(byte: u8, mode: Mode) -> Part
     ensures { result ≡ value.escaped_part byte mode }
 {
@@ -106,8 +106,8 @@ fn escape_part(byte: u8, mode: Mode) -> Part
     }
 }
 
-/// How much of a value is written: `end` bytes, of which `kept` are no white space at its end; and how the
-/// next byte is read.
+/// The written part of a value: `end` bytes, of which all after the first `kept` are trailing white space; and the
+/// mode for the next byte.
 #[derive(Clone, Copy)]
 struct Written {
     end: usize,
@@ -115,7 +115,7 @@ struct Written {
     mode: Mode,
 }
 
-/// Why a value ends at a part of it.
+/// The reason why a value ends.
 #[derive(Clone, Copy)]
 enum Ending {
     /// The line ends.
@@ -124,7 +124,7 @@ enum Ending {
     Flaw(Flaw),
 }
 
-/// Writes the value that begins at a place into the front of the room: how long it is, and the place behind
+/// Writes the value that begins at an offset to the front of the buffer. Returns its length, and the offset after
 /// its last line.
 pub(super) fn read_value(
     text: &[u8],
@@ -155,7 +155,7 @@ pub(super) fn read_value(
     end_value(written, at)
 }
 
-/// What is read where the text ends in a value.
+/// The result at the end of the text within a value.
 fn end_value(written: Written, at: usize) -> Result<(usize, usize), Wrong>
     ensures { shown.EndsValue written at result }
 {
@@ -170,7 +170,7 @@ fn end_value(written: Written, at: usize) -> Result<(usize, usize), Wrong>
     }
 }
 
-/// Writes what a part of a value stands for.
+/// Writes the meaning of a byte of a value.
 fn put_part(written: Written, part: Part, room: &mut [u8]) -> Result<Written, Ending>
     requires tail { shown.HasTail room.old written }
     requires room { written.end < length room.old }

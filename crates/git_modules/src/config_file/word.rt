@@ -1,6 +1,4 @@
 //! Words: runs of bytes of a class.
-//!
-//! It uses `bytes`.
 
 ghost use Rattle.std.specs.Prelude.{◌≡◌, ◌+◌, ◌≤◌, length, take};
 ghost use Rattle.git_syntax.specs.Bytes.{lowercase};
@@ -34,8 +32,8 @@ pub(super) fn is_of(class: Class, byte: u8) -> bool
     }
 }
 
-/// Writes the word that begins at a place into the front of the room, in lower case: how long it is, and the
-/// place behind it.
+/// Writes the word that begins at an offset to the front of the buffer, in lower case. Returns its length, and the
+/// offset after it.
 pub(super) fn read_word(text: &[u8], start: usize, class: Class, room: &mut [u8]) -> (usize, usize)
     requires start { start ≤ length text.now }
     requires room { length text.now ≤ start + length room.old }
@@ -59,7 +57,7 @@ pub(super) fn read_word(text: &[u8], start: usize, class: Class, room: &mut [u8]
     (len, at)
 }
 
-/// The place behind the word that begins at a place.
+/// The offset after the word that begins at an offset.
 pub(super) fn past_word(text: &[u8], start: usize, class: Class) -> usize
     requires { start ≤ length text.now }
     ensures left { spec.left_at text.now result

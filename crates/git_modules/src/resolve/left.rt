@@ -1,7 +1,4 @@
-//! What the steps of a URL leave of its parent.
-//!
-//! It uses the cuts of `git_syntax` and the steps of `step`. Its contract: each `../` takes off what Git
-//! takes off the parent, one after the other. It takes no memory.
+//! The rest of a parent after the steps of a URL: each `../` removes the part that Git removes, in turn.
 
 ghost use Rattle.std.specs.Prelude.{◌≡◌, MatchOption, None, Some, option_map};
 ghost use Rattle.git_syntax.specs.Bytes.{colon};
@@ -13,7 +10,7 @@ use super::without_last_slash;
 use git_syntax::bytes::{last_cut, starts_with_byte};
 use std::marker::Model;
 
-/// What the front of a parent says of how elements are taken off it.
+/// The form of a parent, which decides how elements are removed from it.
 #[derive(Clone, Copy)]
 pub enum ParentForm {
     /// A URL, a remote in the scp form, or an absolute path.
@@ -24,12 +21,12 @@ pub enum ParentForm {
     Downward,
 }
 
-/// What is left of a parent.
+/// The rest of a parent.
 #[derive(Drop)]
 pub struct Left<'a> {
-    /// Its text; none where all of it is taken off.
+    /// The text, or `None` if all of it is removed.
     pub text: Option<&'a [u8]>,
-    /// Whether a `:` was taken off.
+    /// Whether a `:` was removed.
     pub by_colon: bool,
 }
 
@@ -43,7 +40,7 @@ impl<'a> Model for Left<'a> {
     ghost view = { left_over };
 }
 
-/// What the steps of a URL leave of its parent, and the rest of the URL; none where Git stops.
+/// Returns the rest of a parent after the steps of a URL, and the rest of the URL, or `None` if Git stops.
 pub fn left_of<'a, 'b>(parent: &'a [u8], url: &'b [u8]) -> Option<(Left<'a>, &'b [u8])>
     ensures { MatchOption result (left_of parent.now (ups url.now) ≡ None)
         (λ p. (left_of parent.now (ups url.now) ≡ Some p.0) × (p.1.now ≡ behind_steps url.now)) }
@@ -51,7 +48,7 @@ pub fn left_of<'a, 'b>(parent: &'a [u8], url: &'b [u8]) -> Option<(Left<'a>, &'b
     climb(without_last_slash(parent), url)
 }
 
-/// All of a parent.
+/// The whole parent.
 fn whole_of(parent: &[u8]) -> Left<'_>
     ensures { result ≡ whole_of parent.now }
 {
@@ -78,7 +75,7 @@ fn form_of(parent: &[u8]) -> ParentForm
     }
 }
 
-/// Whether a colon is in the text before each `/`.
+/// Whether the text has a colon before each `/`.
 pub fn is_remote(text: &[u8]) -> bool
     ensures { result ≡ is_remote text.now }
 {
@@ -93,7 +90,7 @@ pub fn is_remote(text: &[u8]) -> bool
     false
 }
 
-/// What the steps of a URL leave of a parent without a `/` at its end, and the rest of the URL.
+/// As `left_of`, for a parent without a trailing `/`.
 fn climb<'a, 'b>(parent: &'a [u8], url: &'b [u8]) -> Option<(Left<'a>, &'b [u8])>
     ensures { MatchOption result (chopped (form_of parent.now) (ups url.now) (whole_of parent.now) ≡ None)
         (λ p. (chopped (form_of parent.now) (ups url.now) (whole_of parent.now) ≡ Some p.0)
@@ -114,7 +111,7 @@ fn climb<'a, 'b>(parent: &'a [u8], url: &'b [u8]) -> Option<(Left<'a>, &'b [u8])
     }
 }
 
-/// What a `../` leaves of what is left of a parent.
+/// The rest after a `../`.
 fn chop<'a>(form: ParentForm, left: &Left<'a>) -> Option<Left<'a>>
     ensures { result ≡ chop form left.now }
 {
@@ -128,7 +125,7 @@ fn chop<'a>(form: ParentForm, left: &Left<'a>) -> Option<Left<'a>>
     }
 }
 
-/// What a `../` leaves of a text without a `/`.
+/// The rest of a text without a `/` after a `../`.
 fn chop_element(form: ParentForm, text: &[u8], by_colon: bool) -> Option<Left<'_>>
     ensures { result ≡ chop_element form text.now by_colon }
 {
@@ -142,7 +139,7 @@ fn chop_element(form: ParentForm, text: &[u8], by_colon: bool) -> Option<Left<'_
     }
 }
 
-/// What is left of a text before its last `:`; nothing of a text without one, unless it is a `.`.
+/// The text before its last `:`; nothing is left of a text without one, unless it is `.`.
 fn without_colon(text: &[u8], by_colon: bool) -> Option<Left<'_>>
     ensures { result ≡ without_colon (before_last colon text.now) text.now by_colon }
 {
@@ -155,7 +152,7 @@ fn without_colon(text: &[u8], by_colon: bool) -> Option<Left<'_>>
     }
 }
 
-/// Nothing of a text, unless it is a `.`.
+/// Nothing is left of a text, unless it is `.`.
 fn all_of(text: &[u8], by_colon: bool) -> Option<Left<'_>>
     ensures { result ≡ without_colon None text.now by_colon }
 {
@@ -169,7 +166,7 @@ fn all_of(text: &[u8], by_colon: bool) -> Option<Left<'_>>
     }
 }
 
-/// What precedes the last `c`.
+/// The text before its last `c`.
 fn before_last(text: &[u8], c: u8) -> Option<&[u8]>
     ensures { option_map (λ t. t.now) result ≡ before_last c text.now }
 {

@@ -1,7 +1,4 @@
-//! A resolved URL: a [`Resolved`], of three slices.
-//!
-//! It uses `bytes` of `git_syntax` to put them together. Its contract: its text is the three, one after the
-//! other.
+//! A resolved URL: a [`Resolved`] of three slices, whose text is their concatenation.
 
 ghost use Rattle.std.specs.Prelude.{◌≡◌, ◌++◌, IfOk};
 ghost use Rattle.bstr.specs.Owned.{bstring_bytes};
@@ -12,7 +9,7 @@ use git_syntax::bytes::append_within;
 use std::alloc::{AllocError, Global};
 use std::marker::Model;
 
-/// A resolved URL, as [`resolve`](super::resolve) makes it. It borrows the parent and the URL.
+/// A resolved URL, as [`resolve`](super::resolve) returns it. It borrows the parent and the URL.
 ///
 /// ```
 /// /// Whether a resolved URL has nothing of its parent.
@@ -22,12 +19,12 @@ use std::marker::Model;
 /// ```
 #[derive(Drop)]
 pub struct Resolved<'a> {
-    /// What is left of the parent; a `.` where nothing is left and a `:` was taken off.
+    /// The rest of the parent, or `.` if nothing is left and a `:` was removed.
     pub front: &'a [u8],
-    /// `/`, or `:` where one was taken off the parent; empty where nothing is left of the parent otherwise,
-    /// or the URL isn't relative.
+    /// `/`, or `:` if one was removed from the parent. Empty if nothing else is left of the parent, or if the URL
+    /// isn't relative.
     pub separator: &'a [u8],
-    /// What follows the steps in the URL, without one `/` at its end; all of a URL that isn't relative.
+    /// The text after the steps in the URL, without one trailing `/`; all of a URL that isn't relative.
     pub rest: &'a [u8],
 }
 
@@ -42,14 +39,14 @@ impl<'a> Model for Resolved<'a> {
 }
 
 impl Resolved<'_> {
-    /// The whole text: the front, the separator and the rest.
+    /// Returns the whole text: the front, the separator and the rest.
     ///
-    /// Memory is asked for once, for exactly the length of the text, and not at all for an empty one.
-    /// [`resolve`](super::resolve) has an example.
+    /// Allocates once, exactly the length of the text, and not at all if it is empty. [`resolve`](super::resolve)
+    /// has an example.
     ///
     /// # Errors
     ///
-    /// `AllocError` where memory is refused, or where the text would be longer than any memory.
+    /// Returns `AllocError` if the allocation fails, or if the length of the text overflows.
     pub fn to_bstring(&self, alloc: Global) -> Result<BString, AllocError>
         ensures { IfOk result (λ text. bstring_bytes text ≡ resolved_text self.now) }
     {

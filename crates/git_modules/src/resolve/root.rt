@@ -1,6 +1,4 @@
-//! The root of a parent: what a URL keeps of it that doesn't climb.
-//!
-//! It uses nothing. Its contract: the root is a front of the parent. It takes no memory.
+//! The root of a parent: a front of it, which a URL keeps unless it climbs.
 
 ghost use Rattle.std.specs.Prelude.{◌≡◌, ◌≤◌, length, false};
 ghost use Rattle.git_modules.specs.ResolveRoots.{authority_length, is_within, mark_length, name_length, root_of};
@@ -19,7 +17,7 @@ pub fn root_of(parent: &[u8]) -> &[u8]
     parent.split_at(size).0
 }
 
-/// The length of what precedes the first `:` outside brackets.
+/// The length of the text before the first `:` outside brackets.
 fn name_length(text: &[u8]) -> usize
     ensures size { result ≡ name_length false text.now }
     ensures within { result ≤ length text.now }
@@ -34,14 +32,14 @@ fn name_length(text: &[u8]) -> usize
     text.len()
 }
 
-/// Whether what follows a byte is within brackets.
+/// Whether the byte after this one is within brackets.
 fn is_within(within: bool, byte: u8) -> bool
     ensures { result ≡ is_within within byte }
 {
     byte == b'[' || (within && byte != b']')
 }
 
-/// How much of a text behind a name belongs to the root.
+/// The length of the root in the text after a name.
 fn mark_length(text: &[u8]) -> usize
     ensures size { result ≡ mark_length text.now }
     ensures within { result ≤ length text.now }
@@ -53,7 +51,7 @@ fn mark_length(text: &[u8]) -> usize
     }
 }
 
-/// The length of what precedes the first `/`.
+/// The length of the text before the first `/`.
 fn authority_length(text: &[u8]) -> usize
     ensures size { result ≡ authority_length text.now }
     ensures within { result ≤ length text.now }

@@ -1,14 +1,11 @@
 //! The steps `./` and `../` at the front of a URL.
-//!
-//! It uses the cuts of `git_syntax` and takes no memory. Its contract: a text is cut behind a step exactly if
-//! it begins with it.
 
 ghost use Rattle.std.specs.Prelude.{◌≡◌, option_map};
 ghost use Rattle.git_modules.specs.ResolveSteps.{behind_byte, behind_here, behind_up};
 
 use git_syntax::bytes::after;
 
-/// What follows a `./` at the front of a text.
+/// The text after a leading `./`.
 pub fn behind_here(text: &[u8]) -> Option<&[u8]>
     ensures { option_map (λ t. t.now) result ≡ behind_here text.now }
 {
@@ -16,7 +13,7 @@ pub fn behind_here(text: &[u8]) -> Option<&[u8]>
     behind_byte(rest, b'/')
 }
 
-/// What follows a `../` at the front of a text.
+/// The text after a leading `../`.
 pub fn behind_up(text: &[u8]) -> Option<&[u8]>
     ensures { option_map (λ t. t.now) result ≡ behind_up text.now }
 {
@@ -24,7 +21,7 @@ pub fn behind_up(text: &[u8]) -> Option<&[u8]>
     behind_here(rest)
 }
 
-/// What follows the byte at the front of a text.
+/// The text after its first byte, if that is `c`.
 fn behind_byte(text: &[u8], c: u8) -> Option<&[u8]>
     ensures { option_map (λ t. t.now) result ≡ behind_byte c text.now }
 {

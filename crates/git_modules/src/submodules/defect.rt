@@ -1,7 +1,6 @@
-//! What is wrong with a submodule as a whole, though each of its entries may be right.
+//! The defects of a submodule as a whole, even if each of its entries is correct.
 //!
-//! It uses the values that Git uses of each submodule. Its contract: each defect of a submodule is decided by a
-//! definition of one line, over that submodule, or over all of them.
+//! A definition of one line decides each defect, over the submodule or over all submodules.
 
 ghost use Rattle.std.specs.Prelude.{◌≡◌, IfOk, OnOk, false, map};
 ghost use Rattle.std.specs.Option.{option_map_or, unwrap_or};
@@ -12,35 +11,35 @@ use crate::submodules::Submodule;
 use std::alloc::{AllocError, Global};
 use std::collections::BTreeMap;
 
-/// What is wrong with a submodule. [`defects_of`] has an example.
+/// The defects of a submodule. [`defects_of`] has an example.
 #[derive(Clone, Copy, Debug, PartialEq, Eq)]
 pub struct Defects {
-    /// Git uses no path of it, or an empty one.
+    /// Git uses no path for it, or an empty one.
     pub no_path: bool,
-    /// Git uses no URL of it.
+    /// Git uses no URL for it.
     pub no_url: bool,
     /// Another submodule has the same path.
     pub same_path: bool,
 }
 
-/// What is wrong with each of the submodules of a file, in their order.
+/// Returns the defects of each of the submodules of a file, in their order.
 ///
-/// - `no_path`: Git uses no path of the submodule, or an empty one. It finds no submodule for a folder by it.
-/// - `no_url`: Git uses no URL of the submodule. Git 2.39.5 stops at its folder ("No url found for submodule
+/// - `no_path`: Git uses no path for the submodule, or an empty one. It finds no submodule for a folder by it.
+/// - `no_url`: Git uses no URL for the submodule. Git 2.39.5 stops at its folder ("No url found for submodule
 ///   path"), unless a URL is in `.git/config`.
-/// - `same_path`: another of the submodules has the same path, byte for byte. Of these Git 2.39.5 uses the one
-///   whose `path` is the last in the file, in whatever order their names and URLs are (`cache_put_path` in
+/// - `same_path`: another submodule has the same path, byte for byte. Of these Git 2.39.5 uses the one whose `path`
+///   is the last in the file, in whatever order their names and URLs are (`cache_put_path` in
 ///   `submodule-config.c`).
 ///
-/// A path that a later one of the same submodule replaces doesn't count. Git forgets it there, also of the other
+/// A path that a later path of the same submodule replaces is ignored. Git then forgets it, also for the other
 /// submodules that had it before.
 ///
-/// It takes time in the number of submodules and its logarithm, and the length of the paths. Memory is asked for
-/// as a map from the paths grows, and once for the list.
+/// The time is proportional to the number of submodules times its logarithm, and to the length of the paths.
+/// Allocates as a map keyed by the paths grows, and once for the list.
 ///
 /// # Errors
 ///
-/// `AllocError` where memory is refused, and no other.
+/// Returns `AllocError` if an allocation fails.
 ///
 /// ```
 /// /// Whether each submodule of the entries has a path of its own and a URL.
@@ -84,7 +83,7 @@ fn has_no_path(submodule: &Submodule<'_>) -> bool
     }
 }
 
-/// The paths of the submodules, and whether each is that of several.
+/// The paths of the submodules, and for each whether several submodules have it.
 fn paths_of<'a>(
     alloc: Global,
     submodules: &[Submodule<'a>],
@@ -100,7 +99,7 @@ fn paths_of<'a>(
     Ok(paths)
 }
 
-/// Notes a path, and that it is of several submodules if it was noted before.
+/// Records a path, as that of several submodules if it was recorded before.
 fn note_path<'a>(paths: &mut BTreeMap<&'a [u8], bool>, path: &'a [u8]) -> Result<(), AllocError>
     ensures { OnOk result (NotesPath paths.old path.now paths.new) }
 {
@@ -109,7 +108,7 @@ fn note_path<'a>(paths: &mut BTreeMap<&'a [u8], bool>, path: &'a [u8]) -> Result
     Ok(())
 }
 
-/// Whether the path of the submodule is noted as that of several.
+/// Whether the path of the submodule is recorded as that of several.
 fn is_of_several(paths: &BTreeMap<&[u8], bool>, submodule: &Submodule<'_>) -> bool
     ensures { result ≡ option_map_or (λ path. unwrap_or (noted_path paths.now path.value) false)
         submodule.now.path false }

@@ -1,7 +1,6 @@
-//! What Git's fsck refuses in a `.gitmodules` file.
+//! The entries of a `.gitmodules` file that Git's fsck refuses.
 //!
-//! It uses `url`. Its contract: each reason is decided for one entry, and an entry is refused for a reason
-//! exactly where its definition holds. It takes no memory.
+//! Each reason is decided for one entry, and an entry is refused for a reason exactly if its definition holds.
 
 ghost use Rattle.std.specs.Prelude.{◌≡◌, ◌≢◌, ◌↔◌, codes, IsTrue, MatchOption};
 ghost use Rattle.git_modules.specs.SubmoduleChecks.{IsRefused, git_name};
@@ -13,13 +12,13 @@ use git_rules::config::Entry;
 use git_syntax::bytes::starts_with_byte;
 use thiserror::Error;
 
-/// Why Git's fsck refuses an entry of a `.gitmodules` file. [`check`] has an example.
+/// The reason why Git's fsck refuses an entry of a `.gitmodules` file. [`check`] has an example.
 #[derive(Clone, Copy, Debug, PartialEq, Eq, Error)]
 pub enum Refused {
     /// The name of the submodule is empty, or has a component `..`.
     #[error("the name of the submodule leads out of its folder")]
     Name,
-    /// The URL looks like an option, is of several lines, or leads to no host.
+    /// The URL looks like an option, has several lines, or has no host.
     #[error("the URL of the submodule is dangerous")]
     Url,
     /// The path begins with `-`.
@@ -31,7 +30,7 @@ pub enum Refused {
 }
 
 impl Refused {
-    /// The reason by Git's own name, as in `fsck.gitmodulesUrl`. [`check`] has an example.
+    /// Git's name of the reason, as in `fsck.gitmodulesUrl`. [`check`] has an example.
     pub fn as_str(self) -> &'static str
         ensures { result.now ≡ git_name self }
     {
@@ -44,7 +43,7 @@ impl Refused {
     }
 }
 
-/// What Git's fsck refuses of an entry: its name, its value, or both. [`check`] has an example.
+/// The parts of an entry that Git's fsck refuses: its name, its value, or both. [`check`] has an example.
 #[derive(Clone, Copy, Debug, PartialEq, Eq)]
 pub struct Refusals {
     /// [`Refused::Name`], if the name is refused.
@@ -53,26 +52,26 @@ pub struct Refusals {
     pub value: Option<Refused>,
 }
 
-/// What Git's fsck refuses of an entry of a `.gitmodules` file (`fsck_gitmodules_fn` in `fsck.c` of Git
-/// 2.39.5). So do `git index-pack --strict`, and `git fetch` and `git receive-pack` where `fsckObjects` is
-/// set.
+/// Returns the reasons for which Git's fsck refuses an entry of a `.gitmodules` file (`fsck_gitmodules_fn` in
+/// `fsck.c` of Git 2.39.5). `git index-pack --strict` refuses the same, and so do `git fetch` and `git
+/// receive-pack` if `fsckObjects` is set.
 ///
-/// Only entries of the section `submodule` with a subsection are looked at. Section and name are compared
-/// without letter case (ASCII).
+/// Only entries of the section `submodule` with a subsection are checked. Section and name are compared ignoring
+/// letter case (ASCII).
 ///
 /// - [`Refused::Name`]: the subsection is empty, or has a component `..` between `/` and `\`.
 /// - [`Refused::Path`]: `path` begins with `-`.
 /// - [`Refused::Update`]: `update` begins with `!`.
-/// - [`Refused::Url`]: `url` begins with `-`; or it is relative (it begins with `./` or `../`, or the same
-///   with `\`) or begins with `git://`, and has a line feed once Git decoded it (`url_decode` in `url.c`,
-///   which leaves what precedes the first colon); or it is made of `./` and `../`, at least one of the
-///   latter, and a rest that begins with `:` or `/`; or it begins with `http`, `https`, `ftp` or `ftps` and
-///   `::` or `://`, and Git's credential code finds no `://`, no protocol or no host in it (behind `::`, if
-///   that is there), or a line feed in a part. Unlike a helper, fsck takes a carriage return.
+/// - [`Refused::Url`]: `url` begins with `-`; or it is relative (it begins with `./` or `../`, or the same with
+///   `\`) or begins with `git://`, and has a line feed after Git decoded it (`url_decode` in `url.c`, which leaves
+///   the text before the first colon unchanged); or it consists of `./` and `../`, with at least one `../`, and a
+///   rest that begins with `:` or `/`; or it begins with `http`, `https`, `ftp` or `ftps` and `::` or `://`, and
+///   Git's credential code finds no `://`, no protocol or no host in it (after the `::`, if it has that), or a line
+///   feed in a part. Unlike a helper, fsck accepts a carriage return.
 ///
-/// An entry without a value has no refused value. A byte 0 ends what Git reads, so no entry of a file has
-/// one; a URL for HTTP or FTP that has one is refused here. Whether a text is a file of Git's at all, which
-/// fsck reports as `gitmodulesParse`, is for its reader to say.
+/// An entry without a value has no refused value. Git's reading ends at a byte 0, so no entry of a file contains
+/// one; here a URL for HTTP or FTP with a byte 0 is refused. This function doesn't check whether a text is a
+/// configuration file at all, which fsck reports as `gitmodulesParse`; the reader of the file does.
 ///
 /// ```
 /// /// What fsck says of the entries, by Git's names.
@@ -103,7 +102,7 @@ pub fn check(entry: &Entry<'_>) -> Refusals
     }
 }
 
-/// Whether fsck refuses the name.
+/// The reason to refuse the name, if fsck does.
 fn check_name(entry: &Entry<'_>) -> Option<Refused>
     ensures { MatchOption result (¬ IsRefused entry.now Refused.Name)
         (λ reason. (reason ≡ Refused.Name) × IsRefused entry.now reason) }
@@ -116,7 +115,7 @@ fn check_name(entry: &Entry<'_>) -> Option<Refused>
     }
 }
 
-/// Why fsck refuses the value.
+/// The reason to refuse the value, if fsck does.
 fn check_value(entry: &Entry<'_>) -> Option<Refused>
     ensures { MatchOption result
         ((reason : Refused) → reason ≢ Refused.Name → ¬ IsRefused entry.now reason)
@@ -133,7 +132,7 @@ fn check_value(entry: &Entry<'_>) -> Option<Refused>
     }
 }
 
-/// Whether the entry gives a URL that fsck refuses.
+/// Whether the entry sets a URL that fsck refuses.
 fn has_refused_url(entry: &Entry<'_>) -> bool
     ensures { IsTrue result ↔ IsRefused entry.now Refused.Url }
 {
@@ -143,7 +142,7 @@ fn has_refused_url(entry: &Entry<'_>) -> bool
     }
 }
 
-/// Whether the entry gives a path that fsck refuses.
+/// Whether the entry sets a path that fsck refuses.
 fn has_refused_path(entry: &Entry<'_>) -> bool
     ensures { IsTrue result ↔ IsRefused entry.now Refused.Path }
 {
@@ -153,7 +152,7 @@ fn has_refused_path(entry: &Entry<'_>) -> bool
     }
 }
 
-/// Whether the entry gives a command to update by.
+/// Whether the entry sets a command as the way to update.
 fn has_command(entry: &Entry<'_>) -> bool
     ensures { IsTrue result ↔ IsRefused entry.now Refused.Update }
 {

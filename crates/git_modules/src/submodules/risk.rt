@@ -1,6 +1,6 @@
-//! What is dangerous in a `.gitmodules` file, or broken, beyond what Git's fsck refuses.
+//! The dangers and errors in a `.gitmodules` file beyond those that Git's fsck refuses.
 //!
-//! Its contract: each risk is decided for one entry, by a definition of one line. It takes no memory.
+//! A definition of one line decides each risk, for one entry.
 
 ghost use Rattle.std.specs.Prelude.{◌≡◌};
 ghost use Rattle.std.specs.List.{list_any};
@@ -13,8 +13,7 @@ use git_rules::config::Entry;
 use git_syntax::bytes::starts_with_byte;
 use thiserror::Error;
 
-/// What is dangerous or broken in an entry of a submodule, though Git's fsck takes it. [`has_risk`] has an
-/// example.
+/// A danger or an error in an entry of a submodule that Git's fsck accepts. [`has_risk`] has an example.
 #[derive(Clone, Copy, Debug, PartialEq, Eq, Error)]
 pub enum Risk {
     /// The path begins with `/` or `\`.
@@ -23,7 +22,7 @@ pub enum Risk {
     /// The path has a component `..`.
     #[error("the path of the submodule leads upwards")]
     PathUpwards,
-    /// The path has a component `.git`, in any letter case.
+    /// The path has a component `.git`, ignoring letter case.
     #[error("the path of the submodule leads into a Git folder")]
     PathIntoGit,
     /// The branch begins with `-`.
@@ -32,18 +31,18 @@ pub enum Risk {
     /// The way to update begins with `-`.
     #[error("the way to update the submodule looks like an option")]
     OptionAsUpdate,
-    /// The value has a control character.
+    /// The value contains a control character.
     #[error("the value has a control character")]
     ControlCharacter,
-    /// The key has no value, and Git stops at it.
+    /// The key has no value, and Git stops there.
     #[error("the key has no value")]
     NoValue,
 }
 
-/// Whether an entry of a `.gitmodules` file has this risk. It takes no memory.
+/// Whether an entry of a `.gitmodules` file has this risk.
 ///
-/// Only entries of the section `submodule` with a subsection have one. A component ends at a `/` or a `\`. A
-/// control character is a byte below 32 or the byte 127. [`Risk::NoValue`] is of `path`, `url`, `update`,
+/// Only entries of the section `submodule` with a subsection have risks. A component ends at a `/` or a `\`. A
+/// control character is a byte below 32 or the byte 127. [`Risk::NoValue`] applies to `path`, `url`, `update`,
 /// `branch` and `ignore`, at which Git stops.
 ///
 /// ```
@@ -94,7 +93,7 @@ fn is_absolute(path: &[u8]) -> bool
     }
 }
 
-/// Whether one of the components of the path is `.git`, in any letter case.
+/// Whether one of the components of the path is `.git`, ignoring letter case.
 fn leads_into_git(path: &[u8]) -> bool
     ensures { result ≡ has_component_word git_folder path.now }
 {
@@ -102,14 +101,14 @@ fn leads_into_git(path: &[u8]) -> bool
         .any(|part| part.eq_ignore_ascii_case(b".git"))
 }
 
-/// Whether a control character is in the text.
+/// Whether the text contains a control character.
 fn has_control(text: &[u8]) -> bool
     ensures { result ≡ list_any is_control text.now }
 {
     text.iter().any(|byte| *byte < 32 || *byte == 127)
 }
 
-/// Whether the entry has one of the names of which Git needs a value.
+/// Whether the entry has one of the names for which Git needs a value.
 fn has_valued_name(entry: &Entry<'_>) -> bool
     ensures { result ≡ has_valued_name entry.now }
 {

@@ -1,7 +1,4 @@
-//! URLs of submodules that Git's fsck refuses.
-//!
-//! It uses the cuts of `git_syntax`. Its contract: a URL is refused exactly for one of four reasons, each of
-//! which is a concatenation, or what Git's credential code finds in a text. It takes no memory.
+//! URLs of submodules that Git's fsck refuses, for one of four reasons.
 
 ghost use Rattle.std.specs.Prelude.{◌≡◌, ◌↔◌, ◌⊎◌, ◌&&◌, IsTrue, MatchOption};
 ghost use Rattle.git_reads.specs.Internal.{CutsText, LacksTextCut};
@@ -31,7 +28,7 @@ pub(crate) fn is_refused_url(url: &[u8]) -> bool
     lacks_host(url)
 }
 
-/// Whether the URL is one that Git decodes, and then of several lines.
+/// Whether Git decodes the URL, and the result has several lines.
 fn is_of_lines(url: &[u8]) -> bool
     ensures { IsTrue result ↔ (IsRelative url.now ⊎ IsOwnUrl url.now) × DecodesToLines url.now }
 {
@@ -52,7 +49,7 @@ fn is_relative(url: &[u8]) -> bool
     after_step(url).is_some()
 }
 
-/// The step that the URL begins with: whether it goes up, and what follows it.
+/// The step that the URL begins with: whether it goes up, and the text after it.
 fn after_step(url: &[u8]) -> Option<(bool, &[u8])>
     ensures { TellsStep url.now result }
 {
@@ -65,7 +62,7 @@ fn after_step(url: &[u8]) -> Option<(bool, &[u8])>
     Some((false, rest))
 }
 
-/// What follows a first separator.
+/// The text after a leading separator.
 fn after_separator(text: &[u8]) -> Option<&[u8]>
     ensures { TellsSeparator text.now result }
 {
@@ -75,14 +72,14 @@ fn after_separator(text: &[u8]) -> Option<&[u8]>
     }
 }
 
-/// Whether the URL, decoded, is of several lines.
+/// Whether the decoded URL has several lines.
 fn decodes_to_lines(url: &[u8]) -> bool
     ensures { IsTrue result ↔ DecodesToLines url.now }
 {
     piece_has_feed(url)
 }
 
-/// Whether a `:` or a `/` follows the steps of the URL, of which one goes up.
+/// Whether a `:` or a `/` follows the steps of the URL, at least one of which goes up.
 fn replaces_host(url: &[u8]) -> bool
     ensures { IsTrue result ↔ ReplacesHost url.now }
 {
@@ -107,7 +104,7 @@ fn begins_by_colon_or_slash(text: &[u8]) -> bool
 
 // ---- URLs for curl
 
-/// Whether the URL is for curl, and there is no host in what curl would get, or a line feed.
+/// Whether the URL is for curl, and the text for curl has no host, or has a line feed.
 fn lacks_host(url: &[u8]) -> bool
     ensures { IsTrue result ↔ LacksHost url.now }
 {
@@ -117,7 +114,7 @@ fn lacks_host(url: &[u8]) -> bool
     }
 }
 
-/// What Git would give the helper for curl.
+/// The text that Git would pass to the helper for curl.
 fn text_for_curl(url: &[u8]) -> Option<&[u8]>
     ensures { TellsCurl url.now result }
 {
@@ -194,7 +191,7 @@ fn all_three(first: bool, second: bool, third: bool) -> bool
     first && second && third
 }
 
-/// Whether the authority has a host, and none of its parts a line feed.
+/// Whether the authority has a host, and none of its parts has a line feed.
 fn is_authority_taken(authority: &[u8]) -> bool
     ensures { TellsAuthority authority.now result }
 {
@@ -207,7 +204,7 @@ fn is_authority_taken(authority: &[u8]) -> bool
     }
 }
 
-/// Whether the host has bytes, and no line feed.
+/// Whether the host isn't empty, and has no line feed.
 fn is_host_taken(named: &[u8]) -> bool
     ensures { TellsHost named.now result }
 {
@@ -215,7 +212,7 @@ fn is_host_taken(named: &[u8]) -> bool
     !named.is_empty() && !has_feed
 }
 
-/// Whether there is a line feed in a user, or in a user and a password, decoded.
+/// Whether a user, or a user and a password, has a line feed once decoded.
 fn information_has_feed(information: &[u8]) -> bool
     ensures { TellsInformation information.now result }
 {
@@ -231,8 +228,8 @@ fn information_has_feed(information: &[u8]) -> bool
 
 // ---- line feeds
 
-/// Whether there is a line feed in the piece, decoded. What precedes its first colon is taken for a scheme,
-/// and stays.
+/// Whether the decoded piece has a line feed. The text before its first colon counts as a scheme, and is not
+/// decoded.
 fn piece_has_feed(piece: &[u8]) -> bool
     ensures { TellsFeed piece.now result }
 {
@@ -245,7 +242,7 @@ fn piece_has_feed(piece: &[u8]) -> bool
     }
 }
 
-/// Whether there is a line feed in the text, decoded.
+/// Whether the decoded text has a line feed.
 fn has_feed(text: &[u8]) -> bool
     ensures { result ≡ has_feed (git_decode text.now) }
 {

@@ -1,22 +1,22 @@
--- What the pieces of a host stand for in which no check finds anything.
+-- The pieces of a host in which a check finds no flaw.
 use Rattle.std.specs.Prelude.{◌≡◌, ℕ, ◌⊎◌, List, [], ◌++◌}
 use Rattle.git_syntax.specs.Bytes.{colon, FreeOf, begins_with}
 use Rattle.git_syntax.specs.Hosts.{HostSyntax, HostText, Inner, Number}
 use Rattle.std.specs.Prelude.{true}
 
--- a text outside brackets stands for a host
+-- a text outside brackets denotes a host
 abbrev pub StandsForHost : HostSyntax → List ℕ → Type 0
 StandsForHost syntax text = (host : List ℕ) × HostText syntax text host
 
--- a text between brackets stands for another
+-- a text in brackets denotes another
 abbrev pub StandsForInner : HostSyntax → List ℕ → Type 0
 StandsForInner syntax text = (inner : List ℕ) × Inner syntax text inner
 
--- what follows the colon of a port: nothing, or a port
+-- the text after the colon of a port: empty, or a port
 abbrev pub IsPortText : HostSyntax → List ℕ → Type 0
 IsPortText syntax digits = (digits ≡ []) ⊎ ((port : ℕ) × Number syntax digits port)
 
--- the text up to the first colon, or the whole
+-- the text up to the first colon, or the whole text
 pub record IsBeforeColon (text front : List ℕ) : Type 0 where
   pub no_colon : FreeOf colon front
   pub rest : List ℕ

@@ -1,4 +1,4 @@
--- What the pieces of a location hold of which the parts are cut.
+-- The pieces of a text that are cut into parts.
 use Rattle.std.specs.Prelude.{◌≡◌, ◌<◌, ℕ, List, ◌∷◌, ◌++◌, length, Option, None}
 use Rattle.git_syntax.specs.Bytes.{colon, left_bracket, right_bracket, FreeOf}
 use Rattle.git_syntax.specs.Hosts.{HostSyntax, IsPlainHost}
@@ -6,7 +6,7 @@ use Rattle.git_syntax.specs.Authority.{Authority}
 use Rattle.git_refusals.specs.Internal.Readable.{NamesHost}
 use Rattle.git_refusals.specs.Parts.{HostSpans, span_unless_empty}
 
--- the piece names a host and a port, or is empty
+-- the piece spells a host and a port, or is empty
 abbrev pub IsHostPiece : List ℕ → Type 0
 IsHostPiece piece = (syntax : HostSyntax) × NamesHost syntax piece
 
@@ -15,11 +15,11 @@ abbrev pub IsAuthority : List ℕ → Type 0
 IsAuthority text = (syntax : HostSyntax) × (user : Option (List ℕ)) × (password : Option (List ℕ))
     × (host : Option (List ℕ)) × (port : Option ℕ) × Authority syntax text user password host port
 
--- a piece without a port: the host is the whole of it
+-- a piece without a port: all of it is the host
 abbrev pub IsHostAlone : List ℕ → Type 0
 IsHostAlone piece = (start : ℕ) → HostSpans start piece (span_unless_empty start piece) None
 
--- the piece has these digits of a port behind a host, in brackets or outside them
+-- in this piece, the digits of a port follow a host, in brackets or without them
 pub data HasPort (piece digits : List ℕ) : Type 0 where
   bracketed : (x : List ℕ) → FreeOf right_bracket x → 0 < length digits
       → piece ≡ left_bracket ∷ (x ++ right_bracket ∷ (colon ∷ digits)) → HasPort piece digits

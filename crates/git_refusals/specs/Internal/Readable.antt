@@ -1,4 +1,4 @@
--- What a piece holds in which no check finds anything.
+-- The pieces of a text in which a check finds no flaw.
 use Rattle.std.specs.Prelude.{◌≡◌, ◌+◌, ◌<◌, ◌≤◌, ℕ, Bool, true, List, ◌++◌, length, Option, IfSome, IsUtf8, MatchOption}
 use Rattle.percent_encoding.specs.Percent.{percent_decode}
 use Rattle.git_syntax.specs.Bytes.{backslash, Lacks, FreeOf, is_scheme_text, is_path_start, StartsPath}
@@ -12,11 +12,11 @@ use Rattle.git_syntax.specs.Internal.ScpPieces.{SpellsHost}
 use Rattle.git_syntax.specs.Internal.UrlPieces.{HoldsHosted}
 use Rattle.git_refusals.specs.declared.place.Place.{Place}
 
--- the piece names a host and a port, or is empty
+-- the piece spells a host and a port, or is empty
 abbrev pub NamesHost : HostSyntax → List ℕ → Type 0
 NamesHost syntax piece = (host : Option (List ℕ)) × (port : Option ℕ) × SpellsHostPort syntax piece host port
 
--- an authority holds parts, and a host where one is needed
+-- the text is an authority, with a host if one is needed
 pub record HoldsParts (syntax : HostSyntax) (needed : Bool) (authority : List ℕ) : Type 0 where
   pub user : Option (List ℕ)
   pub password : Option (List ℕ)
@@ -29,32 +29,32 @@ pub record HoldsParts (syntax : HostSyntax) (needed : Bool) (authority : List �
 abbrev pub IsUrl : List ℕ → Type 0
 IsUrl b = (v : Location) × SpellsUrl b v
 
--- what a check answers: what it finds in the piece, or nothing, and then this is so
+-- the result of a check: the flaw that it finds in the piece, or `None`, and then `readable` holds
 pub record Checks (piece : List ℕ) (check : Place → Type 0) (readable : Type 0) (result : Option Place) : Type 0 where
   pub found : MatchOption result readable check
   pub within : IfSome result (λ p. p.at + p.len ≤ length piece)
 
--- user information holds a user and a password
+-- user information consists of a user and a password
 abbrev pub HoldsUser : List ℕ → Type 0
 HoldsUser information = (user : Option (List ℕ)) × (password : Option (List ℕ)) × Credentials information user password
 
--- a file URL is spelled
+-- the bytes are a file URL
 abbrev pub IsFileUrl : List ℕ → Type 0
 IsFileUrl b = (v : Location) × SpellsFile b v
 
--- the scp form is spelled, and its host stands for one
+-- the bytes are the scp form, and its host denotes one
 abbrev pub IsScp : List ℕ → Type 0
 IsScp b = (v : Location) × SpellsScpBefore b v
 
--- the form `user@[address]:path` is spelled
+-- the bytes are the form `user@[address]:path`
 abbrev pub IsAddressedScp : List ℕ → Type 0
 IsAddressedScp b = (v : Location) × SpellsScpAddressed b v
 
--- a host of the scp form stands for one
+-- a host of the scp form denotes one
 abbrev pub StandsForScpHost : List ℕ → Type 0
 StandsForScpHost host = (meant : List ℕ) × ScpHost host meant
 
--- a host of the scp form that isn't empty names one
+-- a host of the scp form that isn't empty spells one
 abbrev pub NamesScpHost : List ℕ → Type 0
 NamesScpHost host = (meant : List ℕ) × SpellsHost (escaped_percents host) meant
 
@@ -65,11 +65,11 @@ pub record IsScpFront (front : List ℕ) : Type 0 where
   pub split : ScpUser front user host
   pub hosted : StandsForScpHost host
 
--- the scheme is one
+-- the text is a scheme
 abbrev pub IsScheme : List ℕ → Type 0
 IsScheme scheme = is_scheme_text scheme ≡ true
 
--- what follows the `://` of a URL holds an authority, and a path where one is needed
+-- the text after the `://` of a URL is an authority and a path; a path is there if one is needed
 pub record HoldsRest (scheme rest : List ℕ) : Type 0 where
   pub authority : List ℕ
   pub path : List ℕ

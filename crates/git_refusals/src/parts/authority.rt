@@ -1,4 +1,4 @@
-//! Where the parts of an authority are: user, password, host and port.
+//! The places of the parts of an authority: user, password, host and port.
 
 ghost use Rattle.std.specs.Prelude.{◌≡◌, ◌+◌, ◌<◌, ◌^◌, ◌∷◌, MatchOption, false, length};
 ghost use Rattle.git_syntax.specs.Bytes.{begins_with, left_bracket};
@@ -17,11 +17,11 @@ pub(super) struct AuthorityParts {
     pub(super) password: Option<Span>,
     /// The host.
     pub(super) host: Option<Span>,
-    /// The port's digits.
+    /// The digits of the port.
     pub(super) port: Option<Span>,
 }
 
-/// The parts of an authority that has so many bytes before it.
+/// The parts of an authority that starts at index `start`.
 pub(super) fn authority_parts(start: usize, authority: &[u8]) -> AuthorityParts
     requires held { IsAuthority authority.now }
     requires small { start + length authority.now < 2 ^ 63 }
@@ -50,7 +50,7 @@ pub(super) fn authority_parts(start: usize, authority: &[u8]) -> AuthorityParts
     }
 }
 
-/// The user and the password in user information that has so many bytes before it.
+/// The user and the password in user information that starts at index `start`.
 fn user_parts(start: usize, information: &[u8]) -> (Option<Span>, Option<Span>)
     requires { start + length information.now < 2 ^ 63 }
     ensures { UserSpans start information.now result.0 result.1 }
@@ -76,7 +76,7 @@ fn user_parts(start: usize, information: &[u8]) -> (Option<Span>, Option<Span>)
     }
 }
 
-/// The host and the port in a piece that has so many bytes before it.
+/// The host and the port in a piece that starts at index `start`.
 fn host_parts(start: usize, piece: &[u8]) -> (Option<Span>, Option<Span>)
     requires named { IsHostPiece piece.now }
     requires small { start + length piece.now < 2 ^ 63 }
@@ -100,7 +100,7 @@ fn host_parts(start: usize, piece: &[u8]) -> (Option<Span>, Option<Span>)
     }
 }
 
-/// The digits of the port, behind a host and a colon.
+/// The digits of the port, which follow a host and a colon.
 fn port_digits(piece: &[u8]) -> Option<&[u8]>
     requires { IsHostPiece piece.now }
     ensures { MatchOption result (IsHostAlone piece.now) (λ digits. HasPort piece.now digits.now) }
@@ -111,7 +111,7 @@ fn port_digits(piece: &[u8]) -> Option<&[u8]>
     }
 }
 
-/// The digits of the port of a piece that has this behind a bracket in front.
+/// The digits of the port in a piece that begins with a bracket, from the text after it.
 fn digits_behind_brackets(behind: &[u8]) -> Option<&[u8]>
     requires { IsHostPiece (left_bracket ∷ behind.now) }
     ensures { MatchOption result (IsHostAlone (left_bracket ∷ behind.now))
@@ -125,7 +125,7 @@ fn digits_behind_brackets(behind: &[u8]) -> Option<&[u8]>
     Some(digits)
 }
 
-/// The digits of the port of a piece that begins with no bracket: it is its only colon that marks a port.
+/// The digits of the port in a piece that doesn't begin with a bracket: only a single colon begins a port.
 fn digits_behind_host(piece: &[u8]) -> Option<&[u8]>
     requires { begins_with left_bracket piece.now ≡ false }
     ensures { MatchOption result (IsHostAlone piece.now) (λ digits. HasPort piece.now digits.now) }
@@ -143,7 +143,7 @@ fn digits_behind_host(piece: &[u8]) -> Option<&[u8]>
     None
 }
 
-/// The piece that has so many bytes before it, if it isn't empty.
+/// The piece that starts at index `start`, if it isn't empty.
 pub(super) fn unless_empty(start: usize, piece: &[u8]) -> Option<Span>
     ensures { result ≡ span_unless_empty start piece.now }
 {

@@ -1,11 +1,8 @@
-//! That a configuration is read in one way: what the contracts of [`Reader`](crate::config::Reader) say of
-//! its items determines them.
-//!
-//! It has no code and uses nothing.
+//! The law that the contract of [`Reader`](crate::config::Reader) determines the items.
 
 ghost use Rattle.git_rules.specs.ConfigLaws.{OneReading};
 
-/// A text is read in one way.
+/// A text has only one reading.
 pub fn law_one_reading()
     ensures { OneReading }
 {}

@@ -1,7 +1,4 @@
 //! Whether an entry applies to a request.
-//!
-//! It uses `config`, the patterns and `partial`. Its contract: an entry applies exactly where the definitions
-//! have it so. It takes memory.
 
 ghost use Rattle.std.specs.Prelude.{◌≡◌, ◌↔◌, false, IfOk, IsTrue, option_map};
 ghost use Rattle.git_reads.specs.Views.{credential_reading};
@@ -16,8 +13,8 @@ use crate::pattern::entries::is_of_room;
 use git_reads::credential::Request;
 use std::alloc::{AllocError, Global};
 
-/// Whether the entry applies to the request, with the user that Git has. The place is the normal form of the
-/// URL that Git writes of the request, if that has one.
+/// Whether the entry applies to the request, with the user that Git uses. `place` is the normal form of the URL
+/// that Git writes for the request, if that URL has one.
 pub(super) fn applies(
     alloc: Global,
     entry: &Entry<'_>,
@@ -39,7 +36,7 @@ pub(super) fn applies(
     }
 }
 
-/// Whether a subsection fits the request, with the user that Git has.
+/// Whether a subsection fits the request, with the user that Git uses.
 fn fits(
     alloc: Global,
     url: &[u8],
@@ -58,7 +55,7 @@ fn fits(
     }
 }
 
-/// Whether the URL stands for the place as a pattern; none where it has no normal form.
+/// Whether the URL matches the place as a pattern, or `None` if it has no normal form.
 fn matches_url(
     alloc: Global,
     url: &[u8],
@@ -70,7 +67,7 @@ fn matches_url(
     matches_in(url, &mut room, place)
 }
 
-/// The same, with a buffer for the normal form; that it is too short counts as a lack of memory.
+/// As `matches_url`, with a buffer for the normal form. A buffer that is too short counts as a failed allocation.
 fn matches_in(
     url: &[u8],
     room: &mut [u8],
@@ -90,7 +87,7 @@ fn matches_in(
     }
 }
 
-/// Whether the pattern stands for the place, if there is one.
+/// Whether the pattern matches the place; false if there is no place.
 fn matches_place(pattern: &UrlPattern<'_>, place: Option<&NormalUrl<'_>>) -> bool
     ensures { IsTrue result ↔ MatchesForm pattern.now (option_map (λ p. p.now) place.entry) }
 {

@@ -1,7 +1,4 @@
-//! URLs that lack parts, as Git reads the subsection of an entry that is no URL.
-//!
-//! It uses `git_reads` and the cuts of `git_syntax`. Its contract: a text fits a request exactly where that
-//! has each part of the text. It takes memory.
+//! URLs with missing parts, as Git reads the subsection of an entry that isn't a URL.
 
 ghost use Rattle.std.specs.Prelude.{◌≡◌, ◌↔◌, IfOk, IfSome, IsTrue, option_map};
 ghost use Rattle.git_syntax.specs.Bytes.{FreeOf, newline};
@@ -12,7 +9,7 @@ use git_reads::credential::{Buffers, Request, TextPieces, decode_pieces};
 use git_syntax::bytes::{cut_at_mark, cut_before_path, is_free_of};
 use std::alloc::{AllocError, Global};
 
-/// Whether a request, with this user, has the parts that are read in the text.
+/// Whether a request, with this user, has the parts that the text names.
 pub(super) fn fits_partly(
     alloc: Global,
     text: &[u8],
@@ -30,7 +27,7 @@ pub(super) fn fits_partly(
     Ok(is_met(&wanted, request, user))
 }
 
-/// Whether what is wanted is without line feeds, and a request, with this user, has the parts.
+/// Whether the wanted parts are free of line feeds, and a request, with this user, has them.
 fn is_met(wanted: &Request<'_>, own: &Request<'_>, user: Option<&[u8]>) -> bool
     ensures { IsTrue result ↔ (LackNewlines (credential_reading wanted.now) × HasParts
         (credential_reading wanted.now) (credential_reading own.now) (option_map (λ t. t.now) user.entry)) }
@@ -38,7 +35,7 @@ fn is_met(wanted: &Request<'_>, own: &Request<'_>, user: Option<&[u8]>) -> bool
     lack_newlines(wanted) && has_parts(wanted, own, user)
 }
 
-/// The pieces of a text, of which the protocol may be missing.
+/// The pieces of a text whose protocol may be missing.
 fn cut_partly(text: &[u8]) -> TextPieces<'_>
     ensures { CutsPartly text.now result.protocol.now result.authority.now result.behind.now }
 {
@@ -51,7 +48,7 @@ fn cut_partly(text: &[u8]) -> TextPieces<'_>
     }
 }
 
-/// What precedes the first `://` and what follows it; without that nothing and the whole text.
+/// The text before the first `://` and the text after it; if there is no `://`, an empty slice and the whole text.
 fn cut_protocol(text: &[u8]) -> (&[u8], &[u8])
     ensures { CutsProtocol text.now result.0.now result.1.now }
 {
@@ -61,7 +58,7 @@ fn cut_protocol(text: &[u8]) -> (&[u8], &[u8])
     }
 }
 
-/// Whether no part has a line feed.
+/// Whether no part contains a line feed.
 fn lack_newlines(parts: &Request<'_>) -> bool
     ensures { IsTrue result ↔ LackNewlines (credential_reading parts.now) }
 {
@@ -72,7 +69,7 @@ fn lack_newlines(parts: &Request<'_>) -> bool
         && is_line_if_some(parts.path)
 }
 
-/// Whether a part that may be absent has no line feed.
+/// Whether an optional part is missing or has no line feed.
 fn is_line_if_some(part: Option<&[u8]>) -> bool
     ensures { IsTrue result ↔ IfSome (option_map (λ t. t.now) part.entry) (FreeOf newline) }
 {
@@ -82,7 +79,7 @@ fn is_line_if_some(part: Option<&[u8]>) -> bool
     }
 }
 
-/// Whether a request, with this user, has the parts that are wanted.
+/// Whether a request, with this user, has the wanted parts.
 fn has_parts(wanted: &Request<'_>, own: &Request<'_>, user: Option<&[u8]>) -> bool
     ensures { IsTrue result ↔ HasParts (credential_reading wanted.now) (credential_reading own.now)
         (option_map (λ t. t.now) user.entry) }
@@ -93,14 +90,14 @@ fn has_parts(wanted: &Request<'_>, own: &Request<'_>, user: Option<&[u8]>) -> bo
         && has_part(wanted.user, user)
 }
 
-/// Whether a text that is wanted is empty, or the same.
+/// Whether the wanted text is empty or equal to the other.
 fn has_text(wanted: &[u8], own: &[u8]) -> bool
     ensures { IsTrue result ↔ HasText wanted.now own.now }
 {
     wanted.is_empty() || wanted == own
 }
 
-/// Whether a part that is wanted is missing, or the same.
+/// Whether the wanted part is missing or equal to the other.
 fn has_part(wanted: Option<&[u8]>, own: Option<&[u8]>) -> bool
     ensures { IsTrue result
         ↔ HasPart (option_map (λ t. t.now) wanted.entry) (option_map (λ t. t.now) own.entry) }

@@ -1,7 +1,4 @@
-//! The URL that Git writes of a request.
-//!
-//! It uses the crate `percent_encoding`. Its contract: the URL is the one of the definitions. It takes
-//! memory.
+//! The URL that Git writes for a request.
 
 ghost use Rattle.std.specs.Prelude.{◌≡◌, ◌++◌, IfOk, OnOk, option_map};
 ghost use Rattle.percent_encoding.specs.Percent as percent;
@@ -12,7 +9,7 @@ use git_reads::credential::Request;
 use percent_encoding::{AsciiSet, NON_ALPHANUMERIC, ascii_set, percent_encode};
 use std::alloc::{AllocError, Global};
 
-/// The bytes of a user that are written as escapes.
+/// The bytes that are escaped in a user.
 const USER: AsciiSet = ascii_set!(
     NON_ALPHANUMERIC
         .remove(b'-')
@@ -21,10 +18,10 @@ const USER: AsciiSet = ascii_set!(
         .remove(b'~')
 );
 
-/// The bytes of a path that are written as escapes.
+/// The bytes that are escaped in a path.
 const PATH: AsciiSet = ascii_set!(USER.remove(b'/'));
 
-/// The bytes of a host, with its port, that are written as escapes.
+/// The bytes that are escaped in a host with its port.
 const HOST: AsciiSet = ascii_set!(
     NON_ALPHANUMERIC
         .remove(b'.')
@@ -34,7 +31,7 @@ const HOST: AsciiSet = ascii_set!(
         .remove(b'-')
 );
 
-/// The URL of a request.
+/// The URL for a request.
 pub(super) fn credential_url(alloc: Global, request: &Request<'_>) -> Result<Vec<u8>, AllocError>
     ensures { IfOk result (λ url. url.items ≡ spec.credential_url (credential_reading request.now)) }
 {
@@ -47,7 +44,7 @@ pub(super) fn credential_url(alloc: Global, request: &Request<'_>) -> Result<Vec
     Ok(url)
 }
 
-/// Appends a user and the `@` that ends it, unless it is empty.
+/// Appends a user and the `@` that ends it, unless the user is empty.
 fn append_user(out: &mut Vec<u8>, user: Option<&[u8]>) -> Result<(), AllocError>
     ensures { OnOk result (out.new.items
         ≡ out.old.items ++ spec.user_text (option_map (λ t. t.now) user.entry)) }
@@ -62,7 +59,7 @@ fn append_user(out: &mut Vec<u8>, user: Option<&[u8]>) -> Result<(), AllocError>
     }
 }
 
-/// Appends a path behind a `/`.
+/// Appends a `/` and the path, if there is a path.
 fn append_path(out: &mut Vec<u8>, path: Option<&[u8]>) -> Result<(), AllocError>
     ensures { OnOk result (out.new.items
         ≡ out.old.items ++ spec.path_text (option_map (λ t. t.now) path.entry)) }
@@ -74,7 +71,7 @@ fn append_path(out: &mut Vec<u8>, path: Option<&[u8]>) -> Result<(), AllocError>
     append_escaped(out, path, PATH)
 }
 
-/// Appends the text with the bytes of the set, and those past ASCII, as escapes.
+/// Appends the text, with the bytes of the set and those outside ASCII escaped.
 fn append_escaped(out: &mut Vec<u8>, text: &[u8], set: AsciiSet) -> Result<(), AllocError>
     ensures { OnOk result (out.new.items ≡ out.old.items ++ percent.percent_encode set text.now) }
 {

@@ -1,8 +1,6 @@
 //! The authority of a URL, as Git compares it: the user, the host and the port.
 //!
-//! It uses the cuts and the escapes of `git_syntax`, and `host`. Its contract: the parts are found exactly
-//! where the definitions have them, else a flaw; user and host are slices, whose normal form is written
-//! later.
+//! The user and the host are slices of the text; `write` writes their normal form.
 
 ghost use Rattle.std.specs.Prelude.{◌≡◌, ◌≤◌, MatchResult, length};
 ghost use Rattle.std.specs.Option.{option_copied};
@@ -15,18 +13,18 @@ use crate::normal::host::read_host;
 use git_syntax::bytes::cut;
 use git_syntax::escape::is_sound;
 
-/// The parts of an authority that are compared, as slices of it.
+/// The compared parts of an authority, as slices of it.
 #[derive(Clone, Copy)]
 pub(super) struct Authority<'a> {
-    /// The user, escaped.
+    /// The user, still escaped.
     pub user: Option<&'a [u8]>,
-    /// The host, not yet lowered.
+    /// The host, not yet in lower case.
     pub host: &'a [u8],
-    /// The port, unless it is the scheme's own.
+    /// The port, unless it is the scheme's default port.
     pub port: Option<u16>,
 }
 
-/// The parts of an authority.
+/// Reads the parts of an authority.
 pub(super) fn read_authority<'a>(
     globs: bool,
     scheme: &[u8],
@@ -55,7 +53,7 @@ pub(super) fn read_authority<'a>(
     })
 }
 
-/// The user of user information.
+/// The user in user information.
 fn user_of(info: &[u8]) -> &[u8]
     ensures { IsUserOf info.now result.now }
 {

@@ -1,7 +1,4 @@
-//! Where the parts of a URL begin.
-//!
-//! It uses the cuts and classes of bytes of `git_syntax`. Its contract: each cut is reported as a
-//! concatenation.
+//! Splits a URL into its parts.
 
 ghost use Rattle.std.specs.Prelude.{◌≡◌, List, ℕ, MatchOption, true};
 ghost use Rattle.memchr.specs.Find.{IsFirstByte};
@@ -12,7 +9,7 @@ ghost use Rattle.git_rules.specs.NormalPieces.{CutsBefore};
 use git_syntax::bytes::{after, cut, is_scheme_text};
 use memchr::{memchr2, memchr3};
 
-/// The scheme, the authority and what follows them, if the text is a URL.
+/// The scheme, the authority and the text after them, if the text is a URL.
 pub(super) fn cut_url(text: &[u8]) -> Option<(&[u8], &[u8], &[u8])>
     ensures { MatchOption result ((s a b : List ℕ) → ¬ UrlCut text.now s a b)
         (λ p. UrlCut text.now p.0.now p.1.now p.2.now) }
@@ -27,7 +24,7 @@ pub(super) fn cut_url(text: &[u8]) -> Option<(&[u8], &[u8], &[u8])>
     Some((scheme, authority, behind))
 }
 
-/// A text is cut before the first byte that ends an authority.
+/// Splits a text before the first byte that ends an authority.
 fn cut_before_path(text: &[u8]) -> (&[u8], &[u8])
     ensures { CutsBefore (is_path_start true) text.now result.0.now result.1.now }
 {
@@ -37,14 +34,14 @@ fn cut_before_path(text: &[u8]) -> (&[u8], &[u8])
     }
 }
 
-/// The place of the first byte that ends an authority.
+/// The index of the first byte that ends an authority.
 fn path_start(text: &[u8]) -> Option<usize>
     ensures { IsFirstByte (is_path_start true) text.now result }
 {
     memchr3(b'/', b'?', b'#', text)
 }
 
-/// A text is cut before its query or fragment.
+/// Splits a text before its query or fragment.
 pub(super) fn cut_before_rest(text: &[u8]) -> (&[u8], &[u8])
     ensures { CutsBefore is_rest_start text.now result.0.now result.1.now }
 {
@@ -54,14 +51,14 @@ pub(super) fn cut_before_rest(text: &[u8]) -> (&[u8], &[u8])
     }
 }
 
-/// The place of the first byte that begins a query or a fragment.
+/// The index of the first byte that begins a query or a fragment.
 fn rest_start(text: &[u8]) -> Option<usize>
     ensures { IsFirstByte is_rest_start text.now result }
 {
     memchr2(b'?', b'#', text)
 }
 
-/// A text without a first `/`.
+/// The text without a leading `/`.
 pub(super) fn unrooted(text: &[u8]) -> &[u8]
     ensures { result.now ≡ unrooted text.now }
 {

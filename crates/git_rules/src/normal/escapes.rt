@@ -1,8 +1,5 @@
-//! The normal form of escapes: each byte that must be escaped is, in upper case, and no other except for
-//! delimiters.
-//!
-//! It uses the escapes of the crate `percent_encoding`. Its contract: what is written into the
-//! front of a room is the normal form of a text whose escapes are sound.
+//! The normal form of escapes: a byte that must be escaped is written as an escape with upper-case digits, an
+//! escaped delimiter stays escaped, and no other byte is escaped.
 
 ghost use Rattle.std.specs.Prelude.{◌≡◌, ◌∷◌, ◌+◌, ◌*◌, ◌++◌, ◌<◌, ◌≤◌, MatchOption, length, take, true, []};
 ghost use Rattle.std.specs.Char.{digit_value};
@@ -13,7 +10,7 @@ ghost use Rattle.git_rules.specs.NormalPieces.{SplitsNormal};
 
 use percent_encoding::percent_encode_byte;
 
-/// The normal form of a text, in the front of the room, and the room behind it.
+/// Writes the normal form of a text to the front of the buffer; returns it, and the rest of the buffer.
 pub(super) fn normal_in<'a>(text: &[u8], room: &'a mut [u8]) -> (&'a [u8], &'a mut [u8])
     requires sound { is_sound text.now ≡ true }
     requires room { 3 * length text.now ≤ length room.old }
@@ -25,7 +22,7 @@ pub(super) fn normal_in<'a>(text: &[u8], room: &'a mut [u8]) -> (&'a [u8], &'a m
     (form, left)
 }
 
-/// Writes the normal form of a text into the room behind its first bytes, and returns where it ends.
+/// Writes the normal form of a text to the buffer from index `start` on, and returns the index after it.
 pub(super) fn put_normal(room: &mut [u8], start: usize, text: &[u8]) -> usize
     requires sound { is_sound text.now ≡ true }
     requires room { start + 3 * length text.now ≤ length room.old }
@@ -42,7 +39,7 @@ pub(super) fn put_normal(room: &mut [u8], start: usize, text: &[u8]) -> usize
     at
 }
 
-/// The first byte of a text, whether it came as an escape, and what follows it.
+/// The first byte of a text, decoded, whether it was escaped, and the text after it.
 fn split_normal(text: &[u8]) -> Option<(u8, bool, &[u8])>
     requires { is_sound text.now ≡ true }
     ensures { MatchOption result (text.now ≡ []) (λ p. SplitsNormal text.now p.0 p.1 p.2.now) }
@@ -55,7 +52,7 @@ fn split_normal(text: &[u8]) -> Option<(u8, bool, &[u8])>
     Some((*first, false, behind))
 }
 
-/// The byte of the two digits that follow a `%`, and what follows them.
+/// The byte that the two digits after a `%` spell, and the text after them.
 fn split_digits(behind: &[u8]) -> (u8, &[u8])
     requires { is_sound (percent_sign ∷ behind.now) ≡ true }
     ensures { SplitsNormal (percent_sign ∷ behind.now) result.0 true result.1.now }
@@ -66,7 +63,7 @@ fn split_digits(behind: &[u8]) -> (u8, &[u8])
     }
 }
 
-/// The value of a hexadecimal digit, of either case.
+/// The value of a hexadecimal digit in either case.
 fn digit(byte: u8) -> u8
     requires { is_hexadecimal byte ≡ true }
     ensures value { result ≡ digit_value byte }
@@ -80,7 +77,7 @@ fn digit(byte: u8) -> u8
     }
 }
 
-/// Writes the normal form of a byte into the room behind its first bytes, and returns where it ends.
+/// Writes the normal form of a byte to the buffer from index `at` on, and returns the index after it.
 fn put_byte(room: &mut [u8], at: usize, byte: u8, escaped: bool) -> usize
     requires { at + 3 ≤ length room.old }
     ensures bytes { take result room.new ≡ take at room.old ++ spec.normal_byte escaped byte }
@@ -94,7 +91,7 @@ fn put_byte(room: &mut [u8], at: usize, byte: u8, escaped: bool) -> usize
     }
 }
 
-/// Writes the bytes into the room behind its first bytes, and returns where they end.
+/// Writes the bytes to the buffer from index `at` on, and returns the index after them.
 pub(super) fn put(room: &mut [u8], at: usize, bytes: &[u8]) -> usize
     requires { at + length bytes.now ≤ length room.old }
     ensures end { result ≡ at + length bytes.now }
@@ -122,7 +119,7 @@ fn is_unsafe_mark(byte: u8) -> bool
     )
 }
 
-/// Whether a byte is a delimiter, whose escape stays one.
+/// Whether a byte is a delimiter, which stays escaped if it was escaped.
 fn is_reserved(byte: u8) -> bool
     ensures { result ≡ spec.is_reserved byte }
 {
@@ -136,7 +133,7 @@ fn is_reserved(byte: u8) -> bool
         || is_sub_delimiter(byte)
 }
 
-/// Whether a byte is a delimiter of parts of a component.
+/// Whether a byte is a sub-delimiter (RFC 3986), which separates parts of a component.
 fn is_sub_delimiter(byte: u8) -> bool
     ensures { result ≡ spec.is_sub_delimiter byte }
 {

@@ -1,7 +1,6 @@
 //! The host and the port of a URL, as Git compares them.
 //!
-//! It uses the cuts of `git_syntax`. Its contract: a host and a port are found exactly where the definitions
-//! have them, else a flaw; the host is a slice, to be lowered.
+//! The host is a slice of the text; `write` converts it to lower case.
 
 ghost use Rattle.std.specs.Prelude.{◌≡◌, ◌↔◌, ℕ, IsTrue, MatchOption, MatchResult, bytes_eq, codes};
 ghost use Rattle.std.specs.Char.{is_ascii_digit};
@@ -17,7 +16,7 @@ use crate::normal::NormalError;
 use git_syntax::bytes::{is_free_of, last_cut};
 use git_syntax::text::as_text;
 
-/// The host that a text begins with, not yet lowered, and the port.
+/// The host at the start of a text, not yet in lower case, and the port.
 pub(super) fn read_host<'a>(
     globs: bool,
     scheme: &[u8],
@@ -46,7 +45,7 @@ pub(super) fn read_host<'a>(
     }
 }
 
-/// A text is cut at the colon before its port, if it has one.
+/// Splits a text at the colon before its port; the port is empty if there isn't one.
 fn cut_port(text: &[u8]) -> (&[u8], &[u8])
     ensures { CutsPort text.now result.0.now result.1.now }
 {
@@ -62,7 +61,7 @@ fn cut_port(text: &[u8]) -> (&[u8], &[u8])
     }
 }
 
-/// Whether no host begins the text.
+/// Whether the text begins without a host.
 fn lacks_host(text: &[u8]) -> bool
     ensures { result ≡ spec.lacks_host text.now }
 {
@@ -72,28 +71,28 @@ fn lacks_host(text: &[u8]) -> bool
     }
 }
 
-/// Whether each byte is one of a host.
+/// Whether each byte is allowed in a host.
 fn are_host_bytes(globs: bool, name: &[u8]) -> bool
     ensures { result ≡ list_all (spec.is_host_byte globs) name.now }
 {
     name.iter().all(|byte| is_host_byte(globs, *byte))
 }
 
-/// Whether the byte is one of a host.
+/// Whether the byte is allowed in a host.
 fn is_host_byte(globs: bool, byte: u8) -> bool
     ensures { result ≡ spec.is_host_byte globs byte }
 {
     byte.is_ascii_alphanumeric() || is_host_mark(byte) || (globs && byte == b'*')
 }
 
-/// Whether the byte is a mark of a host.
+/// Whether the byte is a punctuation mark that is allowed in a host.
 fn is_host_mark(byte: u8) -> bool
     ensures { result ≡ spec.is_host_mark byte }
 {
     byte == b'.' || byte == b'-' || byte == b'_' || byte == b'[' || byte == b':' || byte == b']'
 }
 
-/// The port that the text behind a host's colon spells, where it spells none or a number.
+/// The port in the text after a host's colon, if that text is empty or a port number.
 fn read_port(scheme: &[u8], digits: &[u8]) -> Option<Option<u16>>
     ensures { MatchOption result (IsNoPort digits.now) (λ port. PortFor scheme.now digits.now port) }
 {
@@ -108,7 +107,7 @@ fn read_port(scheme: &[u8], digits: &[u8]) -> Option<Option<u16>>
     }
 }
 
-/// Whether the port is the scheme's own one.
+/// Whether the port is the scheme's default port.
 fn is_own_port(scheme: &[u8], port: u16) -> bool
     ensures { result ≡ spec.is_own_port scheme.now port }
 {

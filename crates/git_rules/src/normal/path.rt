@@ -1,8 +1,7 @@
 //! The path of a URL, as Git compares it: without the segments `.` and `..`, with its query and its fragment.
 //!
-//! It uses `cuts` and `escapes`. Its contract: what is written into the front of a room is the path that the
-//! definitions have; a path that has none has a flaw. The room holds the path of a stack of segments all the
-//! way: a segment is put behind it, and taken off again by cutting at the last `/`.
+//! The front of the buffer always holds the path of a stack of segments. Pushing a segment appends it; popping one
+//! cuts the path at its last `/`.
 
 ghost use Rattle.std.specs.Prelude.{◌≡◌, ◌++◌, ◌∷◌, ◌+◌, ◌*◌, ◌≤◌, List, [], ℕ, IfSome, MatchResult, length, max, take, true, bytes_eq, codes};
 ghost use Rattle.git_syntax.specs.Bytes.{FreeOf, slash};
@@ -18,7 +17,7 @@ use crate::normal::escapes::{put, put_normal};
 use git_syntax::bytes::{cut, last_cut};
 use git_syntax::escape::is_sound;
 
-/// The path of what follows the authority, in the front of the room.
+/// Writes the path, the query and the fragment in normal form to the front of the buffer, and returns them.
 pub(super) fn path_in<'a>(behind: &[u8], room: &'a mut [u8]) -> Result<&'a [u8], NormalError>
     requires { 3 * length behind.now + 1 ≤ length room.old }
     ensures { MatchResult result (λ path. NormalPath behind.now path.now) (λ e. PathFlaw behind.now e) }
@@ -36,7 +35,7 @@ pub(super) fn path_in<'a>(behind: &[u8], room: &'a mut [u8]) -> Result<&'a [u8],
     Ok(path)
 }
 
-/// Writes the path of the segments of a text into the front of the room, and returns where it ends.
+/// Writes the path of the segments of a text to the front of the buffer, and returns its length.
 fn put_path(room: &mut [u8], segments: &[u8]) -> Option<usize>
     requires sound { is_sound segments.now ≡ true }
     requires room { 3 * length segments.now + 1 ≤ length room.old }
@@ -52,7 +51,7 @@ fn put_path(room: &mut [u8], segments: &[u8]) -> Option<usize>
     put_segment(room, at, rest)
 }
 
-/// Puts a segment on the stack whose path is the front of the room, and returns where the path ends then.
+/// Pushes a segment on the stack whose path is the front of the buffer, and returns the new length of the path.
 fn put_segment(room: &mut [u8], at: usize, segment: &[u8]) -> Option<usize>
     requires sound { is_sound segment.now ≡ true }
     requires room { at + 3 * length segment.now + 1 ≤ length room.old }
@@ -86,7 +85,7 @@ fn is_dots(segment: &[u8]) -> bool
     segment == b"..".as_slice()
 }
 
-/// Where the path ends without its last segment, if it has one.
+/// The length of the path without its last segment, if it has one.
 fn without_last(path: &[u8]) -> Option<usize>
     ensures path { (stack : List (List ℕ)) → ShowsStack path.now stack
         → ShowsFront (without_top stack) path.now result }
@@ -96,7 +95,7 @@ fn without_last(path: &[u8]) -> Option<usize>
     Some(front.len())
 }
 
-/// An empty path in the front of the room becomes the root.
+/// Writes `/` to the front of the buffer if the path is empty, and returns the length of the path.
 fn put_root(room: &mut [u8], at: usize) -> usize
     requires { 1 ≤ length room.old }
     ensures path { take result room.new ≡ or_root (take at room.old) }

@@ -1,7 +1,5 @@
-//! The normal form of a URL written: slices of the text where they have the same bytes, and of a room.
-//!
-//! It uses `escapes` and `path`. Its contract: each part is the normal form of its slice; a path that has
-//! none has a flaw.
+//! Writes the normal form of a URL. A part that is equal to its text stays a slice of the text; the others are
+//! written to a buffer.
 
 ghost use Rattle.std.specs.Prelude.{◌≡◌, ◌+◌, ◌*◌, ◌≤◌, MatchResult, length, option_map};
 ghost use Rattle.std.specs.Option.{option_copied};
@@ -16,7 +14,7 @@ use crate::normal::path::path_in;
 use crate::normal::{NormalError, NormalUrl};
 use git_syntax::bytes::is_lowercase;
 
-/// The normal form of a URL of these parts, of which the scheme is in lower case.
+/// Returns the normal form of a URL with these parts. The scheme is already in lower case.
 pub(super) fn write_parts<'a>(
     scheme: &'a [u8],
     authority: Authority<'a>,
@@ -43,7 +41,7 @@ pub(super) fn write_parts<'a>(
     })
 }
 
-/// A text in lower case, and the room behind it.
+/// Returns a text in lower case, and the rest of the buffer.
 pub(super) fn lowered_in<'a>(text: &'a [u8], room: &'a mut [u8]) -> (&'a [u8], &'a mut [u8])
     requires { length text.now ≤ length room.old }
     ensures text { result.0.now ≡ lowercase text.now }
@@ -58,7 +56,7 @@ pub(super) fn lowered_in<'a>(text: &'a [u8], room: &'a mut [u8]) -> (&'a [u8], &
     (front, left)
 }
 
-/// The normal form of a user that may be missing, and the room behind it.
+/// Returns the normal form of an optional user, and the rest of the buffer.
 fn user_in<'a>(user: Option<&[u8]>, room: &'a mut [u8]) -> (Option<&'a [u8]>, &'a mut [u8])
     requires sound { HasSoundUser (option_copied user) }
     requires room { 3 * user_length (option_copied user) ≤ length room.old }

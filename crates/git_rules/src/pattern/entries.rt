@@ -1,8 +1,6 @@
 //! The entries of a configuration that apply to a place, and the best of them.
 //!
-//! It uses `config`, `normal` and the patterns. Its contract: an entry applies with the rank that the
-//! definitions give it, and the best is one of those that apply, by Git's order. It takes no memory: each URL
-//! is read into one room that the caller lends.
+//! The caller supplies one buffer, into which each URL is read in turn.
 
 ghost use Rattle.std.specs.Prelude.{◌≡◌, ◌↔◌, IsTrue, Some, length, option_copied};
 ghost use Rattle.git_rules.specs.PatternEntries.{IsBestIn, RanksIn, RanksUrlIn};
@@ -18,30 +16,31 @@ const LOWEST: Rank = Rank {
     user: 0,
 };
 
-/// The rank with which the entry sets the variable `section.<url>.name` for the place; none where it doesn't.
+/// The rank with which the entry sets the variable `section.<url>.name` for the place, or `None` if it doesn't set
+/// it.
 ///
-/// It does exactly where its section and its name are these, without letter case, and it has no subsection,
-/// or a URL with a normal form that stands for the place, as a [`UrlPattern`] does. Without a subsection its
-/// rank is the lowest: it is for all places. The room is for the URL: three times as many bytes as that has,
-/// and one more. No memory is asked for.
+/// The entry sets it if its section and name match, ignoring letter case, and if it either has no subsection or its
+/// subsection is a URL that matches the place as a [`UrlPattern`]. An entry without a subsection applies to all
+/// places and has the lowest rank. The buffer `room` needs three bytes for each byte of the entry's URL, and one
+/// more. Allocates nothing.
 ///
-/// Of `http.*` Git uses the entries that [`settings_for`](crate::pattern::settings::settings_for) finds: the best
-/// one, as [`best_entry`] does, and of two names several. Of `credential.*` it goes through all that apply, and
-/// compares them otherwise: [`credentials_for`](crate::credentials::credentials_for) does it in Git's way. Two
-/// things differ here:
+/// For `http.*` Git uses the entries that [`settings_for`](crate::pattern::settings::settings_for) returns: the
+/// best one, as [`best_entry`] finds it, or for two of the names several. For `credential.*` Git goes through all
+/// entries that apply, and compares them differently; [`credentials_for`](crate::credentials::credentials_for) does
+/// that. The comparison here differs in two ways:
 ///
-/// - Git also takes an entry whose subsection isn't a whole URL, as `credential.example.com.helper`, and
-///   compares the parts that it has with those of the request. This call passes it over, be it a `helper`
-///   that is empty, with which Git drops those before it.
-/// - Git compares with a URL that it makes of the parts of the request: the path is decoded, loses the
-///   slashes at its end, and is escaped again, `?` and `=` too. So a URL with a path may apply there and not
-///   here, or here and not there, where the path of the place has a query, an escaped delimiter or such
-///   slashes. A URL without a path knows no difference.
+/// - Git also uses an entry whose subsection isn't a whole URL, such as `credential.example.com.helper`, and
+///   compares the parts that it has with those of the request. This function ignores such an entry, even an empty
+///   `helper`, with which Git drops the helpers before it.
+/// - Git compares with a URL that it composes from the parts of the request: it decodes the path, removes its
+///   trailing slashes, and escapes it again, including `?` and `=`. So an entry whose URL has a path may apply only
+///   in one of the two comparisons if the path of the place has a query, an escaped delimiter or trailing slashes.
+///   For a URL without a path the two agree.
 ///
 /// # Errors
 ///
-/// [`NormalError::NoRoom`] where the entry sets the variable for a URL, and the room is too short for that;
-/// no other error.
+/// [`NormalError::NoRoom`] if the entry sets the variable for a URL and the buffer is too short for it. No other
+/// error occurs.
 ///
 /// ```
 /// /// The helper that an entry of a configuration names for a place.
@@ -64,8 +63,8 @@ pub fn entry_rank(
     rank_in(entry, section, name, Some(place), room)
 }
 
-/// The rank of an entry for a place or for none: without a place no entry with a URL sets the variable, and no
-/// room is needed.
+/// The rank of an entry for a place. Without a place an entry with a URL doesn't set the variable, and no buffer is
+/// needed.
 pub(crate) fn rank_in(
     entry: &Entry<'_>,
     section: &str,
@@ -88,7 +87,7 @@ pub(crate) fn rank_in(
     }
 }
 
-/// The rank of a URL, if it stands for the place.
+/// The rank of a URL, if it matches the place.
 fn url_rank(url: &[u8], place: &NormalUrl<'_>, room: &mut [u8]) -> Result<Option<Rank>, NormalError>
     ensures { RanksUrlIn place.now (length room.old) url.now result }
 {
@@ -104,7 +103,7 @@ fn url_rank(url: &[u8], place: &NormalUrl<'_>, room: &mut [u8]) -> Result<Option
     }
 }
 
-/// Whether the room is too short.
+/// Whether the error is that the buffer is too short.
 pub(crate) fn is_of_room(error: NormalError) -> bool
     ensures { IsTrue result ↔ (error ≡ NormalError.NoRoom) }
 {
@@ -114,18 +113,17 @@ pub(crate) fn is_of_room(error: NormalError) -> bool
     }
 }
 
-/// The index of the best of the entries that set the variable `section.<url>.name` for the place; none where
-/// none does. It looks at each entry once, and takes no memory.
+/// The index of the best entry that sets the variable `section.<url>.name` for the place, or `None` if no entry
+/// does. Looks at each entry once. Allocates nothing.
 ///
-/// The one with the highest [`Rank`] is the best, and of these the last: it is the entry whose value Git
-/// takes of `http.*`, unless the name is a list's
-/// ([`settings_for`](crate::pattern::settings::settings_for)). What [`entry_rank`] says of the room, which is
-/// used for one URL after the other, holds of each entry.
+/// The entry with the highest [`Rank`] is the best, and among equal ranks the last: for `http.*`, Git uses the
+/// value of this entry, unless the name is a list ([`settings_for`](crate::pattern::settings::settings_for)). The
+/// buffer is used for one URL after the other, and has to suffice for each, as described at [`entry_rank`].
 ///
 /// # Errors
 ///
-/// [`NormalError::NoRoom`] where the room is too short for the URL of one of the entries that set the
-/// variable; no other error.
+/// [`NormalError::NoRoom`] if the buffer is too short for the URL of an entry that sets the variable. No other
+/// error occurs.
 ///
 /// ```
 /// /// The proxy that Git uses for a place.
@@ -152,7 +150,7 @@ pub fn best_entry(
     best_in(entries, section, name, Some(place), room)
 }
 
-/// The index of the best of the entries for a place or for none, by [`rank_in`].
+/// The index of the best entry for a place, by [`rank_in`].
 pub(crate) fn best_in(
     entries: &[Entry<'_>],
     section: &str,

@@ -1,7 +1,4 @@
-//! The normal form of the text of a location, in a room that the caller lends.
-//!
-//! It uses the writer of `git_location` and `normal`. Its contract: the normal form is that of the text that
-//! the location has by the definitions, or it says why there is none. It takes no memory.
+//! The normal form of the text of a location, in a buffer that the caller supplies.
 
 ghost use Rattle.std.specs.Prelude.{◌≤◌, length, take};
 ghost use Rattle.git_location.specs.Text.{text};
@@ -12,28 +9,30 @@ use git_location::url_ref::UrlRef;
 use git_location::write_error::WriteFault;
 use thiserror::Error;
 
-/// Why a location is no place for settings.
+/// The reason why a location has no normal form.
 #[derive(Clone, Copy, Debug, Error)]
 pub enum PlaceError {
-    /// It has no text.
+    /// The location has no text.
     #[error("the location has no text")]
     Fault(WriteFault),
-    /// Its text has no normal form, or the room is shorter than four times the text and one byte more.
+    /// The text has no normal form, or the buffer is shorter than four times the text plus one byte.
     #[error("the text has no normal form: {0}")]
     Normal(NormalError),
 }
 
-/// The place of the location: the normal form of its text, by which Git picks settings for it.
+/// Returns the place of the location: the normal form of its text, by which Git picks settings for it.
 ///
-/// The text is written to the front of the room, and its normal form behind it. Room for four times as many
-/// bytes as the text has, and one more, is asked for ([`UrlRef::text_len`] reports its length); no memory is.
+/// The function writes the text to the front of `room`, and its normal form after it. The buffer needs four bytes
+/// for each byte of the text ([`UrlRef::text_len`]), and one more. Allocates nothing.
+///
+/// **The buffer then holds the whole text of the location, its password included**, after an error as well as after
+/// success. It is unchanged only if the location has no text, or if the buffer is shorter than the text.
 ///
 /// # Errors
 ///
-/// [`PlaceError::Fault`] where the location has no text, [`PlaceError::Normal`] with [`NormalError::NoRoom`]
-/// where the room is shorter than that, and else with what the text has no normal form for: then Git has no
-/// settings for it, but those that are for all places
-/// ([`settings_without_place`](crate::pattern::settings::settings_without_place)).
+/// [`PlaceError::Fault`] if the location has no text. [`PlaceError::Normal`] with [`NormalError::NoRoom`] if the
+/// buffer is too short, otherwise with the reason why the text has no normal form; Git then uses only the settings
+/// for all places ([`settings_without_place`](crate::pattern::settings::settings_without_place)).
 ///
 /// ```
 /// /// Whether a pattern stands for a location.
@@ -58,7 +57,7 @@ pub fn place_in<'a>(url: &UrlRef<'_>, room: &'a mut [u8]) -> Result<NormalUrl<'a
     }
 }
 
-/// The normal form of the text at the front of the room, with the rest of it as the room for that.
+/// Returns the normal form of the text at the front of the buffer, written to the rest of the buffer.
 fn normalize_front(room: &mut [u8], len: usize) -> Result<NormalUrl<'_>, PlaceError>
     requires { len ≤ length room.old }
     ensures { FrontPlacesIn (take len room.old) (length room.old) result }

@@ -1,9 +1,5 @@
-//! The entries of `http.*` whose values Git uses for a place, or for a text that is none: one for most names,
-//! several for a list.
-//!
-//! It uses `config`, `normal`, the patterns and `entries`. Its contract: the indices that are returned are those
-//! of the entries whose values Git uses, in its order, and an error says why there are none. The list of
-//! indices takes memory.
+//! The entries of `http.*` whose values Git uses for a place, or for a text without a normal form: one entry for
+//! most names, several for a list.
 
 ghost use Rattle.std.specs.Prelude.{◌≡◌, ◌↔◌, ◌++◌, ◌∷◌, [], IfErr, IfOk, IsTrue, None, OnOk, Some, length, option_copied};
 ghost use Rattle.git_rules.specs.Settings.{AddsBest, AddsValue, AreSettings, HasKind, IsBestIndex, IsListName, RefusesSettings};
@@ -18,19 +14,19 @@ use crate::word::is_word;
 use std::alloc::{AllocError, Global};
 use thiserror::Error;
 
-/// What Git makes of several values of a name of `http.*`. [`kind_of`] has an example.
+/// How Git combines several values of a name of `http.*`. [`kind_of`] has an example.
 #[derive(Clone, Copy, Debug, PartialEq, Eq)]
 pub enum Kind {
-    /// The value of the best entry counts alone.
+    /// Only the value of the best entry is used.
     Single,
-    /// The values are added up, and an empty value clears those before it.
+    /// The values accumulate, and an empty value clears those before it.
     List,
 }
 
-/// The kind of a name of `http.*`, by the table of git-config(1). It takes no memory.
+/// Returns the kind of a name of `http.*`, by the table of git-config(1).
 ///
-/// `extraHeader` and `curloptResolve` are lists, in any letter case (ASCII). Every other name is single, also
-/// one that Git doesn't know.
+/// `extraHeader` and `curloptResolve` are lists, ignoring letter case (ASCII). Every other name is single, even one
+/// that Git doesn't know.
 ///
 /// ```
 /// /// Whether Git adds up the values of a name of `http.*`, as of `extraHeader`.
@@ -55,16 +51,16 @@ fn is_list(name: &[u8]) -> bool
     is_word(name, "extraheader") || is_word(name, "curloptresolve")
 }
 
-/// Why settings were not found. [`settings_for`] and [`settings_without_place`] have examples.
+/// An error of [`settings_for`] and [`settings_without_place`], which have examples.
 #[derive(Clone, Copy, Debug, PartialEq, Eq, Error)]
 pub enum SettingsError {
-    /// Memory was refused.
+    /// An allocation failed.
     #[error("out of memory")]
     Memory,
-    /// The room is shorter than three times the URL of one of the entries and one byte more.
+    /// The buffer is shorter than three times the URL of one of the entries plus one byte.
     #[error("the room is too short")]
     NoRoom,
-    /// An entry of a list has no value. Git stops at it.
+    /// An entry of a list has no value. Git stops there.
     #[error("the setting at byte {at} has no value")]
     NoValue {
         /// The byte offset of the entry in the text of the configuration.
@@ -82,29 +78,27 @@ impl From<AllocError> for SettingsError {
     }
 }
 
-/// The indices of the entries of `http.<url>.name` and `http.name` whose values Git uses for the place, in
+/// Returns the indices of the entries of `http.<url>.name` and `http.name` whose values Git uses for the place, in
 /// ascending order, which is Git's order.
 ///
 /// Git goes through the entries in their order (`urlmatch.c` of Git 2.39.5). It takes an entry that sets the
-/// variable for the place, as [`entry_rank`](crate::pattern::entries::entry_rank) says, unless an entry before it
-/// does so with a higher [`Rank`]. By the [`Kind`] of the name:
+/// variable for the place ([`entry_rank`](crate::pattern::entries::entry_rank)), unless an earlier entry sets it
+/// with a higher [`Rank`]. The [`Kind`] of the name decides which of the taken entries it uses:
 ///
-/// - of a list the value of each entry that is taken is used, except for those before an empty value that is
-///   taken, and for the empty value itself (`http_options` in `http.c`);
-/// - else the last entry that is taken is used alone, which is the best entry, as
-///   [`best_entry`](crate::pattern::entries::best_entry) finds it. It may have no value. At most one index is
-///   returned.
+/// - List: all taken entries, except one with an empty value and those before it (`http_options` in `http.c`).
+/// - Single: the last entry that is taken, which is the best entry
+///   ([`best_entry`](crate::pattern::entries::best_entry)). It may have no value. At most one index is returned.
 ///
-/// So of a list an entry for all places is used beside one for a URL that follows it, and not one that
-/// follows that. The room is for the URL of one entry after the other, as
-/// [`entry_rank`](crate::pattern::entries::entry_rank) says. Memory is asked for as the list of indices grows.
+/// So in a list an entry for all places is used if it comes before an entry for a URL that matches, and not if it
+/// comes after it. The buffer `room` is used for one URL after the other, as for
+/// [`entry_rank`](crate::pattern::entries::entry_rank). Allocates as the list of indices grows.
 ///
 /// # Errors
 ///
-/// [`SettingsError::NoRoom`] where the room is too short for the URL of one of the entries that set the
-/// variable. [`SettingsError::NoValue`] where the name is a list's, with the place of the first entry that is
-/// taken and has no value, at which Git stops. [`SettingsError::Memory`] where memory is refused. Of several
-/// errors it is the one of the entry that comes first.
+/// [`SettingsError::NoRoom`] if the buffer is too short for the URL of an entry that sets the variable.
+/// [`SettingsError::NoValue`] if the name is a list; it names the first entry that is taken and has no value, at
+/// which Git stops. [`SettingsError::Memory`] if an allocation fails. If there are several errors, the first
+/// entry's is returned.
 ///
 /// ```
 /// /// The headers that Git sends to a place beside its own, each with a line feed after it.
@@ -139,23 +133,22 @@ pub fn settings_for(
     settings_in(alloc, entries, name, Some(place), room)
 }
 
-/// The indices of the entries of `http.name` whose values Git uses for a text without a normal form, in
+/// Returns the indices of the entries of `http.name` whose values Git uses for a text without a normal form, in
 /// ascending order, which is Git's order.
 ///
-/// [`NormalUrl::parse_in`] refuses such a text. Git matches no `<url>` with it (`match_urls` in `urlmatch.c` of
-/// Git 2.39.5), so an entry of `http.<url>.name` never counts. The entries without a subsection are for all
-/// places, and all of one rank: Git takes each of them. By the [`Kind`] of the name:
+/// [`NormalUrl::parse_in`] refuses such a text. Git matches no `<url>` with it (`match_urls` in `urlmatch.c` of Git
+/// 2.39.5), so it never uses an entry of `http.<url>.name`. The entries without a subsection apply to all places
+/// and have equal rank: Git takes each of them. The [`Kind`] of the name decides which of them it uses:
 ///
-/// - of a list the value of each of them is used, except for those before an empty value, and for the empty
-///   value itself (`http_options` in `http.c`);
-/// - else the last of them is used alone. It may have no value. At most one index is returned.
+/// - List: all entries, except one with an empty value and those before it (`http_options` in `http.c`).
+/// - Single: the last entry. It may have no value. At most one index is returned.
 ///
-/// No room is needed, as no URL is read. Memory is asked for as the list of indices grows.
+/// No URL is read, so no buffer is needed. Allocates as the list of indices grows.
 ///
 /// # Errors
 ///
-/// [`SettingsError::NoValue`] where the name is a list's, with the place of the first entry without a subsection
-/// that has no value, at which Git stops. [`SettingsError::Memory`] where memory is refused. No other error.
+/// [`SettingsError::NoValue`] if the name is a list; it names the first entry without a subsection that has no
+/// value, at which Git stops. [`SettingsError::Memory`] if an allocation fails. No other error occurs.
 ///
 /// ```
 /// /// The proxy that Git uses for a text: that of its place, or the one for all places.
@@ -187,7 +180,7 @@ pub fn settings_without_place(
     settings_in(alloc, entries, name, None, &mut [])
 }
 
-/// The indices of the entries whose values Git uses for a place or for none.
+/// The indices of the entries whose values Git uses, with a place or without one.
 fn settings_in(
     alloc: Global,
     entries: &[Entry<'_>],
@@ -207,7 +200,7 @@ fn settings_in(
     }
 }
 
-/// The index of the best entry alone, of a name that isn't a list's.
+/// The index of the best entry alone, for a name that isn't a list.
 fn best_alone(
     alloc: Global,
     entries: &[Entry<'_>],
@@ -233,7 +226,7 @@ fn best_alone(
     }
 }
 
-/// The indices of the entries whose values Git adds up, of a name that is a list's.
+/// The indices of the entries whose values Git accumulates, for a name that is a list.
 fn all_used(
     alloc: Global,
     entries: &[Entry<'_>],
@@ -260,7 +253,7 @@ fn all_used(
     Ok(found)
 }
 
-/// Adds the entry at this index to what was found, if it is the best so far: then Git takes it.
+/// Appends the index to the list if it is that of the best entry so far: then Git takes it.
 fn add_best(
     found: &mut Vec<usize>,
     best: Option<(usize, Rank)>,
@@ -285,7 +278,7 @@ fn is_best_index(best: Option<(usize, Rank)>, i: usize) -> bool
     }
 }
 
-/// Adds the entry at this index to what was found, or clears that where its value is empty.
+/// Appends the index to the list, or clears the list if the entry's value is empty.
 fn add_value(found: &mut Vec<usize>, i: usize, entry: &Entry<'_>) -> Result<(), SettingsError>
     ensures { AddsValue entry.now i found.old.items found.new.items result }
 {
@@ -300,7 +293,7 @@ fn add_value(found: &mut Vec<usize>, i: usize, entry: &Entry<'_>) -> Result<(), 
     Ok(())
 }
 
-/// Adds an index at the end of the list.
+/// Appends an index to the list.
 fn push(found: &mut Vec<usize>, i: usize) -> Result<(), AllocError>
     ensures { OnOk result (found.new.items ≡ found.old.items ++ i ∷ []) }
 {

@@ -1,9 +1,8 @@
-//! Which transport Git uses for a text.
+//! The transport that Git uses for a text.
 //!
-//! It uses no reading of a location: [`transport`](super::transport) names the transport of a location as this
-//! library reads it. Its contract: the result is a name exactly if the text has that transport, and a reason
-//! exactly if the text lacks a transport for it (`specs/TextTransports.antt`, `law_text_transport`). It takes
-//! no memory.
+//! No location is parsed here: [`transport`](super::transport) returns the transport of a parsed location. The
+//! result is a name exactly if the text has that transport, and an error exactly if the text lacks a transport for
+//! that reason (`specs/TextTransports.antt`, `law_text_transport`).
 
 ghost use Rattle.std.specs.Prelude.{◌≡◌, ◌↔◌, IfErr, IfOk, IsTrue, MatchOption, codes, false, true};
 ghost use Rattle.git_syntax.specs.Bytes.{is_helper_name};
@@ -17,7 +16,7 @@ use git_syntax::scheme::{KnownScheme, scheme_of};
 use git_syntax::text::as_text;
 use thiserror::Error;
 
-/// Why Git uses no transport for a text. Where there is more than one reason, the first of these is returned.
+/// The reason why Git uses no transport for a text. If several apply, the first of these is returned.
 ///
 /// ```
 /// /// Whether a text is a location that older versions of Git fetched from.
@@ -27,54 +26,53 @@ use thiserror::Error;
 /// ```
 #[derive(Clone, Copy, Debug, PartialEq, Eq, Error)]
 pub enum NoTransport {
-    /// The text has a byte 0, which ends the argument of a command.
+    /// The text contains a byte 0, which ends the argument of a command.
     #[error("byte 0 ends the argument of a command")]
     ByteZero,
     /// The text begins with `-`: it may be taken for an option.
     #[error("a text that begins with `-` may be taken for an option")]
     OptionLike,
-    /// The text begins with `rsync:`, but not with `rsync::`. Git has no such transport any more.
+    /// The text begins with `rsync:`, but not with `rsync::`. Git no longer has such a transport.
     #[error("Git has no transport for `rsync:` any more")]
     Rsync,
-    /// The text has a `://`, and what precedes the first one is not a scheme: a letter or a digit, then
+    /// The text contains `://`, and the text before the first one is not a scheme: a letter or a digit, then
     /// letters, digits, `+`, `-` and `.` (ASCII). So it is neither a transport nor a remote helper.
     #[error("the text before `://` is neither a transport nor a remote helper")]
     UnknownScheme,
 }
 
-/// The name of the transport that Git uses for a text, or of the remote helper that it runs.
+/// Returns the name of the transport that Git uses for a text, or of the remote helper that it runs.
 ///
-/// `text` is what Git gets for a repository: an argument, or the URL of a remote after it is rewritten
+/// `text` is the repository that Git is called with: an argument, or the URL of a remote after it is rewritten
 /// ([`Rewrites`](crate::rewrite::Rewrites)). Git looks the name up in `protocol.<name>.allow` and
-/// `GIT_ALLOW_PROTOCOL`, as [`Protocols::permission`](super::Protocols::permission) does. The name depends on
-/// the form of the text alone:
+/// `GIT_ALLOW_PROTOCOL`, as [`Protocols::permission`](super::Protocols::permission) does. The name depends only on
+/// the form of the text:
 ///
-/// 1. `name::address` is for the remote helper `name`, also if that is `ssh` or `rsync`. `::address` is for a
-///    helper with an empty name. Git looks the empty name up too. If that is allowed, Git finds no helper.
-/// 2. `scheme://` is for the transport of its scheme: `ssh` for `git+ssh://` and `ssh+git://`, and otherwise
-///    the scheme, in which letter case counts. `SSH://` is for a remote helper of that name.
-/// 3. Any other text is for `ssh` if a colon comes before each `/`, and otherwise for `file`.
+/// 1. `name::address` uses the remote helper `name`, even if that is `ssh` or `rsync`. `::address` uses a helper
+///    with an empty name. Git looks the empty name up too; if it is allowed, Git finds no helper.
+/// 2. `scheme://` uses the transport of its scheme: `ssh` for `git+ssh://` and `ssh+git://`, and otherwise the
+///    scheme, which is case-sensitive. `SSH://` uses a remote helper of that name.
+/// 3. Any other text uses `ssh` if a colon comes before each `/`, and otherwise `file`.
 ///
-/// [`transport`](super::transport) names the transport of a location as this library reads it. It returns
-/// `file` for `[evil:22]/x:p` and `[::1]/:p`, and this call returns `ssh`, as Git does. Both return the same
-/// name for the text of a location for which `agrees_with_git` is true ([`law_text_transport`]).
+/// [`transport`](super::transport) returns the transport of a location as this library reads it. It returns `file`
+/// for `[evil:22]/x:p` and `[::1]/:p`; this function returns `ssh`, as Git does. Both return the same name for the
+/// text of a location for which `agrees_with_git` is true ([`law_text_transport`]).
 ///
-/// Some texts have a name here, and Git refuses them before it looks the name up: a URL of `ssh`, `git` or
-/// `file` without a path, an empty text, and a path that begins with `-`. `git clone` first looks for a
-/// repository in the folder that the whole text names, and uses `file` if there is one, whatever the form of
-/// the text. A text that is the name of a remote is not resolved. `remote.<name>.vcs`, which names another
-/// helper, is not looked at.
+/// This function returns a name for some texts that Git refuses before it looks the name up: a URL of `ssh`, `git`
+/// or `file` without a path, an empty text, and a path that begins with `-`. `git clone` first looks for a
+/// repository in the folder that the whole text names, and uses `file` if there is one, whatever the form of the
+/// text. The name of a remote is not resolved. `remote.<name>.vcs`, which selects another helper, is ignored.
 ///
-/// It takes no memory. The rules are those of `protocol.allow` in git-config(1) and of gitremote-helpers(7).
-/// Where these leave a case open, it is that of Git 2.39.5.
+/// Allocates nothing. The rules are those of `protocol.allow` in git-config(1) and of gitremote-helpers(7). If
+/// these leave a case open, Git 2.39.5 decides.
 ///
 /// # Errors
 ///
-/// - [`NoTransport::ByteZero`]: the text has a byte 0.
+/// - [`NoTransport::ByteZero`]: the text contains a byte 0.
 /// - [`NoTransport::OptionLike`]: the text begins with `-`.
 /// - [`NoTransport::Rsync`]: the text begins with `rsync:`, but not with `rsync::`. Git refuses it.
-/// - [`NoTransport::UnknownScheme`]: the text has a `://` and isn't for a helper (1.), and what precedes the
-///   first `://` is not a scheme. Git refuses it.
+/// - [`NoTransport::UnknownScheme`]: the text contains `://` and doesn't name a helper (1.), and the text before
+///   the first `://` is not a scheme. Git refuses it.
 ///
 /// ```
 /// /// Whether Git may fetch from a text that the user didn't type.
@@ -112,7 +110,7 @@ pub fn transport_of(text: &[u8]) -> Result<&str, NoTransport>
     }
 }
 
-/// The name of the remote helper that a text is for by its `::`. It may be empty.
+/// The name of the remote helper before the `::` of a text. It may be empty.
 fn helper_name(text: &[u8]) -> Option<&str>
     ensures { MatchOption result (¬ NamesHelper text.now) (λ name. UsesTransport text.now name.now) }
 {
@@ -150,7 +148,7 @@ fn by_scheme(scheme: &[u8]) -> Result<&str, NoTransport>
     }
 }
 
-/// The transport of a text that is no URL, and is not for a helper.
+/// The transport of a text that isn't a URL and names no helper.
 fn by_colon(text: &[u8]) -> &'static str
     requires { IsNoUrl text.now }
     ensures { UsesTransport text.now result.now }
@@ -158,7 +156,7 @@ fn by_colon(text: &[u8]) -> &'static str
     if is_remote(text) { "ssh" } else { "file" }
 }
 
-/// Whether a colon is in the text before any `/`.
+/// Whether the text has a colon before any `/`.
 fn is_remote(text: &[u8]) -> bool
     ensures { IsTrue result ↔ IsRemote text.now }
 {
@@ -168,14 +166,14 @@ fn is_remote(text: &[u8]) -> bool
     }
 }
 
-/// Each text has one transport or one reason why it lacks one. The transport is that of what Git reads there.
+/// Each text has one transport or one reason why it lacks one. The transport is that of Git's reading of the text.
 ///
-/// - `one`: Git uses at most one transport for a text, so a name that [`transport_of`] returns is that one.
+/// - `one`: Git uses at most one transport for a text, so [`transport_of`] returns its name.
 /// - `one_reason`: a text lacks a transport for at most one reason.
-/// - `apart`: no text has a transport and a reason why it lacks one.
+/// - `apart`: no text has both a transport and a reason why it lacks one.
 /// - `each`: each text has a transport or such a reason.
-/// - `read`: if Git reads a place in a text ([`reading`](git_reads::transport::reading)), the transport of the
-///   text is that of the place. So the policy is looked up for the transport that connects.
+/// - `read`: if Git reads a place in a text ([`reading`](git_reads::transport::reading)), the transport of the text
+///   is that of the place. So the policy is looked up for the transport that connects.
 /// - `located`: the text of a location for which `agrees_with_git` is true has the transport that
 ///   [`transport`](super::transport) returns for the location.
 pub fn law_text_transport()

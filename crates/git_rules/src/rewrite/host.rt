@@ -1,7 +1,4 @@
-//! Whether two locations name the same host, as a rewritten one should.
-//!
-//! It uses borrowed locations and the hosts that Secure Shell takes. Its contract: hosts are compared by
-//! their names, and nothing else of the locations is looked at.
+//! Whether two locations name the same host, so that a program can check a rewritten location.
 
 ghost use Rattle.std.specs.Prelude.{◌≡◌, ◌↔◌, IsTrue, length};
 ghost use Rattle.git_rules.specs.SameHost.{ComparesHosts, HaveSameHost, host_name};
@@ -10,13 +7,11 @@ use git_location::parse_error::ParseError;
 use git_location::url_ref::UrlRef;
 use git_syntax::ssh_host::ssh_host_text;
 
-/// Whether two locations name the same host, so that a program can warn about a remote that a rule moves to
-/// another one.
+/// Whether two locations name the same host. A program can warn about a remote that a rule moves to another host.
 ///
-/// Hosts are compared without letter case (ASCII), without brackets around them, and without a lone colon
-/// behind them. Two locations without a host count as the same. Neither scheme nor user nor port is looked
-/// at: the same host may be reached by another protocol, or another service of it. Nor is a name resolved. It
-/// takes no memory.
+/// Hosts are compared ignoring letter case (ASCII), brackets around them, and a lone colon after them. Two
+/// locations without a host compare equal. Scheme, user and port are ignored: the locations may use different
+/// protocols, or different services of the host. Names are not resolved.
 ///
 /// ```
 /// /// Whether a rule moves a location to a host that the user hasn't named.
@@ -36,8 +31,8 @@ pub fn names_same_host(a: &UrlRef<'_>, b: &UrlRef<'_>) -> bool
     }
 }
 
-/// The same of two texts, each of which is read into a buffer of its own. A buffer as long as its text is
-/// enough. It takes no memory.
+/// As [`names_same_host`], for two texts, each of which is parsed into a buffer of its own. A buffer as long as its
+/// text suffices.
 ///
 /// ```
 /// /// Whether both texts name the same host; none where one of them isn't read, or is longer than 1,024 bytes.
@@ -50,7 +45,7 @@ pub fn names_same_host(a: &UrlRef<'_>, b: &UrlRef<'_>) -> bool
 ///
 /// # Errors
 ///
-/// The [`ParseError`] of the first text that isn't read.
+/// The [`ParseError`] of the first text that can't be parsed.
 pub fn texts_name_same_host(
     a: &[u8],
     buffer: &mut [u8],
@@ -64,8 +59,8 @@ pub fn texts_name_same_host(
     Ok(names_same_host(&first, &second))
 }
 
-/// Whether two hosts have one name: they are equal without letter case (ASCII), without brackets around them, and
-/// without a lone colon at their end. It takes no memory.
+/// Whether two hosts have the same name: they are equal, ignoring letter case (ASCII), brackets around them, and a
+/// lone colon at their end.
 ///
 /// ```
 /// /// Whether a host is one of those that a program connects to.

@@ -1,11 +1,8 @@
-//! That rules make one outcome of a text, and no other: what the contracts of
-//! [`Rewrites`](crate::rewrite::Rewrites) say of an outcome determines it.
-//!
-//! It has no code and uses nothing.
+//! The law that the contracts of [`Rewrites`](crate::rewrite::Rewrites) determine the outcome for a text.
 
 ghost use Rattle.git_rules.specs.RewriteLaws.{OneOutcome, OneOutcomeToPush};
 
-/// Of a text there is one outcome by the rules, for fetching and for pushing.
+/// Rules have one outcome for a text, for fetching and for pushing.
 pub fn law_one_outcome()
     ensures fetching { OneOutcome }
     ensures pushing { OneOutcomeToPush }

@@ -1,7 +1,5 @@
-//! What becomes of a text that is rewritten: a [`Rewritten`], of two slices.
-//!
-//! It uses `bytes` of `git_syntax` to put them together. Its contract: to all others it is a base, if there
-//! is one, and a rest, and its text is the one before the other.
+//! The outcome of rewriting a text: a [`Rewritten`] of two slices, whose text is the base, if there is one,
+//! followed by the rest.
 
 ghost use Rattle.std.specs.Prelude.{◌≡◌, ◌++◌, IfOk, is_some};
 ghost use Rattle.bstr.specs.Owned.{bstring_bytes};
@@ -12,8 +10,8 @@ use git_syntax::bytes::append_within;
 use std::alloc::{AllocError, Global};
 use std::marker::Model;
 
-/// What becomes of a text that is rewritten: the base of the rule that won, and the text behind that rule's
-/// front; or no base and the text itself. It borrows both.
+/// The outcome of rewriting a text: the base of the rule that won, and the text after that rule's front; or no base
+/// and the text itself. It borrows both.
 ///
 /// ```
 /// /// The front that a rule takes off a text, if one wins.
@@ -25,9 +23,9 @@ use std::marker::Model;
 /// ```
 #[derive(Drop)]
 pub struct Rewritten<'a> {
-    /// What the text begins with now, where a rule won. It may be empty.
+    /// The new beginning of the text, if a rule won. It may be empty.
     pub base: Option<&'a [u8]>,
-    /// What is left of the text behind the front of that rule; all of it where no rule won.
+    /// The text after the front of that rule; the whole text if no rule won.
     pub rest: &'a [u8],
 }
 
@@ -42,8 +40,7 @@ impl<'a> Model for Rewritten<'a> {
 }
 
 impl Rewritten<'_> {
-    /// Whether a rule won. Its base may be the front that it replaces, and then the text is the same. It
-    /// takes no memory.
+    /// Whether a rule won. If its base equals the front that it replaces, the text is still the same.
     ///
     /// ```
     /// /// How many of the locations a configuration rewrites.
@@ -63,14 +60,14 @@ impl Rewritten<'_> {
         self.base.is_some()
     }
 
-    /// The whole text: the base, where there is one, and the rest.
+    /// Returns the whole text: the base, if there is one, and the rest.
     ///
-    /// Memory is asked for once, for exactly the length of the text, and not at all for an empty one.
+    /// Allocates once, exactly the length of the text, and not at all if it is empty.
     /// [`Rewrites`](crate::rewrite::Rewrites) has an example.
     ///
     /// # Errors
     ///
-    /// `AllocError` where memory is refused, or where the text would be longer than any memory.
+    /// Returns `AllocError` if the allocation fails, or if the length of the text overflows.
     pub fn to_bstring(&self, alloc: Global) -> Result<BString, AllocError>
         ensures { IfOk result (λ text. bstring_bytes text ≡ outcome_text self.now) }
     {
@@ -81,7 +78,7 @@ impl Rewritten<'_> {
     }
 }
 
-/// One text and then the other.
+/// Concatenates two texts.
 fn join(alloc: Global, front: &[u8], rest: &[u8]) -> Result<BString, AllocError>
     ensures { IfOk result (λ text. bstring_bytes text ≡ front.now ++ rest.now) }
 {

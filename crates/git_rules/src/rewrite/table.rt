@@ -1,11 +1,10 @@
-//! A table of rules, and which of them wins.
+//! A table of rules, and the search for the one that wins.
 //!
-//! It uses `outcome`. Beside the rules in their order a table notes the rank of each base, which is how many
-//! rules come before the first one with it; of the bases that rules with a front have the first one, for each
-//! front; and the lengths of the fronts. A text is looked up once for each of these lengths that is at most
-//! its own, in ascending order, and the last front that is found wins. So it takes at most the sum of these
-//! lengths, each counted once, times the logarithm of the number of rules. To all others a table is a list of
-//! rules.
+//! Besides the rules in their order a table records the rank of each base (the number of rules before the first one
+//! with it), for each front the base with the lowest rank among its rules, and the lengths of the fronts. A text is
+//! looked up once for each of these lengths that is at most its own, in ascending order, and the last front that is
+//! found wins. This takes at most the sum of these lengths, each counted once, times the logarithm of the number of
+//! rules. In contracts a table is a list of rules.
 
 ghost use Rattle.std.specs.Prelude.{◌≡◌, ◌↔◌, ◌++◌, ◌∷◌, [], List, IfOk, IsTrue, OnErr, OnOk, map};
 ghost use Rattle.std.specs.BTreeMap.{IsUnchanged};
@@ -24,7 +23,7 @@ pub(crate) struct Kept<'a> {
     front: &'a [u8],
 }
 
-/// A base with its rank: how many rules come before the first one with it.
+/// A base with its rank: the number of rules before the first one with it.
 #[derive(Clone, Copy)]
 pub(crate) struct Ranked<'a> {
     base: &'a [u8],
@@ -35,13 +34,13 @@ pub(crate) struct Ranked<'a> {
 #[derive(Drop)]
 pub(crate) struct Table<'a> {
     rules: Vec<Kept<'a>>,
-    /// The rank of each base that a rule has. One that is noted for another base means nothing: memory was
-    /// refused for the rule that it was noted for.
+    /// The rank of each base that a rule has. A recorded rank of any other base is meaningless: the allocation for
+    /// its rule failed.
     ranks: BTreeMap<&'a [u8], usize>,
-    /// For each front the base of the lowest rank, of those that rules with the front have.
+    /// For each front the base with the lowest rank, among the rules with that front.
     fronts: BTreeMap<&'a [u8], Ranked<'a>>,
-    /// The length of each front in bytes. More lengths do no harm: memory may have been refused for a rule
-    /// whose length is noted.
+    /// The length of each front in bytes. Additional lengths do no harm: they belong to rules for which an
+    /// allocation failed.
     lengths: BTreeSet<usize>,
 }
 
@@ -59,7 +58,7 @@ impl<'a> Model for Table<'a> {
 }
 
 impl<'a> Table<'a> {
-    /// A table without rules.
+    /// Returns a table without rules.
     pub(crate) fn new(alloc: Global) -> Table<'a>
         ensures { result ≡ [] }
     {
@@ -71,13 +70,13 @@ impl<'a> Table<'a> {
         }
     }
 
-    /// Adds a rule behind the others.
+    /// Appends a rule.
     pub(crate) fn add(&mut self, base: &'a [u8], front: &'a [u8]) -> Result<(), AllocError>
         ensures added { OnOk result
             (self.new ≡ self.old ++ record { base = base.now; front = front.now } ∷ []) }
         ensures refused { OnErr result (self.new ≡ self.old) }
     {
-        // Memory for the rule is asked for first, so that no front is noted without its rule.
+        // Memory for the rule is reserved first, so that no front is recorded without its rule.
         self.rules.reserve(1)?;
         self.lengths.insert(front.len())?;
         let rank = rank_of(self.rules.as_slice(), &mut self.ranks, base)?;
@@ -86,7 +85,7 @@ impl<'a> Table<'a> {
         Ok(())
     }
 
-    /// What the table makes of a text.
+    /// Rewrites a text by the table.
     pub(crate) fn rewrite<'t>(&self, text: &'t [u8]) -> Rewritten<'t>
     where
         'a: 't,
@@ -96,7 +95,7 @@ impl<'a> Table<'a> {
     }
 }
 
-/// The rank of a base among the rules and one more with it, which is noted.
+/// Returns the rank of a base among the rules and one more with this base, and records it.
 fn rank_of<'a>(
     rules: &[Kept<'a>],
     ranks: &mut BTreeMap<&'a [u8], usize>,
@@ -125,7 +124,7 @@ fn known_rank(rules: &[Kept<'_>], ranks: &BTreeMap<&[u8], usize>, base: &[u8]) -
     }
 }
 
-/// Whether the rule at a place has the base.
+/// Whether the rule at an index has the base.
 fn has_base_at(rules: &[Kept<'_>], at: usize, base: &[u8]) -> bool
     ensures { IsTrue result ↔ HasBaseAt rules.now at base.now }
 {
@@ -135,7 +134,7 @@ fn has_base_at(rules: &[Kept<'_>], at: usize, base: &[u8]) -> bool
     }
 }
 
-/// Notes a base for a front, unless the rank of the one that is noted is no higher.
+/// Records a base for a front, unless the recorded base has a rank that is no higher.
 fn note_front<'a>(
     fronts: &mut BTreeMap<&'a [u8], Ranked<'a>>,
     front: &'a [u8],
@@ -149,7 +148,7 @@ fn note_front<'a>(
     Ok(())
 }
 
-/// A base, or the one that is noted where its rank is no higher.
+/// The base, or the recorded one if its rank is no higher.
 fn lower_of<'a>(noted: Option<Ranked<'a>>, base: Ranked<'a>) -> Ranked<'a>
     ensures { IsLowerOf noted.entry base.entry result }
 {
@@ -159,8 +158,8 @@ fn lower_of<'a>(noted: Option<Ranked<'a>>, base: Ranked<'a>) -> Ranked<'a>
     if first.rank <= base.rank { first } else { base }
 }
 
-/// What rules make of a text, by what is noted of their fronts. The lengths ascend, so that the last front
-/// that is found is the longest, and no front is sought that is longer than the text.
+/// Rewrites a text by the recorded fronts. The lengths ascend, so the last front that is found is the longest; no
+/// front longer than the text is looked up.
 fn rewritten<'a, 't>(
     fronts: &BTreeMap<&'a [u8], Ranked<'a>>,
     lengths: &BTreeSet<usize>,

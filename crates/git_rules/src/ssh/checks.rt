@@ -1,8 +1,5 @@
-//! Whether the parts of a location and what is asked for make a command: the user, the host, the path, the
-//! program, the family of addresses and the port.
-//!
-//! It uses the tests of bytes of `git_syntax`, and takes no memory. Its contract: a part is refused exactly
-//! where the definitions refuse it, for their reason.
+//! Checks of the parts of a location and of a request: the user, the host, the path, the program, the address
+//! family and the port.
 
 ghost use Rattle.std.specs.Prelude.{◌≡◌, IfErr, IfOk, None, Some, option_map};
 ghost use Rattle.std.specs.Result.{result_err};
@@ -11,7 +8,7 @@ ghost use Rattle.git_rules.specs.SecureShell as spec;
 use crate::ssh::{AddressFamily, SshRefusal, SshRequest, SshVariant};
 use git_syntax::bytes::{is_free_of, starts_with_byte};
 
-/// The host, where it makes a destination with the user.
+/// Returns the host, if the user and the host form a destination.
 pub(super) fn check_destination<'a>(
     user: Option<&str>,
     host: Option<&'a str>,
@@ -27,7 +24,7 @@ pub(super) fn check_destination<'a>(
     Ok(host)
 }
 
-/// Refuses a user that makes no destination.
+/// Refuses a user that can't be part of a destination.
 fn check_user(user: Option<&str>) -> Result<(), SshRefusal>
     ensures { result_err result ≡ spec.user_refusal (option_map (λ t. t.now) user.entry) }
 {
@@ -37,7 +34,7 @@ fn check_user(user: Option<&str>) -> Result<(), SshRefusal>
     }
 }
 
-/// Refuses the text of a user that makes no destination.
+/// Refuses the text of a user that can't be part of a destination.
 fn check_user_text(user: &[u8]) -> Result<(), SshRefusal>
     ensures { result_err result ≡ spec.user_refusal (Some user.now) }
 {
@@ -52,7 +49,7 @@ fn check_user_text(user: &[u8]) -> Result<(), SshRefusal>
     }
 }
 
-/// The host, where it makes a destination.
+/// Returns the host, if it can be part of a destination.
 fn check_host<'a>(host: Option<&'a str>) -> Result<&'a str, SshRefusal>
     ensures found { IfOk result (λ h. (option_map (λ t. t.now) host.entry ≡ Some h.now)
         × (spec.host_refusal (Some h.now) ≡ None)) }
@@ -67,7 +64,7 @@ fn check_host<'a>(host: Option<&'a str>) -> Result<&'a str, SshRefusal>
     }
 }
 
-/// Refuses the text of a host that makes no destination.
+/// Refuses the text of a host that can't be part of a destination.
 fn check_host_text(host: &[u8]) -> Result<(), SshRefusal>
     ensures { result_err result ≡ spec.host_refusal (Some host.now) }
 {
@@ -105,7 +102,7 @@ fn check_front(front: &[u8]) -> Result<(), SshRefusal>
     }
 }
 
-/// Refuses a path that makes no remote command.
+/// Refuses a path that can't be part of a remote command.
 pub(super) fn check_path(path: &[u8]) -> Result<(), SshRefusal>
     ensures { result_err result ≡ spec.path_refusal path.now }
 {
@@ -120,7 +117,7 @@ pub(super) fn check_path(path: &[u8]) -> Result<(), SshRefusal>
     }
 }
 
-/// Refuses what is asked for, where it makes no command with the port.
+/// Refuses a request that has no command with this port.
 pub(super) fn check_request(request: &SshRequest<'_>, port: Option<u16>) -> Result<(), SshRefusal>
     ensures { result_err result ≡ spec.request_refusal request.now port }
 {
@@ -133,7 +130,7 @@ pub(super) fn check_request(request: &SshRequest<'_>, port: Option<u16>) -> Resu
     }
 }
 
-/// Refuses a program that makes no remote command.
+/// Refuses a program that can't be part of a remote command.
 fn check_program(program: Option<&[u8]>) -> Result<(), SshRefusal>
     ensures { result_err result ≡ spec.program_refusal (option_map (λ t. t.now) program.entry) }
 {

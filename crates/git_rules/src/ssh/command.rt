@@ -1,7 +1,4 @@
-//! A command of Secure Shell, by its parts, and the words that it is run with.
-//!
-//! It uses `words`, which writes a word, and asks for memory for the words alone. Its contract: the words are
-//! those of the definitions (`specs/SecureShell.antt`), and each command is safe, wherever it comes from.
+//! A Secure Shell command as its parts, and its words.
 
 ghost use Rattle.std.specs.Prelude.{◌≡◌, ◌<◌, IfOk, IfSome, map, option_map};
 ghost use Rattle.bstr.specs.Owned.{bstring_bytes};
@@ -13,16 +10,14 @@ use bstr::BString;
 use std::alloc::{AllocError, Global};
 use std::marker::Model;
 
-/// As many words as a command can have.
+/// The greatest number of words that a command has.
 const MOST_WORDS: usize = 7;
 
-/// A command of Secure Shell, by its parts: the program that is run, what it is asked for, and the parts of
-/// the location.
+/// A Secure Shell command as its parts: the program, the request, and the parts of the location, which it borrows.
 ///
-/// A location lends its parts, so making a command takes no memory.
-/// [`ssh_command_for`](super::ssh_command_for) makes one; by hand one is made only of parts that it would let
-/// by, since each place that makes one has to prove that: contracts know of each command that it is safe
-/// (`IsSafeCommand`), wherever it comes from.
+/// [`ssh_command_for`](super::ssh_command_for) returns one. A program that builds one from its fields has to prove
+/// that [`ssh_command_for`](super::ssh_command_for) would accept them: in contracts every command is safe
+/// (`IsSafeCommand`).
 ///
 /// ```
 /// /// Whether the command says who logs in.
@@ -32,15 +27,15 @@ const MOST_WORDS: usize = 7;
 /// ```
 #[derive(Drop)]
 pub struct SshCommand<'a> {
-    /// The program that is run.
+    /// The variant of the program that is run.
     pub variant: SshVariant,
-    /// The version of Git's protocol that is asked for.
+    /// The requested version of Git's protocol.
     pub version: ProtocolVersion,
-    /// What the server runs.
+    /// The service that the server runs.
     pub service: Service,
-    /// The program that the server runs in place of the service's.
+    /// The program that the server runs instead of the service's.
     pub program: Option<&'a [u8]>,
-    /// Of which family the addresses are that are connected to.
+    /// The address family for the connection.
     pub family: AddressFamily,
     /// The user, before the `@` of the destination.
     pub user: Option<&'a str>,
@@ -65,9 +60,8 @@ impl<'a> Model for SshCommand<'a> {
 }
 
 impl SshCommand<'_> {
-    /// The value that Git gives the variable `GIT_PROTOCOL` in the environment of the program; none where it
-    /// gives none. The word `SendEnv=GIT_PROTOCOL` is there exactly where there is a value. It takes no
-    /// memory.
+    /// The value that Git sets for the variable `GIT_PROTOCOL` in the environment of the program, or `None` if it
+    /// doesn't set it. The word `SendEnv=GIT_PROTOCOL` is present exactly if there is a value.
     ///
     /// ```
     /// fn asks_for_version_2(command: &SshCommand<'_>) -> bool {
@@ -87,15 +81,13 @@ impl SshCommand<'_> {
         }
     }
 
-    /// The words behind the name of the program, which isn't among them. Memory is asked for once for the
-    /// list, which has 2 to 7 words, and once for each of them.
+    /// Returns the words after the name of the program. Allocates the list, which has 2 to 7 words, and each word.
     ///
-    /// First come the options: `-o` and `SendEnv=GIT_PROTOCOL` where a version is sent, `-4` or `-6` for a
-    /// family of addresses, `-batch` for `tortoiseplink`, and where there is a port `-p` for OpenSSH or else
-    /// `-P`, and its digits. Then comes the destination, `user@host` or the host, and at last the command for
-    /// the server's shell: the service or the program in its place, a space, and the path in single quotes,
-    /// in which `'` and `!` are written `'\''` and `'\!'`. Each word goes to the program as one argument,
-    /// with no shell on this side.
+    /// The options come first: `-o` and `SendEnv=GIT_PROTOCOL` if a version is sent, `-4` or `-6` for an address
+    /// family, `-batch` for `tortoiseplink`, and for a port its digits after `-p` with OpenSSH and after `-P` with
+    /// the others. Then comes the destination, `user@host` or the host, and last the command for the server's
+    /// shell: the service or the program that replaces it, a space, and the path in single quotes, in which `'` and
+    /// `!` are written `'\''` and `'\!'`. Each word is one argument of the program; no local shell reads it.
     ///
     /// ```
     /// fn last_word(alloc: Global, command: &SshCommand<'_>) -> Result<Option<BString>, AllocError> {
@@ -106,7 +98,7 @@ impl SshCommand<'_> {
     ///
     /// # Errors
     ///
-    /// [`AllocError`] where memory is refused, or where a word is longer than any memory.
+    /// Returns [`AllocError`] if an allocation fails, or if the length of a word overflows.
     pub fn to_words(&self, alloc: Global) -> Result<Vec<BString>, AllocError>
         ensures words { IfOk result (λ words. map bstring_bytes words.items ≡ spec.command_words self.now) }
         ensures safe { spec.IsSafeCommand self.now }
@@ -124,7 +116,7 @@ impl SshCommand<'_> {
         Ok(words)
     }
 
-    /// The program that the server runs: the one that is named, or the service's own.
+    /// The program that the server runs: the one that is set, or the service's own.
     fn run_there(&self) -> &[u8]
         ensures { result.now ≡ spec.program_text self.now.request }
     {
@@ -134,7 +126,7 @@ impl SshCommand<'_> {
         }
     }
 
-    /// Each command is safe: it can't be made otherwise.
+    /// Every command is safe: an unsafe one can't be built.
     pub(super) fn law_safe(&self)
         ensures { spec.IsSafeCommand self.now }
     {

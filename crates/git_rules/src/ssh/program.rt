@@ -1,9 +1,7 @@
-//! Which program Git runs for Secure Shell, and which variant it takes it for.
+//! The program that Git runs for Secure Shell, and the variant that Git takes it for.
 //!
-//! It uses the entries of `config`, and `name`, which finds the name of a program. It reads no environment,
-//! runs no program and takes no memory. Its contract: the program, whether it is a command line, and its
-//! variant are those of one definition (`specs/SshPrograms.antt`), and an error names the entry that Git
-//! stops at.
+//! No function here reads the environment or runs a program. An error names the entry at which Git stops. One
+//! definition covers the program, whether it is a command line, and its variant (`specs/SshPrograms.antt`).
 
 ghost use Rattle.std.specs.Prelude.{◌≡◌, option_map};
 ghost use Rattle.std.specs.Result.{result_map_both};
@@ -18,10 +16,10 @@ use name::{name_of_line, name_of_path};
 use std::marker::Model;
 use thiserror::Error;
 
-/// What decides which program Git runs for Secure Shell: a configuration, and three variables of the
+/// The settings that determine which program Git runs for Secure Shell: a configuration, and three variables of the
 /// environment.
 ///
-/// The caller reads the variables and puts their values in. It owns nothing and takes no memory.
+/// The caller reads the variables and sets the fields to their values, which are borrowed.
 ///
 /// ```
 /// /// What Git runs by a configuration alone.
@@ -36,15 +34,14 @@ use thiserror::Error;
 /// ```
 #[derive(Drop)]
 pub struct SshSettings<'a> {
-    /// The entries of the configuration, in their order. Those of other keys than `core.sshCommand` and
-    /// `ssh.variant` count for nothing.
+    /// The entries of the configuration, in their order. Entries of keys other than `core.sshCommand` and
+    /// `ssh.variant` are ignored.
     pub entries: &'a [Entry<'a>],
-    /// The value of `GIT_SSH_COMMAND`; none where it isn't set. An empty one is a command line like any
-    /// other.
+    /// The value of `GIT_SSH_COMMAND`, or `None` if it isn't set. An empty value is a command line like any other.
     pub git_ssh_command: Option<&'a [u8]>,
-    /// The value of `GIT_SSH`; none where it isn't set.
+    /// The value of `GIT_SSH`, or `None` if it isn't set.
     pub git_ssh: Option<&'a [u8]>,
-    /// The value of `GIT_SSH_VARIANT`; none where it isn't set.
+    /// The value of `GIT_SSH_VARIANT`, or `None` if it isn't set.
     pub git_ssh_variant: Option<&'a [u8]>,
 }
 
@@ -58,7 +55,7 @@ impl<'a> Model for SshSettings<'a> {
     ghost view = { lent_settings };
 }
 
-/// Which variant Git takes a program of Secure Shell for.
+/// The variant that Git takes a Secure Shell program for.
 ///
 /// ```
 /// /// The variant, where Git needs to run nothing to know it.
@@ -71,14 +68,14 @@ impl<'a> Model for SshSettings<'a> {
 /// ```
 #[derive(Clone, Copy, Debug, PartialEq, Eq)]
 pub enum ProgramVariant {
-    /// This one, by the configuration or by the name of the program.
+    /// This variant, by the configuration or by the name of the program.
     Known(SshVariant),
-    /// Git runs the program with `-G`, the options that OpenSSH has and the destination, but no command. If
-    /// it ends with status 0 Git takes it for [`SshVariant::Ssh`], and else for [`SshVariant::Simple`].
+    /// Git runs the program with `-G`, the options that OpenSSH has and the destination, but no command. If it
+    /// exits with status 0, Git takes it for [`SshVariant::Ssh`], otherwise for [`SshVariant::Simple`].
     Asked,
 }
 
-/// Why Git runs no program for Secure Shell.
+/// The reason why Git runs no program for Secure Shell.
 ///
 /// ```
 /// /// The byte offset of the entry that Git stops at, in the text of the configuration.
@@ -89,7 +86,7 @@ pub enum ProgramVariant {
 /// ```
 #[derive(Clone, Copy, Debug, Drop, PartialEq, Eq, Error)]
 pub enum SshProgramError {
-    /// The entry that counts, of `core.sshCommand` or of `ssh.variant`, has no value.
+    /// The entry that decides, of `core.sshCommand` or of `ssh.variant`, has no value.
     #[error("the setting at byte {at} has no value")]
     NoValue {
         /// The byte offset of the entry in the text of the configuration.
@@ -97,7 +94,7 @@ pub enum SshProgramError {
     },
 }
 
-/// What Git runs for Secure Shell. It borrows its text from the settings.
+/// The program that Git runs for Secure Shell. It borrows its text from the settings.
 ///
 /// ```
 /// /// Whether a shell starts the program.
@@ -107,13 +104,12 @@ pub enum SshProgramError {
 /// ```
 #[derive(Drop)]
 pub struct SshProgram<'a> {
-    /// The program: a command line, or the path or the name of one program. It may be empty, and then Git
-    /// fails to start it.
+    /// The program: a command line, or the path or the name of one program. If it is empty, Git fails to start it.
     pub text: &'a [u8],
-    /// Whether the text is a command line, of `GIT_SSH_COMMAND` or `core.sshCommand`: a shell runs it, with
-    /// the words behind it. Git starts a text without any byte that is special to a shell directly.
+    /// Whether the text is a command line, of `GIT_SSH_COMMAND` or `core.sshCommand`: a shell runs it, with the
+    /// words appended. Git starts it without a shell if it has no byte that is special to a shell.
     pub is_command_line: bool,
-    /// Which variant Git takes it for.
+    /// The variant that Git takes it for.
     pub variant: ProgramVariant,
 }
 
@@ -128,25 +124,24 @@ impl<'a> Model for SshProgram<'a> {
 }
 
 impl<'a> SshProgram<'a> {
-    /// What Git runs by these settings, as `connect.c` of Git 2.39.5 has it. It takes no memory.
+    /// Returns the program that Git runs by these settings, as in `connect.c` of Git 2.39.5.
     ///
-    /// - The program is `GIT_SSH_COMMAND`, or else the last `core.sshCommand`, or else `GIT_SSH`, or else
-    ///   `ssh`. The first two are command lines.
-    /// - The variant is `GIT_SSH_VARIANT`, or else the last `ssh.variant`: `plink`, `putty`, `tortoiseplink`
-    ///   or `simple`, with letter case, and any other text is `ssh`, but for `auto`, which is as if none were
-    ///   set.
-    /// - Without one it is found by the last name of the program, without letter case (ASCII): `ssh`, `plink`
-    ///   or `tortoiseplink`, or one of these and `.exe`. Slashes at the end of a path don't count. Of a
-    ///   command line the first word is the program, without its quotes and backslashes (`split_cmdline` in
-    ///   `alias.c`): it is empty where white space begins the line.
-    /// - Git asks a program of another name, and one of a command line in which a quote isn't closed or a
-    ///   backslash is the last byte.
+    /// - The program is `GIT_SSH_COMMAND`, or else the last `core.sshCommand`, or else `GIT_SSH`, or else `ssh`.
+    ///   The first two are command lines.
+    /// - The variant is `GIT_SSH_VARIANT`, or else the last `ssh.variant`: `plink`, `putty`, `tortoiseplink` or
+    ///   `simple`, case-sensitive. `auto` counts as not set, and any other text is `ssh`.
+    /// - If neither is set, the last name of the program determines the variant, ignoring letter case (ASCII):
+    ///   `ssh`, `plink` or `tortoiseplink`, or one of these followed by `.exe`. Slashes at the end of a path are
+    ///   ignored. The program of a command line is its first word, without its quotes and backslashes
+    ///   (`split_cmdline` in `alias.c`): it is empty if the line begins with white space.
+    /// - Git runs a program of any other name to detect its variant, and also one of a command line that has an
+    ///   unclosed quote or ends in a backslash.
     ///
     /// # Errors
     ///
-    /// [`SshProgramError::NoValue`] with the place of the last `core.sshCommand`, if `GIT_SSH_COMMAND` isn't
-    /// set and the entry has no value, or else of the last `ssh.variant`, if `GIT_SSH_VARIANT` isn't set and
-    /// that has none: Git stops there.
+    /// [`SshProgramError::NoValue`], at which Git stops. It names the last `core.sshCommand` if `GIT_SSH_COMMAND`
+    /// isn't set and the entry has no value, or else the last `ssh.variant` if `GIT_SSH_VARIANT` isn't set and that
+    /// entry has no value.
     ///
     /// ```
     /// /// Whether Git takes what it runs for OpenSSH, without asking it.
@@ -175,7 +170,7 @@ impl<'a> SshProgram<'a> {
     }
 }
 
-/// The value of a variable, or where it isn't set that of the last entry of the key.
+/// The value of a variable, or if it isn't set that of the last entry of the key.
 fn value_by<'a>(
     variable: Option<&'a [u8]>,
     entries: &'a [Entry<'a>],
@@ -217,7 +212,7 @@ fn is_setting(entry: &Entry<'_>, section: &str, name: &str) -> bool
     entry.sets(section, name) && entry.subsection.is_none()
 }
 
-/// The variant of a program, where such a name of one is configured.
+/// The variant of a program, by the configured name of a variant or else by the program's name.
 fn variant_by(name: Option<&[u8]>, is_line: bool, text: &[u8]) -> ProgramVariant
     ensures { result ≡ spec.variant_by (option_map (λ t. t.now) name.entry) is_line text.now }
 {
@@ -227,7 +222,7 @@ fn variant_by(name: Option<&[u8]>, is_line: bool, text: &[u8]) -> ProgramVariant
     }
 }
 
-/// The variant of this name; none for `auto`.
+/// The variant of this name, or `None` for `auto`.
 fn variant_of(name: &[u8]) -> Option<SshVariant>
     ensures { result ≡ spec.variant_of name.now }
 {

@@ -1,14 +1,11 @@
-//! What is asked for, beside the location: a service, a program in its place, and how it is run.
-//!
-//! It takes no memory. Its contract: a request is one value of five parts.
+//! The request: a service, a program that may replace it, and how it is run.
 
 use crate::ssh::{ProtocolVersion, Service, SshVariant};
 use std::marker::Model;
 
-/// Of which family the addresses are that are connected to, as `git fetch -4` and `-6` have it.
+/// The address family for a connection, as with `git fetch -4` and `-6`.
 ///
-/// `git fetch`, `git pull`, `git clone` and `git push` take these options; `git ls-remote` and `git archive`
-/// take none.
+/// `git fetch`, `git pull`, `git clone` and `git push` have these options; `git ls-remote` and `git archive` don't.
 ///
 /// ```
 /// fn family_of(is_ipv6_alone: bool) -> AddressFamily {
@@ -17,15 +14,15 @@ use std::marker::Model;
 /// ```
 #[derive(Clone, Copy, Debug, PartialEq, Eq)]
 pub enum AddressFamily {
-    /// Addresses of any family.
+    /// Any address.
     Any,
-    /// Addresses of IPv4 alone: the option `-4`.
+    /// Only IPv4 addresses: the option `-4`.
     V4,
-    /// Addresses of IPv6 alone: the option `-6`.
+    /// Only IPv6 addresses: the option `-6`.
     V6,
 }
 
-/// What is asked for, beside the location. It owns nothing and takes no memory.
+/// A request for a command, without the location. It borrows the program.
 ///
 /// ```
 /// /// What `git fetch` asks for where nothing is configured.
@@ -41,17 +38,17 @@ pub enum AddressFamily {
 /// ```
 #[derive(Clone, Drop)]
 pub struct SshRequest<'a> {
-    /// What the server runs.
+    /// The service that the server runs.
     pub service: Service,
-    /// The program that the server runs in place of the service's, as `remote.<name>.uploadpack`,
-    /// `remote.<name>.receivepack`, `--upload-pack`, `--receive-pack` and `--exec` have it. Its text may hold
-    /// words of its own, and anything that the shell of the server expands.
+    /// The program that the server runs instead of the service's, as `remote.<name>.uploadpack`,
+    /// `remote.<name>.receivepack`, `--upload-pack`, `--receive-pack` and `--exec` set it. Its text may contain
+    /// several words, and anything that the server's shell expands.
     pub program: Option<&'a [u8]>,
-    /// The program that is run here.
+    /// The variant of the program that is run locally.
     pub variant: SshVariant,
-    /// The version of Git's protocol that is asked for.
+    /// The requested version of Git's protocol.
     pub version: ProtocolVersion,
-    /// Of which family the addresses are.
+    /// The address family.
     pub family: AddressFamily,
 }
 

@@ -1,7 +1,7 @@
-//! The words of a command: the options of a family and a port, the destination and the remote command, with
-//! the path in Git's quotes.
+//! The words of a command: the options for an address family and a port, the destination and the remote command,
+//! with the path in Git's quotes.
 //!
-//! It asks for memory once for each word. Its contract: the words are those of the definitions.
+//! Each word is allocated once.
 
 ghost use Rattle.std.specs.Prelude.{◌≡◌, ◌*◌, ◌^◌, ◌≤◌, ◌++◌, [], ◌∷◌, IfOk, OnOk, flat_map, length, map, option_map};
 ghost use Rattle.bstr.specs.Owned.{bstring_bytes};
@@ -22,7 +22,7 @@ pub(super) fn push(alloc: Global, words: &mut Vec<BString>, word: &[u8]) -> Resu
     Ok(())
 }
 
-/// Appends the option of a family of addresses, if there is one, and that of TortoisePlink for no window.
+/// Appends the option for the address family, if there is one, and the one by which TortoisePlink opens no window.
 pub(super) fn push_client(
     alloc: Global,
     words: &mut Vec<BString>,
@@ -43,7 +43,7 @@ pub(super) fn push_client(
     }
 }
 
-/// Appends the option of a port and its digits. The variant `simple` has no such option.
+/// Appends the option for a port and the port's digits. The variant `simple` has no such option.
 pub(super) fn push_port(
     alloc: Global,
     words: &mut Vec<BString>,
@@ -61,7 +61,7 @@ pub(super) fn push_port(
     push(alloc, words, digits.format(port).as_bytes())
 }
 
-/// The option of a port.
+/// The option for a port.
 fn port_option(variant: SshVariant) -> &'static [u8]
     ensures { result.now ≡ spec.port_option variant }
 {
@@ -72,7 +72,7 @@ fn port_option(variant: SshVariant) -> &'static [u8]
     }
 }
 
-/// The user and `@`, where there is one, and the host.
+/// Returns the user and `@`, if there is a user, and the host.
 pub(super) fn destination(
     alloc: Global,
     user: Option<&str>,
@@ -93,7 +93,7 @@ pub(super) fn destination(
     }
 }
 
-/// The command for the server's shell: the program, a space, and the path in quotes.
+/// Returns the command for the server's shell: the program, a space, and the quoted path.
 pub(super) fn remote_command(
     alloc: Global,
     program: &[u8],
@@ -109,7 +109,7 @@ pub(super) fn remote_command(
     Ok(BString::new(text))
 }
 
-/// An empty text with room for so many bytes. More than memory can have counts as refused.
+/// Returns an empty text with this capacity. A capacity that overflows counts as a failed allocation.
 fn with_room(alloc: Global, len: u128) -> Result<Vec<u8>, AllocError>
     ensures { IfOk result (λ text. text.items ≡ []) }
 {
@@ -119,14 +119,14 @@ fn with_room(alloc: Global, len: u128) -> Result<Vec<u8>, AllocError>
     }
 }
 
-/// Whether the byte is written outside of the quotes, behind a `\`.
+/// Whether the byte is written outside of the quotes, after a `\`.
 fn is_unquoted(byte: u8) -> bool
     ensures { result ≡ is_unquoted byte }
 {
     byte == b'\'' || byte == b'!'
 }
 
-/// How many bytes a quoted text has.
+/// The length of a quoted text, in bytes.
 fn quoted_len(text: &[u8]) -> u128
     ensures bound { result ≤ 4 * 2 ^ 64 }
 {
@@ -134,7 +134,7 @@ fn quoted_len(text: &[u8]) -> u128
     text.len() as u128 + 3 * unquoted as u128
 }
 
-/// Appends the bytes of a quoted text.
+/// Appends a text with its quoted bytes, without the outer quotes.
 fn push_quoted(out: &mut Vec<u8>, text: &[u8]) -> Result<(), AllocError>
     ensures { OnOk result (out.new.items ≡ out.old.items ++ flat_map quoted_byte text.now) }
 {

@@ -1,4 +1,4 @@
--- What the classifier answers: the form of a text, and the pieces that its marks cut it into.
+-- The result of the classifier: the form of a text, and the pieces between its marks.
 use Rattle.std.specs.Prelude.{◌≡◌, ℕ, false, ◌⊎◌, List, [], ◌∷◌, ◌++◌}
 use Rattle.git_syntax.specs.declared.classify.Form.{Form}
 use Rattle.git_syntax.specs.declared.classify.Form.TheVariants as form
@@ -11,7 +11,7 @@ pub record ColonCut (b front rest : List ℕ) : Type 0 where
   pub joined : b ≡ front ++ colon ∷ rest
   pub no_colon : FreeOf colon front
 
--- the text has this before its first colon
+-- `front` is the text before the first colon
 abbrev pub IsColonFront : List ℕ → List ℕ → Type 0
 IsColonFront b front = (rest : List ℕ) × ColonCut b front rest
 
@@ -20,20 +20,20 @@ pub record FrontCut (b front path : List ℕ) : Type 0 where
   pub joined : b ≡ front ++ colon ∷ path
   pub form : ScpFront b front
 
--- such a colon is in the text
+-- the text has the colon of the scp form
 abbrev pub HasFrontCut : List ℕ → Type 0
 HasFrontCut b = (front : List ℕ) × (path : List ℕ) × FrontCut b front path
 
--- no bracket is at the front of the text, or none closes it
+-- the text doesn't begin with a bracket, or has no closing bracket
 abbrev pub LacksBrackets : List ℕ → Type 0
 LacksBrackets b = (begins_with left_bracket b ≡ false) ⊎ FreeOf right_bracket b
 
--- the pieces around such a colon, and no `/` before it
+-- the pieces around the colon of the scp form, with no `/` before it
 pub record ScpCut (b front path : List ℕ) : Type 0 where
   pub around : FrontCut b front path
   pub no_slash : FreeOf slash front
 
--- such a colon is in the text before any `/`
+-- the text has the colon of the scp form before any `/`
 abbrev pub HasScpCut : List ℕ → Type 0
 HasScpCut b = (front : List ℕ) × (path : List ℕ) × ScpCut b front path
 
@@ -42,11 +42,11 @@ abbrev pub HasAddressedCut : List ℕ → Type 0
 HasAddressedCut b = (user : List ℕ) × (address : List ℕ) × (path : List ℕ)
     × AddressedCut b user address path
 
--- a user, `@[` and what is behind it
+-- a user, `@[` and the text after it
 abbrev pub addressed_text : List ℕ → List ℕ → List ℕ
 addressed_text user behind = user ++ at_sign ∷ (left_bracket ∷ behind)
 
--- the user, and what is behind its `@[`, of all such pieces that the text may have
+-- the only user that a text `user@[address]:path` can have, and the text after its `@[`
 pub record AddressedFront (b user behind : List ℕ) : Type 0 where
   pub joined : b ≡ user ++ at_sign ∷ (left_bracket ∷ behind)
   pub no_colon : FreeOf colon user

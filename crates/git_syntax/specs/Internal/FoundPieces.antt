@@ -1,5 +1,4 @@
--- What is found in a text before anything is copied: the location that the slices mean, and the room that it
--- takes.
+-- The slices that are found in a text: the location that they mean, and the buffer that they need.
 use Rattle.std.specs.Prelude.{◌≡◌, ℕ, ◌+◌, true, false, ◌==◌, List, [], ◌∷◌, length, Option, Some, None, option_map, IfSome, IsUtf8, if◌then◌else◌}
 use Rattle.std.specs.Option.{option_copied, unwrap_or}
 use Rattle.std.specs.List.{list_any}
@@ -24,18 +23,18 @@ use Rattle.git_syntax.specs.Grammar.{UrlSyntax, helper_scheme, path_for, retaine
 
 -- ---- the host that Secure Shell takes
 
--- what is before a last c, where the text ends in one
+-- the text before a last c, if the text ends in one
 abbrev pub front_of : ℕ → List ℕ → Option (List ℕ)
 front_of c [] = None
 front_of c (b ∷ []) = if b == c then Some [] else None
 front_of c (b ∷ d ∷ bs) = option_map (λ front. b ∷ front) (front_of c (d ∷ bs))
 
--- the host for its front before a last colon: that front, if it holds no other
+-- the host without a last colon, if it has no other; `front` is the host before that colon
 abbrev pub colon_dropped : List ℕ → Option (List ℕ) → List ℕ
 colon_dropped host None = host
 colon_dropped host (Some front) = if list_any (λ b. b == colon) front then host else front
 
--- the host without brackets around it, and without a colon behind it: the one that `IsSshHost` allows
+-- the host without brackets around it, and without a colon after it: the one that `IsSshHost` allows
 abbrev pub ssh_host : List ℕ → List ℕ
 ssh_host [] = []
 ssh_host (b ∷ bs) =
@@ -43,7 +42,7 @@ ssh_host (b ∷ bs) =
     then unwrap_or (front_of right_bracket (unwrap_or (front_of colon bs) bs)) (b ∷ bs)
     else colon_dropped (b ∷ bs) (front_of colon (b ∷ bs))
 
--- the host of a location, by its scheme, for the host that its URL names: the one that `HostFor` allows
+-- the host of a location, by its scheme, from the host of its URL: the one that `HostFor` allows
 abbrev pub host_for : Scheme → Option (List ℕ) → Option (List ℕ)
 host_for ssh named = option_map ssh_host named
 host_for file named = named
@@ -54,9 +53,9 @@ host_for ext named = named
 host_for (helper name) named = named
 host_for (helper_url name) named = named
 
--- ---- what is found
+-- ---- the location that slices mean
 
--- the location that the parts of a URL mean, by its scheme: the one that `MeansByScheme` allows
+-- the location that the fields of a URL mean, by its scheme: the one that `MeansByScheme` allows
 abbrev pub url_location : Scheme → UrlSyntax → Location
 url_location scheme parts = record {
   scheme = scheme;
@@ -75,13 +74,13 @@ scp_slice (host.Literal text) = text.now
 scp_slice (host.Name text) = text.now
 scp_slice (host.Kept text) = text.now
 
--- the host that it stands for
+-- the host that the slice of an scp form denotes
 abbrev pub scp_host_of : ScpHost → List ℕ
 scp_host_of (host.Literal text) = lowercase_address text.now
 scp_host_of (host.Name text) = normal_host text.now
 scp_host_of (host.Kept text) = text.now
 
--- the location that the slices mean
+-- the location that the slices of a text mean
 abbrev pub meant : Found → Location
 meant (found.Helper name address) = path_alone (helper_scheme name.now) true address.now
 meant (found.Local path) = path_alone file true path.now
@@ -90,8 +89,8 @@ meant (found.Ext text) = path_alone ext true text.now
 meant (found.Url rules url) = url_location (scheme_of url.scheme.now) (syntax_of url)
 meant (found.Scp user host path) = scp_location (option_copied user) (scp_host_of host) path.now
 
--- the rules of a URL are those of its scheme, what becomes text is UTF-8, and it is known whether its path
--- holds a `%`
+-- the rules of a URL are those of its scheme, its texts are UTF-8, and `escaped` says whether its path has a
+-- `%`
 pub record IsReadyUrl (rules : Rules) (url : ParsedUrl) : Type 0 where
   pub ruled : AreRulesOf url.scheme.now rules
   pub scheme_text : IsUtf8 url.scheme.now
@@ -103,7 +102,7 @@ pub record AreScpTexts (user : Option (List ℕ)) (host : List ℕ) : Type 0 whe
   pub user_text : IfSome user IsUtf8
   pub host_text : IsUtf8 host
 
--- of these slices a location can be made: what becomes text is UTF-8
+-- a location can be made of these slices: the ones that become text are UTF-8
 abbrev pub IsReady : Found → Type 0
 IsReady (found.Helper name address) = IsUtf8 name.now
 IsReady (found.Local path) = Unit {0}
@@ -112,20 +111,20 @@ IsReady (found.Ext text) = Unit {0}
 IsReady (found.Url rules url) = IsReadyUrl rules url
 IsReady (found.Scp user host path) = AreScpTexts (option_copied user) (scp_host_of host)
 
--- ---- the room that a location takes which borrows what was found
+-- ---- the buffer that a borrowed location needs
 
 -- the length of a text that may be missing
 abbrev pub optional_length : Option (List ℕ) → ℕ
 optional_length None = 0
 optional_length (Some text) = length text
 
--- the length of the parts of a URL that are decoded
+-- the length of the decoded fields of a URL
 abbrev pub parts_length : UrlSyntax → ℕ
 parts_length parts = optional_length parts.user + optional_length parts.password
     + optional_length parts.host
     + length (percent_decode parts.path)
 
--- room for so many bytes is enough for what has other bytes than the text: parts of a URL, and the host of
+-- a buffer of this length suffices for the fields that differ from the text: those of a URL, and the host of
 -- the scp form
 abbrev pub room_for : Found → ℕ
 room_for (found.Url rules url) = parts_length (syntax_of url)

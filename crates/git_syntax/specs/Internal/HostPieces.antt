@@ -1,4 +1,4 @@
--- What the slices stand for that the reader of hosts answers, and what it reports of them.
+-- The slices that the reader of hosts returns: the hosts that they denote, and the contracts of the reader.
 use Rattle.std.specs.Prelude.{◌≡◌, ◌<◌, ℕ, Bool, true, false, ◌||◌, ◌==◌, ◌⊎◌, List, [], ◌∷◌, ◌++◌, length, Option, Some, None, codes, option_map, Result, MatchResult, if◌then◌else◌}
 use Rattle.std.specs.List.{list_all}
 use Rattle.std.specs.Char.{is_ascii_digit, is_ascii_lowercase, to_ascii_lowercase}
@@ -15,7 +15,7 @@ use Rattle.git_syntax.specs.Hosts.{HostSyntax, Inner, normal_host, SpellsHostPor
 use Rattle.git_syntax.specs.Hosts.HostSyntax.{http_hosts, git_hosts, other_hosts}
 use Rattle.git_syntax.specs.Flaws.{IsNoPort, HostPortFlaw}
 
--- the syntax that the code names
+-- the syntax of the definitions for that of the code
 abbrev pub host_syntax : rust.HostSyntax → HostSyntax
 host_syntax read.Http = http_hosts
 host_syntax read.Git = git_hosts
@@ -25,22 +25,22 @@ host_syntax read.Other = other_hosts
 abbrev pub is_simple_byte : ℕ → Bool
 is_simple_byte b = is_ascii_lowercase b || (is_ascii_digit b || (b == hyphen || b == dot))
 
--- a host that every syntax takes as it is
+-- a host that is the same in every syntax
 pub record IsSimpleHost (text : List ℕ) : Type 0 where
   pub nonempty : 0 < length text
   pub bytes : list_all is_simple_byte text ≡ true
 
--- the text between brackets, in them
+-- the text in brackets
 abbrev pub in_brackets : List ℕ → List ℕ
 in_brackets inner = left_bracket ∷ (inner ++ right_bracket ∷ [])
 
--- in lower case up to the first `%`
+-- the text in lower case up to the first `%`
 abbrev pub lowercase_address : List ℕ → List ℕ
 lowercase_address [] = []
 lowercase_address (b ∷ bs) = if b == percent_sign then b ∷ bs
     else to_ascii_lowercase b ∷ lowercase_address bs
 
--- the host that a piece stands for
+-- the host that a piece denotes
 abbrev pub meant_host : HostPiece → List ℕ
 meant_host (Simple text) = text.now
 meant_host (Address text) = lowercase text.now
@@ -50,7 +50,7 @@ meant_host (Literal text) = in_brackets (lowercase_address text.now)
 meant_host (DecodedLiteral text) = in_brackets (lowercase_address (percent_decode text.now))
 meant_host (Bracketed text) = in_brackets (percent_decode text.now)
 
--- the slice that a piece holds
+-- the slice in a piece
 abbrev pub slice_text : HostPiece → List ℕ
 slice_text (Simple text) = text.now
 slice_text (Address text) = text.now
@@ -60,7 +60,7 @@ slice_text (Literal text) = text.now
 slice_text (DecodedLiteral text) = text.now
 slice_text (Bracketed text) = text.now
 
--- the same, decoded where it has to be
+-- the slice in a piece, decoded if necessary
 abbrev pub unescaped_host : HostPiece → List ℕ
 unescaped_host (Simple text) = text.now
 unescaped_host (Address text) = text.now
@@ -70,7 +70,7 @@ unescaped_host (Literal text) = text.now
 unescaped_host (DecodedLiteral text) = percent_decode text.now
 unescaped_host (Bracketed text) = percent_decode text.now
 
--- the letters of a host in the case that they are shown in
+-- the letters of a host in the case in which they are written
 abbrev pub normal_case : HostPiece → List ℕ → List ℕ
 normal_case (Simple text) host = host
 normal_case (Address text) host = lowercase host
@@ -80,7 +80,7 @@ normal_case (Literal text) host = lowercase_address host
 normal_case (DecodedLiteral text) host = lowercase_address host
 normal_case (Bracketed text) host = host
 
--- brackets are around the host
+-- the host is in brackets
 abbrev pub is_bracketed : HostPiece → Bool
 is_bracketed (Simple text) = false
 is_bracketed (Address text) = false
@@ -90,21 +90,21 @@ is_bracketed (Literal text) = true
 is_bracketed (DecodedLiteral text) = true
 is_bracketed (Bracketed text) = true
 
--- the host that was named, with the colon that stays with it
+-- the text of a host: the host that its piece denotes, and the colon after it if the host keeps one
 abbrev pub named_text : HostPort → List ℕ
 named_text named = if named.keeps_colon then meant_host named.piece ++ colon ∷ []
     else meant_host named.piece
 
--- the host of what was read
+-- the host that was read
 abbrev pub host_of : Option HostPort → Option (List ℕ)
 host_of named = option_map named_text named
 
--- the port of what was read
+-- the port of a host and port that were read, if there is one
 abbrev pub port_of : Option HostPort → Option ℕ
 port_of None = None
 port_of (Some named) = named.port
 
--- a host may end before the text: it is empty or begins with a colon
+-- a host may end before the text: the text is empty or begins with a colon
 abbrev pub EndsHost : List ℕ → Type 0
 EndsHost rest = (rest ≡ []) ⊎ (begins_with colon rest ≡ true)
 
@@ -112,17 +112,17 @@ EndsHost rest = (rest ≡ []) ⊎ (begins_with colon rest ≡ true)
 abbrev pub IsEscapedZone : List ℕ → Type 0
 IsEscapedZone text = (zone : List ℕ) × IsZone zone × (text ≡ codes "25" ++ zone)
 
--- what the host of a literal holds, which is decoded except for HTTP
+-- the text of a literal's host, which is decoded except in HTTP
 abbrev pub shown_literal : HostSyntax → List ℕ → List ℕ
 shown_literal http_hosts text = lowercase_address text
 shown_literal git_hosts text = lowercase_address (percent_decode text)
 shown_literal other_hosts text = lowercase_address (percent_decode text)
 
--- the text between brackets stands for another, and the host is that one in brackets
+-- the host is the one that a text in brackets denotes, in brackets
 abbrev pub IsInner : HostSyntax → List ℕ → List ℕ → Type 0
 IsInner syntax text host = (inner : List ℕ) × Inner syntax text inner × (host ≡ in_brackets inner)
 
--- nothing follows a host, or a colon that stays with it, or a colon and a port
+-- the text after a host: nothing, a colon that stays with it, or a colon and a port
 pub data Follows (syntax : HostSyntax) (base rest : List ℕ) (host : Option (List ℕ))
     (port : Option ℕ) : Type 0 where
   nothing : rest ≡ [] → host ≡ Some base → port ≡ None → Follows syntax base rest host port
@@ -131,11 +131,11 @@ pub data Follows (syntax : HostSyntax) (base rest : List ℕ) (host : Option (Li
   number : (digits : List ℕ) (n : ℕ) → Number syntax digits n → rest ≡ colon ∷ digits
       → host ≡ Some base → port ≡ Some n → Follows syntax base rest host port
 
--- a colon and something that is no port
+-- a colon and a text that is not a port
 abbrev pub IsBadPort : HostSyntax → List ℕ → Type 0
 IsBadPort syntax rest = (digits : List ℕ) × IsNoPort syntax digits × (rest ≡ colon ∷ digits)
 
--- what was read from a piece that isn't empty: the host and the port that it names, or a flaw of it
+-- the result of reading a text that isn't empty: the host and the port that it spells, or a flaw of it
 abbrev pub ReadsHostPort : HostSyntax → List ℕ → Result HostPort UrlFault → Type 0
 ReadsHostPort syntax piece result = MatchResult result
     (λ named. SpellsHostPort syntax piece (Some (named_text named)) named.port)

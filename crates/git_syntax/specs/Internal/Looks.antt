@@ -1,15 +1,15 @@
--- What is known of a text that was looked at once.
+-- The facts that are known of a text once its bytes were classified.
 use Rattle.std.specs.Prelude.{◌≡◌, ℕ, Bool, true, false, ◌&&◌, ◌||◌, ◌==◌, nat_le, List, [], ◌∷◌, ⊤}
 use Rattle.git_syntax.specs.declared.look.Look.{Look}
 use Rattle.git_syntax.specs.declared.look.Look.TheVariants.{Plain, Ascii, Escaped, Other}
 use Rattle.git_syntax.specs.Bytes.{percent_sign, begins_by}
 use Rattle.git_syntax.specs.Escapes.{is_plain, is_printable, is_sound}
 
--- the text begins with `8` or a byte past it
+-- the text begins with `8` or a greater byte
 abbrev pub begins_high : List ℕ → Bool
 begins_high text = begins_by (λ b. nat_le 56 b) text
 
--- such a byte is behind some `%`
+-- `8` or a greater byte follows some `%`
 abbrev pub has_high_escape : List ℕ → Bool
 has_high_escape [] = false
 has_high_escape (b ∷ bs) = (b == percent_sign && begins_high bs) || has_high_escape bs
@@ -19,7 +19,7 @@ pub record HasEscapes (text : List ℕ) : Type 0 where
   pub printable : is_printable text ≡ true
   pub sound : is_sound text ≡ true
 
--- and each escape stands for ASCII
+-- each byte is printable ASCII, and each `%` begins an escape that decodes to ASCII
 pub record HasAsciiEscapes (text : List ℕ) : Type 0 where
   pub printable : is_printable text ≡ true
   pub sound : is_sound text ≡ true
@@ -32,21 +32,21 @@ knows_printable Ascii = true
 knows_printable Escaped = true
 knows_printable Other = false
 
--- to decode to ASCII
+-- the text is known to decode to ASCII
 abbrev pub knows_ascii : Look → Bool
 knows_ascii Plain = true
 knows_ascii Ascii = true
 knows_ascii Escaped = false
 knows_ascii Other = false
 
--- to hold no `%`
+-- the text is known to have no `%`
 abbrev pub knows_plain : Look → Bool
 knows_plain Plain = true
 knows_plain Ascii = false
 knows_plain Escaped = false
 knows_plain Other = false
 
--- what is said of a text holds of it
+-- the fact holds of the text
 abbrev pub Looks : Look → List ℕ → Type 0
 Looks Plain text = is_plain text ≡ true
 Looks Ascii text = HasAsciiEscapes text

@@ -1,4 +1,4 @@
--- What the code decides of the scheme of a URL, and what that stands for.
+-- The rules that the code finds for the scheme of a URL, and the definitions that they represent.
 use Rattle.std.specs.Prelude.{◌≡◌, List, ℕ}
 use Rattle.git_syntax.specs.declared.scheme.KnownScheme as rust
 use Rattle.git_syntax.specs.declared.scheme.KnownScheme.TheVariants as read
@@ -8,7 +8,7 @@ use Rattle.git_syntax.specs.Location.Scheme.{file, git, ssh, http, https, ext, h
 use Rattle.git_syntax.specs.Schemes.{is_web_scheme, scheme_of, host_syntax_of, requires_host, requires_path}
 use Rattle.git_syntax.specs.Internal.HostPieces.{host_syntax}
 
--- the scheme that the code names, of one with this text
+-- the scheme of the definitions for that of the code, with this text
 abbrev pub scheme_named : rust.KnownScheme → List ℕ → Scheme
 scheme_named read.File scheme = file
 scheme_named read.Git scheme = git
@@ -26,7 +26,7 @@ pub record AreRulesOf (scheme : List ℕ) (rules : Rules) : Type 0 where
   pub syntax : host_syntax rules.syntax ≡ host_syntax_of scheme
   -- whether a host is needed
   pub host : rules.needs_host ≡ requires_host scheme
-  -- whether it is HTTP's, whose paths begin by more bytes
+  -- whether it is one of HTTP's, whose paths may begin with more bytes
   pub web : rules.web ≡ is_web_scheme scheme
   -- whether a path is needed
   pub path : rules.needs_path ≡ requires_path (scheme_of scheme)

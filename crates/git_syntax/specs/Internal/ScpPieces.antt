@@ -1,4 +1,4 @@
--- What the reader of the scp form answers: the pieces of its front, its host, and what that is refused for.
+-- The results of the reader of the scp form: the pieces of its front, and its host or a flaw of it.
 use Rattle.std.specs.Prelude.{◌≡◌, ℕ, ◌⊎◌, List, ◌∷◌, ◌++◌, Option, Some, None, Result, MatchResult}
 use Rattle.std.specs.Option.{option_copied}
 use Rattle.std.specs.Borrow.{Bor}
@@ -17,26 +17,25 @@ pub record CutsUser (front : List ℕ) (user : Option (Bor (List ℕ))) (host : 
   pub split : ScpUser front (option_copied user) host
   pub no_at : FreeOf at_sign host
 
--- each colon of the text is before its first closing bracket
+-- each colon of the text comes before its first closing bracket
 abbrev pub ColonsInside : List ℕ → Type 0
 ColonsInside text = FreeOf colon text
     ⊎ ((inside : List ℕ) × (rest : List ℕ) × FreeOf right_bracket inside × FreeOf colon rest
     × (text ≡ inside ++ right_bracket ∷ rest))
 
--- the piece names this host, which may have brackets around it
+-- the text spells this host, which may have brackets around it
 pub record SpellsHost (piece meant : List ℕ) : Type 0 where
   pub named : List ℕ
   pub names : SpellsHostPort git_hosts piece (Some named) None
   pub unbracketed : Unbrackets named meant
 
--- what is found in a host that isn't empty: what it names where each `%` is read as its own escape, or a flaw
--- of it
+-- the result for a host that isn't empty: the host that it spells with each `%` escaped, or a flaw of it
 abbrev pub ReadsScpPiece : List ℕ → Result rust.ScpHost UrlFault → Type 0
 ReadsScpPiece host result = MatchResult result
     (λ found. SpellsHost (escaped_percents host) (scp_host_of found))
     (λ fault. ScpNameFlaw host fault)
 
--- what is found for the host of the scp form: the one that it stands for, or a flaw of it
+-- the result for the host of the scp form: the host that it denotes, or a flaw of it
 abbrev pub ReadsScpHost : List ℕ → Result rust.ScpHost UrlFault → Type 0
 ReadsScpHost host result = MatchResult result
     (λ found. ScpHost host (scp_host_of found))

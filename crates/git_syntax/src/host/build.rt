@@ -1,7 +1,6 @@
-//! The text of a host, made of the slices that were read of it.
+//! The text of a host, from the slices that were read.
 //!
-//! It may use `bytes`, `escape` and `text`. Its contract: the text is the host that the slices stand for. It
-//! is written into a room that the caller has, or into memory of its own, which is asked for once.
+//! It is written into the caller's buffer, or into a string that is allocated once.
 
 ghost use Rattle.std.specs.Prelude.{◌≡◌, ◌+◌, ◌≤◌, ◌++◌, IfOk, IsUtf8, drop, length, string_bytes, take};
 ghost use Rattle.git_syntax.specs.Bytes.{lowercase};
@@ -27,7 +26,7 @@ impl HostPort<'_> {
         Ok(into_text(text))
     }
 
-    /// Writes the text of the host into the front of the room, and returns its length.
+    /// Writes the text of the host to the front of the buffer and returns its length.
     pub fn put_into(self, room: &mut [u8]) -> usize
         requires { length (named_text self) ≤ length room.old }
         ensures size { result ≡ length (named_text self.entry) }
@@ -42,7 +41,7 @@ impl HostPort<'_> {
     }
 }
 
-/// The slice that a piece holds.
+/// The slice in a piece.
 fn piece_bytes(piece: HostPiece<'_>) -> &[u8]
     ensures { result.now ≡ slice_text piece.entry }
 {
@@ -57,7 +56,7 @@ fn piece_bytes(piece: HostPiece<'_>) -> &[u8]
     }
 }
 
-/// Writes the host that a piece stands for into the front of the room, and returns its length.
+/// Writes the host that a piece denotes to the front of the buffer and returns its length.
 fn write_piece(room: &mut [u8], piece: HostPiece<'_>) -> usize
     requires { length (meant_host piece) ≤ length room.old }
     ensures size { result ≡ length (meant_host piece.entry) }
@@ -73,7 +72,7 @@ fn write_piece(room: &mut [u8], piece: HostPiece<'_>) -> usize
     size + 2
 }
 
-/// Whether brackets are around the host.
+/// Whether the host is in brackets.
 fn is_bracketed(piece: HostPiece<'_>) -> bool
     ensures { result ≡ is_bracketed piece.entry }
 {
@@ -84,7 +83,8 @@ fn is_bracketed(piece: HostPiece<'_>) -> bool
     }
 }
 
-/// Writes what a piece shows, without its brackets, into the front of the room, and returns its length.
+/// Writes the text that a piece denotes, without its brackets, to the front of the buffer and returns its
+/// length.
 fn write_shown(room: &mut [u8], piece: HostPiece<'_>) -> usize
     requires { length (unescaped_host piece) ≤ length room.old }
     ensures size { result ≡ length (unescaped_host piece.entry) }
@@ -95,8 +95,7 @@ fn write_shown(room: &mut [u8], piece: HostPiece<'_>) -> usize
     size
 }
 
-/// Writes the text of a piece, decoded where it has to be, into the front of the room, and returns its
-/// length.
+/// Writes the text of a piece, decoded if necessary, to the front of the buffer and returns its length.
 fn write_unescaped(room: &mut [u8], piece: HostPiece<'_>) -> usize
     requires { length (unescaped_host piece) ≤ length room.old }
     ensures size { result ≡ length (unescaped_host piece.entry) }
@@ -112,7 +111,7 @@ fn write_unescaped(room: &mut [u8], piece: HostPiece<'_>) -> usize
     }
 }
 
-/// Brings the letters of a host to the case that they are shown in.
+/// Changes the letters of a host to the case in which they are written.
 fn settle(host: &mut [u8], piece: HostPiece<'_>)
     ensures { host.new ≡ normal_case piece.entry host.old }
 {
@@ -133,7 +132,7 @@ pub fn normalize(host: &mut [u8])
     }
 }
 
-/// Lowercases what is before the first `%`, or all where there is none.
+/// Lowercases the text before the first `%`, or the whole text if it has none.
 pub fn lowercase_address(literal: &mut [u8])
     ensures { literal.new ≡ lowercase_address literal.old }
 {
@@ -141,7 +140,7 @@ pub fn lowercase_address(literal: &mut [u8])
     literal[..end].make_ascii_lowercase();
 }
 
-/// How many bytes are before the first `%`.
+/// The number of bytes before the first `%`.
 fn address_len(literal: &[u8]) -> usize
     ensures within { result ≤ length literal.now }
     ensures cut { lowercase_address literal.now ≡ lowercase (take result literal.now)

@@ -1,7 +1,4 @@
 //! Tests of the bytes of a host: those of HTTP, those of a domain name, and IPv6 literals with their zones.
-//!
-//! It may use `bytes`, `escape` and `ipv6`, and asks for no memory. Its contract: each test is exactly the
-//! definition that it is named after.
 
 ghost use Rattle.std.specs.Prelude.{◌≡◌, ◌↔◌, IsTrue};
 ghost use Rattle.std.specs.List.{list_all};
@@ -18,7 +15,7 @@ use crate::ipv6::is_address;
 pub fn are_http_host_bytes(text: &[u8]) -> bool
     ensures { result ≡ list_all spec.is_http_host_byte text.now }
 {
-    // A loop without an early exit is compiled to look at many bytes at once.
+    // A loop without an early exit is compiled to test many bytes at once.
     let mut all = true;
     for byte in text {
         all &= is_http_host_byte(*byte);
@@ -53,7 +50,7 @@ fn is_simple_byte(byte: u8) -> bool
     byte.is_ascii_lowercase() || byte.is_ascii_digit() || byte == b'-' || byte == b'.'
 }
 
-/// Whether the text is an IPv6 literal: an address, or one with `%25` and a zone behind it.
+/// Whether the text is an IPv6 literal: an address, or one that `%25` and a zone follow.
 pub fn is_literal(text: &[u8]) -> bool
     ensures { IsTrue result ↔ IsLiteral text.now }
 {
@@ -63,7 +60,7 @@ pub fn is_literal(text: &[u8]) -> bool
     }
 }
 
-/// Whether the text is `25`, as it is behind a `%`, and a zone.
+/// Whether the text, which follows a `%`, is `25` and a zone.
 pub fn is_escaped_zone(text: &[u8]) -> bool
     ensures { IsTrue result ↔ IsEscapedZone text.now }
 {
@@ -106,7 +103,7 @@ fn is_zone_byte(byte: u8) -> bool
 pub fn looks_like_domain(host: &[u8]) -> bool
     ensures { result ≡ list_all spec.is_dns_byte host.now }
 {
-    // A loop without an early exit is compiled to look at many bytes at once.
+    // A loop without an early exit is compiled to test many bytes at once.
     let mut all = true;
     for byte in host {
         all &= is_dns_byte(*byte);

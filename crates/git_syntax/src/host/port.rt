@@ -1,7 +1,4 @@
-//! What follows a host: nothing, a colon that stays with it, or a colon and a port.
-//!
-//! It may use `bytes` and `text`, and asks for no memory. Its contract: a port is read exactly where the
-//! definitions have one, and a host is reported together with what follows it.
+//! The text after a host: nothing, a colon that stays with it, or a colon and a port.
 
 ghost use Rattle.std.specs.Prelude.{◌≡◌, ◌↔◌, ◌∷◌, ℕ, IsTrue, MatchOption, Some};
 ghost use Rattle.std.specs.Char.{is_ascii_digit};
@@ -16,7 +13,7 @@ use crate::bytes::{after, starts_with_byte};
 use crate::host::{HostPiece, HostPort, HostSyntax, alone};
 use crate::text::as_text;
 
-/// A host with what follows it: nothing, or a colon and perhaps a port.
+/// A host and the text after it: nothing, or a colon and perhaps a port.
 pub(super) fn with_rest<'a>(
     syntax: HostSyntax,
     piece: HostPiece<'a>,
@@ -33,15 +30,14 @@ pub(super) fn with_rest<'a>(
     }
 }
 
-/// Whether a host may end before the text: it is empty or begins with a colon.
+/// Whether a host may end before the text: the text is empty or begins with a colon.
 pub(super) fn ends_host(rest: &[u8]) -> bool
     ensures { IsTrue result ↔ EndsHost rest.now }
 {
     rest.is_empty() || starts_with_byte(rest, b':')
 }
 
-/// A host with a colon and this text behind it: the colon stays where the text is empty, else the text is the
-/// port.
+/// A host that a colon and this text follow: the colon stays if the text is empty, else the text is the port.
 pub(super) fn with_port<'a>(
     syntax: HostSyntax,
     piece: HostPiece<'a>,

@@ -1,4 +1,4 @@
--- Rows of errors: what they hold on to.
+-- Rows of errors: the texts that they keep.
 use Rattle.std.specs.Prelude.{◌≡◌, ℕ, List}
 use Rattle.bstr.specs.Owned.{bstring_bytes}
 use Rattle.bstr.specs.declared.bstring.BString.{BString}
@@ -7,7 +7,7 @@ use Rattle.git_syntax.specs.declared.refusal.UrlFault.{UrlFault}
 use Rattle.gix_url.specs.declared.error.Error.TheVariants as error
 use Rattle.gix_url.specs.Flaws.{Flaw}
 
--- an error of a text that misses its path, or that is a bad URL, holds the text
+-- an error of a text that lacks its path, or that is a bad URL, has the text
 abbrev pub KeptRows : Type 0
 KeptRows =
     ((b : List ℕ) (taken_for : UrlKind) (input : BString)

@@ -1,4 +1,4 @@
--- What the rooms that return components report of each other's answers: which piece each was cut out as.
+-- The contracts between the modules that return components: the piece that each result was cut out as.
 use Rattle.std.specs.Prelude.{◌≡◌, ℕ, Bool, true, false, ◌==◌, ◌+◌, List, [], ◌∷◌, ◌++◌, Option, Some, None, MatchOption, option_map, length, filter}
 use Rattle.std.specs.List.{slice_split}
 use Rattle.bstr.specs.BStr.{bstr_bytes}
@@ -15,24 +15,24 @@ use Rattle.git_syntax.specs.Escapes.{matches}
 use Rattle.git_location.specs.Text.{original_path}
 use Rattle.gix_url.specs.Internal.Meanings.{meant_by}
 
--- the original path of a location, and what it stands for
+-- the original path of a location, with its decoding
 abbrev pub SpellsPath : Location → EscapedText → Type 0
 SpellsPath v whole = (whole.text.now ≡ original_path v) × (whole.meant.now ≡ v.path)
     × (whole.escaped ≡ matches v.spelling v.path)
 
--- the parts of a text around the first c, escaped as the text is
+-- the pieces of a text around the first c, escaped if the text is
 pub record CutsAround (c : ℕ) (whole front behind : EscapedText) : Type 0 where
   pub free : FreeOf c front.text.now
   pub joined : whole.text.now ≡ front.text.now ++ c ∷ behind.text.now
   pub front_escaped : front.escaped ≡ whole.escaped
   pub behind_escaped : behind.escaped ≡ whole.escaped
 
--- the parts around the first c, or none where the text is free of it
+-- the pieces around the first c, or `None` if the text lacks it
 abbrev pub CutsSpelled : ℕ → EscapedText → Option (EscapedText × EscapedText) → Type 0
 CutsSpelled c whole parts = MatchOption parts (FreeOf c whole.text.now)
     (λ p. CutsAround c whole p.0 p.1)
 
--- the part before the first c, and the part behind it where there is one
+-- the piece before the first c, and the piece after it, if there is one
 abbrev pub CutsOff : ℕ → EscapedText → EscapedText → Option EscapedText → Type 0
 CutsOff c whole front None = FreeOf c whole.text.now × (front.text.now ≡ whole.text.now)
     × (front.escaped ≡ whole.escaped)
@@ -40,14 +40,14 @@ CutsOff c whole front (Some behind) = CutsAround c whole front behind
 
 -- ---- the query
 
--- a name or a value is what its piece stands for, lent where no raw `+` is in it
+-- a name or a value is the decoding of its piece, borrowed if the piece has no raw `+`
 abbrev pub LendsTerm : Bool → List ℕ → QueryText → Type 0
 LendsTerm escaped piece (Borrowed text) = FreeOf plus_sign piece
     × (bstr_bytes text ≡ meant_by escaped piece)
 LendsTerm escaped piece (Owned text) = (¬ FreeOf plus_sign piece)
     × (bstring_bytes text ≡ meant_by escaped (with_spaces piece))
 
--- a name and its value are what the two parts of a field stand for
+-- a name and its value are the decodings of the two parts of a field
 pub record LendsPair (escaped : Bool) (field : List ℕ) (pair : QueryText × QueryText) : Type 0 where
   pub name : List ℕ
   pub value : List ℕ
@@ -55,7 +55,7 @@ pub record LendsPair (escaped : Bool) (field : List ℕ) (pair : QueryText × Qu
   pub name_lent : LendsTerm escaped name pair.0
   pub value_lent : LendsTerm escaped value pair.1
 
--- these names and values are what the fields stand for, in order; empty fields stand for none
+-- these names and values are the decodings of the fields, in order; empty fields are skipped
 abbrev pub LendsPairs : Bool → List (List ℕ) → List (QueryText × QueryText) → Type 0
 LendsPairs escaped [] pairs = pairs ≡ []
 LendsPairs escaped ([] ∷ fields) pairs = LendsPairs escaped fields pairs
@@ -63,7 +63,7 @@ LendsPairs escaped ((b ∷ bs) ∷ fields) pairs =
     (pair : QueryText × QueryText) × (others : List (QueryText × QueryText))
     × LendsPair escaped (b ∷ bs) pair × LendsPairs escaped fields others × (pairs ≡ pair ∷ others)
 
--- these names and values are what the fields of a text stand for, of which there is at least one
+-- these names and values are the decodings of the fields of a text, which has at least one
 pub record LendsFields (escaped : Bool) (text : List ℕ)
     (pairs : List (QueryText × QueryText)) : Type 0 where
   pub field : List ℕ
@@ -76,46 +76,47 @@ abbrev pub is_field : List ℕ → Bool
 is_field [] = false
 is_field (b ∷ bs) = true
 
--- the field counts for one, unless it is empty
+-- the number of nonempty fields in one field
 abbrev pub one_field : List ℕ → ℕ
 one_field [] = 0
 one_field (b ∷ bs) = 1
 
--- how many fields that are not empty begin with a byte, by whether the byte before it and it itself are `&`
+-- the number of nonempty fields that begin with a byte, by whether the byte before it and the byte itself are
+-- `&`
 abbrev pub begun_by : Bool → Bool → ℕ
 begun_by before true = 0
 begun_by true false = 1
 begun_by false false = 0
 
--- how many fields that are not empty begin in the rest of a text, by whether the byte before it is `&`
+-- the number of nonempty fields that begin in the rest of a text, by whether the byte before it is `&`
 abbrev pub begun_in : Bool → List ℕ → ℕ
 begun_in before [] = 0
 begun_in before (b ∷ bs) = begun_by before (b == ampersand) + begun_in (b == ampersand) bs
 
--- whether the last byte is `&`, of a text and one byte before it
+-- whether the last byte is `&`, of a text and the byte before it
 abbrev pub ends_in : Bool → List ℕ → Bool
 ends_in before [] = before
 ends_in before (b ∷ bs) = ends_in (b == ampersand) bs
 
--- how many of the fields of a text are not empty
+-- the number of nonempty fields of a text
 abbrev pub field_count : List ℕ → ℕ
 field_count text = length (filter is_field (slice_split (λ b. b == ampersand) text))
 
--- the name and the value of a field are behind those that were there
+-- the name and the value of a field were appended
 abbrev pub AddsLent : Bool → List ℕ → List (QueryText × QueryText) → List (QueryText × QueryText)
     → Type 0
 AddsLent escaped field old new = (pair : QueryText × QueryText) × LendsPair escaped field pair
     × (new ≡ old ++ pair ∷ [])
 
--- they do, unless the field is empty
+-- the name and the value of a field were appended, unless the field is empty
 abbrev pub AddsPair : Bool → List ℕ → List (QueryText × QueryText) → List (QueryText × QueryText)
     → Type 0
 AddsPair escaped [] old new = new ≡ old
 AddsPair escaped (b ∷ bs) old new = AddsLent escaped (b ∷ bs) old new
 
--- ---- the whole
+-- ---- all components
 
--- a query stands for these names and values, if there is one
+-- these are the names and values of a query, if there is one
 abbrev pub LendsQuery : Bool → Option (List ℕ) → Option (List (QueryText × QueryText)) → Type 0
 LendsQuery escaped None pairs = pairs ≡ None
 LendsQuery escaped (Some query) None = ⊥

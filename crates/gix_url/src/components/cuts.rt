@@ -1,7 +1,6 @@
-//! A text together with what it stands for, and cuts of both at once.
+//! A text together with its decoding, and cuts of both at once.
 //!
-//! It uses the cuts of `bytes`, `near` and the counts of `measure`. Its contract: the parts of a text stand
-//! for the parts of what it stands for, so that no part has to be decoded into memory.
+//! The pieces of a text are cut together with their decodings, so no piece has to be decoded into a buffer.
 
 ghost use Rattle.std.specs.Prelude.{◌≡◌, ◌==◌, ◌++◌, [], ◌∷◌, false, true};
 ghost use Rattle.std.specs.Char.{is_digit};
@@ -13,14 +12,14 @@ use crate::components::measure::meant_len;
 use crate::components::near::cut_near;
 use git_syntax::bytes::cut;
 
-/// A text as it is spelled, together with what it stands for.
+/// A text as it is spelled, together with its decoding.
 #[derive(Clone, Copy)]
 pub(super) struct EscapedText<'a> {
     /// The text.
     pub(super) text: &'a [u8],
-    /// What it stands for.
+    /// Its decoding.
     pub(super) meant: &'a [u8],
-    /// Whether an escape in the text stands for its byte, and not for itself.
+    /// Whether an escape in the text is decoded, or is literal text.
     pub(super) escaped: bool,
     ghost meaning: { meant.now ≡ meant_by escaped text.now },
 }
@@ -28,7 +27,7 @@ pub(super) struct EscapedText<'a> {
 impl<'a> EscapedText<'a> {
     ghost use Rattle.gix_url.specs.Internal.ComponentPieces.{CutsAround, CutsOff, CutsSpelled};
 
-    /// The text as it is: an escape in it stands for itself.
+    /// The unescaped text: an escape in it is literal text.
     pub(super) fn raw(text: &'a [u8]) -> EscapedText<'a>
         ensures text { result.text.now ≡ text.now }
         ensures meant { result.meant.now ≡ text.now }
@@ -41,7 +40,7 @@ impl<'a> EscapedText<'a> {
         }
     }
 
-    /// The spelling of what it decodes to.
+    /// The spelling of `meant`, to which it decodes.
     pub(super) fn spelling(text: &'a [u8], meant: &'a [u8]) -> EscapedText<'a>
         requires { percent_decode text.now ≡ meant.now }
         ensures text { result.text.now ≡ text.now }
@@ -55,7 +54,7 @@ impl<'a> EscapedText<'a> {
         }
     }
 
-    /// The parts before and behind the first `c`, which is neither `%` nor a hexadecimal digit.
+    /// The pieces before and after the first `c`, which is neither `%` nor a hexadecimal digit.
     pub(super) fn cut(self, c: u8) -> Option<(EscapedText<'a>, EscapedText<'a>)>
         requires digit { is_digit c 16 ≡ false }
         requires percent { (c == 37) ≡ false }
@@ -65,7 +64,7 @@ impl<'a> EscapedText<'a> {
         Some(self.around(c, front, behind))
     }
 
-    /// The same, where the first `c` is likely to be near.
+    /// The pieces before and after the first `c`, for a `c` that is likely to be near the front.
     #[inline(always)]
     pub(super) fn cut_near(self, c: u8) -> Option<(EscapedText<'a>, EscapedText<'a>)>
         requires digit { is_digit c 16 ≡ false }
@@ -76,7 +75,7 @@ impl<'a> EscapedText<'a> {
         Some(self.around(c, front, behind))
     }
 
-    /// The parts whose texts are these, around the first `c`.
+    /// The pieces around the first `c`, from their texts.
     #[inline(always)]
     fn around(self, c: u8, front: &'a [u8], behind: &'a [u8]) -> (EscapedText<'a>, EscapedText<'a>)
         requires digit { is_digit c 16 ≡ false }
@@ -100,7 +99,7 @@ impl<'a> EscapedText<'a> {
         )
     }
 
-    /// The part before the first `c`, and the part behind it where there is one.
+    /// The piece before the first `c`, and the piece after it, if there is one.
     pub(super) fn cut_off(self, c: u8) -> (EscapedText<'a>, Option<EscapedText<'a>>)
         requires digit { is_digit c 16 ≡ false }
         requires percent { (c == 37) ≡ false }
@@ -112,7 +111,7 @@ impl<'a> EscapedText<'a> {
         }
     }
 
-    /// Nothing, as a piece of this text.
+    /// The empty text, as a piece of this one.
     pub(super) fn nothing(self) -> EscapedText<'a>
         ensures text { result.text.now ≡ [] }
         ensures escaped { result.escaped ≡ self.entry.escaped }

@@ -1,9 +1,6 @@
-//! The fields of a query, in two walks: the first counts them, so that the room for their list is asked for
-//! once.
+//! The fields of a query, in two passes: the first counts them, so that their list is allocated once.
 //!
-//! It uses `cuts`, `near` and `lend`. Its contract: each field between `&` that isn't empty is a name and a
-//! value, in order. A query whose escapes stand for themselves is walked as it is, without what it stands
-//! for.
+//! A query whose escapes are literal is iterated over without its decoding.
 
 ghost use Rattle.std.specs.Prelude.{◌≡◌, ◌==◌, ◌+◌, ◌≤◌, ◌<◌, ◌++◌, [], ◌∷◌, IfOk, IsTrue, OnOk, false, length, vec_capacity, vec_len};
 ghost use Rattle.git_syntax.specs.Bytes.{FreeOf, ampersand, plus_sign};
@@ -16,7 +13,7 @@ use crate::components::near::cut_near;
 use git_syntax::bytes::is_free_of;
 use std::alloc::{AllocError, Global};
 
-/// How many bytes a piece has in which fields are counted: no more than a number of one byte holds.
+/// The length of the pieces in which fields are counted, so that a count fits into one byte.
 const PIECE: usize = 255;
 
 /// The names and values of the query.
@@ -34,7 +31,7 @@ pub(super) fn lend_query<'a>(
     }
 }
 
-/// The names and values of a query in which an escape stands for its byte.
+/// The names and values of a query whose escapes are decoded.
 fn lend_spelled<'a>(
     alloc: Global,
     query: EscapedText<'a>,
@@ -53,7 +50,7 @@ fn lend_spelled<'a>(
     Ok(pairs)
 }
 
-/// The names and values of a query in which an escape stands for itself.
+/// The names and values of a query whose escapes are literal text.
 fn lend_raw<'a>(
     alloc: Global,
     query: &'a [u8],
@@ -71,8 +68,8 @@ fn lend_raw<'a>(
     Ok(pairs)
 }
 
-/// Puts the name and the value of the field behind the pairs, for which there is room, unless it is empty.
-/// Where it is known that no `+` is in the field, it is not searched for one.
+/// Appends the name and the value of the field to the pairs, within their capacity, unless the field is empty.
+/// If the field is known to have no `+`, it is not searched for one.
 #[inline(always)]
 fn push_field<'a>(
     alloc: Global,
@@ -98,8 +95,8 @@ fn push_field<'a>(
     push_made(alloc, pairs, field)
 }
 
-/// Puts the name and the value of a field behind the pairs, for which there is room. It is apart, so that the
-/// walk over the fields doesn't have the memory of its results to clear.
+/// Appends the name and the value of a field to the pairs, within their capacity. It is a separate function, so
+/// that the loop over the fields need not clear the memory of its results.
 #[inline(never)]
 fn push_made<'a>(
     alloc: Global,
@@ -117,7 +114,7 @@ fn push_made<'a>(
     Ok(())
 }
 
-/// Whether no `+` is in the field, where that may be known.
+/// Whether the field has no `+`, which may be known.
 #[inline(always)]
 fn lacks_plus(field: &[u8], known: bool) -> bool
     requires { IsTrue known → FreeOf plus_sign field.now }
@@ -126,7 +123,7 @@ fn lacks_plus(field: &[u8], known: bool) -> bool
     known || is_free_of(field, b'+')
 }
 
-/// Puts the name and the value behind the pairs, for which there is room.
+/// Appends the name and the value to the pairs, within their capacity.
 #[inline(always)]
 pub(super) fn push_within<'a>(
     pairs: &mut Vec<(QueryText<'a>, QueryText<'a>)>,
@@ -142,8 +139,8 @@ pub(super) fn push_within<'a>(
     let _ = pushed;
 }
 
-/// How many fields are not empty. They are counted in short pieces of the query, where a number of one byte
-/// serves.
+/// The number of fields that are not empty. They are counted in short pieces of the query, whose counts fit
+/// into one byte.
 fn count_fields(query: &[u8]) -> usize
     ensures { result ≡ field_count query.now }
 {
@@ -160,7 +157,7 @@ fn count_fields(query: &[u8]) -> usize
     count + usize::from(count_begun(before, rest).0)
 }
 
-/// How many fields that are not empty begin in a piece behind a byte, and the last of these bytes.
+/// The number of nonempty fields that begin in a piece after the byte `before`, and the last of these bytes.
 fn count_begun(before: u8, piece: &[u8]) -> (u8, u8)
     requires { length piece.now ≤ 255 }
     ensures count { result.0 ≡ begun_in (before == ampersand) piece.now }
@@ -176,7 +173,7 @@ fn count_begun(before: u8, piece: &[u8]) -> (u8, u8)
     (count, last)
 }
 
-/// How many fields that are not empty begin with the byte: one, where it is the first behind an `&`.
+/// The number of nonempty fields that begin with the byte: 1 if it is the first after an `&`.
 #[inline(always)]
 fn begun_by(before: u8, byte: u8) -> u8
     ensures { result ≡ begun_by (before == ampersand) (byte == ampersand) }

@@ -1,7 +1,6 @@
-//! Names and values of a query: lent as they are in the path, or made where a raw `+` means a space.
+//! Names and values of a query: borrowed from the path, or owned if they have a raw `+`, which means a space.
 //!
-//! It uses `cuts` and the tests of `bytes`. Its contract: a name or a value is what its piece stands for,
-//! with each raw `+` a space, and memory is asked for only where there is one, and then once.
+//! Allocates once for each name or value with a raw `+`.
 
 ghost use Rattle.std.specs.Prelude.{◌≡◌, ◌==◌, if◌then◌else◌, IfOk};
 ghost use Rattle.git_syntax.specs.Bytes.{FreeOf, plus_sign, space};
@@ -15,7 +14,7 @@ use bstr::{BStr, BString};
 use git_syntax::bytes::{append_within, is_free_of};
 use std::alloc::{AllocError, Global};
 
-/// The name and the value of a field, lent as they are in the path.
+/// The name and the value of a field, borrowed from the path.
 #[inline(always)]
 pub(super) fn lent_pair<'a>(field: EscapedText<'a>) -> (QueryText<'a>, QueryText<'a>)
     requires { FreeOf plus_sign field.text.now }
@@ -28,7 +27,7 @@ pub(super) fn lent_pair<'a>(field: EscapedText<'a>) -> (QueryText<'a>, QueryText
     )
 }
 
-/// The name and the value of a field, each lent where no raw `+` is in it.
+/// The name and the value of a field, each borrowed if it has no raw `+`.
 pub(super) fn lend_pair<'a>(
     alloc: Global,
     field: EscapedText<'a>,
@@ -39,7 +38,7 @@ pub(super) fn lend_pair<'a>(
     Ok((lend_term(alloc, name)?, lend_term(alloc, value)?))
 }
 
-/// The pieces of a field before and behind its first `=`; without one, all of it and nothing.
+/// The pieces of a field before and after its first `=`; without one, the whole field and the empty text.
 #[inline(always)]
 fn split_field<'a>(field: EscapedText<'a>) -> (EscapedText<'a>, EscapedText<'a>)
     ensures split { SplitsField field.entry.text.now result.0.text.now result.1.text.now }
@@ -52,7 +51,7 @@ fn split_field<'a>(field: EscapedText<'a>) -> (EscapedText<'a>, EscapedText<'a>)
     }
 }
 
-/// The name or the value that the piece stands for.
+/// The name or the value that the piece denotes.
 fn lend_term<'a>(alloc: Global, piece: EscapedText<'a>) -> Result<QueryText<'a>, AllocError>
     ensures { IfOk result (λ text. LendsTerm piece.entry.escaped piece.entry.text.now text) }
 {
@@ -62,7 +61,7 @@ fn lend_term<'a>(alloc: Global, piece: EscapedText<'a>) -> Result<QueryText<'a>,
     Ok(QueryText::Owned(BString::new(with_spaces(alloc, piece)?)))
 }
 
-/// What the piece stands for with each raw `+` a space.
+/// The decoding of the piece, with each raw `+` as a space.
 fn with_spaces(alloc: Global, piece: EscapedText<'_>) -> Result<Vec<u8>, AllocError>
     ensures { IfOk result
         (λ bytes. bytes.items ≡ meant_by piece.entry.escaped (with_spaces piece.entry.text.now)) }
@@ -81,7 +80,7 @@ fn with_spaces(alloc: Global, piece: EscapedText<'_>) -> Result<Vec<u8>, AllocEr
     Ok(bytes)
 }
 
-/// The text with each `+` a space.
+/// The text with each `+` as a space.
 fn spaced_raw(alloc: Global, text: &[u8]) -> Result<Vec<u8>, AllocError>
     ensures { IfOk result (λ bytes. bytes.items ≡ with_spaces text.now) }
 {
@@ -92,7 +91,7 @@ fn spaced_raw(alloc: Global, text: &[u8]) -> Result<Vec<u8>, AllocError>
     Ok(bytes)
 }
 
-/// A space for a `+`, and each other byte as it is.
+/// A space for a `+`, and any other byte unchanged.
 fn spaced_byte(byte: u8) -> u8
     ensures { result ≡ (if byte == plus_sign then space else byte) }
 {

@@ -1,7 +1,4 @@
-//! How many bytes a piece of a spelling stands for.
-//!
-//! It uses the test of `escape` and nothing else of this crate. Its contract: the length of the decoding,
-//! counted along the spelling. It takes no memory.
+//! The lengths of decodings, computed along the spelling.
 
 ghost use Rattle.std.specs.Prelude.{◌≡◌, ◌+◌, ◌≤◌, ◌∷◌, length};
 ghost use Rattle.percent_encoding.specs.Percent.{percent_decode};
@@ -9,7 +6,7 @@ ghost use Rattle.gix_url.specs.Internal.Meanings.{meant_by};
 
 use git_syntax::escape::begins_with_digits;
 
-/// How many bytes the text stands for: as many as it has, unless its escapes stand for their bytes.
+/// The length of the text's decoding, or of the text itself if its escapes are literal.
 #[inline(always)]
 pub(super) fn meant_len(text: &[u8], escaped: bool) -> usize
     ensures { result ≡ length (meant_by escaped text.now) }
@@ -21,7 +18,7 @@ pub(super) fn meant_len(text: &[u8], escaped: bool) -> usize
     }
 }
 
-/// How many bytes the text decodes to.
+/// The length of the text's decoding.
 fn decoded_len(text: &[u8]) -> usize
     ensures { result ≡ length (percent_decode text.now) }
 {
@@ -34,7 +31,7 @@ fn decoded_len(text: &[u8]) -> usize
     len
 }
 
-/// What is behind a byte, and behind its digits where it begins an escape.
+/// The text after a byte, and after its digits if it begins an escape.
 #[inline(always)]
 fn behind_unit(first: u8, behind: &[u8]) -> &[u8]
     ensures decoded { length (percent_decode (first ∷ behind.now)) ≡ length (percent_decode result.now) + 1 }

@@ -1,7 +1,6 @@
-//! Cuts of a text around a byte that is likely to be near, as those of a query are.
+//! Cuts of a text around a byte that is likely to be near the front, like those of a query.
 //!
-//! It uses the cuts of `bytes` alone, and its contract is theirs. The first bytes are looked at one by one,
-//! which takes less than to begin a search of a long text.
+//! The first bytes are tested one by one, which is faster than starting a search of a long text.
 
 ghost use Rattle.std.specs.Prelude.{◌≤◌, length, take};
 ghost use Rattle.git_syntax.specs.Bytes.{FreeOf};
@@ -9,15 +8,15 @@ ghost use Rattle.git_syntax.specs.Internal.Cuts.{CutsAt};
 
 use git_syntax::bytes::cut;
 
-/// How many bytes are looked at one by one.
+/// The number of bytes that are tested one by one.
 const NEAR: usize = 8;
 
-/// What is before and behind the first `c`.
+/// The bytes before and after the first `c`.
 #[inline(always)]
 pub(super) fn cut_near(bytes: &[u8], c: u8) -> Option<(&[u8], &[u8])>
     ensures { CutsAt c bytes.now result }
 {
-    // Hostile queries have nothing before it.
+    // In hostile queries nothing precedes it.
     if let [first, behind @ ..] = bytes
         && *first == c
     {
@@ -32,7 +31,7 @@ pub(super) fn cut_near(bytes: &[u8], c: u8) -> Option<(&[u8], &[u8])>
     cut_far(bytes, near, c)
 }
 
-/// The same, where the bytes before a place are none.
+/// The bytes before and after the first `c`, which is not among the first `from` bytes.
 fn cut_far(bytes: &[u8], from: usize, c: u8) -> Option<(&[u8], &[u8])>
     requires within { from ≤ length bytes.now }
     requires free { FreeOf c (take from bytes.now) }

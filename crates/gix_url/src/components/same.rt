@@ -1,9 +1,7 @@
-//! Equality and copies of components: names and values count by their bytes.
+//! Equality and copies of components, whose names and values are compared by their bytes.
 //!
-//! It uses the types of this module's parent, `fields` for the list of a copy, and `error`. Its contract: two
-//! components are equal exactly where their parts are, whether these are lent or not, and a copy is equal to
-//! what was copied, and lends what that lends. Equality takes no memory; a copy asks for it once for the list
-//! of a query and once for each name or value that is not lent.
+//! A copy borrows what the original borrows. Equality allocates nothing; a copy allocates once for the list of
+//! a query and once for each owned name or value.
 
 ghost use Rattle.std.specs.Prelude.{◌≡◌, ◌+◌, ◌<◌, ◌≤◌, ◌↔◌, ◌++◌, [], ◌∷◌, IfErr, IfOk, IsOk, IsTrue, bytes_eq, length, map, option_map, true};
 ghost use Rattle.std.specs.Cmp.{on_equiv, on_per, partial_equiv_from_equiv};
@@ -19,7 +17,7 @@ use bstr::{BStr, BString};
 use std::alloc::{AllocError, Global};
 
 impl<'a> QueryText<'a> {
-    /// The bytes of the name or the value. It takes no memory.
+    /// The bytes of the name or the value. Allocates nothing.
     ///
     /// ```
     /// fn is_empty(value: &QueryText<'_>) -> bool {
@@ -35,7 +33,7 @@ impl<'a> QueryText<'a> {
         }
     }
 
-    /// The same name or value once more: lent where this is lent, and else copied.
+    /// A copy of the name or value: borrowed if this is borrowed, and else owned.
     ///
     /// ```
     /// fn kept<'a>(alloc: Global, value: &QueryText<'a>) -> Result<QueryText<'a>, Error> {
@@ -45,7 +43,7 @@ impl<'a> QueryText<'a> {
     ///
     /// # Errors
     ///
-    /// [`Error::Memory`] where memory is refused for a copy. What is lent takes none.
+    /// [`Error::Memory`] if an allocation for the copy fails. A borrowed text needs none.
     pub fn clone(&self, alloc: Global) -> Result<QueryText<'a>, Error>
         ensures equal { IfOk result (λ copy. text_bytes copy ≡ text_bytes self.now) }
         ensures alike { IfOk result (λ copy. is_borrowed copy ≡ is_borrowed self.now) }
@@ -63,7 +61,7 @@ impl<'a> QueryText<'a> {
 }
 
 impl<'a> PathComponents<'a> {
-    /// The same components once more. What is lent stays lent, and what is not is copied.
+    /// A copy of the components. Borrowed texts stay borrowed, owned texts are copied.
     ///
     /// ```
     /// fn both<'a>(alloc: Global, parts: &PathComponents<'a>) -> Result<PathComponents<'a>, Error> {
@@ -73,8 +71,8 @@ impl<'a> PathComponents<'a> {
     ///
     /// # Errors
     ///
-    /// [`Error::Memory`] where memory is refused for the list of the query, or for a name or a value that is
-    /// not lent. Components without a query take none.
+    /// [`Error::Memory`] if the allocation for the list of the query, or for an owned name or value, fails.
+    /// Components without a query need none.
     pub fn clone(&self, alloc: Global) -> Result<PathComponents<'a>, Error>
         ensures equal { IfOk result (λ copy. components copy ≡ components self.now) }
         ensures alike { IfOk result (λ copy. what_is_lent copy ≡ what_is_lent self.now) }
@@ -93,7 +91,7 @@ impl<'a> PathComponents<'a> {
     }
 }
 
-/// The pairs once more.
+/// A copy of the pairs.
 fn copied_pairs<'a>(
     alloc: Global,
     pairs: &[(QueryText<'a>, QueryText<'a>)],
@@ -109,7 +107,7 @@ fn copied_pairs<'a>(
     Ok(copy)
 }
 
-/// The pair once more.
+/// A copy of the pair.
 fn copied_pair<'a>(
     alloc: Global,
     pair: &(QueryText<'a>, QueryText<'a>),
@@ -126,7 +124,7 @@ impl<'a> PartialEq for QueryText<'a> {
 
     ghost laws = { on_per text_bytes (partial_equiv_from_equiv nat_list_eq_equiv) };
 
-    /// Whether the bytes are the same, whether they are lent or not.
+    /// Whether the bytes are the same, borrowed or owned.
     fn eq(&self, other: &Self) -> bool {
         self.as_bstr().as_bytes() == other.as_bstr().as_bytes()
     }
@@ -141,7 +139,7 @@ impl<'a> PartialEq for PathComponents<'a> {
 
     ghost laws = { on_per components (partial_equiv_from_equiv components_equiv) };
 
-    /// Whether path, query and fragment have the same bytes, whether these are lent or not.
+    /// Whether path, query and fragment have the same bytes, borrowed or owned.
     fn eq(&self, other: &Self) -> bool {
         self.path.as_bytes() == other.path.as_bytes()
             && are_queries_equal(&self.query, &other.query)

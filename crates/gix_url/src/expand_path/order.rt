@@ -1,7 +1,4 @@
-//! Equality, order and hash of users, by the bytes of their names.
-//!
-//! It uses `order`. Its contract: the current user comes before all others, and equality, order and hash
-//! agree. It takes no memory.
+//! Equality, order and hash of users, by the bytes of their names. The current user comes before all others.
 
 ghost use Rattle.std.specs.Prelude.{◌≡◌, Some, option_map, refl};
 ghost use Rattle.std.specs.Cmp.{on_equiv, on_per, on_po, on_total, partial_equiv_from_equiv};

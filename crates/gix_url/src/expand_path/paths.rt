@@ -1,7 +1,7 @@
 //! Paths as text: their pieces, the parent of a path, and a path below a folder.
 //!
-//! It uses `bytes`. Its contracts speak of pieces and concatenations, so that no caller sees an index. A
-//! parent is a front of the text and takes no memory; what is joined is appended in place.
+//! The contracts are about pieces and concatenations, so no caller sees an index. A parent is a front of the
+//! text; a joined path is appended in place.
 
 ghost use Rattle.std.specs.Prelude.{◌≡◌, ◌++◌, List, ℕ, OnOk, string_bytes};
 ghost use Rattle.std.specs.Option.{option_copied};
@@ -14,21 +14,21 @@ ghost use Rattle.gix_url.specs.Paths.{IsParent, Joins, LiesBelow, Opens, Without
 use git_syntax::bytes::{before, starts_with_byte};
 use std::alloc::AllocError;
 
-/// What is before and behind the first `/`.
+/// The texts before and after the first `/`.
 fn first_slash(text: &str) -> Option<(&str, &str)>
     ensures { CutsAt slash text.now result }
 {
     text.split_once('/')
 }
 
-/// What is before and behind the last `/`.
+/// The texts before and after the last `/`.
 fn last_slash(text: &str) -> Option<(&str, &str)>
     ensures { CutsAtLast slash text.now result }
 {
     text.rsplit_once('/')
 }
 
-/// The first segment, and what is behind the `/` that ends it, if one does.
+/// The first segment, and the text after the `/` that ends it, if one does.
 fn first_segment(text: &str) -> (&str, Option<&str>)
     ensures { CutsSegment text.now result.0 result.1 }
 {
@@ -38,7 +38,7 @@ fn first_segment(text: &str) -> (&str, Option<&str>)
     }
 }
 
-/// Whether a segment counts: it is neither empty nor `.`.
+/// Whether a segment counts, because it is neither empty nor `.`.
 fn counts(segment: &str) -> bool
     ensures { result ≡ counts segment.now }
 {
@@ -49,7 +49,7 @@ fn counts(segment: &str) -> bool
     }
 }
 
-/// The front that ends with the last piece, or nothing.
+/// The front that ends with the last piece, or the empty text.
 fn up_to_last(text: &str) -> &str
     ensures { UpToLast text.now result.now }
 {
@@ -81,7 +81,7 @@ pub(super) fn parent(path: &str) -> Option<&str>
     }
 }
 
-/// Appends the `/` that comes between a folder and what is in it, where the folder brings none.
+/// Appends the `/` between a folder and its contents, unless the folder ends with one.
 fn push_slash(folder: &mut String) -> Result<(), AllocError>
     ensures { OnOk result (Opens (string_bytes folder.old) (string_bytes folder.new)) }
 {
@@ -111,7 +111,7 @@ pub(super) fn push_path(folder: &mut String, path: &str) -> Result<(), AllocErro
     Ok(())
 }
 
-/// Appends the pieces behind the first segment, with a `/` between each two.
+/// Appends the pieces after the first segment, with a `/` between each two.
 fn push_pieces(out: &mut String, path: &str) -> Result<(), AllocError>
     ensures { OnOk result
         ((rest : List ℕ) × WithoutFirst path.now rest

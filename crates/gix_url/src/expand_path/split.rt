@@ -1,6 +1,5 @@
-//! The home split: whose home folder a path begins in, and what lies below it.
-//!
-//! It uses `bytes`. Its contract: the name and the rest, as they are in the path.
+//! The home split: the user in whose home folder a path begins, and the path below it, both as slices of the
+//! path.
 
 ghost use Rattle.std.specs.Prelude.{◌≡◌, ◌∷◌, Some, IfOk};
 ghost use Rattle.bstr.specs.Owned.{bstring_bytes};
@@ -13,8 +12,8 @@ use bstr::{BString, ByteSlice};
 use git_syntax::bytes::{after, cut};
 use std::alloc::{AllocError, Global};
 
-/// The name of the user in whose home folder the path begins, which is empty for the current one, and what
-/// lies below.
+/// The name of the user in whose home folder the path begins, which is empty for the current user, and the rest
+/// of the path.
 pub(super) fn cut_home(path: &[u8]) -> Option<(&[u8], &[u8])>
     ensures { CutsHome path.now result }
 {
@@ -25,7 +24,7 @@ pub(super) fn cut_home(path: &[u8]) -> Option<(&[u8], &[u8])>
     }
 }
 
-/// The user of this name; none named is the current one.
+/// The user of this name; an empty name is the current user.
 pub(super) fn user_named(alloc: Global, name: &[u8]) -> Result<ForUser, AllocError>
     ensures { IfOk result (λ user. user_of user ≡ home_user name.now) }
 {
@@ -35,7 +34,7 @@ pub(super) fn user_named(alloc: Global, name: &[u8]) -> Result<ForUser, AllocErr
     Ok(ForUser::Name(BString::from_slice(alloc, name)?))
 }
 
-/// The path behind the home folder: a `/`, and what lies below it as text.
+/// The path below the home folder: a `/`, and the rest as text.
 pub(super) fn path_below(alloc: Global, below: &[u8]) -> Result<BString, AllocError>
     ensures { IfOk result (λ path. bstring_bytes path ≡ slash ∷ lossy_text below.now) }
 {

@@ -1,8 +1,7 @@
-//! Paths as text: whether the bytes of a path are UTF-8.
+//! The test whether a path is UTF-8.
 //!
-//! It uses nothing of this crate. Its contract: a text is the bytes, where they are UTF-8, and none else.
-//! Most paths have 8 to 64 bytes of ASCII, which two overlapping loads show, in a fourth of what the walk
-//! over their characters takes. It takes no memory.
+//! Most paths are 8 to 64 bytes of ASCII. Two overlapping loads test for that, in a quarter of the time of a
+//! loop over the characters.
 
 ghost use Rattle.std.specs.Prelude.{◌≡◌, ◌+◌, ◌≤◌, IfSome, IsTrue, IsUtf8, None, length};
 ghost use Rattle.std.specs.Str.{IsAscii};

@@ -1,13 +1,12 @@
 //! Equality of bytes, a word at a time.
 //!
-//! It uses nothing of this crate. Its contract: the answer is that of `==`. That costs a call and a search by
-//! groups of 32, which takes longer than a comparison of locations is to take: their hosts and paths have 8
-//! to 32 bytes mostly. It takes no memory.
+//! The result is that of `==`, which takes a call and a search in groups of 32. That is slower than comparing
+//! locations should be: most of their hosts and paths have 8 to 32 bytes.
 
 ghost use Rattle.std.specs.Prelude.{◌≡◌, ◌≤◌, ◌-◌, bytes_eq, drop, length, take};
 ghost use Rattle.std.specs.Int.{from_le_bytes, to_le_bytes, w64};
 
-/// Whether both are the same bytes. Up to 32 of them, and no fewer than eight, are compared in place.
+/// Whether both are the same bytes. From eight to 32 bytes are compared in place.
 #[inline(always)]
 pub(crate) fn bytes_equal(a: &[u8], b: &[u8]) -> bool
     ensures { result ≡ bytes_eq a.now b.now }
@@ -28,7 +27,7 @@ pub(crate) fn bytes_equal(a: &[u8], b: &[u8]) -> bool
     many_equal(a, b)
 }
 
-/// The same of less than eight bytes, in a function of its own, so that callers stay small.
+/// Whether both are the same bytes, less than eight. It is a separate function, so that callers stay small.
 #[inline(never)]
 fn few_equal(a: &[u8], b: &[u8]) -> bool
     ensures { result ≡ bytes_eq a.now b.now }
@@ -36,7 +35,7 @@ fn few_equal(a: &[u8], b: &[u8]) -> bool
     a == b
 }
 
-/// The same of more than 32 bytes.
+/// Whether both are the same bytes, more than 32.
 #[inline(never)]
 fn many_equal(a: &[u8], b: &[u8]) -> bool
     ensures { result ≡ bytes_eq a.now b.now }
@@ -44,7 +43,8 @@ fn many_equal(a: &[u8], b: &[u8]) -> bool
     a == b
 }
 
-/// The same of 8 to 16 bytes: the first eight and the last eight, which may overlap, are all of them.
+/// Whether both are the same 8 to 16 bytes: the first eight and the last eight, which may overlap, are all of
+/// them.
 #[inline(always)]
 fn ends_equal(a: &[u8], b: &[u8]) -> bool
     requires { (8 ≤ length a.now) × (length a.now ≤ 16) × (length a.now ≡ length b.now) }
@@ -53,7 +53,7 @@ fn ends_equal(a: &[u8], b: &[u8]) -> bool
     words_equal(first_eight(a), first_eight(b)) && words_equal(last_eight(a), last_eight(b))
 }
 
-/// The same of 16 to 32 bytes: the first 16 and the last 16.
+/// Whether both are the same 16 to 32 bytes: the first 16 and the last 16.
 #[inline(always)]
 fn halves_equal(a: &[u8], b: &[u8]) -> bool
     requires { (16 ≤ length a.now) × (length a.now ≤ 32) × (length a.now ≡ length b.now) }
@@ -88,7 +88,7 @@ fn words_equal(a: &[u8; 8], b: &[u8; 8]) -> bool
     word(a) == word(b)
 }
 
-/// The number that has these bytes, which are those of no other.
+/// The number with these bytes. No other bytes have the same number.
 #[inline(always)]
 fn word(bytes: &[u8; 8]) -> u64
     ensures number { result ≡ from_le_bytes w64 bytes.now }

@@ -1,7 +1,4 @@
-//! Building: the location that found slices mean, with bytes of its own.
-//!
-//! It may use `found`, `bytes`, `copies`, `home`, `host`, `from_fields`, `to_location`, `scheme` and `text`.
-//! Its contract: the location is the one that the slices mean. Memory is asked for once for each part.
+//! Makes the owned location that found slices mean. Allocates once for each field.
 
 ghost use Rattle.std.specs.Prelude.{◌≡◌, IfOk, IfSome, IsUtf8, option_map, string_bytes};
 ghost use Rattle.std.specs.Option.{option_copied};
@@ -55,7 +52,7 @@ fn helper_scheme(alloc: Global, name: &[u8]) -> Result<Scheme, AllocError>
     Ok(Scheme::Helper(copy_text(alloc, name)?))
 }
 
-/// A location that Secure Shell reaches, with this user and this host.
+/// A location of Secure Shell with this user, this host and this path.
 fn scp_location(
     alloc: Global,
     user: Option<&[u8]>,
@@ -72,7 +69,7 @@ fn scp_location(
     Ok(plain_location(Scheme::Ssh, user, Some(host), true, path))
 }
 
-/// The user as a text of its own, if there is one.
+/// The user as an owned text, if there is one.
 fn user_text(alloc: Global, user: Option<&[u8]>) -> Result<Option<String>, AllocError>
     requires { IfSome (option_copied user) IsUtf8 }
     ensures { IfOk result (λ text. option_map string_bytes text ≡ option_copied user.entry) }
@@ -103,7 +100,7 @@ fn host_text(alloc: Global, host: ScpHost<'_>) -> Result<String, AllocError>
     }
 }
 
-/// The bytes in a vector of their own.
+/// The bytes in an owned vector.
 fn copy_of(alloc: Global, text: &[u8]) -> Result<Vec<u8>, AllocError>
     ensures { IfOk result (λ copy. copy.items ≡ text.now) }
 {

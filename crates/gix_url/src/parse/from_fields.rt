@@ -1,7 +1,4 @@
-//! The one place below `parse` that builds a location: a [`Url`] made of its parts.
-//!
-//! It uses the types alone, copies nothing and asks for no memory. Its contract: the location has the parts
-//! that are given, and nothing else.
+//! Makes a [`Url`] of its fields. All other modules of `parse` do so by these functions.
 
 ghost use Rattle.std.specs.Prelude.{◌≡◌, option_map, string_bytes};
 ghost use Rattle.bstr.specs.Owned.{bstring_bytes};
@@ -12,7 +9,7 @@ use crate::location::Url;
 use crate::scheme::Scheme;
 use bstr::BString;
 
-/// A location with all of its parts.
+/// A location with these fields.
 #[allow(clippy::too_many_arguments)]
 pub(super) fn from_fields(
     scheme: Scheme,
@@ -72,7 +69,7 @@ pub(super) fn plain_location(
     }
 }
 
-/// A path with this scheme and this flag, and nothing else.
+/// A location of this scheme, flag and path only.
 pub(super) fn path_alone(scheme: Scheme, flag: bool, path: BString) -> Url
     ensures { result ≡ path_alone (owned_scheme scheme) flag (bstring_bytes path) }
 {

@@ -1,7 +1,5 @@
-//! The errors of reading: the one place where a refusal becomes an error, which keeps a copy of the text.
-//!
-//! It uses `copies` and the errors. Its contract: the error is that of the refusal. It asks for memory once,
-//! for the copy, and where that is refused the error is `Memory`.
+//! Makes the error of a refusal, with a copy of the text. Allocates once, for the copy; if that fails, the
+//! error is `Memory`.
 
 ghost use Rattle.std.specs.Prelude.{◌≡◌, ◌+◌, ◌≤◌, IfOk, Ok, length};
 ghost use Rattle.git_refusals.specs.Kinds.{empty_refusal};
@@ -15,7 +13,7 @@ use git_refusals::reason::RefusalKind;
 use git_refusals::refusal::Refusal;
 use std::alloc::{AllocError, Global};
 
-/// The error of a text that is refused.
+/// The error of a text with this refusal.
 pub(super) fn error_of(alloc: Global, input: &[u8], refusal: Refusal) -> Error
     requires refused { Refused input.now refusal }
     requires within { refusal.at + refusal.len ≤ length input.now }
@@ -28,7 +26,7 @@ pub(super) fn error_of(alloc: Global, input: &[u8], refusal: Refusal) -> Error
     }
 }
 
-/// The same, where memory isn't refused.
+/// The error of a text with this refusal, if the allocation succeeds.
 fn error_with_copy(alloc: Global, input: &[u8], refusal: Refusal) -> Result<Error, AllocError>
     requires refused { Refused input.now refusal }
     requires within { refusal.at + refusal.len ≤ length input.now }

@@ -1,8 +1,5 @@
-//! The location that the parts of a URL stand for.
-//!
-//! It may use `rules`, `url_syntax`, `host`, `ssh_host`, `copies`, `from_fields`, `scheme`, `text` and
-//! `escape`. Its contract: the location is the one that the definitions give the parts. Each part is decoded
-//! once, into memory of its own, and is edited in place.
+//! Makes the location that the fields of a URL denote. Each field is decoded once, into an owned text, and
+//! edited in place.
 
 ghost use Rattle.std.specs.Prelude.{◌≡◌, ◌<◌, ◌↔◌, List, ℕ, IsTrue, IfOk, IfSome, IsUtf8, true, length, option_map, string_bytes};
 ghost use Rattle.bstr.specs.Owned.{bstring_bytes};
@@ -31,7 +28,7 @@ use git_syntax::text::as_text;
 use git_syntax::url_syntax::ParsedUrl;
 use std::alloc::{AllocError, Global};
 
-/// The location of a URL with these parts, of whose scheme these are the rules.
+/// The location of a URL with these fields, by the rules of its scheme.
 pub(super) fn url_location(
     alloc: Global,
     rules: Rules,
@@ -73,7 +70,7 @@ fn host_text(alloc: Global, host: Option<HostPort<'_>>) -> Result<Option<String>
     }
 }
 
-/// The host of a location: Secure Shell takes it without marks, any other scheme as it is.
+/// The host of a location: without brackets and colon for Secure Shell, unchanged for any other scheme.
 fn host_for(known: KnownScheme, host: Option<String>) -> Option<String>
     ensures { (scheme : List ℕ)
         → option_map string_bytes result
@@ -117,14 +114,14 @@ fn from_home(mut path: Vec<u8>) -> Vec<u8>
     path
 }
 
-/// The path, or `/` where it is empty.
+/// The path, or `/` if it is empty.
 fn or_root(path: &[u8]) -> &[u8]
     ensures { percent_decode result.now ≡ grammar.or_root (percent_decode path.now) }
 {
     if path.is_empty() { b"/" } else { path }
 }
 
-/// The spelling of the path, where it holds an escape.
+/// The spelling of the path, if it has an escape.
 fn retained_spelling(alloc: Global, url: ParsedUrl<'_>) -> Result<Option<BString>, AllocError>
     requires { url.escaped ≡ has_percent url.path.now }
     ensures { IfOk result
@@ -138,7 +135,7 @@ fn retained_spelling(alloc: Global, url: ParsedUrl<'_>) -> Result<Option<BString
     }
 }
 
-/// Whether the scheme is Secure Shell's.
+/// Whether the scheme is that of Secure Shell.
 fn is_ssh(known: KnownScheme) -> bool
     ensures { IsTrue result ↔ (known ≡ KnownScheme.Ssh) }
 {

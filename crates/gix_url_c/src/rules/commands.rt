@@ -1,21 +1,17 @@
-//! The export that makes the words with which Git runs Secure Shell for a location.
-//!
-//! It uses `given` and `room`. Its contract: what is reported are the words of the library's command, or
-//! why there is none. With an error the room and the lengths are as they were, and the numbers are, except
-//! with 102.
+//! The export for the words with which Git runs Secure Shell for a location. With 102 only the numbers are reported.
 
 ghost use Rattle.std.specs.Prelude.{◌≡◌, ◌<◌, ◌⊎◌, IfOk, IfSome, None, length, map};
 ghost use Rattle.std.specs.List.{concat};
 ghost use Rattle.bstr.specs.Owned.{bstring_bytes};
 ghost use Rattle.git_rules.specs.SecureShell.{command_words};
 ghost use Rattle.gix_url_c.specs.Codes.{UnlessMemory, UnlessNone, memory, no_room, ok};
-ghost use Rattle.gix_url_c.specs.Given.{IsNone, location_of};
-ghost use Rattle.gix_url_c.specs.Left.{LeavesLengths, LeavesRoom};
-ghost use Rattle.gix_url_c.specs.WordNumbers.{IsNoFamily, IsNoRequest, PutsWords, ReportsWords, family_numbered, refusal_number, refused_numbers, request_given, service_numbered, variable_number, variant_numbered, version_number, version_numbered};
+ghost use Rattle.gix_url_c.specs.Input.{IsNone, location_of};
+ghost use Rattle.gix_url_c.specs.Left.{LeavesLengths, LeavesBuffer};
+ghost use Rattle.gix_url_c.specs.WordNumbers.{IsNoFamily, IsNoRequest, PutsWords, ReportsWords, family_numbered, refusal_number, refused_numbers, request_passed, service_numbered, variable_number, variant_numbered, version_number, version_numbered};
 
+use crate::buffer::put_both;
 use crate::codes::{MEMORY, NO_LOCATION, OK};
-use crate::given::{Given, location_of, present};
-use crate::room::put_both;
+use crate::input::{PartBytes, location_of, present};
 use bstr::BString;
 use git_rules::ssh::{
     AddressFamily, ProtocolVersion, Service, SshCommand, SshRefusal, SshRequest, SshVariant,
@@ -24,105 +20,105 @@ use git_rules::ssh::{
 use gix_url::UrlRef;
 use std::alloc::{AllocError, Global};
 
-/// What is asked of Secure Shell beside the location.
+/// The request to Secure Shell, apart from the location.
 #[repr(C)]
 #[derive(Clone, Copy)]
-pub struct GivenRequest<'a> {
-    /// What the server runs in place of the service.
+pub struct RequestBytes<'a> {
+    /// The program that the server runs in place of the service.
     pub program: &'a [u8],
-    /// Whether it runs that.
+    /// Whether there is such a program.
     pub has_program: bool,
     /// The service: 0 `git-upload-pack`, 1 `git-receive-pack`, 2 `git-upload-archive`.
     pub service: u8,
-    /// The program that is run here: 0 OpenSSH, 1 `simple`, 2 `plink`, 3 `putty`, 4 `tortoiseplink`.
+    /// The program that runs on this machine: 0 OpenSSH, 1 `simple`, 2 `plink`, 3 `putty`, 4 `tortoiseplink`.
     pub variant: u8,
     /// The version of Git's protocol: 0 to 2.
     pub version: u8,
-    /// The family of addresses: 0 any, 4 or 6.
+    /// The version of IP: 0 any, 4 or 6.
     pub family: u8,
 }
 
-/// What is reported of a command beside its words.
+/// What is reported about a command, apart from its words.
 #[repr(C)]
 #[derive(Clone, Copy)]
 pub struct WordNumbers {
-    /// Why there is no command: 1 to 16; 0 where there is one. All else is 0 then.
+    /// Why there is no command: 1 to 16, and then all else is 0; 0 if there is one.
     pub refusal: u8,
-    /// The version that the variable `GIT_PROTOCOL` is to have; 0 where it isn't to be set.
+    /// The version for the environment variable `GIT_PROTOCOL`; 0 if it isn't set.
     pub git_protocol: u8,
     /// The number of words.
     pub words: usize,
-    /// The length of all words.
+    /// The length of all words together.
     pub bytes: usize,
 }
 
-/// Puts the words with which Git runs Secure Shell for the location into the room, and their lengths into
-/// `lengths`: [`git_rules::ssh::ssh_command_for`].
+/// Copies the words with which Git runs Secure Shell for the location to the buffer, and their lengths to `lengths`:
+/// [`git_rules::ssh::ssh_command_for`].
 ///
-/// It answers 0; 1 where memory is refused; 101 where the parts are none of a location, or a number of the
-/// request stands for nothing; 102 where words or lengths don't fit.
+/// Returns 0; 1 if memory is refused; 101 if the parts aren't a location, or a number of the request has no meaning;
+/// 102 if the words or the lengths don't fit.
 #[unsafe(no_mangle)]
 pub extern "C" fn gix_url_c_ssh_words(
     alloc: Global,
-    given: &Given<'_>,
-    request: &GivenRequest<'_>,
-    made: &mut WordNumbers,
-    room: &mut [u8],
+    passed: &PartBytes<'_>,
+    request: &RequestBytes<'_>,
+    built: &mut WordNumbers,
+    buffer: &mut [u8],
     lengths: &mut [usize],
 ) -> u32
-    ensures reported { UnlessNone result (IsNone given.now ⊎ IsNoRequest request.now) (UnlessMemory result
-        (ReportsWords (location_of given.now) (request_given request.now)
-        made.new room.old room.new lengths.old lengths.new result)) }
-    ensures room { LeavesRoom result room.old room.new }
-    ensures lengths { LeavesRoom result lengths.old lengths.new }
-    ensures numbers { LeavesLengths result made.old made.new }
+    ensures reported { UnlessNone result (IsNone passed.now ⊎ IsNoRequest request.now) (UnlessMemory result
+        (ReportsWords (location_of passed.now) (request_passed request.now)
+        built.new buffer.old buffer.new lengths.old lengths.new result)) }
+    ensures buffer { LeavesBuffer result buffer.old buffer.new }
+    ensures lengths { LeavesBuffer result lengths.old lengths.new }
+    ensures numbers { LeavesLengths result built.old built.new }
 {
-    let Some(url) = location_of(given) else {
+    let Some(url) = location_of(passed) else {
         return NO_LOCATION;
     };
     match request_of(request) {
-        Some(request) => put_command(alloc, &url, &request, made, room, lengths),
+        Some(request) => put_command(alloc, &url, &request, built, buffer, lengths),
         None => NO_LOCATION,
     }
 }
 
-/// Puts the words of the command for the location, if there is one.
+/// Copies and reports the words of the command for the location, or reports why there is none.
 fn put_command(
     alloc: Global,
     url: &UrlRef<'_>,
     request: &SshRequest<'_>,
-    made: &mut WordNumbers,
-    room: &mut [u8],
+    built: &mut WordNumbers,
+    buffer: &mut [u8],
     lengths: &mut [usize],
 ) -> u32
     ensures reported { UnlessMemory result
-        (ReportsWords url.now request.now made.new room.old room.new lengths.old lengths.new result) }
-    ensures room { LeavesRoom result room.old room.new }
-    ensures lengths { LeavesRoom result lengths.old lengths.new }
-    ensures numbers { LeavesLengths result made.old made.new }
+        (ReportsWords url.now request.now built.new buffer.old buffer.new lengths.old lengths.new result) }
+    ensures buffer { LeavesBuffer result buffer.old buffer.new }
+    ensures lengths { LeavesBuffer result lengths.old lengths.new }
+    ensures numbers { LeavesLengths result built.old built.new }
 {
     match ssh_command_for(url, request) {
-        Ok(command) => put_words(alloc, &command, made, room, lengths),
+        Ok(command) => put_words(alloc, &command, built, buffer, lengths),
         Err(refusal) => {
-            *made = refused_numbers(refusal);
+            *built = refused_numbers(refusal);
             OK
         }
     }
 }
 
-/// Puts the words of a command.
+/// Copies and reports the words of a command.
 fn put_words(
     alloc: Global,
     command: &SshCommand<'_>,
-    made: &mut WordNumbers,
-    room: &mut [u8],
+    built: &mut WordNumbers,
+    buffer: &mut [u8],
     lengths: &mut [usize],
 ) -> u32
     ensures reported { UnlessMemory result
-        (PutsWords command.now made.new room.old room.new lengths.old lengths.new result) }
-    ensures room { LeavesRoom result room.old room.new }
-    ensures lengths { LeavesRoom result lengths.old lengths.new }
-    ensures numbers { LeavesLengths result made.old made.new }
+        (PutsWords command.now built.new buffer.old buffer.new lengths.old lengths.new result) }
+    ensures buffer { LeavesBuffer result buffer.old buffer.new }
+    ensures lengths { LeavesBuffer result lengths.old lengths.new }
+    ensures numbers { LeavesLengths result built.old built.new }
 {
     let Ok(words) = command.to_words(alloc) else {
         return MEMORY;
@@ -133,16 +129,16 @@ fn put_words(
     let Ok(measured) = word_lengths(alloc, &words) else {
         return MEMORY;
     };
-    *made = WordNumbers {
+    *built = WordNumbers {
         refusal: 0,
         git_protocol: variable_number(command),
         words: words.len(),
         bytes: bytes.len(),
     };
-    put_both(&bytes, &measured, room, lengths)
+    put_both(&bytes, &measured, buffer, lengths)
 }
 
-/// The bytes of the words, one behind the other.
+/// The bytes of the words, one after the other.
 fn joined_words(alloc: Global, words: &[BString]) -> Result<Vec<u8>, AllocError>
     ensures { IfOk result (λ bytes. bytes.items ≡ concat (map bstring_bytes words.now)) }
 {
@@ -164,7 +160,7 @@ fn word_lengths(alloc: Global, words: &[BString]) -> Result<Vec<usize>, AllocErr
     Ok(lengths)
 }
 
-/// The numbers of a location without a command, for this reason.
+/// The numbers of a location that has no command, for this reason.
 fn refused_numbers(refusal: SshRefusal) -> WordNumbers
     ensures { result ≡ refused_numbers refusal }
 {
@@ -176,7 +172,7 @@ fn refused_numbers(refusal: SshRefusal) -> WordNumbers
     }
 }
 
-/// The version that the variable of a command is to have, or 0.
+/// The version for the environment variable of a command, or 0.
 fn variable_number(command: &SshCommand<'_>) -> u8
     ensures { result ≡ variable_number command.now }
 {
@@ -197,24 +193,24 @@ fn version_number(version: ProtocolVersion) -> u8
     }
 }
 
-/// What is asked for, unless a number stands for nothing.
-fn request_of<'a>(given: &GivenRequest<'a>) -> Option<SshRequest<'a>>
-    ensures made { IfSome result (λ request. request ≡ request_given given.now) }
-    ensures whole { IfSome result (λ _. ¬ IsNoRequest given.now) }
-    ensures refused { result ≡ None → IsNoRequest given.now }
+/// The request, unless one of its numbers has no meaning.
+fn request_of<'a>(passed: &RequestBytes<'a>) -> Option<SshRequest<'a>>
+    ensures built { IfSome result (λ request. request ≡ request_passed passed.now) }
+    ensures whole { IfSome result (λ _. ¬ IsNoRequest passed.now) }
+    ensures refused { result ≡ None → IsNoRequest passed.now }
 {
     Some(SshRequest {
-        service: service_numbered(given.service)?,
-        program: present(given.has_program, given.program),
-        variant: variant_numbered(given.variant)?,
-        version: version_numbered(given.version)?,
-        family: family_numbered(given.family)?,
+        service: service_numbered(passed.service)?,
+        program: present(passed.has_program, passed.program),
+        variant: variant_numbered(passed.variant)?,
+        version: version_numbered(passed.version)?,
+        family: family_numbered(passed.family)?,
     })
 }
 
-/// The service of this number.
+/// The service with this number.
 fn service_numbered(number: u8) -> Option<Service>
-    ensures made { IfSome result (λ service. service ≡ service_numbered number) }
+    ensures built { IfSome result (λ service. service ≡ service_numbered number) }
     ensures known { IfSome result (λ _. ¬ (2 < number)) }
     ensures refused { result ≡ None → 2 < number }
 {
@@ -226,9 +222,9 @@ fn service_numbered(number: u8) -> Option<Service>
     }
 }
 
-/// The variant of this number.
+/// The variant with this number.
 fn variant_numbered(number: u8) -> Option<SshVariant>
-    ensures made { IfSome result (λ variant. variant ≡ variant_numbered number) }
+    ensures built { IfSome result (λ variant. variant ≡ variant_numbered number) }
     ensures known { IfSome result (λ _. ¬ (4 < number)) }
     ensures refused { result ≡ None → 4 < number }
 {
@@ -242,9 +238,9 @@ fn variant_numbered(number: u8) -> Option<SshVariant>
     }
 }
 
-/// The version of this number.
+/// The version with this number.
 fn version_numbered(number: u8) -> Option<ProtocolVersion>
-    ensures made { IfSome result (λ version. version ≡ version_numbered number) }
+    ensures built { IfSome result (λ version. version ≡ version_numbered number) }
     ensures known { IfSome result (λ _. ¬ (2 < number)) }
     ensures refused { result ≡ None → 2 < number }
 {
@@ -256,9 +252,9 @@ fn version_numbered(number: u8) -> Option<ProtocolVersion>
     }
 }
 
-/// The family of this number.
+/// The version of IP with this number.
 fn family_numbered(number: u8) -> Option<AddressFamily>
-    ensures made { IfSome result (λ family. family ≡ family_numbered number) }
+    ensures built { IfSome result (λ family. family ≡ family_numbered number) }
     ensures known { IfSome result (λ _. ¬ IsNoFamily number) }
     ensures refused { result ≡ None → IsNoFamily number }
 {

@@ -1,17 +1,14 @@
-//! The exports that read a configuration: the output of `git config --list -z`, and the text of a file.
-//!
-//! They use `written`, `stops` and `room`. Their contracts: what is reported are the entries of the text,
-//! each once and in its order, or the first place at which it is no configuration. With an error the room
-//! and the numbers are as they were, except the sizes with 102.
+//! The exports that read a configuration: the output of `git config --list -z`, or the text of a file. With 102 only
+//! the sizes are reported.
 
 ghost use Rattle.std.specs.Prelude.{◌≡◌, ◌++◌, ◌∷◌, [], ◌⊎◌, IfErr, IfOk, OnOk, map};
 ghost use Rattle.gix_url_c.specs.Codes.{UnlessMemory, memory, no_room, ok};
 ghost use Rattle.gix_url_c.specs.EntryNumbers.{IsListingOf, PutsFile, PutsListing, PutsParts, ReportsFile, ReportsListing, Unlists, file_flaw_number, flaw_stop};
-ghost use Rattle.gix_url_c.specs.Left.{LeavesLengths, LeavesRoom};
+ghost use Rattle.gix_url_c.specs.Left.{LeavesLengths, LeavesBuffer};
 ghost use Rattle.gix_url_c.specs.Stops.{LeavesStop, no_configuration, no_stop};
 
+use crate::buffer::put_both;
 use crate::codes::MEMORY;
-use crate::room::put_both;
 use crate::rules::pieces::joined;
 use crate::rules::stops::{NO_CONFIGURATION, Stop, no_stop};
 use crate::rules::written::{Written, written_file, written_listing};
@@ -20,17 +17,17 @@ use git_modules::config_file::{self, FileEntry};
 use git_rules::config::{Entry, EntryError, Reader};
 use std::alloc::{AllocError, Global};
 
-/// How many entries there are, and how many bytes their parts have.
+/// The number of entries, and the length of their parts.
 #[repr(C)]
 #[derive(Clone, Copy)]
 pub struct EntrySizes {
     /// The number of entries.
     pub entries: usize,
-    /// The length of all parts.
+    /// The length of all parts together, in bytes.
     pub bytes: usize,
 }
 
-/// Why a text isn't read.
+/// Why a listing isn't read.
 enum Unlisted {
     /// Memory was refused.
     Memory,
@@ -48,31 +45,31 @@ impl From<AllocError> for Unlisted {
     }
 }
 
-/// Puts the parts of the entries of a listing into the room, and eight numbers for each into `numbers`: the
-/// lengths of section, subsection, name and value, the place, the line, and whether there is a subsection
-/// and a value: [`git_rules::config::Reader`].
+/// Copies the parts of the entries of a listing to the buffer, and eight numbers for each entry to `numbers`: the
+/// lengths of section, subsection, name and value, the place, the line, and whether there is a subsection and a
+/// value. See [`git_rules::config::Reader`].
 ///
-/// It answers 0; 1 where memory is refused; 102 where parts or numbers don't fit; 106 where a line of the
-/// text is no entry or the text is cut off, with the first such place.
+/// Returns 0; 1 if memory is refused; 102 if the parts or the numbers don't fit; 106 if a line of the text is not an
+/// entry or the text is cut off, with the first such place.
 #[unsafe(no_mangle)]
 pub extern "C" fn gix_url_c_read_listing(
     alloc: Global,
     text: &[u8],
-    made: &mut EntrySizes,
-    room: &mut [u8],
+    built: &mut EntrySizes,
+    buffer: &mut [u8],
     numbers: &mut [usize],
     stop: &mut Stop,
 ) -> u32
     ensures reported { UnlessMemory result
-        (ReportsListing text.now made.new room.old room.new numbers.old numbers.new stop.new result) }
-    ensures room { LeavesRoom result room.old room.new }
-    ensures numbers { LeavesRoom result numbers.old numbers.new }
-    ensures sizes { LeavesLengths result made.old made.new }
+        (ReportsListing text.now built.new buffer.old buffer.new numbers.old numbers.new stop.new result) }
+    ensures buffer { LeavesBuffer result buffer.old buffer.new }
+    ensures numbers { LeavesBuffer result numbers.old numbers.new }
+    ensures sizes { LeavesLengths result built.old built.new }
     ensures stop { LeavesStop result stop.new }
 {
     *stop = no_stop();
     match listed(alloc, text) {
-        Ok(entries) => put_listing(alloc, &entries, made, room, numbers),
+        Ok(entries) => put_listing(alloc, &entries, built, buffer, numbers),
         Err(Unlisted::Memory) => MEMORY,
         Err(Unlisted::Flawed(flaw)) => {
             *stop = flaw_stop(flaw);
@@ -81,33 +78,34 @@ pub extern "C" fn gix_url_c_read_listing(
     }
 }
 
-/// The same with the text of a configuration file: [`git_modules::config_file::entries`].
+/// Does for the text of a configuration file what [`gix_url_c_read_listing`] does for a listing:
+/// [`git_modules::config_file::entries`].
 ///
-/// It answers 0; 1 where memory is refused; 102 where parts or numbers don't fit; 106 where the text is
-/// none of a configuration file, with the first place at which it is none.
+/// Returns 0; 1 if memory is refused; 102 if the parts or the numbers don't fit; 106 if the text is not a
+/// configuration file, with the place at which Git stops.
 #[unsafe(no_mangle)]
 pub extern "C" fn gix_url_c_read_file(
     alloc: Global,
     text: &[u8],
-    made: &mut EntrySizes,
-    room: &mut [u8],
+    built: &mut EntrySizes,
+    buffer: &mut [u8],
     numbers: &mut [usize],
     stop: &mut Stop,
 ) -> u32
     ensures reported { UnlessMemory result
-        (ReportsFile text.now made.new room.old room.new numbers.old numbers.new stop.new result) }
-    ensures room { LeavesRoom result room.old room.new }
-    ensures numbers { LeavesRoom result numbers.old numbers.new }
-    ensures sizes { LeavesLengths result made.old made.new }
+        (ReportsFile text.now built.new buffer.old buffer.new numbers.old numbers.new stop.new result) }
+    ensures buffer { LeavesBuffer result buffer.old buffer.new }
+    ensures numbers { LeavesBuffer result numbers.old numbers.new }
+    ensures sizes { LeavesLengths result built.old built.new }
     ensures stop { LeavesStop result stop.new }
 {
     *stop = no_stop();
-    let Ok(mut buffer) = vec![in alloc; 0u8; text.len()] else {
+    let Ok(mut scratch) = vec![in alloc; 0u8; text.len()] else {
         return MEMORY;
     };
-    match config_file::entries(alloc, text, buffer.as_mut_slice()) {
-        Ok(entries) => put_file(alloc, &entries, made, room, numbers),
-        // The buffer is as long as the text.
+    match config_file::entries(alloc, text, scratch.as_mut_slice()) {
+        Ok(entries) => put_file(alloc, &entries, built, buffer, numbers),
+        // The scratch buffer is as long as the text.
         Err(FileError::Memory | FileError::ShortBuffer) => MEMORY,
         Err(FileError::Refused { flaw, at, line }) => {
             *stop = Stop {
@@ -120,7 +118,7 @@ pub extern "C" fn gix_url_c_read_file(
     }
 }
 
-/// The entries of a listing, or why it is none.
+/// The entries of a listing, or why the text isn't one.
 fn listed(alloc: Global, text: &[u8]) -> Result<Vec<Entry<'_>>, Unlisted>
     ensures found { IfOk result (λ found. IsListingOf text.now found.items) }
     ensures refused { IfErr result (Unlists text.now) }
@@ -143,78 +141,78 @@ fn keep<'a>(found: &mut Vec<Entry<'a>>, entry: Entry<'a>) -> Result<(), AllocErr
     Ok(())
 }
 
-/// Puts the parts of the entries and their numbers.
+/// Copies and reports the parts and the numbers of the entries of a listing.
 fn put_listing(
     alloc: Global,
     entries: &[Entry<'_>],
-    made: &mut EntrySizes,
-    room: &mut [u8],
+    built: &mut EntrySizes,
+    buffer: &mut [u8],
     numbers: &mut [usize],
 ) -> u32
     ensures reported { UnlessMemory result
-        (PutsListing entries.now made.new room.old room.new numbers.old numbers.new result) }
-    ensures room { LeavesRoom result room.old room.new }
-    ensures numbers { LeavesRoom result numbers.old numbers.new }
-    ensures sizes { LeavesLengths result made.old made.new }
+        (PutsListing entries.now built.new buffer.old buffer.new numbers.old numbers.new result) }
+    ensures buffer { LeavesBuffer result buffer.old buffer.new }
+    ensures numbers { LeavesBuffer result numbers.old numbers.new }
+    ensures sizes { LeavesLengths result built.old built.new }
     ensures code { (result ≡ memory) ⊎ ((result ≡ ok) ⊎ (result ≡ no_room)) }
 {
     match written_listing(alloc, entries) {
-        Ok(written) => put_written(alloc, &written, entries.len(), made, room, numbers),
+        Ok(written) => put_written(alloc, &written, entries.len(), built, buffer, numbers),
         Err(_) => MEMORY,
     }
 }
 
-/// Puts the parts of the entries of a file and their numbers.
+/// Copies and reports the parts and the numbers of the entries of a file.
 fn put_file(
     alloc: Global,
     entries: &[FileEntry<'_>],
-    made: &mut EntrySizes,
-    room: &mut [u8],
+    built: &mut EntrySizes,
+    buffer: &mut [u8],
     numbers: &mut [usize],
 ) -> u32
     ensures reported { UnlessMemory result
-        (PutsFile entries.now made.new room.old room.new numbers.old numbers.new result) }
-    ensures room { LeavesRoom result room.old room.new }
-    ensures numbers { LeavesRoom result numbers.old numbers.new }
-    ensures sizes { LeavesLengths result made.old made.new }
+        (PutsFile entries.now built.new buffer.old buffer.new numbers.old numbers.new result) }
+    ensures buffer { LeavesBuffer result buffer.old buffer.new }
+    ensures numbers { LeavesBuffer result numbers.old numbers.new }
+    ensures sizes { LeavesLengths result built.old built.new }
     ensures code { (result ≡ memory) ⊎ ((result ≡ ok) ⊎ (result ≡ no_room)) }
 {
     match written_file(alloc, entries) {
-        Ok(written) => put_written(alloc, &written, entries.len(), made, room, numbers),
+        Ok(written) => put_written(alloc, &written, entries.len(), built, buffer, numbers),
         Err(_) => MEMORY,
     }
 }
 
-/// Puts parts and numbers of so many entries, if both fit.
+/// Copies the parts and the numbers of so many entries, if both fit.
 fn put_written(
     alloc: Global,
     written: &Written<'_>,
     entries: usize,
-    made: &mut EntrySizes,
-    room: &mut [u8],
+    built: &mut EntrySizes,
+    buffer: &mut [u8],
     numbers: &mut [usize],
 ) -> u32
     ensures reported { UnlessMemory result
         (PutsParts entries (map (λ t. t.now) written.now.texts.items) written.now.numbers.items
-        made.new room.old room.new numbers.old numbers.new result) }
-    ensures room { LeavesRoom result room.old room.new }
-    ensures numbers { LeavesRoom result numbers.old numbers.new }
-    ensures sizes { LeavesLengths result made.old made.new }
+        built.new buffer.old buffer.new numbers.old numbers.new result) }
+    ensures buffer { LeavesBuffer result buffer.old buffer.new }
+    ensures numbers { LeavesBuffer result numbers.old numbers.new }
+    ensures sizes { LeavesLengths result built.old built.new }
     ensures code { (result ≡ memory) ⊎ ((result ≡ ok) ⊎ (result ≡ no_room)) }
 {
     match joined(alloc, &written.texts) {
         Ok(bytes) => {
-            *made = EntrySizes {
+            *built = EntrySizes {
                 entries,
                 bytes: bytes.len(),
             };
-            put_both(&bytes, &written.numbers, room, numbers)
+            put_both(&bytes, &written.numbers, buffer, numbers)
         }
         Err(_) => MEMORY,
     }
 }
 
-/// What is reported of what is no entry.
+/// What is reported about a place that is not an entry.
 fn flaw_stop(flaw: EntryError) -> Stop
     ensures { result ≡ flaw_stop flaw }
 {

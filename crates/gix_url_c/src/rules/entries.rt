@@ -1,19 +1,16 @@
-//! The entries of a configuration, as C has them: numbers and the bytes of each part.
-//!
-//! It uses the entries of `git_rules`. Its contract: each entry is copied into one of the library with just
-//! these parts, in their order. The copy takes memory, and the parts stay where they are.
+//! The entries of a configuration in C's form: numbers, and the bytes of each part.
 
 ghost use Rattle.std.specs.Prelude.{◌≡◌, IfOk, map};
-ghost use Rattle.gix_url_c.specs.Entries.{entries_given, entry_given};
+ghost use Rattle.gix_url_c.specs.Entries.{entries_passed, entry_passed};
 
-use crate::given::present;
+use crate::input::present;
 use git_rules::config::Entry;
 use std::alloc::{AllocError, Global};
 
-/// An entry of a configuration as C has it. Where a part isn't there, its bytes are not looked at.
+/// An entry of a configuration in C's form. The bytes of a missing part are ignored.
 #[repr(C)]
 #[derive(Clone, Copy)]
-pub struct GivenEntry<'a> {
+pub struct EntryBytes<'a> {
     /// The section.
     pub section: &'a [u8],
     /// The subsection.
@@ -22,9 +19,9 @@ pub struct GivenEntry<'a> {
     pub name: &'a [u8],
     /// The value.
     pub value: &'a [u8],
-    /// The place of the entry, which is reported.
+    /// The place of the entry, which a stop reports.
     pub at: usize,
-    /// The line of the entry, which is not looked at.
+    /// The line of the entry, which is ignored.
     pub line: usize,
     /// Whether there is a subsection.
     pub has_subsection: bool,
@@ -35,26 +32,26 @@ pub struct GivenEntry<'a> {
 /// The entries in the library's own form.
 pub(crate) fn entries_of<'a>(
     alloc: Global,
-    given: &[GivenEntry<'a>],
+    passed: &[EntryBytes<'a>],
 ) -> Result<Vec<Entry<'a>>, AllocError>
-    ensures { IfOk result (λ found. found.items ≡ entries_given given.now) }
+    ensures { IfOk result (λ found. found.items ≡ entries_passed passed.now) }
 {
-    let mut found = Vec::with_capacity(alloc, given.len())?;
-    for entry in given {
+    let mut found = Vec::with_capacity(alloc, passed.len())?;
+    for entry in passed {
         found.push(entry_of(entry))?;
     }
     Ok(found)
 }
 
 /// The entry in the library's own form.
-pub(crate) fn entry_of<'a>(given: &GivenEntry<'a>) -> Entry<'a>
-    ensures { result ≡ entry_given given.now }
+pub(crate) fn entry_of<'a>(passed: &EntryBytes<'a>) -> Entry<'a>
+    ensures { result ≡ entry_passed passed.now }
 {
     Entry {
-        section: given.section,
-        subsection: present(given.has_subsection, given.subsection),
-        name: given.name,
-        value: present(given.has_value, given.value),
-        at: given.at,
+        section: passed.section,
+        subsection: present(passed.has_subsection, passed.subsection),
+        name: passed.name,
+        value: present(passed.has_value, passed.value),
+        at: passed.at,
     }
 }

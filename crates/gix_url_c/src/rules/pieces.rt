@@ -1,13 +1,11 @@
-//! Texts that are put one behind the other.
-//!
-//! Its contract: the bytes are those of the texts, in their order. It takes memory.
+//! Texts that are joined.
 
 ghost use Rattle.std.specs.Prelude.{◌≡◌, ◌++◌, IfOk, length, map};
 ghost use Rattle.std.specs.List.{concat};
 
 use std::alloc::{AllocError, Global};
 
-/// The bytes of the texts, one behind the other.
+/// The bytes of the texts, one after the other.
 pub(crate) fn joined(alloc: Global, texts: &[&[u8]]) -> Result<Vec<u8>, AllocError>
     ensures { IfOk result (λ bytes. bytes.items ≡ concat (map (λ t. t.now) texts.now)) }
 {

@@ -1,29 +1,25 @@
-//! The exports that find the transport of a text, and whether Git may use it.
-//!
-//! They use `entries` and `room`. Their contracts: what is reported is what the library's calls return by
-//! the text, or by the configuration, the variables and the name. With an error the room and the answer are
-//! as they were.
+//! The exports for the transport of a text, and for whether Git may use it.
 
 ghost use Rattle.std.specs.Prelude.{◌≡◌, ◌⊎◌, IsUtf8, IfOk, option_map};
 ghost use Rattle.git_rules.specs.Policies.{Policy};
 ghost use Rattle.gix_url_c.specs.Codes.{UnlessMemory, UnlessNone, memory, ok};
-ghost use Rattle.gix_url_c.specs.Entries.{entries_given};
-ghost use Rattle.gix_url_c.specs.Given.{present};
-ghost use Rattle.gix_url_c.specs.Left.{LeavesRoom};
-ghost use Rattle.gix_url_c.specs.PolicyNumbers.{ReportsPermission, ReportsTransport, permission_numbers, policy_given, reason_place, decider_number, transport_number};
+ghost use Rattle.gix_url_c.specs.Entries.{entries_passed};
+ghost use Rattle.gix_url_c.specs.Input.{present};
+ghost use Rattle.gix_url_c.specs.Left.{LeavesBuffer};
+ghost use Rattle.gix_url_c.specs.PolicyNumbers.{ReportsPermission, ReportsTransport, permission_numbers, policy_passed, reason_place, decider_number, transport_number};
 
+use crate::buffer::put_text;
 use crate::codes::{MEMORY, NO_LOCATION, OK};
-use crate::given::present;
-use crate::room::put_text;
-use crate::rules::entries::{GivenEntry, entries_of};
+use crate::input::present;
+use crate::rules::entries::{EntryBytes, entries_of};
 use git_rules::protocols::text::{NoTransport, transport_of};
 use git_rules::protocols::{Permission, Protocols, Reason};
 use std::alloc::Global;
 
-/// Two variables of the environment. Where one isn't set, its bytes are not looked at.
+/// Two environment variables. The bytes of a variable that isn't set are ignored.
 #[repr(C)]
 #[derive(Clone, Copy)]
-pub struct GivenPolicy<'a> {
+pub struct PolicyBytes<'a> {
     /// `GIT_ALLOW_PROTOCOL`.
     pub allow_list: &'a [u8],
     /// `GIT_PROTOCOL_FROM_USER`.
@@ -34,39 +30,38 @@ pub struct GivenPolicy<'a> {
     pub has_from_user: bool,
 }
 
-/// What Git does about a transport, and by what.
+/// Whether Git uses a transport, and what decides it.
 #[repr(C)]
 #[derive(Clone, Copy)]
 pub struct PermissionNumbers {
-    /// What it does: 1 it uses it, 2 it refuses it; it stops, 3 at the entry that decides, 4 at the second
-    /// variable.
+    /// 1 Git uses it, 2 Git refuses it, 3 Git stops at the entry that decides, 4 Git stops at the second variable.
     pub decision: u8,
-    /// What decides: 1 the first variable, 2 an entry, 3 neither; 0 with 4.
+    /// What decides: 1 the first variable, 2 an entry, 3 neither; 0 if Git stops at the second variable.
     pub by: u8,
-    /// The place of the entry that decides; else 0.
+    /// The place of the entry that decides; otherwise 0.
     pub at: usize,
 }
 
-/// Puts the name of the transport that Git takes for a text into the room, and reports its length:
-/// [`git_rules::protocols::text::transport_of`].
+/// Copies the name of the transport that Git uses for a text to the buffer, and reports its length:
+/// [`git_rules::protocols::text::transport_of`]. If the text has no transport, the length is 0, the buffer is
+/// unchanged, and `why` is the reason: 1 to 4. Otherwise `why` is 0.
 ///
-/// It answers 0, or 102 where the name doesn't fit. Where the text has no transport the length is 0, the
-/// room is as it was, and `why` is the reason: 1 to 4; else it is 0. It takes no memory.
+/// Returns 0, or 102 if the name doesn't fit.
 #[unsafe(no_mangle)]
 pub extern "C" fn gix_url_c_transport(
     text: &[u8],
-    room: &mut [u8],
+    buffer: &mut [u8],
     len: &mut usize,
     why: &mut u8,
 ) -> u32
-    ensures reported { ReportsTransport text.now room.old room.new len.new why.new result }
-    ensures room { LeavesRoom result room.old room.new }
+    ensures reported { ReportsTransport text.now buffer.old buffer.new len.new why.new result }
+    ensures buffer { LeavesBuffer result buffer.old buffer.new }
     ensures no_memory { ¬ (result ≡ memory) }
 {
     match transport_of(text) {
         Ok(name) => {
             *why = 0;
-            put_text(name.as_bytes(), room, len)
+            put_text(name.as_bytes(), buffer, len)
         }
         Err(reason) => {
             *why = transport_number(reason);
@@ -88,20 +83,20 @@ fn transport_number(why: NoTransport) -> u8
     }
 }
 
-/// Reports what Git does about the transport of this name: [`git_rules::protocols::Protocols::permission`].
+/// Reports whether Git uses the transport with this name: [`git_rules::protocols::Protocols::permission`].
 ///
-/// It answers 0; 1 where memory is refused; 101 where the name isn't UTF-8.
+/// Returns 0; 1 if memory is refused; 101 if the name isn't UTF-8.
 #[unsafe(no_mangle)]
 pub extern "C" fn gix_url_c_permission(
     alloc: Global,
-    entries: &[GivenEntry<'_>],
-    policy: &GivenPolicy<'_>,
+    entries: &[EntryBytes<'_>],
+    policy: &PolicyBytes<'_>,
     name: &[u8],
-    made: &mut PermissionNumbers,
+    built: &mut PermissionNumbers,
 ) -> u32
     ensures reported { UnlessNone result (¬ IsUtf8 name.now) (UnlessMemory result
-        (ReportsPermission (policy_given (entries_given entries.now) policy.now) name.now made.new result)) }
-    ensures left { LeavesRoom result made.old made.new }
+        (ReportsPermission (policy_passed (entries_passed entries.now) policy.now) name.now built.new result)) }
+    ensures left { LeavesBuffer result built.old built.new }
 {
     let Ok(name) = str::from_utf8(name) else {
         return NO_LOCATION;
@@ -114,11 +109,11 @@ pub extern "C" fn gix_url_c_permission(
         allow_list: present(policy.has_allow_list, policy.allow_list),
         from_user: present(policy.has_from_user, policy.from_user),
     };
-    *made = permission_numbers(protocols.permission(name));
+    *built = permission_numbers(protocols.permission(name));
     OK
 }
 
-/// The numbers of what Git does about a transport.
+/// The numbers of a permission.
 fn permission_numbers(permission: Permission) -> PermissionNumbers
     ensures { result ≡ permission_numbers permission }
 {
@@ -139,7 +134,7 @@ fn numbers(decision: u8, by: u8, at: usize) -> PermissionNumbers
     PermissionNumbers { decision, by, at }
 }
 
-/// The number of what decides.
+/// The number of the variable or entry that decides.
 fn decider_number(by: Reason) -> u8
     ensures { result ≡ decider_number by }
 {

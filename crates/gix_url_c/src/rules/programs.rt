@@ -1,27 +1,23 @@
-//! The export that finds the program that Git runs for Secure Shell.
-//!
-//! It uses `entries`, `stops` and `room`. Its contract: what is reported is what the library's call returns
-//! by the configuration and the variables. With an error the room is as it was, and the numbers are, except
-//! with 102.
+//! The export for the program that Git runs for Secure Shell. With 102 only the numbers are reported.
 
 ghost use Rattle.std.specs.Prelude.{◌≡◌, ◌⊎◌};
 ghost use Rattle.gix_url_c.specs.Codes.{UnlessMemory, no_room, ok};
-ghost use Rattle.gix_url_c.specs.Entries.{entries_given};
-ghost use Rattle.gix_url_c.specs.Left.{LeavesLengths, LeavesRoom};
-ghost use Rattle.gix_url_c.specs.ProgramNumbers.{PutsProgram, ReportsProgram, settings_given, variant_number};
+ghost use Rattle.gix_url_c.specs.Entries.{entries_passed};
+ghost use Rattle.gix_url_c.specs.Left.{LeavesLengths, LeavesBuffer};
+ghost use Rattle.gix_url_c.specs.ProgramNumbers.{PutsProgram, ReportsProgram, settings_passed, variant_number};
 ghost use Rattle.gix_url_c.specs.Stops.{LeavesStop, no_stop};
 
+use crate::buffer::put;
 use crate::codes::MEMORY;
-use crate::given::present;
-use crate::room::put;
-use crate::rules::entries::{GivenEntry, entries_of};
+use crate::input::present;
+use crate::rules::entries::{EntryBytes, entries_of};
 use crate::rules::stops::{Stop, no_stop, stop_without_value};
 use git_rules::config::Entry;
 use git_rules::ssh::SshVariant;
 use git_rules::ssh::program::{ProgramVariant, SshProgram, SshProgramError, SshSettings};
 use std::alloc::Global;
 
-/// Three variables of the environment. Where one isn't set, its bytes are not looked at.
+/// Three environment variables. The bytes of a variable that isn't set are ignored.
 #[repr(C)]
 #[derive(Clone, Copy)]
 pub struct GivenVariables<'a> {
@@ -39,59 +35,59 @@ pub struct GivenVariables<'a> {
     pub has_variant: bool,
 }
 
-/// What is reported of a program beside its text.
+/// What is reported about a program, apart from its text.
 #[repr(C)]
 #[derive(Clone, Copy)]
 pub struct ProgramNumbers {
-    /// Whether the text is a command line, which a shell reads.
+    /// Whether the text is a command line for a shell.
     pub is_command_line: bool,
-    /// The variant: 0 OpenSSH, 1 `simple`, 2 `plink`, 3 `putty`, 4 `tortoiseplink`; 5 where Git runs the
-    /// program to find it.
+    /// The variant: 0 OpenSSH, 1 `simple`, 2 `plink`, 3 `putty`, 4 `tortoiseplink`; 5 if Git runs the
+    /// program to find out.
     pub variant: u8,
     /// The length of the text.
     pub len: usize,
 }
 
-/// Puts the text of the program that Git runs for Secure Shell into the room:
+/// Copies the text of the program that Git runs for Secure Shell to the buffer:
 /// [`git_rules::ssh::program::SshProgram::of`].
 ///
-/// It answers 0; 1 where memory is refused; 102 where the text doesn't fit; 104 where Git stops at an entry
-/// without a value, with its place.
+/// Returns 0; 1 if memory is refused; 102 if the text doesn't fit; 104 if Git stops at an entry without a value, with
+/// the place of that entry.
 #[unsafe(no_mangle)]
 pub extern "C" fn gix_url_c_ssh_program(
     alloc: Global,
-    entries: &[GivenEntry<'_>],
+    entries: &[EntryBytes<'_>],
     variables: &GivenVariables<'_>,
-    made: &mut ProgramNumbers,
-    room: &mut [u8],
+    built: &mut ProgramNumbers,
+    buffer: &mut [u8],
     stop: &mut Stop,
 ) -> u32
     ensures reported { UnlessMemory result
-        (ReportsProgram (settings_given (entries_given entries.now) variables.now)
-        made.new room.old room.new stop.new result) }
-    ensures room { LeavesRoom result room.old room.new }
-    ensures numbers { LeavesLengths result made.old made.new }
+        (ReportsProgram (settings_passed (entries_passed entries.now) variables.now)
+        built.new buffer.old buffer.new stop.new result) }
+    ensures buffer { LeavesBuffer result buffer.old buffer.new }
+    ensures numbers { LeavesLengths result built.old built.new }
     ensures stop { LeavesStop result stop.new }
 {
     *stop = no_stop();
     match entries_of(alloc, entries) {
-        Ok(entries) => find(&entries, variables, made, room, stop),
+        Ok(entries) => find(&entries, variables, built, buffer, stop),
         Err(_) => MEMORY,
     }
 }
 
-/// Puts the text of the program that Git runs.
+/// Finds the program that Git runs, and copies its text.
 fn find(
     entries: &[Entry<'_>],
     variables: &GivenVariables<'_>,
-    made: &mut ProgramNumbers,
-    room: &mut [u8],
+    built: &mut ProgramNumbers,
+    buffer: &mut [u8],
     stop: &mut Stop,
 ) -> u32
-    ensures reported { ReportsProgram (settings_given entries.now variables.now)
-        made.new room.old room.new stop.new result }
-    ensures room { LeavesRoom result room.old room.new }
-    ensures numbers { LeavesLengths result made.old made.new }
+    ensures reported { ReportsProgram (settings_passed entries.now variables.now)
+        built.new buffer.old buffer.new stop.new result }
+    ensures buffer { LeavesBuffer result buffer.old buffer.new }
+    ensures numbers { LeavesLengths result built.old built.new }
     ensures stop { LeavesStop result stop.new }
 {
     *stop = no_stop();
@@ -102,24 +98,24 @@ fn find(
         git_ssh_variant: present(variables.has_variant, variables.variant),
     };
     match SshProgram::of(&settings) {
-        Ok(program) => put_program(&program, made, room),
+        Ok(program) => put_program(&program, built, buffer),
         Err(SshProgramError::NoValue { at }) => stop_without_value(at, stop),
     }
 }
 
-/// Puts the text of a program.
-fn put_program(program: &SshProgram<'_>, made: &mut ProgramNumbers, room: &mut [u8]) -> u32
-    ensures reported { PutsProgram program.now made.new room.old room.new result }
-    ensures room { LeavesRoom result room.old room.new }
-    ensures numbers { LeavesLengths result made.old made.new }
+/// Copies and reports the text of a program.
+fn put_program(program: &SshProgram<'_>, built: &mut ProgramNumbers, buffer: &mut [u8]) -> u32
+    ensures reported { PutsProgram program.now built.new buffer.old buffer.new result }
+    ensures buffer { LeavesBuffer result buffer.old buffer.new }
+    ensures numbers { LeavesLengths result built.old built.new }
     ensures code { (result ≡ ok) ⊎ (result ≡ no_room) }
 {
-    *made = ProgramNumbers {
+    *built = ProgramNumbers {
         is_command_line: program.is_command_line,
         variant: variant_number(program.variant),
         len: program.text.len(),
     };
-    put(program.text, room)
+    put(program.text, buffer)
 }
 
 /// The number of a variant.

@@ -1,28 +1,26 @@
-//! The exports that report what Git reads in a text: one of its transports, and its credential code.
-//!
-//! They use `pieces` and `room`. Their contracts: what is reported is what the library's calls return. With
-//! an error the room is as it was, and the numbers are, except with 102.
+//! The exports for what Git reads in a text: by one of its transports, and by its credential code. With 102 only the
+//! numbers are reported.
 
 ghost use Rattle.std.specs.Prelude.{◌≡◌, ◌⊎◌};
 ghost use Rattle.git_reads.specs.Views.{credential_reading, git_reading, scheme_of_protocol};
 ghost use Rattle.gix_url_c.specs.Codes.{UnlessMemory, memory, no_room, ok};
-ghost use Rattle.gix_url_c.specs.Left.{LeavesLengths, LeavesRoom};
+ghost use Rattle.gix_url_c.specs.Left.{LeavesLengths, LeavesBuffer};
 ghost use Rattle.gix_url_c.specs.ReadingNumbers.{PutsPlace, PutsRequest, ReportsPlace, ReportsRequest, TellsUnread, no_request, place_numbers, protocol_number, request_numbers, unread_number, unread_numbers};
 
+use crate::buffer::put;
 use crate::codes::{MEMORY, OK};
-use crate::handed::part;
-use crate::room::put;
+use crate::output::part;
 use crate::rules::pieces::joined;
 use gix_url::credential::{self, Request};
 use gix_url::transport::{self, GitPlace, Protocol, Unread};
 use std::alloc::Global;
 
-/// The place that Git reads: numbers, and the lengths of its parts, whose bytes are in this order in the
-/// caller's room.
+/// The place that Git reads: numbers, and the lengths of its parts in bytes. The caller's buffer has the parts in this
+/// order.
 #[repr(C)]
 #[derive(Clone, Copy)]
 pub struct PlaceNumbers {
-    /// Why Git reads no place: 1 to 6; 0 where it reads one. All else is 0 then.
+    /// Why Git reads no place: 1 to 6, and then all else is 0; 0 if it reads one.
     pub why: u8,
     /// The transport: 1 Secure Shell, 2 that of `git://`, 3 a path of this machine.
     pub protocol: u8,
@@ -42,12 +40,12 @@ pub struct PlaceNumbers {
     pub path: usize,
 }
 
-/// What Git's credential code asks helpers for: numbers, and the lengths of its parts, whose bytes are in
-/// this order in the caller's room.
+/// The request of Git's credential code to helpers: numbers, and the lengths of its parts in bytes. The caller's buffer
+/// has the parts in this order.
 #[repr(C)]
 #[derive(Clone, Copy)]
 pub struct RequestNumbers {
-    /// Whether it reads anything. Where it doesn't all else is 0.
+    /// Whether there is a request. If not, all else is 0.
     pub is_read: bool,
     /// Whether there is a user.
     pub has_user: bool,
@@ -67,99 +65,104 @@ pub struct RequestNumbers {
     pub path: usize,
 }
 
-/// Puts the parts of the place that one of Git's transports reads in a text into the room:
+/// Copies the parts of the place that one of Git's transports reads in a text to the buffer:
 /// [`gix_url::transport::reading`].
 ///
-/// It answers 0; 1 where memory is refused; 102 where the parts don't fit.
+/// Returns 0; 1 if memory is refused; 102 if the parts don't fit.
 #[unsafe(no_mangle)]
 pub extern "C" fn gix_url_c_git_reading(
     alloc: Global,
     text: &[u8],
-    made: &mut PlaceNumbers,
-    room: &mut [u8],
+    built: &mut PlaceNumbers,
+    buffer: &mut [u8],
 ) -> u32
-    ensures reported { UnlessMemory result (ReportsPlace text.now made.new room.old room.new result) }
-    ensures room { LeavesRoom result room.old room.new }
-    ensures numbers { LeavesLengths result made.old made.new }
+    ensures reported { UnlessMemory result (ReportsPlace text.now built.new buffer.old buffer.new result) }
+    ensures buffer { LeavesBuffer result buffer.old buffer.new }
+    ensures numbers { LeavesLengths result built.old built.new }
 {
     let mut buffers = transport::Buffers::new(alloc);
     match transport::reading(text, &mut buffers) {
-        Ok(place) => put_place(alloc, &place, made, room),
-        Err(why) => tell_unread(why, made),
+        Ok(place) => put_place(alloc, &place, built, buffer),
+        Err(why) => tell_unread(why, built),
     }
 }
 
-/// Reports why Git reads no place, unless it is memory.
-fn tell_unread(why: Unread, made: &mut PlaceNumbers) -> u32
-    ensures reported { UnlessMemory result (TellsUnread why made.new result) }
-    ensures numbers { LeavesLengths result made.old made.new }
+/// Reports why Git reads no place, or returns that memory was refused.
+fn tell_unread(why: Unread, built: &mut PlaceNumbers) -> u32
+    ensures reported { UnlessMemory result (TellsUnread why built.new result) }
+    ensures numbers { LeavesLengths result built.old built.new }
 {
     match why {
         Unread::Memory => MEMORY,
         Unread::ByteZero | Unread::Option | Unread::RemoteHelper => {
-            *made = unread_numbers(unread_number(why));
+            *built = unread_numbers(unread_number(why));
             OK
         }
         Unread::HomeOrHere | Unread::SecureShellUrl | Unread::Refused => {
-            *made = unread_numbers(unread_number(why));
+            *built = unread_numbers(unread_number(why));
             OK
         }
     }
 }
 
-/// Puts the parts of what Git's credential code reads in a text into the room:
+/// Copies the parts of the request that Git's credential code reads in a text to the buffer:
 /// [`gix_url::credential::reading`].
 ///
-/// It answers 0; 1 where memory is refused; 102 where the parts don't fit.
+/// Returns 0; 1 if memory is refused; 102 if the parts don't fit.
 #[unsafe(no_mangle)]
 pub extern "C" fn gix_url_c_credential_reading(
     alloc: Global,
     text: &[u8],
-    made: &mut RequestNumbers,
-    room: &mut [u8],
+    built: &mut RequestNumbers,
+    buffer: &mut [u8],
 ) -> u32
-    ensures reported { UnlessMemory result (ReportsRequest text.now made.new room.old room.new result) }
-    ensures room { LeavesRoom result room.old room.new }
-    ensures numbers { LeavesLengths result made.old made.new }
+    ensures reported { UnlessMemory result (ReportsRequest text.now built.new buffer.old buffer.new result) }
+    ensures buffer { LeavesBuffer result buffer.old buffer.new }
+    ensures numbers { LeavesLengths result built.old built.new }
 {
     let mut buffers = credential::Buffers::new(alloc);
     match credential::reading(text, &mut buffers) {
-        Ok(Some(request)) => put_request(alloc, &request, made, room),
+        Ok(Some(request)) => put_request(alloc, &request, built, buffer),
         Ok(None) => {
-            *made = no_request();
+            *built = no_request();
             OK
         }
         Err(_) => MEMORY,
     }
 }
 
-/// Puts the parts of a place into the room.
-fn put_place(alloc: Global, place: &GitPlace<'_>, made: &mut PlaceNumbers, room: &mut [u8]) -> u32
-    ensures reported { UnlessMemory result (PutsPlace (git_reading place.now) made.new room.old room.new result) }
-    ensures room { LeavesRoom result room.old room.new }
-    ensures numbers { LeavesLengths result made.old made.new }
+/// Copies and reports the parts of a place.
+fn put_place(
+    alloc: Global,
+    place: &GitPlace<'_>,
+    built: &mut PlaceNumbers,
+    buffer: &mut [u8],
+) -> u32
+    ensures reported { UnlessMemory result (PutsPlace (git_reading place.now) built.new buffer.old buffer.new result) }
+    ensures buffer { LeavesBuffer result buffer.old buffer.new }
+    ensures numbers { LeavesLengths result built.old built.new }
     ensures code { (result ≡ memory) ⊎ ((result ≡ ok) ⊎ (result ≡ no_room)) }
 {
     match joined(alloc, &[part(place.user), part(place.host), place.path]) {
         Ok(bytes) => {
-            *made = place_numbers(place);
-            put(&bytes, room)
+            *built = place_numbers(place);
+            put(&bytes, buffer)
         }
         Err(_) => MEMORY,
     }
 }
 
-/// Puts the parts of a request into the room.
+/// Copies and reports the parts of a request.
 fn put_request(
     alloc: Global,
     request: &Request<'_>,
-    made: &mut RequestNumbers,
-    room: &mut [u8],
+    built: &mut RequestNumbers,
+    buffer: &mut [u8],
 ) -> u32
     ensures reported { UnlessMemory result
-        (PutsRequest (credential_reading request.now) made.new room.old room.new result) }
-    ensures room { LeavesRoom result room.old room.new }
-    ensures numbers { LeavesLengths result made.old made.new }
+        (PutsRequest (credential_reading request.now) built.new buffer.old buffer.new result) }
+    ensures buffer { LeavesBuffer result buffer.old buffer.new }
+    ensures numbers { LeavesLengths result built.old built.new }
     ensures code { (result ≡ memory) ⊎ ((result ≡ ok) ⊎ (result ≡ no_room)) }
 {
     let (user, password, path) = (
@@ -172,8 +175,8 @@ fn put_request(
         &[request.protocol, user, password, request.host, path],
     ) {
         Ok(bytes) => {
-            *made = request_numbers(request);
-            put(&bytes, room)
+            *built = request_numbers(request);
+            put(&bytes, buffer)
         }
         Err(_) => MEMORY,
     }
@@ -207,7 +210,7 @@ fn protocol_number(protocol: Protocol) -> u8
     }
 }
 
-/// The number of the reason why Git reads no place; 0 where that is memory.
+/// The number of the reason why Git reads no place; 0 if memory was refused.
 fn unread_number(why: Unread) -> u8
     ensures { result ≡ unread_number why }
 {
@@ -256,7 +259,7 @@ fn request_numbers(request: &Request<'_>) -> RequestNumbers
     }
 }
 
-/// The numbers of a text in which nothing is read.
+/// The numbers of a text without a request.
 fn no_request() -> RequestNumbers
     ensures { result ≡ no_request }
 {

@@ -1,23 +1,19 @@
-//! The export that finds a remote of a configuration.
-//!
-//! It uses `entries`, `stops` and `room`. Its contract: what is reported are the texts of the library's
-//! remote, or the first entry at which Git stops. With an error the room and the lengths are as they were,
-//! and the numbers are, except with 102.
+//! The export for a remote of a configuration. With 102 only the numbers are reported.
 
 ghost use Rattle.std.specs.Prelude.{◌≡◌, ◌++◌, ◌⊎◌, IfOk, OnOk, length, map};
 ghost use Rattle.std.specs.List.{concat};
 ghost use Rattle.git_rules.specs.RewriteEntries.{rules_of};
 ghost use Rattle.git_rules.specs.Rewrites.{outcome_text};
 ghost use Rattle.gix_url_c.specs.Codes.{UnlessMemory, memory, no_room, ok};
-ghost use Rattle.gix_url_c.specs.Entries.{entries_given};
-ghost use Rattle.gix_url_c.specs.Left.{LeavesLengths, LeavesRoom};
+ghost use Rattle.gix_url_c.specs.Entries.{entries_passed};
+ghost use Rattle.gix_url_c.specs.Left.{LeavesLengths, LeavesBuffer};
 ghost use Rattle.gix_url_c.specs.RemoteNumbers.{FindsRemote, PutsRemote, ReportsRemote, remote_bytes, remote_lengths, remote_numbers};
 ghost use Rattle.gix_url_c.specs.Stops.{LeavesStop, no_stop};
 
+use crate::buffer::put_both;
 use crate::codes::MEMORY;
-use crate::handed::part;
-use crate::room::put_both;
-use crate::rules::entries::{GivenEntry, entries_of};
+use crate::output::part;
+use crate::rules::entries::{EntryBytes, entries_of};
 use crate::rules::stops::{Stop, no_stop, stop_without_value};
 use git_rules::config::Entry;
 use git_rules::remote::{Remote, RemoteError};
@@ -25,8 +21,8 @@ use git_rules::rewrite::outcome::Rewritten;
 use git_rules::rewrite::{RewriteError, Rewrites};
 use std::alloc::{AllocError, Global};
 
-/// What is reported of a remote: numbers, and the lengths of its values, whose bytes are in this order in
-/// the caller's room, behind those of the URLs.
+/// What is reported about a remote: numbers, and the lengths of its values in bytes. The caller's buffer has the URLs,
+/// and then the values in this order.
 #[repr(C)]
 #[derive(Clone, Copy)]
 pub struct RemoteNumbers {
@@ -38,9 +34,9 @@ pub struct RemoteNumbers {
     pub has_uploadpack: bool,
     /// Whether there is a program that takes pushes.
     pub has_receivepack: bool,
-    /// How many URLs there are to fetch from.
+    /// The number of URLs to fetch from.
     pub urls: usize,
-    /// How many URLs there are to push to.
+    /// The number of URLs to push to.
     pub push_urls: usize,
     /// The length of the foreign helper.
     pub vcs: usize,
@@ -50,103 +46,103 @@ pub struct RemoteNumbers {
     pub uploadpack: usize,
     /// The length of the program that takes pushes.
     pub receivepack: usize,
-    /// The length of all texts.
+    /// The length of all URLs and values together.
     pub bytes: usize,
 }
 
-/// Puts the texts of the remote of this name into the room, and the lengths of its URLs into `lengths`:
-/// those to fetch from, and then those to push to: [`git_rules::remote::Remote::of`].
+/// Copies the URLs and values of the remote with this name to the buffer, and the lengths of its URLs to `lengths`:
+/// first those to fetch from, and then those to push to. See [`git_rules::remote::Remote::of`].
 ///
-/// It answers 0; 1 where memory is refused; 102 where texts or lengths don't fit; 104 where Git stops at an
-/// entry without a value, with its place.
+/// Returns 0; 1 if memory is refused; 102 if the texts or the lengths don't fit; 104 if Git stops at an entry without
+/// a value, with the place of that entry.
 #[unsafe(no_mangle)]
 pub extern "C" fn gix_url_c_remote<'a>(
     alloc: Global,
-    entries: &[GivenEntry<'a>],
+    entries: &[EntryBytes<'a>],
     name: &'a [u8],
-    made: &mut RemoteNumbers,
-    room: &mut [u8],
+    built: &mut RemoteNumbers,
+    buffer: &mut [u8],
     lengths: &mut [usize],
     stop: &mut Stop,
 ) -> u32
-    ensures reported { UnlessMemory result (ReportsRemote (entries_given entries.now) name.now
-        made.new room.old room.new lengths.old lengths.new stop.new result) }
-    ensures room { LeavesRoom result room.old room.new }
-    ensures lengths { LeavesRoom result lengths.old lengths.new }
-    ensures numbers { LeavesLengths result made.old made.new }
+    ensures reported { UnlessMemory result (ReportsRemote (entries_passed entries.now) name.now
+        built.new buffer.old buffer.new lengths.old lengths.new stop.new result) }
+    ensures buffer { LeavesBuffer result buffer.old buffer.new }
+    ensures lengths { LeavesBuffer result lengths.old lengths.new }
+    ensures numbers { LeavesLengths result built.old built.new }
     ensures stop { LeavesStop result stop.new }
 {
     *stop = no_stop();
     match entries_of(alloc, entries) {
-        Ok(entries) => put_named(alloc, &entries, name, made, room, lengths, stop),
+        Ok(entries) => put_named(alloc, &entries, name, built, buffer, lengths, stop),
         Err(_) => MEMORY,
     }
 }
 
-/// Puts the texts of the remote of this name, by the rules of the entries.
+/// Copies and reports the remote with this name, by the rules of the entries.
 fn put_named<'a>(
     alloc: Global,
     entries: &[Entry<'a>],
     name: &'a [u8],
-    made: &mut RemoteNumbers,
-    room: &mut [u8],
+    built: &mut RemoteNumbers,
+    buffer: &mut [u8],
     lengths: &mut [usize],
     stop: &mut Stop,
 ) -> u32
     ensures reported { UnlessMemory result (ReportsRemote entries.now name.now
-        made.new room.old room.new lengths.old lengths.new stop.new result) }
-    ensures room { LeavesRoom result room.old room.new }
-    ensures lengths { LeavesRoom result lengths.old lengths.new }
-    ensures numbers { LeavesLengths result made.old made.new }
+        built.new buffer.old buffer.new lengths.old lengths.new stop.new result) }
+    ensures buffer { LeavesBuffer result buffer.old buffer.new }
+    ensures lengths { LeavesBuffer result lengths.old lengths.new }
+    ensures numbers { LeavesLengths result built.old built.new }
     ensures stop { LeavesStop result stop.new }
 {
     *stop = no_stop();
     match Rewrites::from_entries(alloc, entries) {
-        Ok(rules) => put_by_rules(alloc, entries, &rules, name, made, room, lengths, stop),
+        Ok(rules) => put_by_rules(alloc, entries, &rules, name, built, buffer, lengths, stop),
         Err(RewriteError::Memory) => MEMORY,
         Err(RewriteError::NoValue { at }) => stop_without_value(at, stop),
     }
 }
 
-/// Puts the texts of the remote of this name, by these rules.
+/// Copies and reports the remote with this name, by these rules.
 fn put_by_rules<'a>(
     alloc: Global,
     entries: &[Entry<'a>],
     rules: &Rewrites<'a>,
     name: &'a [u8],
-    made: &mut RemoteNumbers,
-    room: &mut [u8],
+    built: &mut RemoteNumbers,
+    buffer: &mut [u8],
     lengths: &mut [usize],
     stop: &mut Stop,
 ) -> u32
     ensures reported { UnlessMemory result (FindsRemote rules.now entries.now name.now
-        made.new room.old room.new lengths.old lengths.new stop.new result) }
-    ensures room { LeavesRoom result room.old room.new }
-    ensures lengths { LeavesRoom result lengths.old lengths.new }
-    ensures numbers { LeavesLengths result made.old made.new }
+        built.new buffer.old buffer.new lengths.old lengths.new stop.new result) }
+    ensures buffer { LeavesBuffer result buffer.old buffer.new }
+    ensures lengths { LeavesBuffer result lengths.old lengths.new }
+    ensures numbers { LeavesLengths result built.old built.new }
     ensures stop { LeavesStop result stop.new }
 {
     *stop = no_stop();
     match Remote::of(alloc, entries, rules, name) {
-        Ok(remote) => put_remote(alloc, &remote, made, room, lengths),
+        Ok(remote) => put_remote(alloc, &remote, built, buffer, lengths),
         Err(RemoteError::Memory) => MEMORY,
         Err(RemoteError::NoValue { at }) => stop_without_value(at, stop),
     }
 }
 
-/// Puts the texts of a remote.
+/// Copies and reports the URLs and values of a remote.
 fn put_remote(
     alloc: Global,
     remote: &Remote<'_>,
-    made: &mut RemoteNumbers,
-    room: &mut [u8],
+    built: &mut RemoteNumbers,
+    buffer: &mut [u8],
     lengths: &mut [usize],
 ) -> u32
     ensures reported { UnlessMemory result
-        (PutsRemote remote.now made.new room.old room.new lengths.old lengths.new result) }
-    ensures room { LeavesRoom result room.old room.new }
-    ensures lengths { LeavesRoom result lengths.old lengths.new }
-    ensures numbers { LeavesLengths result made.old made.new }
+        (PutsRemote remote.now built.new buffer.old buffer.new lengths.old lengths.new result) }
+    ensures buffer { LeavesBuffer result buffer.old buffer.new }
+    ensures lengths { LeavesBuffer result lengths.old lengths.new }
+    ensures numbers { LeavesLengths result built.old built.new }
     ensures code { (result ≡ memory) ⊎ ((result ≡ ok) ⊎ (result ≡ no_room)) }
 {
     let Ok(bytes) = remote_bytes(alloc, remote) else {
@@ -155,11 +151,11 @@ fn put_remote(
     let Ok(measured) = remote_lengths(alloc, remote) else {
         return MEMORY;
     };
-    *made = remote_numbers(remote, bytes.len());
-    put_both(&bytes, &measured, room, lengths)
+    *built = remote_numbers(remote, bytes.len());
+    put_both(&bytes, &measured, buffer, lengths)
 }
 
-/// The bytes of the texts of a remote.
+/// The bytes of the URLs and values of a remote.
 fn remote_bytes(alloc: Global, remote: &Remote<'_>) -> Result<Vec<u8>, AllocError>
     ensures { IfOk result (λ bytes. bytes.items ≡ remote_bytes remote.now) }
 {
@@ -173,7 +169,7 @@ fn remote_bytes(alloc: Global, remote: &Remote<'_>) -> Result<Vec<u8>, AllocErro
     Ok(bytes)
 }
 
-/// Appends the texts that came out.
+/// Appends the rewritten texts.
 fn append_texts(bytes: &mut Vec<u8>, outcomes: &[Rewritten<'_>]) -> Result<(), AllocError>
     ensures { OnOk result (bytes.new.items ≡ bytes.old.items ++ concat (map outcome_text outcomes.now)) }
 {
@@ -183,7 +179,7 @@ fn append_texts(bytes: &mut Vec<u8>, outcomes: &[Rewritten<'_>]) -> Result<(), A
     Ok(())
 }
 
-/// Appends the text that came out.
+/// Appends a rewritten text.
 fn append_text(bytes: &mut Vec<u8>, outcome: &Rewritten<'_>) -> Result<(), AllocError>
     ensures { OnOk result (bytes.new.items ≡ bytes.old.items ++ outcome_text outcome.now) }
 {
@@ -201,7 +197,7 @@ fn remote_lengths(alloc: Global, remote: &Remote<'_>) -> Result<Vec<usize>, Allo
     Ok(lengths)
 }
 
-/// Appends the lengths of the texts that came out.
+/// Appends the lengths of the rewritten texts.
 fn append_lengths(lengths: &mut Vec<usize>, outcomes: &[Rewritten<'_>]) -> Result<(), AllocError>
     ensures { OnOk result (lengths.new.items ≡ lengths.old.items ++ map length (map outcome_text outcomes.now)) }
 {
@@ -211,14 +207,14 @@ fn append_lengths(lengths: &mut Vec<usize>, outcomes: &[Rewritten<'_>]) -> Resul
     Ok(())
 }
 
-/// The length of the text that came out.
+/// The length of a rewritten text.
 fn length_of(outcome: &Rewritten<'_>) -> usize
     ensures { result ≡ length (outcome_text outcome.now) }
 {
     part(outcome.base).len() + outcome.rest.len()
 }
 
-/// The numbers of a remote, whose texts have so many bytes.
+/// The numbers of a remote whose URLs and values have so many bytes.
 fn remote_numbers(remote: &Remote<'_>, bytes: usize) -> RemoteNumbers
     requires { bytes ≡ length (remote_bytes remote.now) }
     ensures { result ≡ remote_numbers remote.now }

@@ -1,163 +1,165 @@
-//! The exports that rewrite a text by a configuration, as Git does before it fetches or pushes.
-//!
-//! They use `entries`, `stops` and `room`. Their contracts: what is reported is what the library's call
-//! makes of the text by the rules of the entries, or the first entry at which Git stops. With an error the
-//! room and the numbers are as they were, except the numbers with 102.
+//! The exports that rewrite a text by a configuration, as Git does before it fetches or pushes. With 102 only the
+//! numbers are reported.
 
 ghost use Rattle.std.specs.Prelude.{◌≡◌, ◌⊎◌};
 ghost use Rattle.git_rules.specs.RewriteEntries.{rules_of};
 ghost use Rattle.git_rules.specs.Rewrites.{IsRewritten, IsRewrittenToPush};
 ghost use Rattle.gix_url_c.specs.Codes.{UnlessMemory, memory, no_room, ok};
-ghost use Rattle.gix_url_c.specs.Entries.{entries_given};
-ghost use Rattle.gix_url_c.specs.Left.{LeavesLengths, LeavesRoom};
+ghost use Rattle.gix_url_c.specs.Entries.{entries_passed};
+ghost use Rattle.gix_url_c.specs.Left.{LeavesLengths, LeavesBuffer};
 ghost use Rattle.gix_url_c.specs.Rewriting.{FillsRules, ReportsOutcome, ReportsRewriting};
 ghost use Rattle.gix_url_c.specs.Stops.{LeavesStop, no_stop};
 
+use crate::buffer::put;
 use crate::codes::MEMORY;
-use crate::handed::part;
-use crate::room::put;
-use crate::rules::entries::{GivenEntry, entries_of};
+use crate::output::part;
+use crate::rules::entries::{EntryBytes, entries_of};
 use crate::rules::stops::{Stop, no_stop, stop_without_value};
 use git_rules::config::Entry;
 use git_rules::rewrite::outcome::Rewritten;
 use git_rules::rewrite::{RewriteError, Rewrites};
 use std::alloc::Global;
 
-/// What is reported of a text that was rewritten, beside the text.
+/// What is reported about a rewritten text, apart from the text.
 #[repr(C)]
 #[derive(Clone, Copy)]
 pub struct RewriteNumbers {
     /// Whether a rule applied.
     pub is_rewritten: bool,
-    /// The length of the base, with which the text begins then; else 0.
+    /// The length of the base with which the text then begins; otherwise 0.
     pub base: usize,
     /// The length of the text.
     pub len: usize,
 }
 
-/// Puts what Git fetches from into the room: [`git_rules::rewrite::Rewrites::rewrite_fetch`].
+/// Copies the text that Git fetches from to the buffer: [`git_rules::rewrite::Rewrites::rewrite_fetch`].
 ///
-/// It answers 0; 1 where memory is refused; 102 where the text doesn't fit; 104 where Git stops at an entry
-/// without a value, with its place.
+/// Returns 0; 1 if memory is refused; 102 if the text doesn't fit; 104 if Git stops at an entry without a value, with
+/// the place of that entry.
 #[unsafe(no_mangle)]
 pub extern "C" fn gix_url_c_rewrite_fetch(
     alloc: Global,
-    entries: &[GivenEntry<'_>],
+    entries: &[EntryBytes<'_>],
     text: &[u8],
-    made: &mut RewriteNumbers,
-    room: &mut [u8],
+    built: &mut RewriteNumbers,
+    buffer: &mut [u8],
     stop: &mut Stop,
 ) -> u32
-    ensures reported { let config = entries_given entries.now in UnlessMemory result
+    ensures reported { let config = entries_passed entries.now in UnlessMemory result
         (ReportsRewriting config (IsRewritten (rules_of config).fetching text.now)
-        made.new room.old room.new stop.new result) }
-    ensures room { LeavesRoom result room.old room.new }
-    ensures numbers { LeavesLengths result made.old made.new }
+        built.new buffer.old buffer.new stop.new result) }
+    ensures buffer { LeavesBuffer result buffer.old buffer.new }
+    ensures numbers { LeavesLengths result built.old built.new }
     ensures stop { LeavesStop result stop.new }
 {
     *stop = no_stop();
     match entries_of(alloc, entries) {
-        Ok(entries) => fetch(alloc, &entries, text, made, room, stop),
+        Ok(entries) => fetch(alloc, &entries, text, built, buffer, stop),
         Err(_) => MEMORY,
     }
 }
 
-/// Puts what Git pushes to into the room: [`git_rules::rewrite::Rewrites::rewrite_push`].
+/// Copies the text that Git pushes to to the buffer: [`git_rules::rewrite::Rewrites::rewrite_push`].
 ///
-/// The answers are those of [`gix_url_c_rewrite_fetch`].
+/// Returns what [`gix_url_c_rewrite_fetch`] returns.
 #[unsafe(no_mangle)]
 pub extern "C" fn gix_url_c_rewrite_push(
     alloc: Global,
-    entries: &[GivenEntry<'_>],
+    entries: &[EntryBytes<'_>],
     text: &[u8],
     has_push_url: bool,
-    made: &mut RewriteNumbers,
-    room: &mut [u8],
+    built: &mut RewriteNumbers,
+    buffer: &mut [u8],
     stop: &mut Stop,
 ) -> u32
-    ensures reported { let config = entries_given entries.now in UnlessMemory result
+    ensures reported { let config = entries_passed entries.now in UnlessMemory result
         (ReportsRewriting config (IsRewrittenToPush (rules_of config) has_push_url text.now)
-        made.new room.old room.new stop.new result) }
-    ensures room { LeavesRoom result room.old room.new }
-    ensures numbers { LeavesLengths result made.old made.new }
+        built.new buffer.old buffer.new stop.new result) }
+    ensures buffer { LeavesBuffer result buffer.old buffer.new }
+    ensures numbers { LeavesLengths result built.old built.new }
     ensures stop { LeavesStop result stop.new }
 {
     *stop = no_stop();
     match entries_of(alloc, entries) {
-        Ok(entries) => push(alloc, &entries, text, has_push_url, made, room, stop),
+        Ok(entries) => push(alloc, &entries, text, has_push_url, built, buffer, stop),
         Err(_) => MEMORY,
     }
 }
 
-/// Puts what Git fetches from into the room.
+/// Copies and reports the text that Git fetches from.
 fn fetch(
     alloc: Global,
     entries: &[Entry<'_>],
     text: &[u8],
-    made: &mut RewriteNumbers,
-    room: &mut [u8],
+    built: &mut RewriteNumbers,
+    buffer: &mut [u8],
     stop: &mut Stop,
 ) -> u32
     ensures reported { UnlessMemory result
         (ReportsRewriting entries.now (IsRewritten (rules_of entries.now).fetching text.now)
-        made.new room.old room.new stop.new result) }
-    ensures room { LeavesRoom result room.old room.new }
-    ensures numbers { LeavesLengths result made.old made.new }
+        built.new buffer.old buffer.new stop.new result) }
+    ensures buffer { LeavesBuffer result buffer.old buffer.new }
+    ensures numbers { LeavesLengths result built.old built.new }
     ensures stop { LeavesStop result stop.new }
 {
     *stop = no_stop();
     match Rewrites::from_entries(alloc, entries) {
-        Ok(rules) => put_outcome(alloc, &rules.rewrite_fetch(text), made, room),
+        Ok(rules) => put_outcome(alloc, &rules.rewrite_fetch(text), built, buffer),
         Err(RewriteError::Memory) => MEMORY,
         Err(RewriteError::NoValue { at }) => stop_without_value(at, stop),
     }
 }
 
-/// Puts what Git pushes to into the room.
+/// Copies and reports the text that Git pushes to.
 fn push(
     alloc: Global,
     entries: &[Entry<'_>],
     text: &[u8],
     has_push_url: bool,
-    made: &mut RewriteNumbers,
-    room: &mut [u8],
+    built: &mut RewriteNumbers,
+    buffer: &mut [u8],
     stop: &mut Stop,
 ) -> u32
     ensures reported { UnlessMemory result
         (ReportsRewriting entries.now (IsRewrittenToPush (rules_of entries.now) has_push_url text.now)
-        made.new room.old room.new stop.new result) }
-    ensures room { LeavesRoom result room.old room.new }
-    ensures numbers { LeavesLengths result made.old made.new }
+        built.new buffer.old buffer.new stop.new result) }
+    ensures buffer { LeavesBuffer result buffer.old buffer.new }
+    ensures numbers { LeavesLengths result built.old built.new }
     ensures stop { LeavesStop result stop.new }
 {
     *stop = no_stop();
     match Rewrites::from_entries(alloc, entries) {
-        Ok(rules) => put_outcome(alloc, &rules.rewrite_push(text, has_push_url), made, room),
+        Ok(rules) => put_outcome(
+            alloc,
+            &rules.rewrite_push(text, has_push_url),
+            built,
+            buffer,
+        ),
         Err(RewriteError::Memory) => MEMORY,
         Err(RewriteError::NoValue { at }) => stop_without_value(at, stop),
     }
 }
 
-/// Puts the text that came out into the room.
+/// Copies and reports a rewritten text.
 fn put_outcome(
     alloc: Global,
     outcome: &Rewritten<'_>,
-    made: &mut RewriteNumbers,
-    room: &mut [u8],
+    built: &mut RewriteNumbers,
+    buffer: &mut [u8],
 ) -> u32
-    ensures reported { UnlessMemory result (ReportsOutcome outcome.now made.new room.old room.new result) }
-    ensures room { LeavesRoom result room.old room.new }
-    ensures numbers { LeavesLengths result made.old made.new }
+    ensures reported { UnlessMemory result (ReportsOutcome outcome.now built.new buffer.old buffer.new result) }
+    ensures buffer { LeavesBuffer result buffer.old buffer.new }
+    ensures numbers { LeavesLengths result built.old built.new }
     ensures code { (result ≡ memory) ⊎ ((result ≡ ok) ⊎ (result ≡ no_room)) }
 {
     match outcome.to_bstring(alloc) {
         Ok(text) => {
-            *made = RewriteNumbers {
+            *built = RewriteNumbers {
                 is_rewritten: outcome.is_rewritten(),
                 base: part(outcome.base).len(),
                 len: text.as_bytes().len(),
             };
-            put(text.as_bytes(), room)
+            put(text.as_bytes(), buffer)
         }
         Err(_) => MEMORY,
     }

@@ -1,29 +1,25 @@
-//! The export that cuts a text into pieces, of which some may be secrets.
-//!
-//! It uses `room`. Its contract: what is reported are the library's pieces, by two numbers each; unless
-//! they are put the numbers are as they were. It takes no memory: the text is cut twice, first to count.
+//! The export that cuts a text into pieces, some of which may be secrets. It cuts the text twice: first it counts.
 
 ghost use Rattle.std.specs.Prelude.{◌≡◌, ◌≤◌, ◌++◌, drop, length};
 ghost use Rattle.std.specs.List.{flat_map};
 ghost use Rattle.git_audit.specs.Secrets.{parts_of, piece_part};
 ghost use Rattle.gix_url_c.specs.Answers.{reported_length};
 ghost use Rattle.gix_url_c.specs.Codes.{memory};
-ghost use Rattle.gix_url_c.specs.Left.{LeavesRoom};
+ghost use Rattle.gix_url_c.specs.Left.{LeavesBuffer};
 ghost use Rattle.gix_url_c.specs.PieceNumbers.{ReportsPieces, part_numbers};
 
+use crate::buffer::put_at;
 use crate::codes::{NO_ROOM, OK};
-use crate::room::put_at;
 use git_audit::secret::{Piece, secrets};
 
-/// Puts two numbers for each piece of a text into `numbers`, its length and 1 if it may be a secret, else
-/// 0; and reports how many pieces there are: [`git_audit::secret::secrets`]. Joined the pieces are the
-/// text.
+/// Copies two numbers for each piece of a text to `numbers`: its length, and 1 if it may be a secret or 0 if not. It
+/// also reports how many pieces there are. Joined, the pieces are the text. See [`git_audit::secret::secrets`].
 ///
-/// It answers 0, or 102 where the numbers don't fit. It takes no memory.
+/// Returns 0, or 102 if the numbers don't fit.
 #[unsafe(no_mangle)]
 pub extern "C" fn gix_url_c_secrets(text: &[u8], numbers: &mut [usize], count: &mut usize) -> u32
     ensures reported { ReportsPieces text.now numbers.old numbers.new count.new result }
-    ensures numbers { LeavesRoom result numbers.old numbers.new }
+    ensures numbers { LeavesBuffer result numbers.old numbers.new }
     ensures no_memory { ¬ (result ≡ memory) }
 {
     *count = count_pieces(text);
@@ -34,7 +30,7 @@ pub extern "C" fn gix_url_c_secrets(text: &[u8], numbers: &mut [usize], count: &
     OK
 }
 
-/// How many pieces the text has.
+/// The number of pieces of the text.
 fn count_pieces(text: &[u8]) -> usize
     ensures { result ≡ reported_length (length (parts_of text.now)) }
 {
@@ -45,7 +41,7 @@ fn count_pieces(text: &[u8]) -> usize
     count
 }
 
-/// Puts the numbers of all pieces at the front, which has room for them.
+/// Copies the numbers of all pieces to the front of `numbers`, which is long enough.
 fn put_pieces(text: &[u8], numbers: &mut [usize])
     requires { length (flat_map part_numbers (parts_of text.now)) ≤ length numbers.old }
     ensures { let put = flat_map part_numbers (parts_of text.now) in

@@ -1,30 +1,28 @@
-//! The places at which Git stops, and at which a text is no configuration.
-//!
-//! Its contract: the numbers are those of the definitions, which the header repeats.
+//! The places at which Git stops, and at which a text isn't a configuration. The header repeats their numbers.
 
 ghost use Rattle.std.specs.Prelude.{◌≡◌};
 ghost use Rattle.gix_url_c.specs.Stops.{StopsAt, no_stop, no_value};
 
 /// Git stops at an entry without a value.
 pub const NO_VALUE: u32 = 104;
-/// Git stops at an entry whose value is no boolean value.
+/// Git stops at an entry whose value isn't boolean.
 pub const NO_BOOLEAN: u32 = 105;
-/// The text is no configuration.
+/// The text isn't a configuration.
 pub const NO_CONFIGURATION: u32 = 106;
 
-/// A place: of an entry, or in the text of a configuration.
+/// The place of an entry, or in the text of a configuration.
 #[repr(C)]
 #[derive(Clone, Copy)]
 pub struct Stop {
-    /// The place of the entry, or how many bytes of the text are before the flaw.
+    /// The place of the entry, or the number of bytes before the flaw.
     pub at: usize,
-    /// The line of the flaw, from 1; 0 where none is reported.
+    /// The line of the flaw, from 1; otherwise 0.
     pub line: usize,
-    /// The flaw of a text: 1 to 13; 0 where none is reported.
+    /// The flaw of the text: 1 to 13; otherwise 0.
     pub flaw: u8,
 }
 
-/// What is reported where Git stops nowhere.
+/// What is reported if Git doesn't stop.
 pub(crate) fn no_stop() -> Stop
     ensures { result ≡ no_stop }
 {

@@ -1,27 +1,25 @@
-//! Entries of a configuration as they are written for C: their parts, and eight numbers for each.
-//!
-//! Its contract: the parts and the numbers are those of the entries, in their order. It takes memory.
+//! Entries of a configuration in the form that C gets: their parts, and eight numbers for each.
 
 ghost use Rattle.std.specs.Prelude.{◌≡◌, ◌++◌, [], IfOk, OnOk, map};
 ghost use Rattle.std.specs.List.{flat_map};
 ghost use Rattle.gix_url_c.specs.EntryNumbers.{entry_numbers, entry_texts, file_numbers, file_texts};
 ghost use Rattle.gix_url_c.specs.Looks.{truth};
 
-use crate::handed::part;
+use crate::output::part;
 use git_modules::config_file::FileEntry;
 use git_rules::config::Entry;
 use std::alloc::{AllocError, Global};
 
-/// The parts of entries, four of each, and their numbers, eight of each.
+/// The parts of entries, four for each, and their numbers, eight for each.
 #[derive(Drop)]
 pub(crate) struct Written<'a> {
-    /// Section, subsection, name and value; what isn't there is empty.
+    /// Section, subsection, name and value; a missing part is empty.
     pub texts: Vec<&'a [u8]>,
-    /// The lengths of these, the place, the line, and whether there is a subsection and a value.
+    /// The lengths of the four parts, the place, the line, and whether there is a subsection and a value.
     pub numbers: Vec<usize>,
 }
 
-/// The parts and numbers of the entries of a listing, whose line is 0.
+/// The parts and numbers of the entries of a listing. Their line is 0.
 pub(crate) fn written_listing<'a>(
     alloc: Global,
     entries: &[Entry<'a>],
@@ -51,7 +49,7 @@ pub(crate) fn written_file<'a>(
     Ok(written)
 }
 
-/// Nothing.
+/// No parts and no numbers.
 fn nothing<'a>(alloc: Global) -> Written<'a>
     ensures texts { result.texts.items ≡ [] }
     ensures numbers { result.numbers.items ≡ [] }
@@ -62,7 +60,7 @@ fn nothing<'a>(alloc: Global) -> Written<'a>
     }
 }
 
-/// Writes an entry behind the others.
+/// Appends the parts and the numbers of an entry.
 fn write_entry<'a>(
     written: &mut Written<'a>,
     entry: &Entry<'a>,

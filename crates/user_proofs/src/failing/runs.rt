@@ -6,13 +6,13 @@ use gix_url::lines::{RunError, run};
 use std::process::Abort;
 use std::test::Fail;
 
-/// The input of the runs, and its answer.
+/// The input of the runs, and the expected output.
 static INPUT: &[u8] = b"/a\nhttp://h:0/\nssh+git:///p\nhttp://h";
 
 static ANSWER: &[u8] =
     b"settled\t/a\nrefused\tBadUrl BadPort\nunsettled\tssh\nsettled\thttp://h/\n";
 
-/// A writer of the answer that fails behind so many calls.
+/// A writer for the expected output that fails after this number of calls.
 fn writer(at_most: usize, calls: usize, way: Option<Fault>) -> FailingWriter<'static> {
     let left = Some(ANSWER);
     FailingWriter {
@@ -23,7 +23,7 @@ fn writer(at_most: usize, calls: usize, way: Option<Fault>) -> FailingWriter<'st
     }
 }
 
-/// A run whose reader fails behind so many calls, which don't bring all of the input.
+/// A run whose reader fails after this number of calls, which don't return the whole input.
 fn is_read(rt: &(impl Abort + AllocGlobal), calls: usize, fault: Fault) -> Result<(), Fail> {
     let bytes = INPUT;
     let mut input = FailingReader {
@@ -51,7 +51,8 @@ fn a_reader_fails_at_each_call(rt: HostRuntime) -> Result<(), Fail> {
     Ok(())
 }
 
-/// Runs over the input with a writer that fails at each of its calls in turn, until the answer is written before.
+/// Runs over the input with a writer that fails at each of its calls in turn, until the output is written before the
+/// failure.
 fn is_answered(
     rt: &(impl Abort + AllocGlobal),
     at_most: usize,

@@ -1,4 +1,4 @@
-//! Locations that are shown by a formatter that fails at each of its calls: it never gets the field `password`.
+//! Locations that are written to a formatter that fails at each of its calls. It never receives the field `password`.
 
 use super::streams::FailingFormatter;
 use super::{is_whole, long};
@@ -9,7 +9,8 @@ use std::fmt::{self, Write};
 use std::process::Abort;
 use std::test::Fail;
 
-/// Texts, and what is shown of the location of each: more than 128 bytes, and what is no UTF-8, in several calls.
+/// Texts, and the text that shows the location of each. A text of more than 128 bytes, or with bytes that are not
+/// UTF-8, takes several calls.
 static TEXTS: [(&[u8], &str); 7] = [
     (b"ssh://u:secret@h/~a", "ssh://u:redacted@h/~a"),
     (
@@ -35,7 +36,8 @@ fn show(out: &mut FailingFormatter<'_>, url: &Url, is_styled: bool) -> fmt::Resu
     }
 }
 
-/// Shows a location to a formatter that fails at each of its calls in turn, until all is shown before.
+/// Shows a location to a formatter that fails at each of its calls in turn, until everything is shown before the
+/// failure.
 fn is_shown(rt: &impl Abort, url: &Url, text: &str, is_styled: bool) -> Result<(), Fail> {
     for calls in 0..=text.len() {
         let left = Some(text.as_bytes());
@@ -60,7 +62,8 @@ fn a_formatter_fails_at_each_call(rt: HostRuntime) -> Result<(), Fail> {
     Ok(())
 }
 
-/// Shows a location to a formatter that fails behind so many calls: it gets a front of the text, or the whole.
+/// Shows a location to a formatter that fails after this number of calls: it receives a prefix of the text, or the
+/// whole text.
 fn is_front_shown(rt: &impl Abort, url: &Url, text: &str, calls: usize) {
     let left = Some(text.as_bytes());
     let mut out = FailingFormatter { left, calls };

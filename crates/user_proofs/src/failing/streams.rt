@@ -1,7 +1,7 @@
-//! Readers, writers and formatters that fail at one of their calls. They answer the calls behind it, so what goes on after
-//! a failure is seen.
+//! Readers, writers and formatters that fail at one of their calls. Later calls succeed, so that a test notices a call
+//! after a failure.
 //!
-//! None of them answers `Interrupted`, which readers and writers may treat as they like.
+//! None of them fails with `Interrupted`, which readers and writers may handle in any way.
 
 use std::fmt;
 use std::io::{self, ErrorKind, Read, Write};
@@ -11,7 +11,7 @@ use std::test::Fail;
 /// An error of a stream: its kind and its words.
 pub type Fault = (ErrorKind, &'static str);
 
-/// Ways in which streams fail: by an error, and, for a writer alone, by taking nothing.
+/// The ways in which streams fail: with an error, and, for a writer alone, by accepting no byte.
 pub static WAYS: [Option<Fault>; 5] = [
     Some((ErrorKind::Other, "the disk is gone")),
     Some((ErrorKind::BrokenPipe, "nobody reads")),
@@ -20,7 +20,8 @@ pub static WAYS: [Option<Fault>; 5] = [
     None,
 ];
 
-/// Checks that an error is the one that a stream failed by. Of a writer that took nothing only the kind is compared.
+/// Checks that an error is the one that a stream failed with. For a writer that accepted no byte, only the kind is
+/// compared.
 pub fn is_own(
     rt: &(impl Abort + AllocGlobal),
     error: &io::Error,
@@ -36,11 +37,11 @@ pub fn is_own(
     Ok(())
 }
 
-/// A reader that gives a byte a call.
+/// A reader that returns a byte a call.
 #[derive(Drop)]
 pub struct FailingReader<'a> {
     pub bytes: &'a [u8],
-    /// How many calls it answers before it fails.
+    /// How many calls succeed before it fails.
     pub calls: usize,
     pub fault: Fault,
 }
@@ -63,7 +64,7 @@ impl Read for FailingReader<'_> {
     }
 }
 
-/// What is missing of a text behind a piece of it; none where the text doesn't go on so.
+/// The rest of a text after a piece of it; `None` if the text doesn't begin with the piece.
 fn behind<'a>(left: Option<&'a [u8]>, piece: &[u8]) -> Option<&'a [u8]> {
     match left {
         None => None,
@@ -71,13 +72,13 @@ fn behind<'a>(left: Option<&'a [u8]>, piece: &[u8]) -> Option<&'a [u8]> {
     }
 }
 
-/// A writer that takes some bytes of a text a call.
+/// A writer that accepts some bytes of a text a call.
 #[derive(Drop)]
 pub struct FailingWriter<'a> {
-    /// What it hasn't taken of the text; none where it took something else.
+    /// The rest of the text that it hasn't accepted; `None` if it accepted something else.
     pub left: Option<&'a [u8]>,
     pub at_most: usize,
-    /// How many calls it answers before it fails.
+    /// How many calls succeed before it fails.
     pub calls: usize,
     pub way: Option<Fault>,
 }
@@ -105,12 +106,12 @@ impl Write for FailingWriter<'_> {
     }
 }
 
-/// A formatter that also takes what it gets by the call at which it fails.
+/// A formatter that also accepts the text of the call at which it fails.
 #[derive(Drop)]
 pub struct FailingFormatter<'a> {
-    /// What it hasn't taken of the text; none where it took something else.
+    /// The rest of the text that it hasn't accepted; `None` if it accepted something else.
     pub left: Option<&'a [u8]>,
-    /// How many calls it answers before it fails.
+    /// How many calls succeed before it fails.
     pub calls: usize,
 }
 

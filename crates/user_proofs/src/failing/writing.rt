@@ -21,7 +21,7 @@ static TEXTS: [(&str, &str); 6] = [
     ("/srv/\u{f6}", "/srv/\u{f6}"),
 ];
 
-/// Writes a location to a writer that fails at each of its calls in turn, until the text is written before.
+/// Writes a location to a writer that fails at each of its calls in turn, until the text is written before the failure.
 fn is_written(
     rt: &(impl Abort + AllocGlobal),
     url: &Url,
@@ -39,7 +39,7 @@ fn is_written(
         };
         match url.write_to(&mut out) {
             Ok(()) => {
-                // A byte a call is a call for each byte.
+                // With one byte a call there is a call for each byte.
                 let is_all = calls > 0 && (at_most > 1 || calls == text.len());
                 assert!(rt; is_all && is_whole(out.left), "{text}, {calls} calls");
                 return Ok(());

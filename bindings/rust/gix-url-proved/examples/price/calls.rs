@@ -1,4 +1,4 @@
-//! The calls whose price is taken, by the same code for each crate that has them.
+//! The calls whose time is measured, with the same code for each crate that has them.
 
 use std::hint::black_box;
 use std::io::Read;
@@ -11,7 +11,7 @@ pub fn lines() -> Vec<Vec<u8>> {
     all.split(|byte| *byte == b'\n').filter(|line| !line.is_empty()).map(<[u8]>::to_vec).collect()
 }
 
-/// The nanoseconds that a call takes over one of these values: the least of all passes.
+/// The nanoseconds that a call takes per value: the minimum over all passes.
 pub fn price<T, A>(values: &[T], passes: usize, call: impl Fn(&T) -> A) -> f64 {
     let pass = || {
         let start = Instant::now();
@@ -23,7 +23,7 @@ pub fn price<T, A>(values: &[T], passes: usize, call: impl Fn(&T) -> A) -> f64 {
     (0..passes).map(|_| pass()).fold(f64::INFINITY, f64::min)
 }
 
-/// A module with the function `prices`, which takes the prices of the calls of this crate.
+/// A module with the function `prices`, which measures the calls of this crate.
 macro_rules! priced_by {
     ($name:ident) => {
         mod $name {

@@ -1,5 +1,5 @@
-//! Prints how many nanoseconds each call takes a line of the standard input: `price PASSES`, over lines as those of
-//! `crates/url_bench/remotes.txt`. `bindings/rust/compare` does the same for `gix-url` too.
+//! Prints the time of each call per line of the standard input, in nanoseconds: `price PASSES`. The lines are like
+//! those of `crates/url_bench/remotes.txt`. `bindings/rust/compare` does the same for `gix-url` too.
 
 mod calls;
 

@@ -1,5 +1,5 @@
-//! Carries out the orders of the standard input, a line each, by the calls of the crate, and prints the outcome of each
-//! call, a line of JSON, as the program `answers` does. `tools/row_programs.py` writes and describes orders.
+//! Executes the orders on the standard input, one a line, by the calls of the crate, and prints the result of each call
+//! as a line of JSON, as the program `answers` does. `tools/row_programs.py` writes and describes orders.
 
 mod rules;
 
@@ -19,12 +19,12 @@ use std::os::unix::ffi::OsStrExt;
 /// The members of an order, by their names.
 struct Order(BTreeMap<String, Vec<u8>>);
 
-/// The text of these bytes, which orders have only UTF-8 for.
+/// The bytes as a text. Orders have only UTF-8 for it.
 fn utf8(bytes: &[u8]) -> String {
     String::from_utf8(bytes.to_vec()).expect("the text of an order is UTF-8")
 }
 
-/// A value without its escapes: `\x` with two digits is a byte.
+/// Decodes the escapes of a value: `\x` with two digits is a byte.
 fn unescaped(mut value: &[u8]) -> Vec<u8> {
     let mut bytes = Vec::new();
     while let [first, rest @ ..] = value {
@@ -40,7 +40,7 @@ fn unescaped(mut value: &[u8]) -> Vec<u8> {
 }
 
 impl Order {
-    /// The order of a line.
+    /// Parses the order on a line.
     fn of(line: &[u8]) -> Order {
         let member = |member: &[u8]| {
             let at = member.iter().position(|byte| *byte == b'=').expect("a member has a value");
@@ -49,7 +49,7 @@ impl Order {
         Order(line.split(|byte| *byte == b'\t').map(member).collect())
     }
 
-    /// The bytes of a member; none where it isn't there.
+    /// The bytes of a member, or none if it is missing.
     fn bytes(&self, name: &str) -> &[u8] {
         self.0.get(name).map_or(&[], Vec::as_slice)
     }
@@ -59,7 +59,7 @@ impl Order {
         self.0.get(name).map(|value| utf8(value))
     }
 
-    /// The location of a member: what its text is read as, or the parts as they are.
+    /// The location of a member: its text, parsed, or the parts as they are.
     fn url(&self, name: &str) -> Option<Url> {
         self.0.get(name).map_or_else(|| self.parts(name), |text| parse(text).ok())
     }
@@ -78,7 +78,7 @@ impl Order {
         Some(url)
     }
 
-    /// The error that a text is refused with, or the error of these names, which keeps these bytes.
+    /// The error for a text, or the error with these names, which keeps these bytes.
     fn error(&self) -> Option<Error> {
         let names = match self.text("error.error") {
             Some(names) => names,
@@ -101,7 +101,7 @@ impl Order {
     }
 }
 
-/// The scheme of a text, which has the name behind a space.
+/// The scheme of a text, in which a name follows a space.
 fn scheme(told: &str) -> Scheme {
     match told.split_once(' ') {
         Some(("Helper", name)) => Scheme::Helper(name.to_owned()),
@@ -110,7 +110,7 @@ fn scheme(told: &str) -> Scheme {
     }
 }
 
-/// The one of these values that has this name.
+/// The value with this name.
 fn named<T: Debug>(values: impl IntoIterator<Item = T>, name: &str) -> Option<T> {
     values.into_iter().find(|value| format!("{value:?}") == name)
 }
@@ -128,7 +128,7 @@ fn write_fault(name: &str) -> Option<WriteFault> {
     named([HelperName, HelperParts, RelativeSsh, UserWithoutHost], name)
 }
 
-/// Bytes as a text of JSON: U+EF00 with the byte added for a byte past ASCII.
+/// Bytes as a JSON string. A byte that isn't ASCII is written as U+EF00 plus the byte.
 fn quoted(bytes: impl AsRef<[u8]>) -> String {
     let character = |byte: &u8| match byte {
         0..=31 | b'"' | b'\\' | 127 => format!("\\u{byte:04x}"),
@@ -138,12 +138,12 @@ fn quoted(bytes: impl AsRef<[u8]>) -> String {
     format!("\"{}\"", bytes.as_ref().iter().map(character).collect::<String>())
 }
 
-/// What is printed for a value that may be missing.
+/// The JSON of a value that may be missing.
 fn or_null(told: Option<String>) -> String {
     told.unwrap_or("null".to_owned())
 }
 
-/// An object of the members that have a value.
+/// An object with the members that have a value.
 fn object<const COUNT: usize>(members: [(&str, Option<String>); COUNT]) -> String {
     let member = |(name, value): (&str, Option<String>)| Some(format!("\"{name}\":{}", value?));
     format!("{{{}}}", members.into_iter().filter_map(member).collect::<Vec<_>>().join(","))
@@ -195,7 +195,7 @@ fn told_error(error: &Error) -> String {
     ])
 }
 
-/// A user by the sign of a home folder, with the name behind it.
+/// A user: the sign of a home folder, followed by the name.
 fn told_user(user: &ForUser) -> String {
     let name = Option::<BString>::from(user.clone()).unwrap_or_default();
     quoted([b"~", name.as_slice()].concat())
@@ -224,7 +224,7 @@ fn told_components(parts: &PathComponents<'_>) -> String {
     object([("path", Some(quoted(parts.path))), ("query", query), ("fragment", parts.fragment.as_ref().map(quoted))])
 }
 
-/// A writer that takes one byte a call.
+/// A writer that accepts one byte a call.
 #[derive(Default)]
 struct Sips(Vec<u8>);
 
@@ -239,7 +239,7 @@ impl io::Write for Sips {
     }
 }
 
-/// What is written of a location, and why nothing is.
+/// The text that is written for a location, and the error if there is one.
 fn write(url: &Url) -> (BString, Option<Error>) {
     let mut written = Sips::default();
     let error = url.write_to(&mut written).err();
@@ -254,7 +254,7 @@ fn told_written(url: &Url) -> String {
     object([("written", Some(quoted(written))), ("fault", error.as_ref().map(told_error))])
 }
 
-/// The text of a location, which each call that writes it returns alike.
+/// The text of a location, which is the same from each call that writes it.
 fn told_text(url: &Url) -> String {
     match url.text() {
         Ok(text) => {
@@ -268,7 +268,7 @@ fn told_text(url: &Url) -> String {
     }
 }
 
-/// What is shown of a value in a style, and whether that failed.
+/// The text that a value is formatted as in a style, and whether that failed.
 fn told_shown(value: &(impl Display + Debug), style: &str) -> String {
     let mut text = String::new();
     let outcome = match style {
@@ -296,7 +296,7 @@ fn told_order<T: Ord + Hash>(one: &T, other: &T) -> String {
     format!("[[{wholly},{partly}],[{},{}]]", one == other, hash(one) == hash(other))
 }
 
-/// Calls that change a location or take it: what the call returns, and the location after it.
+/// Calls that change or consume a location: the result of the call, and the location after it.
 fn change(order: &Order, call: &str, mut url: Url) -> Option<String> {
     let old = match call {
         "Url::set_user" => url.set_user(order.text("user")),
@@ -309,7 +309,7 @@ fn change(order: &Order, call: &str, mut url: Url) -> Option<String> {
     Some(format!("[{},{}]", or_null(old.map(quoted)), told_url(&url)))
 }
 
-/// Calls that look at a location, at its path, or at another one beside it.
+/// Calls that inspect a location, its path, or a second location.
 fn look(order: &Order, call: &str, url: &Url) -> Option<String> {
     Some(match call {
         "Url::clone" => told_url(&url.clone()),
@@ -332,7 +332,7 @@ fn look(order: &Order, call: &str, url: &Url) -> Option<String> {
     })
 }
 
-/// Calls that look at a part of a location.
+/// Calls that inspect a part of a location.
 fn look_at_part(call: &str, url: &Url) -> Option<String> {
     Some(match call {
         "Url::user" => or_null(url.user().map(quoted)),
@@ -362,7 +362,7 @@ fn over_scheme(order: &Order, call: &str, scheme: &Scheme) -> Option<String> {
     })
 }
 
-/// Calls over a text, parts, an error or a fault, or over nothing.
+/// Calls over a text, parts, an error or a fault, or without input.
 fn over_others(order: &Order, call: &str) -> Option<String> {
     let (text, style) = (order.bytes("text"), order.text("style").unwrap_or_default());
     let name = |member| order.text(member).unwrap_or_default();
@@ -391,7 +391,7 @@ fn unchecked(it: Url) -> Url {
     Url::from_parts_unchecked(it.scheme, it.user, it.password, it.host, it.port, it.path, it.serialize_alternative_form)
 }
 
-/// The user of a member: `~`, and the name behind it.
+/// The user of a member: `~`, followed by the name.
 fn user(order: &Order, name: &str) -> Option<ForUser> {
     let name = order.0.get(name)?.strip_prefix(b"~").expect("a user begins with the sign of a home folder");
     Some(if name.is_empty() { ForUser::Current } else { ForUser::Name(name.into()) })
@@ -414,7 +414,7 @@ fn over_homes(order: &Order, call: &str) -> Option<String> {
     })
 }
 
-/// Where a path lies in the home folder that is the answer of a closure, and how often that was called.
+/// The path in the home folder that a closure returns, and how often the closure is called.
 fn told_with(order: &Order, path: &[u8]) -> String {
     let mut asked = 0;
     let answer = expand_path::with(user(order, "user").as_ref(), path.into(), |_| {
@@ -425,7 +425,7 @@ fn told_with(order: &Order, path: &[u8]) -> String {
     format!("[{told},{asked}]")
 }
 
-/// Makes the call of an order, by what it is over.
+/// Makes the call of an order, by the type of its input.
 fn carry_out(order: &Order) -> Option<String> {
     let call = order.text("call")?;
     if let Some(told) = rules::carry_out(order, &call) {

@@ -11,7 +11,7 @@ use gix_url_proved::rules::{
 };
 use std::fmt::Debug;
 
-/// The outcome of the call of an order; none where it is another call.
+/// The result of the call of an order; `None` for any other call.
 pub fn carry_out(order: &Order, call: &str) -> Option<String> {
     let text = order.bytes("text");
     Some(match call {
@@ -92,7 +92,7 @@ fn configuration(order: &Order) -> Configuration {
     Configuration::from_listing(order.bytes("config")).expect("an order has a listing")
 }
 
-/// The index of an entry of a listing, where each has a place of its own.
+/// The index of an entry in a listing in which all positions differ.
 fn index(configuration: &Configuration, entry: &Entry<'_>) -> String {
     configuration.entries().position(|it| it.at == entry.at).expect("it is an entry of the configuration").to_string()
 }
@@ -160,7 +160,7 @@ fn told_settings(configuration: &Configuration, name: &str, text: &[u8]) -> Stri
     told(configuration.settings(name, text), |it| list(it.entries.iter().map(|entry| index(configuration, entry))))
 }
 
-/// The value of the best entry for a URL; of an entry of `of_pattern` whether it applies.
+/// The value of the best entry for a URL. For an entry of `of_pattern`, whether it applies.
 fn told_best(configuration: &Configuration, name: &str, text: &[u8]) -> String {
     told(configuration.settings(name, text), |found| match (found.abnormal, found.entries.first()) {
         (Some(why), _) => told_why(why),
@@ -169,7 +169,7 @@ fn told_best(configuration: &Configuration, name: &str, text: &[u8]) -> String {
     })
 }
 
-/// A configuration with one entry of `http.<pattern>.k`, on the line 1 of a file.
+/// A configuration with one entry of `http.<pattern>.k`, on line 1 of a file.
 fn of_pattern(pattern: &[u8]) -> Configuration {
     let (section, name) = ("http".into(), "k".into());
     let entry =
@@ -227,7 +227,7 @@ fn told_request(text: &[u8]) -> String {
     })
 }
 
-/// The pieces of a text, of which those of one kind are joined.
+/// The pieces of a text. Neighbours of one kind are joined.
 fn told_pieces(text: &[u8]) -> String {
     let mut joined: Vec<(&str, Vec<u8>)> = Vec::new();
     let mut shown = Vec::new();
@@ -258,7 +258,7 @@ fn service(order: &Order) -> Option<Service> {
     all.into_iter().find(|it| it.as_str() == order.text("service").unwrap_or_default())
 }
 
-/// What an order asks of Secure Shell.
+/// The request for Secure Shell in an order.
 fn request(order: &Order) -> Option<SshRequest<'_>> {
     Some(SshRequest {
         service: service(order)?,
@@ -315,7 +315,7 @@ fn over_submodule(order: &Order, call: &str) -> Option<String> {
     })
 }
 
-/// The submodules with a path and a URL, by their names.
+/// The submodules that have a path and a URL, by their names.
 fn told_submodules(order: &Order) -> String {
     let configuration = configuration(order);
     told(configuration.submodules(), |found| {
@@ -373,7 +373,7 @@ fn over_reasons(call: &str, name: &str, style: &str) -> Option<String> {
     })
 }
 
-/// The reason of this name why there is no command.
+/// The reason with this name why there is no command.
 fn ssh_refusal(name: &str) -> Option<SshRefusal> {
     use SshRefusal::{
         AtSignInHost, ByteZero, ByteZeroInProgram, EmptyProgram, EmptyUser, FamilyOfSimple, NoHost, NoPath,

@@ -1,9 +1,9 @@
-//! Buffers that a call fills with bytes and numbers. They are initialised, and grow to what the call reports.
+//! Buffers that a call fills with bytes and numbers. They are initialised, and grow to the size that the call reports.
 
 use super::{BLANK, NO_ROOM, OK};
 use std::mem::size_of;
 
-/// What buffers hold before a call: zeros, and in a debug build, which checks them after it, a rarely written byte.
+/// The byte in buffers before a call: 0, and in a debug build, which checks them after it, a rarely written byte.
 const BYTE: u8 = if cfg!(debug_assertions) { BLANK } else { 0 };
 const NUMBER: usize = usize::from_ne_bytes([BYTE; size_of::<usize>()]);
 
@@ -15,23 +15,23 @@ pub(super) struct Sizes {
 }
 
 impl Sizes {
-    /// So many bytes, and no number.
+    /// This many bytes, and no number.
     pub(super) fn of_bytes(bytes: usize) -> Sizes {
         Sizes { bytes, numbers: 0 }
     }
 
-    /// So many numbers, and no byte.
+    /// This many numbers, and no byte.
     pub(super) fn of_numbers(numbers: usize) -> Sizes {
         Sizes { bytes: 0, numbers }
     }
 
-    /// Whether these fit into buffers of other sizes.
-    fn fit(self, room: Sizes) -> bool {
-        self.bytes <= room.bytes && self.numbers <= room.numbers
+    /// Whether these sizes fit into buffers of other sizes.
+    fn fit(self, sizes: Sizes) -> bool {
+        self.bytes <= sizes.bytes && self.numbers <= sizes.numbers
     }
 }
 
-/// What a call put into its buffers.
+/// The result that a call wrote into its buffers.
 #[derive(Debug, Default, PartialEq, Eq)]
 pub(super) struct Filled {
     pub(super) bytes: Vec<u8>,
@@ -39,12 +39,12 @@ pub(super) struct Filled {
 }
 
 impl Filled {
-    /// Buffers of these sizes, which nothing was put into yet.
+    /// Buffers of these sizes into which nothing was written yet.
     fn blank(sizes: Sizes) -> Filled {
         Filled { bytes: vec![BYTE; sizes.bytes], numbers: vec![NUMBER; sizes.numbers] }
     }
 
-    /// The fronts of these sizes. What is after them is as it was before the call.
+    /// The fronts with these sizes. The rest is unchanged by the call.
     fn fronts(mut self, sizes: Sizes) -> Filled {
         if cfg!(debug_assertions) {
             let is_blank = self.bytes[sizes.bytes..].iter().all(|byte| *byte == BYTE)
@@ -57,25 +57,25 @@ impl Filled {
     }
 }
 
-/// Makes a call with buffers of these sizes, and once more with larger ones if its result doesn't fit. The call returns its
+/// Makes a call with buffers of these sizes, and again with larger ones if its result doesn't fit. The call returns its
 /// number, and how many bytes and numbers its result has. After an error there is no result.
-pub(super) fn filled(mut room: Sizes, mut call: impl FnMut(&mut [u8], &mut [usize]) -> (u32, Sizes)) -> (u32, Filled) {
+pub(super) fn filled(mut sizes: Sizes, mut call: impl FnMut(&mut [u8], &mut [usize]) -> (u32, Sizes)) -> (u32, Filled) {
     loop {
-        let mut buffers = Filled::blank(room);
+        let mut buffers = Filled::blank(sizes);
         let (code, needed) = call(&mut buffers.bytes, &mut buffers.numbers);
         if code != NO_ROOM {
-            assert!(code != OK || needed.fit(room), "a result that fits is no longer than its buffer");
+            assert!(code != OK || needed.fit(sizes), "a result that fits is no longer than its buffer");
             return (code, buffers.fronts(if code == OK { needed } else { Sizes::default() }));
         }
-        assert!(!needed.fit(room), "a result that doesn't fit is longer than its buffer");
+        assert!(!needed.fit(sizes), "a result that doesn't fit is longer than its buffer");
         buffers.fronts(Sizes::default());
-        room = Sizes { bytes: needed.bytes.max(room.bytes), numbers: needed.numbers.max(room.numbers) };
+        sizes = Sizes { bytes: needed.bytes.max(sizes.bytes), numbers: needed.numbers.max(sizes.numbers) };
     }
 }
 
-/// Makes a call whose result are bytes.
-pub(super) fn filled_bytes(room: usize, mut call: impl FnMut(&mut [u8]) -> (u32, usize)) -> (u32, Vec<u8>) {
-    let (code, filled) = filled(Sizes::of_bytes(room), |bytes, _| {
+/// Makes a call whose result is bytes.
+pub(super) fn filled_bytes(size: usize, mut call: impl FnMut(&mut [u8]) -> (u32, usize)) -> (u32, Vec<u8>) {
+    let (code, filled) = filled(Sizes::of_bytes(size), |bytes, _| {
         let (code, needed) = call(bytes);
         (code, Sizes::of_bytes(needed))
     });
@@ -91,16 +91,16 @@ mod tests {
     fn stores<'a>(
         bytes: &'a [u8],
         numbers: &'a [usize],
-        rooms: &'a mut Vec<(usize, usize)>,
+        buffers: &'a mut Vec<(usize, usize)>,
     ) -> impl FnMut(&mut [u8], &mut [usize]) -> (u32, Sizes) + 'a {
-        move |room, places| {
-            rooms.push((room.len(), places.len()));
-            assert!(room.iter().all(|byte| *byte == BYTE) && places.iter().all(|number| *number == NUMBER));
+        move |buffer, places| {
+            buffers.push((buffer.len(), places.len()));
+            assert!(buffer.iter().all(|byte| *byte == BYTE) && places.iter().all(|number| *number == NUMBER));
             let needed = Sizes { bytes: bytes.len(), numbers: numbers.len() };
-            if room.len() < bytes.len() || places.len() < numbers.len() {
+            if buffer.len() < bytes.len() || places.len() < numbers.len() {
                 return (NO_ROOM, needed);
             }
-            room[..bytes.len()].copy_from_slice(bytes);
+            buffer[..bytes.len()].copy_from_slice(bytes);
             places[..numbers.len()].copy_from_slice(numbers);
             (OK, needed)
         }
@@ -109,17 +109,18 @@ mod tests {
     #[test]
     fn buffers_grow_to_what_is_needed() {
         let (bytes, numbers) = (b"abc".as_slice(), [1, 2].as_slice());
-        for (room, wanted) in [
+        for (sizes, wanted) in [
             ((3, 2), vec![(3, 2)]),
             ((9, 9), vec![(9, 9)]),
             ((2, 9), vec![(2, 9), (3, 9)]),
             ((9, 1), vec![(9, 1), (9, 2)]),
             ((0, 0), vec![(0, 0), (3, 2)]),
         ] {
-            let mut rooms = Vec::new();
-            let (code, result) = filled(Sizes { bytes: room.0, numbers: room.1 }, stores(bytes, numbers, &mut rooms));
+            let mut buffers = Vec::new();
+            let (code, result) =
+                filled(Sizes { bytes: sizes.0, numbers: sizes.1 }, stores(bytes, numbers, &mut buffers));
             assert_eq!((code, result), (OK, Filled { bytes: bytes.into(), numbers: numbers.into() }));
-            assert_eq!(rooms, wanted);
+            assert_eq!(buffers, wanted);
         }
     }
 
@@ -132,8 +133,8 @@ mod tests {
     #[test]
     #[should_panic(expected = "a call writes after its result")]
     fn bytes_after_a_result_are_seen() {
-        filled_bytes(4, |room| {
-            room[2] = 0;
+        filled_bytes(4, |buffer| {
+            buffer[2] = 0;
             (OK, 2)
         });
     }

@@ -8,11 +8,11 @@ const MEMORY: u32 = 1;
 const NO_VALUE: u32 = 104;
 const NO_BOOLEAN: u32 = 105;
 const NO_CONFIGURATION: u32 = 106;
-/// How many numbers an entry and a submodule have.
+/// How many numbers describe an entry and a submodule.
 const OF_ENTRY: usize = 8;
 const OF_SUBMODULE: usize = 5;
 
-/// An entry, as the library takes it.
+/// An entry, in the form that the library takes.
 #[repr(C)]
 #[derive(Clone, Copy)]
 pub(super) struct GivenEntry<'a> {
@@ -46,7 +46,7 @@ impl<'a> GivenEntry<'a> {
     }
 }
 
-/// The place at which Git stops, or at which a text isn't a configuration.
+/// The position at which Git stops, or at which a text isn't a configuration.
 #[repr(C)]
 #[derive(Default)]
 pub(super) struct Stop {
@@ -81,7 +81,7 @@ struct Counted {
     bytes: usize,
 }
 
-/// What is refused in an entry.
+/// The reasons why an entry is refused.
 #[repr(C)]
 #[derive(Default)]
 struct CheckNumbers {
@@ -97,18 +97,18 @@ type Reads = unsafe extern "C" fn(*const u8, usize, &mut Counted, *mut u8, usize
 
 #[rustfmt::skip]
 extern "C" {
-    fn gix_url_c_read_listing(text: *const u8, len: usize, made: &mut Counted, room: *mut u8, room_len: usize, numbers: *mut usize, numbers_len: usize, stop: &mut Stop) -> u32;
-    fn gix_url_c_read_file(text: *const u8, len: usize, made: &mut Counted, room: *mut u8, room_len: usize, numbers: *mut usize, numbers_len: usize, stop: &mut Stop) -> u32;
+    fn gix_url_c_read_listing(text: *const u8, len: usize, made: &mut Counted, buffer: *mut u8, buffer_len: usize, numbers: *mut usize, numbers_len: usize, stop: &mut Stop) -> u32;
+    fn gix_url_c_read_file(text: *const u8, len: usize, made: &mut Counted, buffer: *mut u8, buffer_len: usize, numbers: *mut usize, numbers_len: usize, stop: &mut Stop) -> u32;
     fn gix_url_c_check(entry: &GivenEntry, made: &mut CheckNumbers) -> u32;
-    fn gix_url_c_submodules(entries: Entries, count: usize, made: &mut Counted, room: *mut u8, room_len: usize, numbers: *mut usize, numbers_len: usize) -> u32;
+    fn gix_url_c_submodules(entries: Entries, count: usize, made: &mut Counted, buffer: *mut u8, buffer_len: usize, numbers: *mut usize, numbers_len: usize) -> u32;
 }
 
-/// A number, or none for 0.
+/// A number, or `None` for 0.
 fn unless_zero(number: usize) -> Option<usize> {
     (number != 0).then_some(number)
 }
 
-/// The entry of these numbers, whose parts begin at this place of their buffer.
+/// The entry with these numbers, whose parts begin at `start` in their buffer.
 fn span(start: usize, numbers: &[usize]) -> Span {
     let part = |len: usize, has: usize| (has != 0).then_some(len);
     Span {
@@ -122,7 +122,7 @@ fn span(start: usize, numbers: &[usize]) -> Span {
     }
 }
 
-/// The entries whose parts and numbers these are.
+/// The configuration with these parts and numbers.
 fn configuration(read: Filled) -> Configuration {
     let mut start = 0;
     let place = |numbers: &[usize]| {
@@ -134,18 +134,18 @@ fn configuration(read: Filled) -> Configuration {
     Configuration { bytes: read.bytes, spans }
 }
 
-/// Reads a configuration by one of the two calls, with room for so many bytes and entries at first.
+/// Parses a configuration by one of the two calls, with buffers for this many bytes and entries at first.
 fn read(reads: Reads, text: &[u8], bytes: usize, entries: usize) -> Result<Configuration, Error> {
     let mut stop = Stop::default();
-    let (code, read) = filled(Sizes { bytes, numbers: OF_ENTRY * entries }, |room, numbers| {
+    let (code, read) = filled(Sizes { bytes, numbers: OF_ENTRY * entries }, |buffer, numbers| {
         let mut made = Counted::default();
         let code = call!(
             reads,
             text.as_ptr(),
             text.len(),
             &mut made,
-            room.as_mut_ptr(),
-            room.len(),
+            buffer.as_mut_ptr(),
+            buffer.len(),
             numbers.as_mut_ptr(),
             numbers.len(),
             &mut stop
@@ -155,7 +155,7 @@ fn read(reads: Reads, text: &[u8], bytes: usize, entries: usize) -> Result<Confi
     stop.unless(code, || configuration(read))
 }
 
-/// How often a byte is in a text.
+/// The number of times that a byte occurs in a text.
 fn count(text: &[u8], byte: u8) -> usize {
     text.iter().filter(|it| **it == byte).count()
 }
@@ -171,7 +171,7 @@ pub(crate) fn read_file(text: &[u8]) -> Result<Configuration, Error> {
     read(gix_url_c_read_file, text, 2 * text.len(), entries)
 }
 
-/// What `git fsck` refuses in an entry.
+/// The reasons why `git fsck` refuses an entry.
 pub(crate) fn check(entry: &Entry<'_>) -> SubmoduleCheck {
     let mut made = CheckNumbers::default();
     let code = call!(gix_url_c_check, &GivenEntry::of(entry), &mut made);
@@ -182,16 +182,16 @@ pub(crate) fn check(entry: &Entry<'_>) -> SubmoduleCheck {
 /// The submodules of a `.gitmodules` file. Each has an entry of its own.
 pub(crate) fn submodules(configuration: &Configuration) -> Result<Vec<Submodule<'_>>, Error> {
     let entries = GivenEntry::all(configuration);
-    let room = Sizes { bytes: configuration.bytes.len(), numbers: OF_SUBMODULE * entries.len() };
-    let (code, listed) = filled(room, |room, numbers| {
+    let sizes = Sizes { bytes: configuration.bytes.len(), numbers: OF_SUBMODULE * entries.len() };
+    let (code, listed) = filled(sizes, |buffer, numbers| {
         let mut made = Counted::default();
         let code = call!(
             gix_url_c_submodules,
             entries.as_ptr(),
             entries.len(),
             &mut made,
-            room.as_mut_ptr(),
-            room.len(),
+            buffer.as_mut_ptr(),
+            buffer.len(),
             numbers.as_mut_ptr(),
             numbers.len()
         );

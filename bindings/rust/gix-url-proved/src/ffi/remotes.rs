@@ -6,7 +6,7 @@ use super::{next, Bytes};
 use crate::bstr::BString;
 use crate::rules::{Configuration, Decider, Error, Permission, Policy, Remote, Rewritten};
 
-/// How many bytes and URLs a buffer takes at first, beside the text that is read.
+/// How many bytes and URLs a buffer holds at first, in addition to the text that is read.
 const SHORT: usize = 256;
 const FEW: usize = 8;
 
@@ -53,26 +53,26 @@ struct PermissionNumbers {
 
 #[rustfmt::skip]
 extern "C" {
-    fn gix_url_c_rewrite_fetch(entries: Entries, count: usize, text: *const u8, len: usize, made: &mut RewriteNumbers, room: *mut u8, room_len: usize, stop: &mut Stop) -> u32;
-    fn gix_url_c_rewrite_push(entries: Entries, count: usize, text: *const u8, len: usize, has_push_url: bool, made: &mut RewriteNumbers, room: *mut u8, room_len: usize, stop: &mut Stop) -> u32;
-    fn gix_url_c_remote(entries: Entries, count: usize, name: *const u8, len: usize, made: &mut RemoteNumbers, room: *mut u8, room_len: usize, lengths: *mut usize, lengths_len: usize, stop: &mut Stop) -> u32;
+    fn gix_url_c_rewrite_fetch(entries: Entries, count: usize, text: *const u8, len: usize, made: &mut RewriteNumbers, buffer: *mut u8, buffer_len: usize, stop: &mut Stop) -> u32;
+    fn gix_url_c_rewrite_push(entries: Entries, count: usize, text: *const u8, len: usize, has_push_url: bool, made: &mut RewriteNumbers, buffer: *mut u8, buffer_len: usize, stop: &mut Stop) -> u32;
+    fn gix_url_c_remote(entries: Entries, count: usize, name: *const u8, len: usize, made: &mut RemoteNumbers, buffer: *mut u8, buffer_len: usize, lengths: *mut usize, lengths_len: usize, stop: &mut Stop) -> u32;
     fn gix_url_c_permission(entries: Entries, count: usize, policy: &GivenPolicy, name: *const u8, len: usize, made: &mut PermissionNumbers) -> u32;
 }
 
-/// The text that a call rewrites, of which so many bytes are read.
+/// The text that a call rewrites, whose length is `len`.
 fn rewritten(
     len: usize,
     mut call: impl FnMut(&mut RewriteNumbers, &mut [u8], &mut Stop) -> u32,
 ) -> Result<Rewritten, Error> {
     let (mut made, mut stop) = (RewriteNumbers::default(), Stop::default());
-    let (code, text) = filled_bytes(len + SHORT, |room| (call(&mut made, room, &mut stop), made.len));
+    let (code, text) = filled_bytes(len + SHORT, |buffer| (call(&mut made, buffer, &mut stop), made.len));
     stop.unless(code, || Rewritten { text: text.into(), base_len: made.is_rewritten.then_some(made.base) })
 }
 
 /// The text that Git fetches from.
 pub(crate) fn rewrite_fetch(configuration: &Configuration, text: &[u8]) -> Result<Rewritten, Error> {
     let entries = GivenEntry::all(configuration);
-    rewritten(text.len(), |made, room, stop| {
+    rewritten(text.len(), |made, buffer, stop| {
         call!(
             gix_url_c_rewrite_fetch,
             entries.as_ptr(),
@@ -80,17 +80,17 @@ pub(crate) fn rewrite_fetch(configuration: &Configuration, text: &[u8]) -> Resul
             text.as_ptr(),
             text.len(),
             made,
-            room.as_mut_ptr(),
-            room.len(),
+            buffer.as_mut_ptr(),
+            buffer.len(),
             stop
         )
     })
 }
 
-/// The text that Git pushes to, and whether that is a push URL of a remote.
+/// The text that Git pushes to, for a URL or for a push URL of a remote.
 pub(crate) fn rewrite_push(configuration: &Configuration, text: &[u8], has_push_url: bool) -> Result<Rewritten, Error> {
     let entries = GivenEntry::all(configuration);
-    rewritten(text.len(), |made, room, stop| {
+    rewritten(text.len(), |made, buffer, stop| {
         call!(
             gix_url_c_rewrite_push,
             entries.as_ptr(),
@@ -99,19 +99,19 @@ pub(crate) fn rewrite_push(configuration: &Configuration, text: &[u8], has_push_
             text.len(),
             has_push_url,
             made,
-            room.as_mut_ptr(),
-            room.len(),
+            buffer.as_mut_ptr(),
+            buffer.len(),
             stop
         )
     })
 }
 
-/// The remote of a name.
+/// The remote with this name.
 pub(crate) fn remote(configuration: &Configuration, name: &[u8]) -> Result<Remote, Error> {
     let entries = GivenEntry::all(configuration);
     let (mut made, mut stop) = (RemoteNumbers::default(), Stop::default());
-    let room = Sizes { bytes: name.len() + SHORT, numbers: FEW };
-    let (code, found) = filled(room, |room, lengths| {
+    let sizes = Sizes { bytes: name.len() + SHORT, numbers: FEW };
+    let (code, found) = filled(sizes, |buffer, lengths| {
         let code = call!(
             gix_url_c_remote,
             entries.as_ptr(),
@@ -119,8 +119,8 @@ pub(crate) fn remote(configuration: &Configuration, name: &[u8]) -> Result<Remot
             name.as_ptr(),
             name.len(),
             &mut made,
-            room.as_mut_ptr(),
-            room.len(),
+            buffer.as_mut_ptr(),
+            buffer.len(),
             lengths.as_mut_ptr(),
             lengths.len(),
             &mut stop
@@ -130,7 +130,7 @@ pub(crate) fn remote(configuration: &Configuration, name: &[u8]) -> Result<Remot
     stop.unless(code, || remote_of(&made, &found))
 }
 
-/// The remote of these numbers, whose texts are one after the other.
+/// The remote with these numbers, whose texts follow each other.
 fn remote_of(made: &RemoteNumbers, found: &Filled) -> Remote {
     let mut bytes = found.bytes.as_slice();
     let mut text = |len| BString::from(next(&mut bytes, len));
@@ -145,7 +145,7 @@ fn remote_of(made: &RemoteNumbers, found: &Filled) -> Remote {
     }
 }
 
-/// What Git does about a transport.
+/// Whether Git allows a transport.
 pub(crate) fn permission(configuration: &Configuration, name: &str, policy: &Policy<'_>) -> Result<Permission, Error> {
     let entries = GivenEntry::all(configuration);
     let policy = GivenPolicy {
@@ -160,7 +160,7 @@ pub(crate) fn permission(configuration: &Configuration, name: &str, policy: &Pol
     Stop::default().unless(code, || permission_of(&made))
 }
 
-/// The permission of these numbers.
+/// The permission with these numbers.
 fn permission_of(made: &PermissionNumbers) -> Permission {
     let at = made.at;
     let by = match made.by {

@@ -5,7 +5,7 @@ use super::configuration::{Entries, GivenEntry, Stop};
 use super::Bytes;
 use crate::rules::{Abnormal, Configuration, Credentials, Error, Settings, SshProgram, SshVariables, SshVariant};
 
-/// How many bytes and entries a buffer takes at first, beside the text that is read.
+/// How many bytes and entries a buffer holds at first, in addition to the text that is read.
 const SHORT: usize = 256;
 const FEW: usize = 8;
 
@@ -47,9 +47,9 @@ struct CredentialNumbers {
 
 #[rustfmt::skip]
 extern "C" {
-    fn gix_url_c_ssh_program(entries: Entries, count: usize, variables: &GivenVariables, made: &mut ProgramNumbers, room: *mut u8, room_len: usize, stop: &mut Stop) -> u32;
+    fn gix_url_c_ssh_program(entries: Entries, count: usize, variables: &GivenVariables, made: &mut ProgramNumbers, buffer: *mut u8, buffer_len: usize, stop: &mut Stop) -> u32;
     fn gix_url_c_settings(entries: Entries, count: usize, name: *const u8, name_len: usize, text: *const u8, len: usize, made: &mut SettingNumbers, indices: *mut usize, indices_len: usize, stop: &mut Stop) -> u32;
-    fn gix_url_c_credentials(entries: Entries, count: usize, text: *const u8, len: usize, made: &mut CredentialNumbers, room: *mut u8, room_len: usize, indices: *mut usize, indices_len: usize, stop: &mut Stop) -> u32;
+    fn gix_url_c_credentials(entries: Entries, count: usize, text: *const u8, len: usize, made: &mut CredentialNumbers, buffer: *mut u8, buffer_len: usize, indices: *mut usize, indices_len: usize, stop: &mut Stop) -> u32;
 }
 
 /// The program that Git runs for Secure Shell.
@@ -64,15 +64,15 @@ pub(crate) fn ssh_program(configuration: &Configuration, variables: &SshVariable
         has_variant: variables.git_ssh_variant.is_some(),
     };
     let (mut made, mut stop) = (ProgramNumbers::default(), Stop::default());
-    let (code, text) = filled_bytes(SHORT, |room| {
+    let (code, text) = filled_bytes(SHORT, |buffer| {
         let code = call!(
             gix_url_c_ssh_program,
             entries.as_ptr(),
             entries.len(),
             &variables,
             &mut made,
-            room.as_mut_ptr(),
-            room.len(),
+            buffer.as_mut_ptr(),
+            buffer.len(),
             &mut stop
         );
         (code, made.len)
@@ -84,7 +84,7 @@ pub(crate) fn ssh_program(configuration: &Configuration, variables: &SshVariable
     })
 }
 
-/// The entries of `http.*` of this name that count for a URL.
+/// The entries of `http.*` with this name that count for a URL.
 pub(crate) fn settings<'a>(configuration: &'a Configuration, name: &str, text: &[u8]) -> Result<Settings<'a>, Error> {
     let entries = GivenEntry::all(configuration);
     let (mut made, mut stop) = (SettingNumbers::default(), Stop::default());
@@ -110,12 +110,12 @@ pub(crate) fn settings<'a>(configuration: &'a Configuration, name: &str, text: &
     })
 }
 
-/// What Git's credential code uses for a URL, if it reads anything in that.
+/// The settings that Git's credential code uses for a URL, if it finds anything in it.
 pub(crate) fn credentials<'a>(configuration: &'a Configuration, text: &[u8]) -> Result<Option<Credentials<'a>>, Error> {
     let entries = GivenEntry::all(configuration);
     let (mut made, mut stop) = (CredentialNumbers::default(), Stop::default());
-    let room = Sizes { bytes: text.len() + SHORT, numbers: FEW };
-    let (code, found) = filled(room, |room, indices| {
+    let sizes = Sizes { bytes: text.len() + SHORT, numbers: FEW };
+    let (code, found) = filled(sizes, |buffer, indices| {
         let code = call!(
             gix_url_c_credentials,
             entries.as_ptr(),
@@ -123,8 +123,8 @@ pub(crate) fn credentials<'a>(configuration: &'a Configuration, text: &[u8]) -> 
             text.as_ptr(),
             text.len(),
             &mut made,
-            room.as_mut_ptr(),
-            room.len(),
+            buffer.as_mut_ptr(),
+            buffer.len(),
             indices.as_mut_ptr(),
             indices.len(),
             &mut stop

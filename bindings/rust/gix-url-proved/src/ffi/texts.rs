@@ -1,5 +1,5 @@
-//! The calls over a text: its transport, what Git reads in it, its dangers, its secrets, and the command and the
-//! submodule that it is of.
+//! The calls over a text: its transport, its readings by Git, its dangers and secrets, the command for its location and
+//! the URL of a submodule.
 
 use super::buffers::{filled, filled_bytes, Sizes};
 use super::configuration::Stop;
@@ -12,14 +12,15 @@ use crate::rules::{
 };
 use crate::Url;
 
-/// How many bytes a buffer takes at first, beside the text that is read, how many words, and how many numbers of pieces.
+/// How many bytes, in addition to the text that is read, how many words and how many numbers of pieces a buffer holds
+/// at first.
 const SHORT: usize = 64;
 const WORDS: usize = 7;
 const PIECES: usize = 16;
-/// How many dangers there are.
+/// The number of dangers.
 const DANGERS: usize = 10;
 
-/// What is asked of Secure Shell.
+/// A request for a command of Secure Shell.
 #[repr(C)]
 struct GivenRequest<'a> {
     program: Bytes<'a>,
@@ -78,40 +79,48 @@ struct ResolvedNumbers {
 
 #[rustfmt::skip]
 extern "C" {
-    fn gix_url_c_transport(text: *const u8, len: usize, room: *mut u8, room_len: usize, needed: &mut usize, why: &mut u8) -> u32;
-    fn gix_url_c_git_reading(text: *const u8, len: usize, made: &mut PlaceNumbers, room: *mut u8, room_len: usize) -> u32;
-    fn gix_url_c_credential_reading(text: *const u8, len: usize, made: &mut RequestNumbers, room: *mut u8, room_len: usize) -> u32;
-    fn gix_url_c_ssh_words(given: &Given, request: &GivenRequest, made: &mut WordNumbers, room: *mut u8, room_len: usize, lengths: *mut usize, lengths_len: usize) -> u32;
-    fn gix_url_c_resolve(parent: *const u8, parent_len: usize, url: *const u8, len: usize, made: &mut ResolvedNumbers, room: *mut u8, room_len: usize) -> u32;
-    fn gix_url_c_dangers(text: *const u8, len: usize, given: &Given, room: *mut u8, room_len: usize, count: &mut usize) -> u32;
-    fn gix_url_c_danger_name(danger: u8, room: *mut u8, room_len: usize, needed: &mut usize) -> u32;
-    fn gix_url_c_danger_words(danger: u8, room: *mut u8, room_len: usize, needed: &mut usize) -> u32;
+    fn gix_url_c_transport(text: *const u8, len: usize, buffer: *mut u8, buffer_len: usize, needed: &mut usize, why: &mut u8) -> u32;
+    fn gix_url_c_git_reading(text: *const u8, len: usize, made: &mut PlaceNumbers, buffer: *mut u8, buffer_len: usize) -> u32;
+    fn gix_url_c_credential_reading(text: *const u8, len: usize, made: &mut RequestNumbers, buffer: *mut u8, buffer_len: usize) -> u32;
+    fn gix_url_c_ssh_words(given: &Given, request: &GivenRequest, made: &mut WordNumbers, buffer: *mut u8, buffer_len: usize, lengths: *mut usize, lengths_len: usize) -> u32;
+    fn gix_url_c_resolve(parent: *const u8, parent_len: usize, url: *const u8, len: usize, made: &mut ResolvedNumbers, buffer: *mut u8, buffer_len: usize) -> u32;
+    fn gix_url_c_dangers(text: *const u8, len: usize, given: &Given, buffer: *mut u8, buffer_len: usize, count: &mut usize) -> u32;
+    fn gix_url_c_danger_name(danger: u8, buffer: *mut u8, buffer_len: usize, needed: &mut usize) -> u32;
+    fn gix_url_c_danger_words(danger: u8, buffer: *mut u8, buffer_len: usize, needed: &mut usize) -> u32;
     fn gix_url_c_secrets(text: *const u8, len: usize, numbers: *mut usize, numbers_len: usize, count: &mut usize) -> u32;
 }
 
 /// The name of the transport of a text.
 pub(crate) fn transport(text: &[u8]) -> Result<String, NoTransport> {
     let mut why = 0;
-    let (code, name) = filled_bytes(SHORT, |room| {
+    let (code, name) = filled_bytes(SHORT, |buffer| {
         let mut needed = 0;
-        let code =
-            call!(gix_url_c_transport, text.as_ptr(), text.len(), room.as_mut_ptr(), room.len(), &mut needed, &mut why);
+        let code = call!(
+            gix_url_c_transport,
+            text.as_ptr(),
+            text.len(),
+            buffer.as_mut_ptr(),
+            buffer.len(),
+            &mut needed,
+            &mut why
+        );
         (code, needed)
     });
     assert!(code == OK, "the transport of each text is found or missing");
     NoTransport::numbered(why).map_or_else(|| Ok(utf8(name)), Err)
 }
 
-/// A name of the library, as a text.
+/// A name from the library, as a text.
 fn utf8(name: Vec<u8>) -> String {
     String::from_utf8(name).expect("names and words are UTF-8")
 }
 
-/// What Git reads in a text.
+/// The place that Git finds in a text.
 pub(crate) fn git_reading(text: &[u8]) -> Result<GitPlace, Error> {
     let mut made = PlaceNumbers::default();
-    let (code, parts) = filled_bytes(text.len() + SHORT, |room| {
-        let code = call!(gix_url_c_git_reading, text.as_ptr(), text.len(), &mut made, room.as_mut_ptr(), room.len());
+    let (code, parts) = filled_bytes(text.len() + SHORT, |buffer| {
+        let code =
+            call!(gix_url_c_git_reading, text.as_ptr(), text.len(), &mut made, buffer.as_mut_ptr(), buffer.len());
         (code, made.user + made.host + made.path)
     });
     Stop::default().unless(code, || match Unread::numbered(made.why) {
@@ -120,7 +129,7 @@ pub(crate) fn git_reading(text: &[u8]) -> Result<GitPlace, Error> {
     })?
 }
 
-/// The place of these numbers, whose parts are one after the other.
+/// The place with these numbers, whose parts follow each other.
 fn place(made: &PlaceNumbers, mut parts: &[u8]) -> GitPlace {
     let mut part = |len| BString::from(next(&mut parts, len));
     let (user, host, path) = (part(made.user), part(made.host), part(made.path));
@@ -137,18 +146,24 @@ fn place(made: &PlaceNumbers, mut parts: &[u8]) -> GitPlace {
     }
 }
 
-/// What Git's credential code reads in a text, if it reads anything.
+/// The request that Git's credential code finds in a text, if it finds anything.
 pub(crate) fn credential_reading(text: &[u8]) -> Result<Option<CredentialRequest>, Error> {
     let mut made = RequestNumbers::default();
-    let (code, parts) = filled_bytes(text.len() + SHORT, |room| {
-        let code =
-            call!(gix_url_c_credential_reading, text.as_ptr(), text.len(), &mut made, room.as_mut_ptr(), room.len());
+    let (code, parts) = filled_bytes(text.len() + SHORT, |buffer| {
+        let code = call!(
+            gix_url_c_credential_reading,
+            text.as_ptr(),
+            text.len(),
+            &mut made,
+            buffer.as_mut_ptr(),
+            buffer.len()
+        );
         (code, made.protocol + made.user + made.password + made.host + made.path)
     });
     Stop::default().unless(code, || made.is_read.then(|| request(&made, &parts)))
 }
 
-/// The request of these numbers, whose parts are one after the other.
+/// The request with these numbers, whose parts follow each other.
 fn request(made: &RequestNumbers, mut parts: &[u8]) -> CredentialRequest {
     let mut part = |len| BString::from(next(&mut parts, len));
     let (protocol, user, password) = (part(made.protocol), part(made.user), part(made.password));
@@ -174,15 +189,15 @@ pub(crate) fn ssh_words(url: &Url, request: &SshRequest<'_>) -> Result<SshComman
         family: request.family as u8,
     };
     let mut made = WordNumbers::default();
-    let room = Sizes { bytes: given.bytes() + asked.program.len + SHORT, numbers: WORDS };
-    let (code, words) = filled(room, |room, lengths| {
+    let sizes = Sizes { bytes: given.bytes() + asked.program.len + SHORT, numbers: WORDS };
+    let (code, words) = filled(sizes, |buffer, lengths| {
         let code = call!(
             gix_url_c_ssh_words,
             &given,
             &asked,
             &mut made,
-            room.as_mut_ptr(),
-            room.len(),
+            buffer.as_mut_ptr(),
+            buffer.len(),
             lengths.as_mut_ptr(),
             lengths.len()
         );
@@ -196,10 +211,10 @@ pub(crate) fn ssh_words(url: &Url, request: &SshRequest<'_>) -> Result<SshComman
     })?
 }
 
-/// The URL of a submodule after it is resolved. It is no longer than both texts and 2 bytes.
+/// Resolves the URL of a submodule. The result has at most 2 bytes more than both texts together.
 pub(crate) fn resolve(parent: &[u8], url: &[u8]) -> Resolved {
     let mut made = ResolvedNumbers::default();
-    let (code, text) = filled_bytes(parent.len() + url.len() + 2, |room| {
+    let (code, text) = filled_bytes(parent.len() + url.len() + 2, |buffer| {
         let code = call!(
             gix_url_c_resolve,
             parent.as_ptr(),
@@ -207,8 +222,8 @@ pub(crate) fn resolve(parent: &[u8], url: &[u8]) -> Resolved {
             url.as_ptr(),
             url.len(),
             &mut made,
-            room.as_mut_ptr(),
-            room.len()
+            buffer.as_mut_ptr(),
+            buffer.len()
         );
         (code, made.len)
     });
@@ -223,30 +238,30 @@ pub(crate) fn resolve(parent: &[u8], url: &[u8]) -> Resolved {
 /// The dangers of a text and its location.
 pub(crate) fn dangers(text: &[u8], url: &Url) -> Result<Vec<Danger>, Error> {
     let given = Given::of(url);
-    let (code, numbers) = filled_bytes(DANGERS, |room| {
+    let (code, numbers) = filled_bytes(DANGERS, |buffer| {
         let mut count = 0;
         let code =
-            call!(gix_url_c_dangers, text.as_ptr(), text.len(), &given, room.as_mut_ptr(), room.len(), &mut count);
+            call!(gix_url_c_dangers, text.as_ptr(), text.len(), &given, buffer.as_mut_ptr(), buffer.len(), &mut count);
         (code, count)
     });
     Stop::default().unless(code, || numbers.into_iter().filter_map(Danger::numbered).collect())
 }
 
-/// The name of the danger of this number.
+/// The name of the danger with this number.
 pub(crate) fn danger_name(danger: u8) -> String {
-    said(|room, needed| call!(gix_url_c_danger_name, danger, room.as_mut_ptr(), room.len(), needed))
+    said(|buffer, needed| call!(gix_url_c_danger_name, danger, buffer.as_mut_ptr(), buffer.len(), needed))
 }
 
-/// The danger of this number in a few words.
+/// The words of the danger with this number.
 pub(crate) fn danger_words(danger: u8) -> String {
-    said(|room, needed| call!(gix_url_c_danger_words, danger, room.as_mut_ptr(), room.len(), needed))
+    said(|buffer, needed| call!(gix_url_c_danger_words, danger, buffer.as_mut_ptr(), buffer.len(), needed))
 }
 
-/// What a call says of a danger.
+/// The text that a call returns for a danger.
 fn said(call: impl Fn(&mut [u8], &mut usize) -> u32) -> String {
-    let (code, said) = filled_bytes(SHORT, |room| {
+    let (code, said) = filled_bytes(SHORT, |buffer| {
         let mut needed = 0;
-        (call(room, &mut needed), needed)
+        (call(buffer, &mut needed), needed)
     });
     assert!(code == OK, "every danger has a name and words");
     utf8(said)

@@ -1,4 +1,4 @@
-//! A configuration: its entries, and the calls over them.
+//! The entries of a configuration, and the calls over them.
 
 use super::{Credentials, Error, Permission, Policy, Remote, Rewritten, Settings, SshProgram, SshVariables, Submodule};
 use crate::audit::redacted;
@@ -21,9 +21,9 @@ pub struct Entry<'a> {
     /// The value, if there is one. It may be empty. A key without `=` has none, which Git takes for true if it needs a
     /// boolean value.
     pub value: Option<&'a BStr>,
-    /// How many bytes of the text that was read come before the entry. Errors report it. No call uses it.
+    /// How many bytes of the text come before the entry. Errors report it. No call uses it as input.
     pub at: usize,
-    /// The line of a file in which the name begins, from 1; none in a listing.
+    /// The line of a file on which the name begins, from 1; `None` in a listing.
     pub line: Option<usize>,
 }
 
@@ -57,7 +57,7 @@ impl fmt::Debug for Entry<'_> {
     }
 }
 
-/// The place of an entry in the bytes of a configuration: the lengths of its parts, one after the other.
+/// The position of an entry in the bytes of a configuration, and the lengths of its parts, which follow each other.
 #[derive(Clone, Copy, PartialEq, Eq)]
 pub(crate) struct Span {
     pub(crate) start: usize,
@@ -70,7 +70,7 @@ pub(crate) struct Span {
 }
 
 impl Span {
-    /// The place after the entry.
+    /// The position after the entry.
     pub(crate) fn end(&self) -> usize {
         self.start + self.section + self.subsection.unwrap_or(0) + self.name + self.value.unwrap_or(0)
     }
@@ -78,8 +78,9 @@ impl Span {
 
 /// The entries of a configuration, in the order in which Git reads them. It owns their bytes.
 ///
-/// It is read from the output of `git config --list -z`, or from the text of one file. Entries may also be put together
-/// by hand: collected, or added by `extend`, as those of several files.
+/// [`Configuration::from_listing`] parses the output of `git config --list -z`, and [`Configuration::from_file`] the
+/// text of one file. A program can also build one from entries, with `collect` or `extend`, such as those of several
+/// files.
 ///
 /// ```
 /// use gix_url_proved::rules::Configuration;
@@ -96,9 +97,9 @@ pub struct Configuration {
     pub(crate) spans: Vec<Span>,
 }
 
-/// Reading and looking at entries.
+/// Parsing, and access to the entries.
 impl Configuration {
-    /// Reads the entries that `git config --list -z` writes. It allocates their bytes and places.
+    /// Parses the output of `git config --list -z`. Allocates the bytes and the positions of the entries.
     ///
     /// ```
     /// use gix_url_proved::rules::{Configuration, Error, Flaw};
@@ -119,9 +120,9 @@ impl Configuration {
         ffi::read_listing(text.as_ref())
     }
 
-    /// Reads the entries of one configuration file or `.gitmodules` file: those that
-    /// `git config --file FILE --list -z` lists. No file is included. An entry before any header has an empty section. It
-    /// allocates their bytes and places.
+    /// Parses one configuration file or `.gitmodules` file. The entries are those that
+    /// `git config --file FILE --list -z` lists. No other file is included. An entry before any header has an empty
+    /// section. Allocates the bytes and the positions of the entries.
     ///
     /// ```
     /// use gix_url_proved::rules::Configuration;
@@ -145,12 +146,12 @@ impl Configuration {
         self.spans.iter().map(|span| self.spanned(span))
     }
 
-    /// The entry at an index, from 0; none after the last.
+    /// The entry at an index, from 0; `None` after the last.
     pub fn entry(&self, index: usize) -> Option<Entry<'_>> {
         self.spans.get(index).map(|span| self.spanned(span))
     }
 
-    /// How many entries there are.
+    /// The number of entries.
     pub fn len(&self) -> usize {
         self.spans.len()
     }
@@ -160,7 +161,7 @@ impl Configuration {
         self.spans.is_empty()
     }
 
-    /// The entries at these indices, each of which is that of an entry.
+    /// The entries at these indices, which are all less than the number of entries.
     pub(crate) fn numbered(&self, indices: &[usize]) -> Vec<Entry<'_>> {
         indices.iter().map(|index| self.spanned(&self.spans[*index])).collect()
     }
@@ -194,7 +195,7 @@ impl Configuration {
     }
 }
 
-/// What Git does by the entries. Each call allocates one array of them, and its result.
+/// Git's rules over the entries. Each call allocates one array of the entries, and its result.
 impl Configuration {
     /// Rewrites a URL as Git does before it fetches from it, by `url.<base>.insteadOf`.
     ///
@@ -214,8 +215,8 @@ impl Configuration {
         ffi::rewrite_fetch(self, url.as_ref())
     }
 
-    /// Rewrites a URL as Git does before it pushes to it: by `url.<base>.pushInsteadOf`, or if no value of that matches by
-    /// `insteadOf`. The `pushurl` of a remote, for which `has_push_url` is true, is rewritten by `insteadOf` alone.
+    /// Rewrites a URL as Git does before it pushes to it: by `url.<base>.pushInsteadOf`, or if no value of that matches
+    /// by `insteadOf`. The `pushurl` of a remote, for which `has_push_url` is true, is rewritten by `insteadOf` alone.
     ///
     /// ```
     /// use gix_url_proved::rules::Configuration;
@@ -233,18 +234,18 @@ impl Configuration {
         ffi::rewrite_push(self, url.as_ref(), has_push_url)
     }
 
-    /// The remote of this name: its URLs, rewritten, and four values. Without entries of its own the name is the only URL.
-    /// [`Configuration`] has an example.
+    /// The remote with this name: its URLs, rewritten, and four values. If it has no entries of its own, the name is
+    /// the only URL. [`Configuration`] has an example.
     ///
     /// # Errors
     ///
-    /// [`Error::NoValue`] at the first entry of `insteadOf` or `pushInsteadOf` without a value, or else at the first of any
-    /// remote that has one of the six names of [`Remote`] and no value; [`Error::Memory`].
+    /// [`Error::NoValue`] at the first entry of `insteadOf` or `pushInsteadOf` without a value, or else at the first
+    /// entry of any remote that has one of the six names of [`Remote`] and no value; [`Error::Memory`].
     pub fn remote(&self, name: impl AsRef<[u8]>) -> Result<Remote, Error> {
         ffi::remote(self, name.as_ref())
     }
 
-    /// What Git does about a transport, by its name as [`transport_of`](super::transport_of) returns it.
+    /// Whether Git allows a transport, whose name [`transport_of`](super::transport_of) returns.
     ///
     /// ```
     /// use gix_url_proved::rules::{Configuration, Decider, Permission, Policy};
@@ -263,9 +264,9 @@ impl Configuration {
         ffi::permission(self, transport, policy)
     }
 
-    /// The entries of `http.<name>` and `http.<url>.<name>` whose values Git uses for a URL, for instance of the name
-    /// `proxy` or `extraHeader`. Of most names the best entry counts alone. `extraHeader` and `curloptResolve` are lists:
-    /// the values of all entries that apply count, in their order, and an empty value removes those before it.
+    /// The entries of `http.<name>` and `http.<url>.<name>` whose values Git uses for a URL, for instance with the name
+    /// `proxy` or `extraHeader`. For most names only the best entry counts. `extraHeader` and `curloptResolve` are
+    /// lists: the values of all entries that apply count, in their order, and an empty value removes those before it.
     ///
     /// ```
     /// use gix_url_proved::rules::Configuration;
@@ -283,7 +284,7 @@ impl Configuration {
         ffi::settings(self, name, url.as_ref())
     }
 
-    /// What Git's credential code uses for a URL; none if it reads nothing in the URL.
+    /// The settings that Git's credential code uses for a URL; `None` if it finds nothing in the URL.
     ///
     /// ```
     /// use gix_url_proved::rules::Configuration;
@@ -297,8 +298,8 @@ impl Configuration {
     ///
     /// # Errors
     ///
-    /// [`Error::NoValue`] at an entry that applies and has no value, and [`Error::NoBoolean`] at one of `useHttpPath` that
-    /// applies and has no boolean value; [`Error::Memory`].
+    /// [`Error::NoValue`] at an entry that applies and has no value, and [`Error::NoBoolean`] at one of `useHttpPath`
+    /// that applies and has no boolean value; [`Error::Memory`].
     pub fn credentials(&self, url: impl AsRef<[u8]>) -> Result<Option<Credentials<'_>>, Error> {
         ffi::credentials(self, url.as_ref())
     }
@@ -323,7 +324,7 @@ impl Configuration {
         ffi::ssh_program(self, variables)
     }
 
-    /// The submodules of a `.gitmodules` file, in the order in which their names come first.
+    /// The submodules of a `.gitmodules` file, in the order in which their names first occur.
     ///
     /// ```
     /// use gix_url_proved::rules::Configuration;
@@ -358,7 +359,7 @@ impl<'a> FromIterator<Entry<'a>> for Configuration {
 }
 
 impl fmt::Debug for Configuration {
-    /// Shows the entries, without secrets in keys and without values.
+    /// Writes the entries, without secrets in keys and without values.
     fn fmt(&self, f: &mut fmt::Formatter<'_>) -> fmt::Result {
         f.debug_list().entries(self.entries()).finish()
     }

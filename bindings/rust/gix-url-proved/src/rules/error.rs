@@ -1,11 +1,11 @@
-//! Errors of the calls over a configuration and over texts that Git reads.
+//! Errors of the calls over a configuration, and over texts that Git reads.
 
 use super::reasons::reasons;
 use super::{NoTransport, SshRefusal, Unread, Unresolved};
 use std::fmt;
 
 reasons! {
-    /// What is wrong with the text of a configuration.
+    /// A flaw in the text of a configuration.
     Flaw {
         PartialMark = "a part of a byte order mark",
         NoStart = "a byte that begins neither a header nor a name",
@@ -23,7 +23,7 @@ reasons! {
     }
 }
 
-/// Why a call has no result. It holds no byte of a text, so it may be logged.
+/// Why a call has no result. It holds no byte of a text, so it is safe to log.
 ///
 /// ```
 /// use gix_url_proved::rules::{Configuration, Error, Flaw};
@@ -38,35 +38,35 @@ pub enum Error {
     Memory,
     /// Git stops at an entry without a value.
     NoValue {
-        /// The place of the entry: [`Entry::at`](super::Entry::at).
+        /// The position of the entry: [`Entry::at`](super::Entry::at).
         at: usize,
     },
     /// Git stops at an entry whose value isn't a boolean value.
     NoBoolean {
-        /// The place of the entry: [`Entry::at`](super::Entry::at).
+        /// The position of the entry: [`Entry::at`](super::Entry::at).
         at: usize,
     },
     /// The text isn't a configuration.
     NoConfiguration {
-        /// What is wrong with it.
+        /// The flaw.
         flaw: Flaw,
         /// How many bytes of the text come before the flaw.
         at: usize,
-        /// The line of the flaw in a file, from 1; none in a listing.
+        /// The line of the flaw in a file, from 1; `None` in a listing.
         line: Option<usize>,
     },
     /// Git has no transport for the text.
     NoTransport(NoTransport),
-    /// Git reads no place in the text.
+    /// Git finds no place in the text.
     Unread(Unread),
     /// There is no command of Secure Shell for the location.
     NoCommand(SshRefusal),
-    /// Git resolves no URL of the submodule.
+    /// Git doesn't resolve the URL of the submodule.
     Unresolved(Unresolved),
 }
 
 impl Error {
-    /// The place of the entry at which Git stops, or of the flaw in a text; none for any other error.
+    /// The position of the entry at which Git stops, or of the flaw in a text; `None` for any other error.
     pub fn at(&self) -> Option<usize> {
         match *self {
             Error::NoValue { at } | Error::NoBoolean { at } | Error::NoConfiguration { at, .. } => Some(at),

@@ -1,4 +1,4 @@
-//! What Git reads in a text: its own transports, and its credential code.
+//! Reads texts as Git's own transports and its credential code do.
 
 use super::reasons::reasons;
 use super::Error;
@@ -8,7 +8,7 @@ use crate::ffi;
 use std::fmt;
 
 reasons! {
-    /// Why Git reads no place in a text.
+    /// Why Git finds no place in a text.
     Unread {
         ByteZero = "byte 0 ends the argument of a command",
         Option = "the text begins with `-`: Git takes it for an option",
@@ -30,14 +30,14 @@ pub enum Protocol {
     File,
 }
 
-/// The place that Git's own transports read in a text. `Debug` shows the user up to a `:`.
+/// The place that Git's own transports find in a text. `Debug` shows the user up to a `:`.
 #[derive(Clone, PartialEq, Eq, Hash)]
 pub struct GitPlace {
     /// The transport.
     pub protocol: Protocol,
     /// The user, if there is one. Git takes a password for a part of it.
     pub user: Option<BString>,
-    /// The host without brackets; none if there is none, or an empty one.
+    /// The host without brackets; `None` if there is none or it is empty.
     pub host: Option<BString>,
     /// The port, if there is one.
     pub port: Option<u16>,
@@ -58,7 +58,7 @@ impl fmt::Debug for GitPlace {
     }
 }
 
-/// What Git's own transports read in a text. It allocates the parts, and what the library needs to read.
+/// Reads a text as Git's own transports do. Allocates the parts, and memory for the library.
 ///
 /// ```
 /// use gix_url_proved::rules::{git_reading, Protocol};
@@ -71,12 +71,13 @@ impl fmt::Debug for GitPlace {
 ///
 /// # Errors
 ///
-/// [`Error::Unread`] if they read no place; [`Error::Memory`].
+/// [`Error::Unread`] if they find no place; [`Error::Memory`].
 pub fn git_reading(text: impl AsRef<[u8]>) -> Result<GitPlace, Error> {
     ffi::git_reading(text.as_ref())
 }
 
-/// What Git's credential code asks helpers for, by a URL. `Debug` shows `redacted` in place of the password.
+/// The request that Git's credential code makes to helpers for a URL. `Debug` shows `redacted` in place of the
+/// password.
 #[derive(Clone, PartialEq, Eq, Hash)]
 pub struct CredentialRequest {
     /// The protocol: the text before `://`.
@@ -103,8 +104,8 @@ impl fmt::Debug for CredentialRequest {
     }
 }
 
-/// What Git's credential code reads in a text; none if it reads nothing. It allocates the parts, and what the library needs
-/// to read.
+/// Reads a text as Git's credential code does; `None` if it finds nothing. Allocates the parts, and memory for the
+/// library.
 ///
 /// ```
 /// use gix_url_proved::rules::credential_reading;

@@ -1,6 +1,6 @@
 //! Enums whose variants are numbered in the library.
 
-/// An enum of reasons, with the words of each, in the order of their numbers, which begin at 1.
+/// Defines an enum of reasons, with the words of each, in the order of their numbers, which begin at 1.
 macro_rules! reasons {
     ($(#[$about:meta])* $name:ident { $($variant:ident = $words:literal,)* }) => {
         $(#[$about])*
@@ -10,12 +10,12 @@ macro_rules! reasons {
         }
 
         impl $name {
-            /// The one of a number; none of 0.
+            /// The reason with this number; `None` for 0.
             pub(crate) fn numbered(number: u8) -> Option<$name> {
                 [$($name::$variant),*].get(usize::from(number).checked_sub(1)?).copied()
             }
 
-            /// The reason in words, which hold no byte of a text.
+            /// The reason in words, which have no byte of a text.
             pub fn words(self) -> &'static str {
                 match self {
                     $($name::$variant => $words,)*

@@ -1,4 +1,4 @@
-//! Where Git fetches from and pushes to, and by which transports.
+//! Finds where Git fetches from and pushes to, and by which transports.
 
 use super::reasons::reasons;
 use super::Error;
@@ -32,9 +32,9 @@ impl fmt::Debug for Rewritten {
 /// A remote. `Debug` shows texts without secrets.
 #[derive(Clone, PartialEq, Eq, Hash)]
 pub struct Remote {
-    /// The URLs to fetch from: `git fetch` takes the first.
+    /// The URLs to fetch from. `git fetch` uses the first.
     pub urls: Vec<BString>,
-    /// The URLs to push to: `git push` takes all.
+    /// The URLs to push to. `git push` uses all.
     pub push_urls: Vec<BString>,
     /// The last value of `remote.<name>.vcs`.
     pub vcs: Option<BString>,
@@ -70,9 +70,9 @@ reasons! {
     }
 }
 
-/// The name of the transport that Git takes for a text, by the form of the text alone: `ssh`, `git`, `file`, `http`,
-/// `https`, `ext`, or the name of another remote helper. The text is to be that after rewriting. It allocates the name and a
-/// buffer.
+/// The name of the transport that Git uses for a text, determined by the form of the text alone: `ssh`, `git`, `file`,
+/// `http`, `https`, `ext`, or the name of another remote helper. Pass the text after rewriting. Allocates the name and
+/// a buffer.
 ///
 /// ```
 /// use gix_url_proved::rules::{transport_of, Error, NoTransport};
@@ -99,30 +99,30 @@ pub struct Policy<'a> {
     pub from_user: Option<&'a [u8]>,
 }
 
-/// What decides about a transport.
+/// The setting that decides about a transport.
 #[derive(Clone, Copy, Debug, PartialEq, Eq, Hash)]
 pub enum Decider {
     /// `GIT_ALLOW_PROTOCOL`.
     AllowList,
     /// The last `protocol.<name>.allow`, or else the last `protocol.allow`.
     Entry {
-        /// The place of the entry: [`Entry::at`](super::Entry::at).
+        /// The position of the entry: [`Entry::at`](super::Entry::at).
         at: usize,
     },
-    /// What Git does if nothing is configured.
+    /// Git's default, if nothing is configured.
     Default,
 }
 
-/// What Git does about a transport, and by what.
+/// Whether Git uses a transport, and which setting decides.
 #[derive(Clone, Copy, Debug, PartialEq, Eq, Hash)]
 pub enum Permission {
     /// Git uses it.
     Allowed(Decider),
     /// Git refuses it.
     Refused(Decider),
-    /// Git stops: the entry that decides has no value that it knows.
+    /// Git stops: the entry that decides has no value that Git knows.
     UnknownAllowance {
-        /// The place of the entry: [`Entry::at`](super::Entry::at).
+        /// The position of the entry: [`Entry::at`](super::Entry::at).
         at: usize,
     },
     /// Git stops: it needs `GIT_PROTOCOL_FROM_USER`, which isn't a boolean value.

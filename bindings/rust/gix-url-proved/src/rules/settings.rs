@@ -5,7 +5,7 @@ use super::Entry;
 use crate::bstr::BString;
 
 reasons! {
-    /// Why a URL has no normal form, so that no entry with a URL applies to it.
+    /// Why a URL has no normal form. No entry with a URL applies to it then.
     Abnormal {
         NoUrl = "no scheme and `://` begin the text",
         BrokenEscape = "a `%` without two hexadecimal digits",
@@ -16,22 +16,22 @@ reasons! {
     }
 }
 
-/// Which entries of `http.*` count for a URL.
+/// The entries of `http.*` that count for a URL.
 #[derive(Clone, Debug, PartialEq, Eq)]
 pub struct Settings<'a> {
     /// The entries whose values Git uses.
     pub entries: Vec<Entry<'a>>,
-    /// Why the URL has no normal form, if it has none: then only entries without a URL apply.
+    /// Why the URL has no normal form, if it has none. Only entries without a URL apply then.
     pub abnormal: Option<Abnormal>,
 }
 
-/// What Git's credential code uses of a configuration for a URL.
+/// The settings that Git's credential code uses for a URL.
 #[derive(Clone, Debug, PartialEq, Eq)]
 pub struct Credentials<'a> {
     /// The entries whose values are the helpers, in the order in which Git asks them.
     pub helpers: Vec<Entry<'a>>,
     /// The user that helpers are asked about, decoded, if there is one.
     pub user: Option<BString>,
-    /// Whether helpers get the path of a URL of HTTP.
+    /// Whether Git passes the path of a URL of HTTP to helpers.
     pub use_http_path: bool,
 }

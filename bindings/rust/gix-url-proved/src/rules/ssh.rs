@@ -8,7 +8,7 @@ use std::ffi::OsStr;
 use std::fmt;
 use std::os::unix::ffi::OsStrExt;
 
-/// What Git has the server run.
+/// The service that Git runs on the server.
 #[derive(Clone, Copy, Debug, PartialEq, Eq, Hash)]
 pub enum Service {
     /// `git fetch`, `git clone`, `git ls-remote`: `git-upload-pack`.
@@ -36,7 +36,7 @@ impl fmt::Display for Service {
     }
 }
 
-/// The program that is run for Secure Shell, by its options: `ssh.variant`.
+/// The kind of program that is run for Secure Shell, by its options: `ssh.variant`.
 #[derive(Clone, Copy, Debug, PartialEq, Eq, Hash)]
 pub enum SshVariant {
     /// OpenSSH.
@@ -52,7 +52,7 @@ pub enum SshVariant {
 }
 
 impl SshVariant {
-    /// The variant of a number; none of that of a program that Git asks.
+    /// The variant with this number; `None` for a program that Git has to ask.
     pub(crate) fn numbered(number: u8) -> Option<SshVariant> {
         use SshVariant::{Plink, Putty, Simple, Ssh, TortoisePlink};
         [Ssh, Simple, Plink, Putty, TortoisePlink].get(usize::from(number)).copied()
@@ -81,14 +81,16 @@ pub enum AddressFamily {
     V6 = 6,
 }
 
-/// What is asked of Secure Shell beside the location. By default it is what `git fetch` asks for if nothing is configured.
+/// A request for a command of Secure Shell, except the location. The default is the request of `git fetch` if nothing
+/// is configured.
 #[derive(Clone, Copy, Debug, PartialEq, Eq)]
 pub struct SshRequest<'a> {
-    /// What Git has the server run.
+    /// The service that Git runs on the server.
     pub service: Service,
-    /// What the server runs in place of the service, as `remote.<name>.uploadpack`. Its shell reads it.
+    /// The program that the server runs in place of the service, as with `remote.<name>.uploadpack`. A shell on the
+    /// server reads it.
     pub program: Option<&'a [u8]>,
-    /// The program that is run for Secure Shell.
+    /// The kind of program that is run for Secure Shell.
     pub variant: SshVariant,
     /// The version of Git's protocol.
     pub version: ProtocolVersion,
@@ -109,7 +111,7 @@ impl Default for SshRequest<'_> {
 }
 
 reasons! {
-    /// Why there is no command of Secure Shell: of several reasons the first.
+    /// Why there is no command of Secure Shell. If there are several reasons, it is the first one.
     SshRefusal {
         NotSecureShell = "the location isn't reached by Secure Shell",
         Password = "Secure Shell takes no password",
@@ -133,8 +135,8 @@ reasons! {
 /// A command of Secure Shell.
 #[derive(Clone, Debug, PartialEq, Eq, Hash)]
 pub struct SshCommand {
-    /// The words after the name of the program: options, the destination, and last the command, which a shell on the server
-    /// reads.
+    /// The words after the name of the program: options, the destination, and last the command, which a shell on the
+    /// server reads.
     pub words: Vec<BString>,
     /// The version to which the variable `GIT_PROTOCOL` is to be set, if it is to be set.
     pub(crate) version: Option<u8>,
@@ -146,13 +148,13 @@ impl SshCommand {
         self.words.iter().map(|word| OsStr::from_bytes(word))
     }
 
-    /// What the variable `GIT_PROTOCOL` is to be set to: `version=1` or `version=2`; none if it isn't to be set.
+    /// The value to set the variable `GIT_PROTOCOL` to, `version=1` or `version=2`; `None` if it isn't to be set.
     pub fn git_protocol(&self) -> Option<&'static str> {
         self.version.map(|version| if version == 1 { "version=1" } else { "version=2" })
     }
 }
 
-/// The words with which Git runs Secure Shell for a location. It allocates the words, and what the library needs for them.
+/// The words with which Git runs Secure Shell for a location. Allocates the words, and memory for the library.
 ///
 /// ```
 /// use gix_url_proved::rules::{ssh_words, Error, SshRefusal, SshRequest};
@@ -192,6 +194,6 @@ pub struct SshProgram {
     pub text: BString,
     /// Whether a shell reads the text.
     pub is_command_line: bool,
-    /// The variant; none if Git runs the program with `-G` to find it.
+    /// The variant; `None` if Git runs the program with `-G` to find it.
     pub variant: Option<SshVariant>,
 }

@@ -1,4 +1,4 @@
-//! Submodules: their URLs, and what `git fsck` refuses.
+//! Submodules: their URLs, and the checks of `git fsck`.
 
 use super::reasons::reasons;
 use super::Entry;
@@ -8,7 +8,7 @@ use crate::ffi;
 use std::fmt;
 
 reasons! {
-    /// Why Git resolves no URL of a submodule.
+    /// Why Git doesn't resolve the URL of a submodule.
     Unresolved {
         EmptyParent = "the URL of the remote is empty",
         NothingLeft = "the URL of the remote has too few elements",
@@ -36,8 +36,8 @@ impl fmt::Debug for Resolved {
     }
 }
 
-/// Resolves the URL of a submodule against the URL of the remote of the repository around it, `parent`, as
-/// `git submodule init` does. It allocates the result.
+/// Resolves the URL of a submodule against `parent`, the URL of the remote of the repository around it, as `git
+/// submodule init` does. Allocates the result.
 ///
 /// ```
 /// use gix_url_proved::rules::resolve_submodule;
@@ -61,13 +61,13 @@ reasons! {
     }
 }
 
-/// What `git fsck` refuses in an entry of `.gitmodules`.
+/// The reasons why `git fsck` refuses an entry of `.gitmodules`.
 #[derive(Clone, Copy, Debug, Default, PartialEq, Eq, Hash)]
 pub struct SubmoduleCheck {
     /// [`SubmoduleRefusal::Name`] if the name of the submodule leads out of its folder.
     pub name: Option<SubmoduleRefusal>,
-    /// [`SubmoduleRefusal::Url`] of a dangerous URL, [`SubmoduleRefusal::Path`] of a path that looks like an option, and
-    /// [`SubmoduleRefusal::Update`] if the submodule is updated by a command.
+    /// [`SubmoduleRefusal::Url`] for a dangerous URL, [`SubmoduleRefusal::Path`] for a path that looks like an option,
+    /// and [`SubmoduleRefusal::Update`] if the submodule is updated by a command.
     pub value: Option<SubmoduleRefusal>,
 }
 
@@ -78,7 +78,7 @@ impl SubmoduleCheck {
     }
 }
 
-/// Checks an entry of `.gitmodules` as `git fsck` does. It allocates nothing.
+/// Checks an entry of `.gitmodules` as `git fsck` does. Allocates nothing.
 ///
 /// ```
 /// use gix_url_proved::rules::{check_submodule, Configuration, SubmoduleRefusal};
@@ -101,7 +101,7 @@ pub struct Submodule<'a> {
     pub path: Option<Entry<'a>>,
     /// The entry of its URL.
     pub url: Option<Entry<'a>>,
-    /// The entry that says how it is updated.
+    /// The entry that determines how it is updated.
     pub update: Option<Entry<'a>>,
     /// The entry of its branch.
     pub branch: Option<Entry<'a>>,

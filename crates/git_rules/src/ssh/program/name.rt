@@ -1,38 +1,38 @@
-//! The last name of a path, and of the program that a command line begins with, read byte by byte.
+//! The last name of a path, and of the first program of a command line, read byte by byte.
 //!
-//! It takes no memory. Its contract: of a name its first bytes are kept, one more than the longest known name
-//! has, and a command line is cut as the definitions cut it (`specs/CommandLines.antt`).
+//! Only the first bytes of a name are kept, one more than the longest known name has. A command line is split as in
+//! the definitions (`specs/CommandLines.antt`).
 
 ghost use Rattle.std.specs.Prelude.{◌≡◌, ◌++◌, ◌∷◌, [], ℕ, List, MatchOption, None, Option, Some, take};
 ghost use Rattle.git_rules.specs.CommandLines.{base_name, first_word, line_words_from};
 ghost use Rattle.git_rules.specs.BaseNames.{IsNameOf, IsReadTo, most_kept, spot_of, words_by};
 
-/// As many bytes as are kept of a name: one more than `tortoiseplink.exe` has.
+/// The number of bytes kept of a name: one more than `tortoiseplink.exe` has.
 const MOST_KEPT: usize = 18;
 
 /// The last name of a path that is read up to some byte.
 #[derive(Drop)]
 pub(super) struct BaseName {
-    /// The first bytes of the name, and others behind them.
+    /// The first bytes of the name; the bytes from `len` on are not part of it.
     bytes: [u8; MOST_KEPT],
-    /// How many of the bytes are those of the name.
+    /// The number of bytes of the name.
     len: usize,
-    /// Whether a slash is the last byte so far, and so the next other byte begins a name.
+    /// Whether the last byte so far is a slash, so that the next other byte begins a name.
     is_ended: bool,
 }
 
-/// The name of the program that a command line begins with, where the line is read up to some byte.
+/// The name of the first program of a command line that is read up to some byte.
 #[derive(Drop)]
 struct FirstWord {
-    /// The name that the first word ends with.
+    /// The last name of the first word.
     name: BaseName,
-    /// Where in the line the next byte is.
+    /// The context of the next byte.
     spot: Spot,
-    /// Whether that is in the first word.
+    /// Whether the next byte is in the first word.
     is_first: bool,
 }
 
-/// Where a byte of a command line is.
+/// The context of a byte in a command line.
 #[derive(Clone, Copy)]
 enum Spot {
     /// Outside of quotes.
@@ -41,25 +41,25 @@ enum Spot {
     Single,
     /// In double quotes.
     Double,
-    /// Behind a backslash outside of quotes.
+    /// After a backslash outside of quotes.
     Escaped,
-    /// Behind a backslash in double quotes.
+    /// After a backslash in double quotes.
     EscapedInDouble,
 }
 
-/// What a byte of a command line is, and where the next one is.
+/// The role of a byte in a command line, with the context of the next byte.
 #[derive(Clone, Copy)]
 enum Step {
     /// White space, which ends a word.
     Gap,
-    /// A quote or a backslash, which is no part of a word.
+    /// A quote or a backslash, which isn't part of a word.
     Mark(Spot),
     /// A byte of a word.
     Part(Spot),
 }
 
 impl BaseName {
-    /// The name of the empty path, which has none.
+    /// The state for the empty path, which has no name.
     fn new() -> BaseName
         ensures { IsNameOf result [] }
     {
@@ -98,7 +98,7 @@ impl BaseName {
     }
 }
 
-/// The last name of a path.
+/// Returns the last name of a path.
 pub(super) fn name_of_path(path: &[u8]) -> BaseName
     ensures { IsNameOf result path.now }
 {
@@ -109,7 +109,7 @@ pub(super) fn name_of_path(path: &[u8]) -> BaseName
     name
 }
 
-/// The last name of the program that a command line begins with; none where Git can't cut the line.
+/// Returns the last name of the first program of a command line, or `None` if Git can't split the line.
 pub(super) fn name_of_line(line: &[u8]) -> Option<BaseName>
     ensures { MatchOption result (first_word line.now ≡ None)
         (λ name. (word : List ℕ) × (first_word line.now ≡ Some word) × IsNameOf name word) }
@@ -151,7 +151,7 @@ impl FirstWord {
     }
 }
 
-/// What a byte is, by where it is.
+/// The role of a byte in this context.
 fn read(spot: Spot, byte: u8) -> Step
     ensures { (rest : List ℕ) → line_words_from (spot_of spot) (byte ∷ rest) ≡ words_by byte result rest }
 {
@@ -177,7 +177,7 @@ fn read(spot: Spot, byte: u8) -> Step
     }
 }
 
-/// What a byte outside of quotes is.
+/// The role of a byte outside of quotes.
 fn read_bare(byte: u8) -> Step
     ensures { (rest : List ℕ)
         → line_words_from (spot_of Spot.Bare) (byte ∷ rest) ≡ words_by byte result rest }

@@ -1,4 +1,4 @@
--- What is answered for the location that is made is answered for the one that is given.
+-- What is answered for the location that is built is answered for the one that is passed.
 use Rattle.std.proofs.Common.{refl, subst, IsTrue, ◌↔◌}
 use mathlib.Core.Logic.{inr}
 use Rattle.gix_url.specs.GitClass.{AgreesWithGit}
@@ -6,5 +6,5 @@ use Rattle.gix_url_c.proofs.writing.gix_url_c_agrees_with_git.Goals as goal
 
 pub returns-in-Some-clause-reported : goal.returns-in-Some-clause-reported
 returns-in-Some-clause-reported c =
-    let seen = subst (λ v. IsTrue c.agrees_with_git.result ↔ AgreesWithGit v) c.in-Some.ensures.made c.agrees_with_git.ensures in
+    let seen = subst (λ v. IsTrue c.agrees_with_git.result ↔ AgreesWithGit v) c.in-Some.ensures.built c.agrees_with_git.ensures in
     inr (c.in-Some.ensures.whole, (refl, seen))

@@ -1,4 +1,4 @@
--- What is answered for the location that is made is answered for the one that is given.
+-- What is answered for the location that is built is answered for the one that is passed.
 use Rattle.std.proofs.Common.{subst}
 use mathlib.Core.Logic.{inr}
 use Rattle.gix_url_c.specs.Answers.{ReportsDisplay}
@@ -11,6 +11,6 @@ returns-in-Some-clause-reported c =
     inr (
       c.in-Some.ensures.whole,
       subst
-          (λ v. UnlessMemory c.show.result (ReportsDisplay v c.args.room.now after.room after.len after.reported c.show.result))
-          c.in-Some.ensures.made c.show.ensures.reported,
+          (λ v. UnlessMemory c.show.result (ReportsDisplay v c.args.buffer.now after.buffer after.len after.reported c.show.result))
+          c.in-Some.ensures.built c.show.ensures.reported,
     )

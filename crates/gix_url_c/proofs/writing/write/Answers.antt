@@ -9,7 +9,7 @@ returns-in-Err-clause-reported c =
     let fault = unwritten (text c.args.url.now) c.in-Err.fault (sym c.in-Err.ensures.length) in
     rw fault (refl, c.unwritable.ensures)
 
-pub returns-in-Err-clause-room : goal.returns-in-Err-clause-room
-returns-in-Err-clause-room c =
+pub returns-in-Err-clause-buffer : goal.returns-in-Err-clause-buffer
+returns-in-Err-clause-buffer c =
     let fault = unwritten (text c.args.url.now) c.in-Err.fault (sym c.in-Err.ensures.length) in
     λ failed. rw fault at c.in-Err.ensures.placed

@@ -1,8 +1,8 @@
--- What is reported of the location and the request that are made is reported of those that are given.
+-- What is reported of the location and the request that are built is reported of those that are passed.
 use Rattle.std.proofs.Common.{subst}
 use mathlib.Core.Logic.{inr}
 use Rattle.gix_url_c.specs.Codes.{UnlessMemory}
-use Rattle.gix_url_c.specs.Given.{location_of}
+use Rattle.gix_url_c.specs.Input.{location_of}
 use Rattle.gix_url_c.specs.WordNumbers.{ReportsWords}
 use Rattle.gix_url_c.proofs.CallLemmas.{neither}
 use Rattle.gix_url_c.proofs.rules.commands.gix_url_c_ssh_words.Goals as goal
@@ -11,15 +11,15 @@ pub returns-in-Some-request_of-clause-reported : goal.returns-in-Some-request_of
 returns-in-Some-request_of-clause-reported c =
     let new = c.put_command.new in
     let code = c.put_command.result in
-    let room = c.args.room.now in
+    let buffer = c.args.buffer.now in
     let lengths = c.args.lengths.now in
     let asked = c.in-Some-request_of in
     inr (
       neither c.in-Some.ensures.whole asked.ensures.whole,
       subst
-          (λ r. UnlessMemory code (ReportsWords (location_of c.args.given.now) r new.made room new.room lengths new.lengths code))
-          asked.ensures.made
+          (λ r. UnlessMemory code (ReportsWords (location_of c.args.passed.now) r new.built buffer new.buffer lengths new.lengths code))
+          asked.ensures.built
           (subst
-          (λ v. UnlessMemory code (ReportsWords v asked.request new.made room new.room lengths new.lengths code))
-          c.in-Some.ensures.made c.put_command.ensures.reported),
+          (λ v. UnlessMemory code (ReportsWords v asked.request new.built buffer new.buffer lengths new.lengths code))
+          c.in-Some.ensures.built c.put_command.ensures.reported),
     )

@@ -1,4 +1,4 @@
--- What is reported by the entries is reported by those that are given.
+-- What is reported by the entries is reported by those that are passed.
 use Rattle.std.proofs.Common.{◌∙◌, subst}
 use Rattle.gix_url_c.specs.Codes.{UnlessMemory}
 use Rattle.gix_url_c.specs.CredentialNumbers.{ReportsCredentials}
@@ -8,8 +8,8 @@ pub returns-in-Ok-clause-reported : goal.returns-in-Ok-clause-reported
 returns-in-Ok-clause-reported c =
     let new = c.put_for_text.new in
     let code = c.put_for_text.result in
-    let room = c.args.room.now in
+    let buffer = c.args.buffer.now in
     let indices = c.args.indices.now in
     subst
-    (λ config. UnlessMemory code (ReportsCredentials config c.args.text.now new.made room new.room indices new.indices new.stop code))
+    (λ config. UnlessMemory code (ReportsCredentials config c.args.text.now new.built buffer new.buffer indices new.indices new.stop code))
     (c.deref.ensures.value ∙ c.in-Ok.ensures) c.put_for_text.ensures.reported

@@ -1,4 +1,4 @@
--- What is reported of the location that is made is reported of the one that is given.
+-- What is reported of the location that is built is reported of the one that is passed.
 use Rattle.std.proofs.Common.{subst}
 use mathlib.Core.Logic.{inr}
 use Rattle.gix_url_c.specs.Codes.{UnlessMemory}
@@ -11,6 +11,6 @@ returns-in-Some-clause-reported c =
     let code = c.put_dangers.result in
     inr (
       c.in-Some.ensures.whole,
-      subst (λ v. UnlessMemory code (ReportsDangers c.args.text.now v c.args.room.now new.room new.count code))
-          c.in-Some.ensures.made c.put_dangers.ensures.reported,
+      subst (λ v. UnlessMemory code (ReportsDangers c.args.text.now v c.args.buffer.now new.buffer new.count code))
+          c.in-Some.ensures.built c.put_dangers.ensures.reported,
     )

@@ -1,4 +1,4 @@
--- What is reported by the entries is reported by those that are given.
+-- What is reported by the entries is reported by those that are passed.
 use Rattle.std.proofs.Common.{◌∙◌, subst}
 use Rattle.git_rules.specs.RewriteEntries.{rules_of}
 use Rattle.git_rules.specs.Rewrites.{IsRewritten}
@@ -10,8 +10,8 @@ pub returns-in-Ok-clause-reported : goal.returns-in-Ok-clause-reported
 returns-in-Ok-clause-reported c =
     let new = c.fetch.new in
     let code = c.fetch.result in
-    let room = c.args.room.now in
+    let buffer = c.args.buffer.now in
     subst
     (λ config. UnlessMemory code (ReportsRewriting config
-    (IsRewritten (rules_of config).fetching c.args.text.now) new.made room new.room new.stop code))
+    (IsRewritten (rules_of config).fetching c.args.text.now) new.built buffer new.buffer new.stop code))
     (c.deref.ensures.value ∙ c.in-Ok.ensures) c.fetch.ensures.reported

@@ -3,7 +3,7 @@ use Rattle.std.proofs.Common.{◌≡◌, ◌++◌, length, map}
 use Rattle.std.specs.List.{flat_map}
 use Rattle.git_audit.specs.Secrets.{parts_of, piece_part}
 use Rattle.gix_url_c.specs.PieceNumbers.{part_numbers}
-use Rattle.gix_url_c.proofs.RoomLemmas.{BeginsWith}
+use Rattle.gix_url_c.proofs.BufferLemmas.{BeginsWith}
 use Rattle.gix_url_c.proofs.rules.secrets.put_pieces.Given as goal
 
 abbrev pub invariant-loop-piece : goal.invariant-loop-piece

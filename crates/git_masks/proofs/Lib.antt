@@ -1,0 +1,3 @@
+-- Lemmas by topic, lowest first.
+pub mod Vectors
+pub mod Numbers

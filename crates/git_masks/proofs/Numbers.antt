@@ -1,0 +1,4 @@
+-- Masks of texts.
+pub mod BitLemmas
+pub mod JoinLemmas
+pub mod MarkLemmas

@@ -1,0 +1,2 @@
+-- Examples of the definitions: each row is proved.
+pub mod MaskRows

@@ -1,0 +1,72 @@
+//! The masks of 16 bytes, by operations on vectors.
+
+ghost use Rattle.std.specs.Prelude.{◌≡◌, ◌==◌};
+ghost use Rattle.git_syntax.specs.Escapes.{is_plain_byte};
+ghost use Rattle.git_syntax.specs.Internal.HostPieces.{is_simple_byte};
+ghost use Rattle.git_masks.specs.Masks.{AreShortMasksOf, is_odd, is_query, mask_of};
+
+use crate::masks::Masks;
+use std::simd::prelude::*;
+
+/// How far `~` is from `!`.
+const PLAIN_SPAN: u8 = 93;
+
+/// How far `z` is from `a`.
+const LETTER_SPAN: u8 = 25;
+
+/// How far `9` is from `-`.
+const DIGIT_SPAN: u8 = 12;
+
+/// The masks of 16 bytes.
+#[inline(always)]
+pub(crate) fn block(bytes: u8x16) -> Masks<u64>
+    ensures { AreShortMasksOf bytes result }
+{
+    Masks {
+        colon: equal_to(bytes, b':'),
+        slash: equal_to(bytes, b'/'),
+        at: equal_to(bytes, b'@'),
+        query: queries(bytes),
+        percent: equal_to(bytes, b'%'),
+        odd: odds(bytes),
+        host: hosts(bytes),
+    }
+}
+
+/// Which bytes are the byte.
+#[inline(always)]
+fn equal_to(bytes: u8x16, byte: u8) -> u64
+    ensures { result ≡ mask_of (λ b. b == byte) bytes }
+{
+    bytes.simd_eq(u8x16::splat(byte)).to_bitmask()
+}
+
+/// Which bytes are `?` or `#`.
+#[inline(always)]
+fn queries(bytes: u8x16) -> u64
+    ensures { result ≡ mask_of is_query bytes }
+{
+    (bytes.simd_eq(u8x16::splat(b'?')) | bytes.simd_eq(u8x16::splat(b'#'))).to_bitmask()
+}
+
+/// Which bytes aren't plain: they are no printable byte of ASCII, or `%`.
+#[inline(always)]
+fn odds(bytes: u8x16) -> u64
+    ensures { result ≡ mask_of is_odd bytes }
+{
+    // What is below `!` wraps to a large number.
+    let from_first = bytes - u8x16::splat(b'!');
+    (from_first.simd_gt(u8x16::splat(PLAIN_SPAN)) | bytes.simd_eq(u8x16::splat(b'%'))).to_bitmask()
+}
+
+/// Which bytes are a lower-case letter, a digit, `-` or `.`.
+#[inline(always)]
+fn hosts(bytes: u8x16) -> u64
+    ensures { result ≡ mask_of is_simple_byte bytes }
+{
+    // What is below the first of a range wraps to a large number.
+    let letter = (bytes - u8x16::splat(b'a')).simd_le(u8x16::splat(LETTER_SPAN));
+    // Only `/` is between `-`, `.` and the digits.
+    let other = (bytes - u8x16::splat(b'-')).simd_le(u8x16::splat(DIGIT_SPAN));
+    ((letter | other) & bytes.simd_ne(u8x16::splat(b'/'))).to_bitmask()
+}

@@ -1,0 +1,21 @@
+//! The law on the bits of a mask, and rows of masks.
+
+ghost use Rattle.std.specs.Prelude.{ℕ, Bool, List};
+ghost use Rattle.git_masks.specs.Examples.MaskRows.{ColonRow, HostRow, OddRow, QueryRow};
+ghost use Rattle.git_masks.specs.Masks.{HasBit};
+
+/// A bit of a mask is set exactly if the byte of the text is of the class.
+///
+/// A mask is defined by the list of tests, as the vectors make it. Users of a mask know by this law what a bit of
+/// it says, and that no bit after the text is set.
+pub fn law_masks()
+    ensures bits { (test : ℕ → Bool) (text : List ℕ) (i : ℕ) → HasBit test text i }
+{}
+
+/// The masks of four short texts.
+pub fn mask_rows()
+    ensures colons { ColonRow }
+    ensures queries { QueryRow }
+    ensures odd { OddRow }
+    ensures hosts { HostRow }
+{}

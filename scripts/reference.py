@@ -1,0 +1,169 @@
+#!/usr/bin/env python3
+"""Writes docs/reference: a page for each crate that has a contract for its callers, with each public item, its doc comment,
+its signature, its clauses and the definitions that they name; and the index by name at the end of its README.md. A change of
+what is promised is seen there.
+
+usage: scripts/reference.py --write
+
+`scripts/documents` asks for `faults()`: pages that are not those of the sources.
+"""
+import glob
+import os
+import re
+import sys
+
+sys.dont_write_bytecode = True
+sys.path.append(f"{sys.path[0]}/../tools")
+from definitions import named_in
+from doc_comments import documented, of_module, own_words, parted, sentence
+from public_items import DOC, documented_items, sources_of
+from reference_names import PASSED, anchors, by_last_name, crates, link, module_of, modules, name_for_programs, target
+from rt_api import LAYERS, LIBRARIES, ROOT
+
+FOLDER = "docs/reference"
+INDEX, HEAD = f"{FOLDER}/README.md", "<!-- Written by `scripts/reference.py --write`. -->\n"
+# What begins a clause, or what an implementation of a trait states; and a documented field, variant or member.
+STATED = re.compile(r"(?m)^ *(?:(ensures|requires)(?: (\w+))?|ghost (\w+) =) (?=\{)")
+MEMBER = re.compile(r"(?m)((?:^( +)///.*\n)+)(?: +#\[.*\n)* *(?:pub )?(?:fn |type |const )?(\w+)")
+
+
+def read(name):
+    with open(f"{ROOT}/{name}", encoding="utf-8") as it:
+        return it.read()
+
+
+def stated(text):
+    """The text without doc comments and without what it states, and this: of each clause its kind, its function if there are several,
+    its name and its formal text."""
+    text, found = DOC.sub("", text), []
+    functions = len(re.findall(r"\bfn \w", text))
+    while start := STATED.search(text):
+        end = depth = 0
+        for end, letter in enumerate(text[start.end():], start.end() + 1):
+            depth += {"{": 1, "}": -1}.get(letter, 0)
+            if not depth:
+                break
+        function = re.findall(r"\bfn (\w+)", text[: start.start()])[-1:] if start[1] and functions > 1 else []
+        found.append((start[1] or start[3], [*function, *filter(None, [start[2]])], re.sub(r"\s+", " ", text[start.end() + 1 : end - 1]).strip()))
+        text = text[: start.start()] + re.sub(r"\A;?\n", "", text[end:])
+    return text, found
+
+
+def clauses(crate, module, found):
+    """The list of what is stated, and below each clause the definitions that no clause before it names."""
+    named = set()
+    for kind, names, formal in found:
+        label = " ".join(f"`{it}`" for it in names or [kind] if it not in ("ensures", "requires"))
+        yield f"- {'requires ' if kind == 'requires' else ''}{label}{': ' if label else ''}`{formal}`"
+        for word, (file, meaning, inside) in named_in(formal, sources_of(crate)[module]).items():
+            if word not in named:
+                named.add(word)
+                parts = "; ".join(f"`{it}`: {of}" for it, of in inside if of)
+                yield f"  - [`{word}`](../../{file}): " + (". ".join(filter(None, (meaning, parts))))
+
+
+def members(crate, module, text):
+    """The list of the fields, variants or calls that a type or a trait documents, except of an `impl`."""
+    if re.match("(unsafe )?impl", text):
+        return ""
+    found = ""
+    for doc, margin, name in MEMBER.findall(re.sub(r"(?m)^///.*\n", "", text)):
+        inner = " " * (len(margin) // 2 - 2)
+        found += f"{inner}- `{name}`: " + documented(crate, module, doc).replace("\n", f"\n{inner}  ") + "\n"
+    return re.sub(r"(?m)^ +$", "", found)
+
+
+def origin(crate, path, file):
+    """For whom an item is, and where its source is."""
+    known = name_for_programs(crate, path)
+    whose = "" if crate in LIBRARIES or " as " in path else f"In programs `{known}`. " if known else "For the crates above. "
+    return f"{whose if crate in LAYERS else ''}Source: [{file}](../../{file}).\n"
+
+
+def item(crate, path):
+    """The section of an item."""
+    module, text = documented_items(crate)[path]
+    public, file = module_of(crate, path), f"crates/{crate}/src/{'/'.join(module) or 'lib'}.rt"
+    head = f'<a id="{anchors(crate)[path]}"></a>\n\n{"#" * (2 + bool(public) + order(crate, path)[2])} `{path}`\n'
+    below = PASSED.fullmatch(text)
+    it = target(crate, module, f"{below[1]}::{below[2]}") if below and below[1] in crates() else None
+    if it:
+        return f"{head}\n{sentence(crate, path, crate)} It is {link(it[0], crate, f'`{below[1]}::{below[2]}`', it[1])}.\n"
+    signature, found = stated(text)
+    words, examples = parted(documented(crate, module, own_words(text)))
+    return "\n".join(filter(None, [
+        head, words + "\n" if words else "", f"```rust\n{signature}```\n", members(crate, module, text),
+        "[Promised](CLAUSES.md):\n\n" + "\n".join(clauses(crate, module, found)) + "\n" if found else "",
+        "\n".join(f"Example, proved:\n\n{it}\n" for it in examples),
+        origin(crate, path, file)]))
+
+
+def order(crate, path):
+    """Items of a module behind those of the root; behind a type its members, and then what it implements."""
+    module = module_of(crate, path)
+    owner, _, rest = path.removeprefix(module + "::" if module else "").partition(" as " if " as " in path else "::")
+    return module, owner, bool(rest), " as " in path, rest
+
+
+def contents(crate):
+    """The list of items except members, each with its first sentence: those for programs, and those for the crates above."""
+    listed = {True: "", False: ""}
+    for path in sorted(documented_items(crate), key=lambda it: order(crate, it)):
+        if not order(crate, path)[2]:
+            said, known = sentence(crate, path, crate), crate not in LAYERS or bool(name_for_programs(crate, path))
+            listed[known] += f"- {link(crate, crate, f'`{path}`', path)}{f': {said}' if said else ''}\n"
+    yield listed[True]
+    if listed[False]:
+        yield f"For the crates above:\n\n{listed[False]}"
+
+
+def page(crate):
+    """The page of a crate."""
+    yield f"{HEAD}\n# {crate}\n\n{of_module(crate, ())}\n"
+    yield from contents(crate)
+    items = sorted(documented_items(crate), key=lambda it: order(crate, it))
+    for module, place in sorted(modules(crate).items()):
+        if module:
+            yield f'<a id="{anchors(crate)[f"mod {module}"]}"></a>\n\n## Module `{module}`\n\n{of_module(crate, place)}\n'
+        yield from (item(crate, path) for path in items if module_of(crate, path) == module)
+
+
+def index():
+    """The index by name: behind each last name of a path the items that have it."""
+    for name in sorted(by_last_name(), key=lambda it: (it.lower(), it)):
+        there = [link(crate, None, f"`{crate}::{path}`", path) for crate, path in by_last_name()[name] if not path.startswith("mod ")]
+        if there:
+            yield f"- `{name}`: {', '.join(there)}\n"
+
+
+def wanted():
+    """The files of the sources, by their names; of the README what is above the index is as it was."""
+    found = {f"{FOLDER}/{crate}.md": "\n".join(page(crate)) for crate in crates()}
+    return {**found, INDEX: read(INDEX).partition(HEAD)[0] + HEAD + "\n" + "".join(index())}
+
+
+def written():
+    """The names of the files that are there, without the page on clauses."""
+    return {f"{FOLDER}/{it}" for it in glob.glob("*", root_dir=f"{ROOT}/{FOLDER}")} - {f"{FOLDER}/CLAUSES.md"}
+
+
+def faults():
+    """Which files have no crate or are not current."""
+    there, right = written(), wanted()
+    for name in sorted(there | right.keys()):
+        if name not in there or name not in right or read(name) != right[name]:
+            yield f"{name} is {'not what the sources say' if name in right else 'without a crate'}: scripts/reference.py --write mends it"
+
+
+def main(words):
+    if words != ["--write"]:
+        sys.exit(__doc__)
+    for name in written() - wanted().keys():
+        os.remove(f"{ROOT}/{name}")
+    for name, text in wanted().items():
+        with open(f"{ROOT}/{name}", "w", encoding="utf-8") as it:
+            it.write(text)
+
+
+if __name__ == "__main__":
+    main(sys.argv[1:])
