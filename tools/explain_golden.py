@@ -4,7 +4,9 @@ The crate's one stored run is JSON. Among the lines are some with control charac
 not reach a terminal. By the second reading (`second_reading.text_answers`) are the answers to the lines 70, 77, 86, 95 to 101
 and from 111 on; those behind 117 were derived before the program had read them. All others are by hand: the second reading has
 its layout and words from them, and derives them too. Two sentences are in none of them, and were only read: the row of Git in
-line 98, and the heading of line 101. The answers in colours and by a configuration are by hand alone.
+line 98, and the heading of line 101. The answers in colours and by a configuration are by hand alone. Over the lines of both stored
+runs the program prints what the second reading derives, except for those that need words that are in no line here; a few details of
+their layout are the program's.
 
 Each line of the file `alarms` raises an alarm, and none of 10,000 plain remotes and 423 realistic ones does. A hint is one, except
 that the path of some begins in a home folder.
@@ -16,11 +18,15 @@ import subprocess
 import make_remotes
 import terminal
 from rt_api import ROOT, program
-from second_reading import text_answers
+from second_reading import short_inputs, stored_run, text_answers
 
 STORED = f"{ROOT}/crates/explain/golden"
+# A longer line has no names below it.
+LONGEST = 200
 # A remote of HTTP, of Secure Shell or in the scp form, of which nothing has to be said.
 PLAIN = re.compile(rb"(https|ssh)://([\w.-]+@)?[\w.-]+(:\d+)?/[\w./-]+|([\w.-]+@)?[\w.-]+:[\w.][\w./-]*")
+# Of Secure Shell and Git, the path of which begins in a home folder.
+BELOW_HOME = re.compile(rb"(?:(?:ssh|git)://[^/]+/|[^/:]+:)~")
 OPTION = re.compile(rb"(^|//|@|/|:)-")
 # Segments that curl takes out.
 DOTS = re.compile(rb"https://.*/\.\.?(/|\Z)")
@@ -55,6 +61,22 @@ def derived():
         wanted = wanted[len(answer):]
     if wanted:
         yield f"{wanted!r} is an answer to no line"
+
+
+def by_second_reading():
+    """The lines of stored runs with another answer than the second reading derives, and how many it derives of how many."""
+    given = [*short_inputs.short_inputs(), *stored_run.stored_run()["stdin"].split(b"\n"), *stored("alarms").splitlines()]
+    given = [it for it in dict.fromkeys(given) if len(it) <= LONGEST]
+    faults, count = [], 0
+    for number, (line, answer) in enumerate(zip(given, shown(given)[1], strict=True), 1):
+        try:
+            wanted = text_answers.answer(number, line)
+        except KeyError:
+            continue
+        count += 1
+        if answer != wanted.encode():
+            faults.append(f"the answer to {line!r} is {answer.decode('utf-8', 'replace')}, and by the second reading {wanted}")
+    return faults, count, len(given)
 
 
 def expected():
@@ -101,7 +123,7 @@ def false_alarms(lines):
     """What is found in plain remotes, or hinted at. Of a path that begins in a home folder only that is said."""
     for line, it in zip(lines, told(lines), strict=True):
         others = it["readers"] and it["readers"]["others"]
-        hints = ["home_there"] if re.search(rb"[:/]~", line) else []
+        hints = ["home_there"] if BELOW_HOME.match(line) else []
         if it["dangers"] or it["findings"] or others or it["hints"] != hints:
             yield f"a false alarm about {line!r}: {it['dangers']}, {it['findings']}, {others}, {it['hints']}"
 
@@ -112,7 +134,9 @@ def check(_room):
     bad = stored("alarms").splitlines()
     faults = [*derived(), *expected(), *in_colours(), *in_the_picture(), *(f"a false alarm about {it!r}" for it in alarming(realistic))]
     faults += [*false_alarms(plain), *(f"no alarm about {it!r}" for it in sorted({*bad} - {*alarming(bad)}))]
+    other, count, of_all = by_second_reading()
+    faults += other
     if len(realistic) < 400:
         faults.append(f"only {len(realistic)} of the remotes are plain")
-    counts = [f"{len(lines())} lines, shown as the second reading derives"]
+    counts = [f"{len(lines())} lines, and {count} of {of_all} lines of stored runs, shown as the second reading derives"]
     return faults, [*counts, f"an alarm about each of {len(bad)} remotes, and about none of {len(plain)} plain ones and {len(realistic)} realistic ones"]

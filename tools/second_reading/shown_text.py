@@ -6,8 +6,8 @@ import unicodedata
 
 from second_reading import hidden
 
-# Control characters, characters that are invisible or change the direction of writing, and line ends.
-INVISIBLE = ("Cc", "Cf", "Zl", "Zp")
+# Control characters, characters that are invisible or change the direction of writing, and line ends. So are all spaces but one.
+INVISIBLE = ("Cc", "Cf", "Zl", "Zp", "Zs")
 SHORT = {"\0": r"\0", "\t": r"\t", "\n": r"\n", "\r": r"\r"}
 
 
@@ -28,7 +28,7 @@ def is_character(piece):
 
 
 def is_visible(it):
-    return it is not None and unicodedata.category(it) not in INVISIBLE
+    return it is not None and (it == " " or unicodedata.category(it) not in INVISIBLE)
 
 
 def escaped(it, octets):

@@ -1,7 +1,9 @@
 """What `explain` prints of a line as text: a heading, the line with its pieces named below it, and rows.
 
 The layout is written from docs/EXPLAIN.md and from lines of `crates/explain/golden` that were written by hand; so are the words.
-A line that would need words which no such line has raises `KeyError`.
+A line that would need words which no such line has raises `KeyError`. What is in neither was decided as the program does: which
+brackets and colons are part of a host's piece, when a path's piece lacks its slash, that a tilde alone has nothing below it, that
+curl's port follows its host, and that slashes at the end of a path make no row of helpers.
 """
 import re
 
@@ -10,13 +12,13 @@ from second_reading import grammar, hidden
 from second_reading.dangers import WORDS, dangers
 from second_reading.explain import agrees_with_git, form, told
 from second_reading.explain_tables import NAMES, hint_rows
-from second_reading.groups import is_own
-from second_reading.plain_paths import home_split, shell_path
+from second_reading.groups import host_name, is_own, other_hosts
+from second_reading.plain_paths import shell_path
 from second_reading.readers import git_host
 from second_reading.seen import seen
 from second_reading.shown_text import cells, columns, for_shell, quoted, shown
 from second_reading.stored_run import object_of
-from second_reading.writing import text
+from second_reading.writing import canonical_path, text
 from web_plain import broken
 
 GROUPS = {
@@ -51,29 +53,35 @@ def pieces(line, v):
     of_path = path_pieces(line, v, *found.pop("path"))
     of_host = host_pieces(line, v, *found.pop("host", (0, 0)))
     every = [*((name, *place) for name, place in found.items()), *of_host, *of_path]
-    return sorted(((names.get(name, name), begin, end) for name, begin, end in every if begin < end), key=lambda it: it[1])
+    every = sorted(((names.get(name, name), begin, end) for name, begin, end in every if begin < end), key=lambda it: it[1])
+    return [apart(line, it, {end for _, _, end in every}) for it in every]
+
+
+def apart(line, piece, ends):
+    """The piece; the slash of a path directly behind another piece is left out, unless it is all of the path."""
+    name, begin, end = piece
+    return name, begin + (name == "path" and begin in ends and line[begin:begin + 1] == b"/" and end - begin > 1), end
 
 
 def host_pieces(line, v, begin, end):
-    """Host and port. Brackets and a colon that aren't of the host's value aren't of the piece."""
-    named, host = line[begin:end], v.host or b""
+    """Host and port. Of Secure Shell brackets around the host, and a colon behind it, aren't of the piece, unless they are escapes."""
+    named = line[begin:end]
     port = len(named) - named.rindex(b":") - 1 if v.port is not None else 0
     front = end - port - (v.port is not None)
-    if v.port is None and named.endswith(b":") and not host.endswith(b":"):
+    if v.port is None and v.scheme == ("Ssh",) and named.endswith(b":") and (named.startswith((b"[", b"%5B")) or not v.host.endswith(b":")):
         front -= 1
-    if named.startswith(b"[") and line[front - 1:front] == b"]" and not host.startswith(b"["):
+    if v.scheme == ("Ssh",) and named.startswith(b"[") and line[front - 1:front] == b"]":
         begin, front = begin + 1, front - 1
     return [("host", begin, front), ("port", end - port, end)]
 
 
 def path_pieces(line, v, begin, end):
-    """The path, and of HTTP query and fragment. In a URL the piece lacks the slash at its front, unless that is all of it."""
+    """The path, and of HTTP query and fragment."""
     if v.flag:
         return [("path", begin, end)]
     shape = rb"([^?#]*)(?:\?([^#]*))?(?:#(.*))?" if v.scheme in grammar.HTTP_SCHEMES else rb"(.*)"
     cut = re.compile(shape, re.S).fullmatch(line, begin, end)
-    found = [(name, *cut.span(n)) for n, name in enumerate(("path", "query", "fragment")[:cut.re.groups], 1)]
-    return [(name, at + (name == "path" and last - at > 1 and line[at:at + 1] == b"/"), last) for name, at, last in found]
+    return [(name, *cut.span(n)) for n, name in enumerate(("path", "query", "fragment")[:cut.re.groups], 1)]
 
 
 def named_below(line, v):
@@ -145,7 +153,7 @@ def last_label(v):
 
 
 def home_or_here(v):
-    user, below = home_split(b"/" + v.path)
+    user, below = re.fullmatch(rb"(?s)~([^/]*)(.*)", v.path).groups()
     whose = f"the home of {quoted(user)}" if user else "$HOME"
     return f"clone reads {quoted(v.path)} in the current folder, fetch and push {quoted(below)} below {whose}"
 
@@ -162,28 +170,38 @@ def read_over_web(v):
     if asked["host"].encode() != named:
         yield "helpers", f"are asked for the host {quoted(asked['host'].encode())}"
     path = (asked["path"] or "").encode()
-    if path != v.path[1:]:
+    if path != v.path.removeprefix(b"/").rstrip(b"/"):
         yield "helpers", f"are asked for the path {quoted(path)}"
     if reads is None:
         yield "curl", "refuses its text"
         return
+    if v.host.endswith(b"]:"):
+        raise KeyError("no line has words for brackets with a colon behind them")
     if reads["host"].encode() != v.host:
-        yield "curl", f"connects to the host {quoted(reads['host'].encode())}"
-    if reads["path"] != it["original_path"]:
+        port = "" if v.port is None else f", port {reads['port']}"
+        yield "curl", f"connects to the host {quoted(reads['host'].encode())}{port}"
+    if reads["path"].encode() != canonical_path(v):
         yield "curl", f"asks for the path {quoted(reads['path'].encode())}"
 
 
-def read_by_others(line, w, found):
+def read_by_others(line, w):
     """The rows of the hosts that groups of readers take, beside that to which Git connects, if that is the location's."""
-    for it in found["others"] if found else []:
-        groups = ", and ".join(GROUPS[group] for group in it["groups"])
-        yield "readers", f"{read_here(line, w)}; {groups}, take {quoted(it['host'].encode())}"
+    v, git, found = grammar.spells(line), git_host(line), {}
+    for group, host in other_hosts(line, git.host if v is None and git else v and v.host).items() if v or git else []:
+        found.setdefault(host_name(host), (host, []))[1].append(GROUPS[group])
+    for host, groups in found.values():
+        yield "readers", f"{read_here(line, w)}; {', and '.join(groups)}, take {quoted(host_shown(host, line))}"
+
+
+def host_shown(host, line):
+    """The host, or a word where it isn't in a part of the line that is shown."""
+    return host if any(host in it for it in hidden.shown_parts(line)) else hidden.WORD
 
 
 def read_here(line, w):
     git = git_host(line)
     if w is None:
-        return "Git opens a local path" if git.host is None else f"Git connects to {quoted(git.host)}"
+        return "Git opens a local path" if git.host is None else f"Git connects to {quoted(host_shown(git.host, line))}"
     if not w.host:
         return "it has no host here" if git is None or git.host is not None else "Git opens a local path"
     front = "Git connects to" if git is not None and git.host is not None and is_own(w.host, git.host) else "the host here is"
@@ -224,7 +242,7 @@ def rows_of_components(it):
         yield "fragment", quoted(it["fragment"].encode())
 
 
-def read_in_refused(it):
+def read_in_refused(line, it):
     """The row of what Git reads in a refused line."""
     found = it["git_reads"]
     if found is None:
@@ -235,7 +253,7 @@ def read_in_refused(it):
         raise KeyError("no line has words for a place without a host")
     else:
         port = "" if found["port"] is None else f", port {found['port']}"
-        yield "git", f"connects to {quoted(found['host'].encode())}{port}, all the same"
+        yield "git", f"connects to {quoted([*git_reads(line)][0].host)}{port}, all the same"
 
 
 def rows_of_hints(it):
@@ -258,22 +276,23 @@ def verdict(it):
     return "settled" if it["location"]["settled"] else f"not settled: {it['location']['reread']['words']}"
 
 
-def below(line, w, it):
-    """The rows below a line, and those with names: what is read as shown, or a fault, or nothing where that is withheld."""
+def below(line, other, it):
+    """The rows below a line, and those with names: what is read in the line as it is shown, or a fault; nothing if that is withheld."""
+    w = None if other is None else grammar.spells(other)
     if w is not None:
         own = text(w if w.password is None else w._replace(password=hidden.WORD))
-        front = [] if own == hidden.redacted(line) else [("text", quoted(own))]
-        rows = [*front, ("git", read_by_git(w)), *read_over_web(w), *read_by_others(line, w, it["readers"]), *rows_of_parts(w)]
-        return [*named_below(line, w)], rows
+        front = [] if own == hidden.redacted(other) else [("text", quoted(own))]
+        rows = [*front, ("git", read_by_git(w)), *read_over_web(w), *read_by_others(line, w), *rows_of_parts(w)]
+        return [*named_below(other, w)], rows
     if it["refusal"]["error"] == "Withheld":
         return [], []
-    return [marked(line, it["refusal"])] if line else [], [*read_in_refused(it["refusal"]), *read_by_others(line, None, it["readers"])]
+    return [marked(line, it["refusal"])] if line else [], [*read_in_refused(line, it["refusal"]), *read_by_others(line, None)]
 
 
 def answer(number, line):
     """What is printed of a line. Of a location it is what is read in the line as it is shown."""
     v, other, it = grammar.spells(line), seen(line), object_of(number, line)
-    marks, rows = below(line if other is None else other, None if other is None else grammar.spells(other), it)
+    marks, rows = below(line, other, it)
     shape = [] if line == b"" else ["".join(piece for _, _, piece in cells(line)), *marks]
     shape += [f"{name:{LABEL}}{words}" for name, words in [*rows, *rows_of_hints(it)]]
     return "".join(f"{it}\n" for it in [f"line {number}: {heading(it, v)}", *(f"    {row}" for row in shape)])
