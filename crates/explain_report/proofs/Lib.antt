@@ -1,2 +1,3 @@
 -- Lemmas by topic.
 pub mod Secrets
+pub mod Printed

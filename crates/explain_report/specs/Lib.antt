@@ -7,3 +7,4 @@ pub mod Entries
 pub mod Rules
 pub mod Findings
 pub mod Hints
+pub mod Printed

@@ -5,8 +5,10 @@
 pub mod cut;
 pub mod line;
 mod place;
+mod printed;
 pub mod secret;
 pub mod seen;
+mod shell_word;
 
 ghost use Rattle.std.specs.Prelude.{◌≡◌, IfOk, string_bytes};
 ghost use Rattle.git_syntax.specs.Bytes.{lossy_text};
