@@ -10,7 +10,7 @@ pub mod secret;
 pub mod seen;
 mod shell_word;
 
-ghost use Rattle.std.specs.Prelude.{◌≡◌, IfOk, string_bytes};
+ghost use Rattle.std.specs.Prelude.{◌≡◌, IfOk, option_map, string_bytes};
 ghost use Rattle.git_syntax.specs.Bytes.{lossy_text};
 
 use bstr::ByteSlice;
@@ -24,7 +24,9 @@ pub(crate) fn lossy(alloc: Global, bytes: &[u8]) -> Result<String, AllocError>
 }
 
 /// A part as a text, where there is one.
-pub(crate) fn lossy_part(alloc: Global, part: Option<&[u8]>) -> Result<Option<String>, AllocError> {
+pub(crate) fn lossy_part(alloc: Global, part: Option<&[u8]>) -> Result<Option<String>, AllocError>
+    ensures { IfOk result (λ text. option_map string_bytes text ≡ option_map (λ it. lossy_text it.now) part.entry) }
+{
     match part {
         None => Ok(None),
         Some(part) => Ok(Some(lossy(alloc, part)?)),

@@ -126,10 +126,17 @@ pub(crate) fn write_quoted<W: Write>(out: &mut W, text: &[u8]) -> fmt::Result
 {
     out.write_str("\"")?;
     for (from, to, character) in text.char_indices() {
-        match character {
-            '"' => out.write_str("\\\"")?,
-            _ => write_character(out, character, between(text, from, to))?,
-        }
+        write_in_quotes(out, character, between(text, from, to))?;
     }
     out.write_str("\"")
+}
+
+/// Writes a character of a text in quotes.
+fn write_in_quotes<W: Write>(out: &mut W, character: char, bytes: &[u8]) -> fmt::Result
+    ensures { OnOk result (AddsPrinted W.write_str_gives out.old out.new) }
+{
+    match character {
+        '"' => out.write_str("\\\""),
+        _ => write_character(out, character, bytes),
+    }
 }
