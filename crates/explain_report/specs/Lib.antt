@@ -18,3 +18,4 @@ pub mod Printed
 pub mod Forms
 pub mod Hosts
 pub mod Places
+pub mod Pieces

@@ -3,6 +3,7 @@
 //! and [`line`] says how they are spelled for a terminal.
 
 pub mod cut;
+mod joined;
 pub mod line;
 mod place;
 mod printed;

@@ -1,16 +1,19 @@
 //! A line in its pieces, and how a text is spelled for a terminal.
 //!
 //! `printed` and `shell_word` write a text. It uses `cut`, `secret` and the library's `parts_of`. Its contract: what is
-//! shown of a line is what `secret` shows of it, and what is written of a text has no control character, so that it
-//! speaks to no terminal. That it is one text's alone is no part of it.
+//! shown of a line is what `secret` shows of it, as a text and in its pieces, and what is written of a text has no control
+//! character, so that it speaks to no terminal. That it is one text's alone is no part of it.
 
 ghost use Rattle.std.specs.Prelude.{◌≡◌, ◌++◌, ℕ, IfOk, List, OnOk, string_bytes};
 ghost use Rattle.explain_report.specs.Printed.{IsPrinted, WritesPrinted};
-ghost use Rattle.explain_report.specs.Secrets.{text_shown};
+ghost use Rattle.explain_report.specs.Pieces.{AreShownOf, cut_shown};
+ghost use Rattle.explain_report.specs.Secrets.{shown_of, text_shown};
 
 use crate::text::cut::{Cut, Part, Piece};
+use crate::text::joined::shows;
+use crate::text::lossy;
 use crate::text::printed::{Spelling, spelled, write_quoted, write_text};
-use crate::text::secret::{between, shown_text};
+use crate::text::secret::{between, shown_bytes};
 use crate::text::shell_word::write_word;
 use bstr::ByteSlice;
 use git_refusals::parts::parts_of;
@@ -29,24 +32,42 @@ pub struct SeenLine<'a> {
 impl<'a> SeenLine<'a> {
     /// A line as it may be shown, which is refused or has a secret in its password alone.
     pub fn of(alloc: Global, line: &'a [u8]) -> Result<SeenLine<'a>, AllocError>
-        ensures { IfOk result (λ seen. string_bytes seen.input ≡ text_shown line.now) }
+        ensures input { IfOk result (λ seen. string_bytes seen.input ≡ text_shown line.now) }
+        ensures pieces { IfOk result (λ seen. AreShownOf line.now (cut_shown seen.cut)) }
     {
         SeenLine::in_pieces(alloc, line, pieces_of(line))
     }
 
     /// A line as it may be shown, without the parts of its location.
     pub fn without_parts(alloc: Global, line: &'a [u8]) -> Result<SeenLine<'a>, AllocError>
-        ensures { IfOk result (λ seen. string_bytes seen.input ≡ text_shown line.now) }
+        ensures input { IfOk result (λ seen. string_bytes seen.input ≡ text_shown line.now) }
+        ensures pieces { IfOk result (λ seen. AreShownOf line.now (cut_shown seen.cut)) }
     {
         SeenLine::in_pieces(alloc, line, Cut::of_secrets(line))
     }
 
-    /// A line as it may be shown, in these pieces.
-    fn in_pieces(alloc: Global, line: &[u8], cut: Cut<'a>) -> Result<SeenLine<'a>, AllocError>
-        ensures { IfOk result (λ seen. string_bytes seen.input ≡ text_shown line.now) }
+    /// A line as it may be shown, in these pieces if they show that.
+    fn in_pieces(alloc: Global, line: &'a [u8], cut: Cut<'a>) -> Result<SeenLine<'a>, AllocError>
+        ensures input { IfOk result (λ seen. string_bytes seen.input ≡ text_shown line.now) }
+        ensures pieces { IfOk result (λ seen. AreShownOf line.now (cut_shown seen.cut)) }
     {
-        let input = shown_text(alloc, line)?;
-        Ok(SeenLine { cut, input })
+        let shown = shown_bytes(alloc, line)?;
+        let cut = pieces_showing(line, cut, shown.as_slice());
+        let input = lossy(alloc, shown.as_slice());
+        drop(shown);
+        Ok(SeenLine { cut, input: input? })
+    }
+}
+
+/// These pieces of a line if they show what is shown of it, and else one that is hidden.
+fn pieces_showing<'a>(line: &'a [u8], cut: Cut<'a>, shown: &[u8]) -> Cut<'a>
+    requires { shown.now ≡ shown_of line.now }
+    ensures { AreShownOf line.now (cut_shown result) }
+{
+    if shows(cut.pieces(), shown) {
+        cut
+    } else {
+        Cut::hidden(line)
     }
 }
 

@@ -9,10 +9,10 @@
 ghost use Rattle.std.specs.Prelude.{◌≡◌, ◌++◌, ℕ, IfOk, IsTrue, List, option_map};
 ghost use Rattle.git_syntax.specs.Grammar.{Spells};
 ghost use Rattle.gix_url.specs.Location.{Location};
-ghost use Rattle.explain_report.specs.Secrets.{HaveSameVerdicts, IsSeen, IsShownAround, has_secret, password_shown, shown_as, shown_of};
+ghost use Rattle.explain_report.specs.Secrets.{HaveSameVerdicts, IsSeen, IsShownAround, has_secret, shown_as, shown_of};
 
 use crate::text::place::is_moved;
-use crate::text::secret::{REDACTED, has_secret, shown_bytes};
+use crate::text::secret::{has_secret, is_same, shown_bytes, word_for};
 use bstr::BStr;
 use git_audit::secret::law::law_secrets;
 use git_refusals::parts::{Parts, Span, parts_of};
@@ -150,16 +150,6 @@ fn is_around(line: &[u8], span: Span, shown: &[u8]) -> bool
     is_joined(shown, front, word_for(password), rest)
 }
 
-/// The word for a password, or nothing for an empty one.
-fn word_for(password: &[u8]) -> &'static [u8]
-    ensures { result.now ≡ password_shown password.now }
-{
-    match password {
-        [] => b"",
-        _ => REDACTED,
-    }
-}
-
 /// Whether a text is these three, one after the other.
 fn is_joined(text: &[u8], front: &[u8], word: &[u8], rest: &[u8]) -> bool
     ensures { IsTrue result → text.now ≡ front.now ++ (word.now ++ rest.now) }
@@ -174,13 +164,6 @@ fn is_both(text: &[u8], word: &[u8], rest: &[u8]) -> bool
 {
     let (head, behind) = text.split_at(word.len().min(text.len()));
     is_same(head, word) && is_same(behind, rest)
-}
-
-/// Whether both texts are the same.
-fn is_same(text: &[u8], other: &[u8]) -> bool
-    ensures { IsTrue result → text.now ≡ other.now }
-{
-    text == other
 }
 
 /// Whether the other line, which is what is shown of this one, has the same parts.
