@@ -1,6 +1,6 @@
 //! Texts as `explain` shows them: [`secret`] has what is shown of a text, [`seen`] how a line is shown that is read as a
 //! location, by the places of `place`; [`cut`] names the pieces of a line by the parts that the library finds in it,
-//! and [`line`] says how they are spelled for a terminal.
+//! `joined` compares them with what is shown, and [`line`] spells texts for a terminal by `printed` and `shell_word`.
 
 pub mod cut;
 mod joined;
