@@ -8,6 +8,7 @@ use crate::commands;
 use crate::results::Origin;
 use crate::style::{Layout, Seen, Style};
 use clap::ArgMatches;
+use explain_report::text::line::Shown;
 use gix_url::lines::RunError;
 use std::alloc::Global;
 use std::fs::{self, File};
@@ -77,6 +78,7 @@ fn is_folder(rt: &HostRuntime, name: &str) -> bool {
 
 /// Reports on standard error that a text is the name of a file, whose lines aren't read.
 fn report_file(rt: &impl Eprint, text: &str) {
+    let text = Shown(text.as_bytes());
     let _ = eprintln!(rt;
         "explain: {text} is a file; to read it: -f {text}; for its name alone give that as a line of standard input"
     );
@@ -96,6 +98,7 @@ fn answer_file<W: Write>(
         return answer_reader(rt, rt.reader(), output, style, seen);
     }
     if is_folder(rt, file) {
+        let file = Shown(file.as_bytes());
         let _ = eprintln!(rt; "explain: cannot read {file}: it is a folder");
         seen.lacks_file = true;
         return Ok(());
@@ -103,6 +106,7 @@ fn answer_file<W: Write>(
     match File::open(rt, file) {
         Ok(opened) => answer_reader(rt, opened, output, style, seen),
         Err(error) => {
+            let file = Shown(file.as_bytes());
             let _ = eprintln!(rt; "explain: cannot read {file}: {error}");
             seen.lacks_file = true;
             Ok(())

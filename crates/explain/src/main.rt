@@ -35,6 +35,7 @@ use client::Client;
 use explain_audit::module::configured;
 use explain_report::remotes::{RemoteReport, names};
 use explain_report::rules::config::{self, Config, Fault};
+use explain_report::text::line::Shown;
 use git_rules::config::{Entry, entries, entries_of};
 use git_rules::protocols::Protocols;
 use git_rules::ssh::program::SshSettings;
@@ -105,6 +106,7 @@ fn answer_by_file<W: Write>(
             outcome
         }
         Err(error) => {
+            let file = Shown(file.as_bytes());
             let _ = eprintln!(rt; "explain: cannot read {file}: {error}");
             drop(error);
             seen.lacks_file = true;

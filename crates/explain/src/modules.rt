@@ -10,6 +10,7 @@ use bstr::BStr;
 use clap::ArgMatches;
 use explain_audit::module::{ModuleReport, reports};
 use explain_audit::url::Parent;
+use explain_report::text::line::Shown;
 use git_modules::config_file::flaw::FileError;
 use gix_url::Error;
 use gix_url::lines::RunError;
@@ -35,6 +36,7 @@ pub fn answer_file<W: Write>(
             outcome
         }
         Err(error) => {
+            let file = Shown(file.as_bytes());
             let _ = eprintln!(rt; "explain: cannot read {file}: {error}");
             seen.lacks_file = true;
             Ok(())
@@ -93,6 +95,7 @@ fn answer_below<W: Write>(
         }
         Err(FileError::Memory) => Err(RunError::Memory),
         Err(error) => {
+            let file = Shown(file.as_bytes());
             let _ = eprintln!(rt; "explain: {file}: {error}");
             seen.lacks_file = true;
             Ok(())

@@ -18,7 +18,7 @@ use explain_report::readers::{Readers, instead_of};
 use explain_report::refusal::Refusal;
 use explain_report::rules::rows;
 use explain_report::text::cut::Cut;
-use explain_report::text::line::{Quoted, SeenLine, ShellWord};
+use explain_report::text::line::{Quoted, SeenLine, ShellWord, Shown};
 use git_audit::danger::Danger;
 use gix_url::Url;
 use std::alloc::{AllocError, Global};
@@ -178,7 +178,7 @@ fn quoted(out: &mut String, name: &str, text: &str) -> Result<(), AllocError> {
 
 /// The rows of the fields.
 fn parts(out: &mut String, url: &Url, report: &Report<'_>) -> Result<(), AllocError> {
-    row(out, "scheme", report.scheme)?;
+    row(out, "scheme", Shown(report.scheme.as_bytes()))?;
     if let Some(user) = report.user {
         quoted(out, "user", user)?;
     }

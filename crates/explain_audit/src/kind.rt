@@ -1,7 +1,7 @@
 //! What can be found: its name, its words, how urgent it is, and what a run fails for because of it.
 //!
 //! It uses the names and the words of the crates that find it. Its contract: what a run fails for is one part of
-//! [`Findings`] for each kind, and never none.
+//! [`Findings`] for each kind, and never none; and each kind has its level.
 
 ghost use Rattle.std.specs.Prelude.{◌≡◌};
 ghost use Rattle.explain_audit.specs.Kinds as spec;
@@ -147,7 +147,9 @@ impl Kind {
     }
 
     /// How urgent it is.
-    pub fn level(self) -> Level {
+    pub fn level(self) -> Level
+        ensures { result ≡ spec.level_of self }
+    {
         match self {
             Kind::Danger(_) | Kind::Fsck(_) | Kind::Risk(_) => Level::Error,
             Kind::NoPath | Kind::NoUrl | Kind::SamePath | Kind::ParentHost => Level::Error,

@@ -3,8 +3,10 @@
 //! It uses `config_file` and `submodules` of `git_modules`, `entry` for each entry, and `whole` for each submodule of a
 //! file. Its contract: what a run fails for because of a submodule is all that was found in it.
 
-ghost use Rattle.std.specs.Prelude.{◌≡◌, OnOk};
+ghost use Rattle.std.specs.Prelude.{◌≡◌, IfOk, OnOk, option_map, string_bytes};
+ghost use Rattle.bstr.specs.Owned.{bstring_bytes};
 ghost use Rattle.explain_report.specs.Findings.{union};
+ghost use Rattle.explain_report.specs.Secrets.{text_shown};
 ghost use Rattle.explain_audit.specs.Kinds.{findings_of};
 
 use crate::entry::{self, Audited, Reading};
@@ -348,7 +350,9 @@ fn note_name(names: &mut Vec<&'static str>, name: &'static str) -> Result<(), Al
 }
 
 /// The value that is used, if one is.
-fn value_of<'a>(used: Option<Used<'a>>) -> Option<&'a [u8]> {
+fn value_of<'a>(used: Option<Used<'a>>) -> Option<&'a [u8]>
+    ensures { option_map (λ value. value.now) result ≡ option_map (λ found. found.value.now) used.entry }
+{
     match used {
         None => None,
         Some(used) => Some(used.value),
@@ -356,7 +360,9 @@ fn value_of<'a>(used: Option<Used<'a>>) -> Option<&'a [u8]> {
 }
 
 /// What a URL is resolved to, as it is shown.
-fn shown_resolved(alloc: Global, text: Option<BString>) -> Result<Option<String>, AllocError> {
+fn shown_resolved(alloc: Global, text: Option<BString>) -> Result<Option<String>, AllocError>
+    ensures { IfOk result (λ shown. option_map string_bytes shown ≡ option_map (λ it. text_shown (bstring_bytes it)) text) }
+{
     let Some(text) = text else {
         return Ok(None);
     };

@@ -1,2 +1,4 @@
 -- Lemmas by topic.
 pub mod Secrets
+pub mod Printed
+pub mod Joined

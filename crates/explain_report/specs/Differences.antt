@@ -1,6 +1,7 @@
 -- What is reported of a location that isn't read as it is: a public field by its name, as it is and as it is
 -- read. Nothing is reported of a password but that there is one.
-use Rattle.std.specs.Prelude.{◌≡◌, ℕ, Bool, true, false, List, ◌++◌, codes, decimal, bytes_eq, Option, Some, None, option_map, Ok, string_bytes, if◌then◌else◌}
+use Rattle.std.specs.Prelude.{◌≡◌, ℕ, Bool, true, false, List, ◌++◌, codes, decimal, bytes_eq, Option, Some, None, option_map, Ok, string_bytes, if◌then◌else◌, ◌||◌, ◌==◌}
+use Rattle.git_syntax.specs.Bytes.{colon, left_bracket, right_bracket}
 use Rattle.gix_url.specs.Location.{Scheme, Location}
 use Rattle.gix_url.specs.Location.Scheme.{file, git, ssh, http, https, ext, helper, helper_url}
 use Rattle.gix_url.specs.Bytes.{lossy_text}
@@ -24,6 +25,10 @@ is_helper (helper_url name) = false
 -- the words for a protocol: a remote helper is reported as one
 abbrev pub scheme_words : Scheme → List ℕ
 scheme_words p = if is_helper p then codes "helper " ++ scheme_text p else scheme_text p
+
+-- a colon or a bracket
+abbrev pub is_mark : ℕ → Bool
+is_mark b = b == colon || (b == left_bracket || b == right_bracket)
 
 -- the word for a flag
 abbrev pub flag_word : Bool → List ℕ

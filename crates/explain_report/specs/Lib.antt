@@ -7,3 +7,15 @@ pub mod Entries
 pub mod Rules
 pub mod Findings
 pub mod Hints
+pub mod Marks
+pub mod Slips
+pub mod HostNames
+pub mod Pasted
+pub mod Scripts
+pub mod WebPages
+pub mod HintRules
+pub mod Printed
+pub mod Forms
+pub mod Hosts
+pub mod Places
+pub mod Pieces

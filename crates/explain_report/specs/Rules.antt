@@ -1,10 +1,13 @@
 -- What is reported of the rules of a configuration: of a transport what Git does about it, and the settings that
 -- it uses.
-use Rattle.std.specs.Prelude.{◌≡◌, ◌↔◌, ◌⊎◌, ℕ, Bool, true, false, IsTrue, All, List, [], Option, Some, None, codes}
-use Rattle.git_rules.specs.Config.{ConfigEntry}
+use Rattle.std.specs.Prelude.{◌≡◌, ◌↔◌, ◌⊎◌, ℕ, Bool, true, false, IsTrue, if◌then◌else◌, not, ◌&&◌, All, List, [], Option, Some, None, codes}
+use Rattle.std.specs.Option.{option_and_then}
+use Rattle.git_syntax.specs.Bytes.{begins_with, slash}
+use Rattle.git_rules.specs.Config.{ConfigEntry, is_of_section}
 use Rattle.git_rules.specs.Normal.{NormalPlace}
 use Rattle.git_rules.specs.Policies.{Policy}
 use Rattle.git_rules.specs.Protocols.{Decides, IsAllowed}
+use Rattle.git_rules.specs.SameHost.{HaveSameHost}
 use Rattle.git_rules.specs.Settings.{AreSettings, RefusesSettings}
 use Rattle.git_rules.specs.declared.pattern.settings.SettingsError.{SettingsError}
 use Rattle.git_rules.specs.declared.pattern.settings.SettingsError.TheVariants.{Memory}
@@ -12,6 +15,8 @@ use Rattle.git_rules.specs.declared.protocols.Reason.{Reason}
 use Rattle.git_rules.specs.declared.protocols.Reason.TheVariants as reason
 use Rattle.git_rules.specs.declared.protocols.Permission.{Permission}
 use Rattle.git_rules.specs.declared.protocols.Permission.TheVariants as permission
+use Rattle.gix_url.specs.Location.{Location}
+use Rattle.explain_report.specs.Marks.{is_empty}
 use Rattle.explain_report.specs.declared.rules.transports.Verdict.{Verdict}
 use Rattle.explain_report.specs.declared.rules.transports.Verdict.TheVariants as verdict
 
@@ -84,3 +89,14 @@ pub record ReportsPermission (policy : Policy) (name : List ℕ) (v : Verdict) (
 abbrev pub AreShown : List ℕ → Option NormalPlace → ℕ → List ConfigEntry → List ℕ → Type 0
 AreShown name place buffer entries found = AreSettings name place entries found
     ⊎ ((found ≡ []) × (error : SettingsError) × (¬ (error ≡ Memory)) × RefusesSettings name place buffer entries error)
+
+-- whether both name one host, where both are locations
+abbrev pub SaysSameHost : Option Location → Option Location → Option Bool → Type 0
+SaysSameHost None goal same = same ≡ None
+SaysSameHost (Some line) None same = same ≡ None
+SaysSameHost (Some line) (Some goal) None = ⊥
+SaysSameHost (Some line) (Some goal) (Some same) = IsTrue same ↔ HaveSameHost line goal
+
+-- the name of the remote that an entry is of; one that begins with `/` is none
+abbrev pub remote_name : ConfigEntry → Option (List ℕ)
+remote_name e = option_and_then (λ name. if is_of_section (codes "remote") e && (not (is_empty name) && not (begins_with slash name)) then Some name else None) e.subsection

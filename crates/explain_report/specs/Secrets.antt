@@ -1,5 +1,5 @@
 -- What is shown of a text: its pieces, with a word in place of each that may be a secret.
-use Rattle.std.specs.Prelude.{◌≡◌, ◌↔◌, ⊤, ℕ, Bool, true, false, List, [], ◌∷◌, ◌++◌, codes}
+use Rattle.std.specs.Prelude.{◌≡◌, ◌↔◌, ℕ, IsTrue, Bool, true, false, List, [], ◌∷◌, ◌++◌, codes, Option, Some, None}
 use Rattle.std.specs.List.{list_any}
 use Rattle.git_syntax.specs.Bytes.{lossy_text}
 use Rattle.git_syntax.specs.Grammar.{Spells}
@@ -61,10 +61,16 @@ IsShownAround text = (front : List ℕ) × (password : List ℕ) × (rest : List
 abbrev pub HaveSameVerdicts : Location → Location → Type 0
 HaveSameVerdicts v w = (IsSettled v ↔ IsSettled w) × (AgreesWithGit v ↔ AgreesWithGit w)
 
--- how a line is shown that is read as this location: as itself but for a password, or as the text that is shown of it,
--- which spells a location with the same verdicts
+-- how a line is shown that is read as this location: as itself but for a password; as the text that is shown of it,
+-- which spells a location with the same verdicts; or not at all, and only if a part of it may be a secret
 abbrev pub IsSeen : List ℕ → Location → Seen → Type 0
 IsSeen line v seen.Line = IsShownAround line
 IsSeen line v (seen.Other it) = (it.line.items ≡ shown_of line) × Spells (shown_of line) it.url
     × HaveSameVerdicts v it.url
-IsSeen line v seen.Withheld = ⊤
+IsSeen line v seen.Withheld = IsTrue (has_secret line)
+
+-- the line and the location of which may be shown what is read in this line, if there are such
+abbrev pub shown_as : List ℕ → Location → Seen → Option (List ℕ × Location)
+shown_as line v seen.Line = Some (line, v)
+shown_as line v (seen.Other it) = Some (it.line.items, it.url)
+shown_as line v seen.Withheld = None

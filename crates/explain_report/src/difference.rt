@@ -6,12 +6,14 @@
 //! word `redacted`. That the field is the first, and the words, are no part of it.
 
 ghost use Rattle.std.specs.Prelude.{◌≡◌, ◌↔◌, IfOk, IfSome, IsNone, Ok, decimal, option_map, string_bytes};
+ghost use Rattle.std.specs.List.{list_any};
 ghost use Rattle.bstr.specs.BStr.{bstr_bytes};
 ghost use Rattle.gix_url.specs.Settled.{IsSettled};
 ghost use Rattle.gix_url.specs.Text.{text};
 ghost use Rattle.gix_url.specs.Views.{owned_scheme};
-ghost use Rattle.explain_report.specs.Differences.{ReportsField, ReportsReread, flag_word, scheme_words};
+ghost use Rattle.explain_report.specs.Differences.{ReportsField, ReportsReread, flag_word, is_mark, scheme_words};
 ghost use Rattle.explain_report.specs.Facts.{AreFactsOf};
+ghost use Rattle.explain_report.specs.Marks.{some_passes};
 
 use crate::change::push_change;
 use crate::facts::Facts;
@@ -253,16 +255,33 @@ fn same_fields(url: &Url) -> &'static str {
 }
 
 /// Whether a part has a colon or a bracket.
-fn has_mark(part: Option<&str>) -> bool {
-    part.is_some_and(|part| {
-        part.as_bytes()
-            .iter()
-            .any(|byte| matches!(byte, b':' | b'[' | b']'))
-    })
+fn has_mark(part: Option<&str>) -> bool
+    ensures { result ≡ some_passes (list_any is_mark) (option_map (λ it. it.now) part.entry) }
+{
+    match part {
+        Some(part) => holds_mark(part.as_bytes()),
+        None => false,
+    }
+}
+
+/// Whether a text has a colon or a bracket.
+fn holds_mark(text: &[u8]) -> bool
+    ensures { result ≡ list_any is_mark text.now }
+{
+    text.iter().any(|byte| is_mark(*byte))
+}
+
+/// Whether the byte is a colon or a bracket.
+fn is_mark(byte: u8) -> bool
+    ensures { result ≡ is_mark byte }
+{
+    matches!(byte, b':' | b'[' | b']')
 }
 
 /// The text in quotes.
-fn quoted(text: &Option<String>) -> Option<Quoted<'_>> {
+fn quoted(text: &Option<String>) -> Option<Quoted<'_>>
+    ensures { option_map (λ it. it.0.now) result ≡ option_map string_bytes text.now }
+{
     match text {
         None => None,
         Some(text) => Some(Quoted(text.as_str().as_bytes())),

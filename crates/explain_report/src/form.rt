@@ -1,6 +1,10 @@
 //! The form that a location is written in, as it is reported: by name, and in words.
 //!
-//! It uses a location of `gix_url`, and has no contract but that it can't abort.
+//! It uses a location of `gix_url`. Its contract: the form is that of the scheme and of the flag. The words are no part
+//! of it.
+
+ghost use Rattle.std.specs.Prelude.{◌≡◌};
+ghost use Rattle.explain_report.specs.Forms.{file_form, form_of, ssh_form};
 
 use gix_url::{Scheme, Url};
 use serde::Serialize;
@@ -18,18 +22,33 @@ pub enum Form {
 
 impl Form {
     /// The form of the location.
-    pub fn of(url: &Url) -> Form {
+    pub fn of(url: &Url) -> Form
+        ensures { result ≡ form_of url.now }
+    {
         match &url.scheme {
             Scheme::Ext | Scheme::Helper(_) => Form::RemoteHelper,
-            Scheme::File if url.serialize_alternative_form => Form::Local,
-            Scheme::Ssh if url.serialize_alternative_form => Form::Scp,
-            Scheme::File
-            | Scheme::Git
-            | Scheme::Ssh
-            | Scheme::Http
-            | Scheme::Https
-            | Scheme::HelperUrl(_) => Form::Url,
+            Scheme::File => Form::of_file(url.serialize_alternative_form),
+            Scheme::Ssh => Form::of_ssh(url.serialize_alternative_form),
+            Scheme::Git | Scheme::Http | Scheme::Https | Scheme::HelperUrl(_) => Form::Url,
         }
+    }
+
+    /// The form of a file, in its alternative form or not.
+    fn of_file(is_alternative: bool) -> Form
+        ensures { result ≡ file_form is_alternative }
+    {
+        if is_alternative {
+            Form::Local
+        } else {
+            Form::Url
+        }
+    }
+
+    /// The form of a location of Secure Shell, in its alternative form or not.
+    fn of_ssh(is_alternative: bool) -> Form
+        ensures { result ≡ ssh_form is_alternative }
+    {
+        if is_alternative { Form::Scp } else { Form::Url }
     }
 }
 

@@ -3,10 +3,16 @@
 //!
 //! It uses the public calls of `gix_url`, `web` for words on HTTP, and `secret`. Its contract: no field is
 //! reported of a location that has a password, which Git reads as a part of another one, and none of a line
-//! that is refused and of which a part may be a secret. The stored run shows what it reports, and `scripts/hostile golden` its
-//! words.
+//! that is refused and of which a part may be a secret, decoded or not. The stored run shows what it reports, and
+//! `scripts/hostile golden` its words.
 
-ghost use Rattle.std.specs.Prelude.{◌≡◌, IfOk, IfSome, IsSome, None, Some};
+ghost use Rattle.std.specs.Prelude.{◌≡◌, ◌==◌, ◌||◌, IfOk, IfSome, IsSome, IsTrue, None, Some, false, option_map, true};
+ghost use Rattle.std.specs.List.{list_any};
+ghost use Rattle.git_audit.specs.Dangers.{is_of_http};
+ghost use Rattle.git_location.specs.WebConditions.{IsFirstUnmet};
+ghost use Rattle.git_syntax.specs.Authority.{unless_empty};
+ghost use Rattle.explain_report.specs.Marks.{some_passes};
+ghost use Rattle.explain_report.specs.Places as spec;
 ghost use Rattle.explain_report.specs.Reports.{WithholdsSecret};
 
 use crate::change::push_change;
@@ -165,7 +171,10 @@ fn withheld_all_the_same(alloc: Global) -> Result<GitReads, AllocError>
 
 /// What is reported of a place that Git reads in a line that is refused, unless a part of it may be a secret once it
 /// is decoded.
-fn report_all_the_same(alloc: Global, found: &GitPlace<'_>) -> Result<GitReads, AllocError> {
+fn report_all_the_same(alloc: Global, found: &GitPlace<'_>) -> Result<GitReads, AllocError>
+    ensures { IfOk result (λ it. IsTrue (spec.place_has_secret found.now)
+        → (it.user ≡ None) × (it.host ≡ None) × (it.path ≡ None)) }
+{
     if holds_secret(found) {
         return withheld_all_the_same(alloc);
     }
@@ -177,14 +186,29 @@ fn report_all_the_same(alloc: Global, found: &GitPlace<'_>) -> Result<GitReads, 
 
 /// Whether the user or the host that Git reads has a mark that is behind a user or a password, or a part may be a
 /// secret.
-fn holds_secret(found: &GitPlace<'_>) -> bool {
-    found
-        .user
-        .is_some_and(|user| user.contains(&b':') || has_secret(user))
-        || found
-            .host
-            .is_some_and(|host| host.contains(&b'@') || has_secret(host))
+fn holds_secret(found: &GitPlace<'_>) -> bool
+    ensures { result ≡ spec.place_has_secret found.now }
+{
+    may_hide_if_some(found.user, b':')
+        || may_hide_if_some(found.host, b'@')
         || has_secret(found.path)
+}
+
+/// Whether there is a part that has the mark, or of which a part may be a secret.
+fn may_hide_if_some(part: Option<&[u8]>, mark: u8) -> bool
+    ensures { result ≡ some_passes (spec.may_hide mark) (option_map (λ it. it.now) part.entry) }
+{
+    match part {
+        Some(part) => has_mark(part, mark) || has_secret(part),
+        None => false,
+    }
+}
+
+/// Whether the text has the mark.
+fn has_mark(text: &[u8], mark: u8) -> bool
+    ensures { result ≡ list_any (λ b. b == mark) text.now }
+{
+    text.iter().any(|byte| *byte == mark)
 }
 
 /// Appends what Git does with the place that it reads in a line that is refused.
@@ -227,7 +251,10 @@ fn unread_refused(alloc: Global, why: Unread) -> Result<GitReads, AllocError>
 }
 
 /// The first condition that a location of HTTP doesn't meet, of which it isn't known that all read the same.
-fn unmet_condition(url: &Url, is_settled: bool) -> Option<WebCondition> {
+fn unmet_condition(url: &Url, is_settled: bool) -> Option<WebCondition>
+    ensures unsettled { is_settled ≡ false → result ≡ Some WebCondition.Settled }
+    ensures first { is_settled ≡ true → IfSome result (λ unmet. IsFirstUnmet unmet url.now) }
+{
     if is_settled {
         url.unmet_web_condition()
     } else {
@@ -348,7 +375,9 @@ fn two_places(out: &mut String, text: &[u8]) -> Result<(), AllocError> {
 // ---- beside the location
 
 /// The transport of Git's own that the scheme of the location is for.
-fn own_protocol(url: &Url) -> Option<Protocol> {
+fn own_protocol(url: &Url) -> Option<Protocol>
+    ensures { result ≡ spec.own_protocol url.now.scheme }
+{
     match &url.scheme {
         Scheme::Ssh => Some(Protocol::Ssh),
         Scheme::Git => Some(Protocol::Git),
@@ -360,12 +389,16 @@ fn own_protocol(url: &Url) -> Option<Protocol> {
 }
 
 /// Whether the location is one of HTTP, whose text Git hands to curl.
-pub fn is_of_web(url: &Url) -> bool {
+pub fn is_of_web(url: &Url) -> bool
+    ensures { result ≡ is_of_http url.now.scheme }
+{
     matches!(&url.scheme, Scheme::Http | Scheme::Https)
 }
 
 /// Whether Git hands the text of the location to another remote helper by its scheme.
-fn is_for_helper(url: &Url) -> bool {
+fn is_for_helper(url: &Url) -> bool
+    ensures { result ≡ spec.is_for_helper url.now.scheme }
+{
     matches!(
         &url.scheme,
         Scheme::Ext | Scheme::Helper(_) | Scheme::HelperUrl(_)
@@ -382,15 +415,32 @@ fn protocol_name(protocol: Protocol) -> &'static str {
 }
 
 /// The user of the location.
-fn user_of(url: &Url) -> Option<&[u8]> {
-    url.user().map(|user| user.as_bytes())
+fn user_of(url: &Url) -> Option<&[u8]>
+    ensures { option_map (λ it. it.now) result ≡ url.now.user }
+{
+    match url.user() {
+        Some(user) => Some(user.as_bytes()),
+        None => None,
+    }
 }
 
 /// The host of the location, unless it is empty.
-fn host_of(url: &Url) -> Option<&[u8]> {
+fn host_of(url: &Url) -> Option<&[u8]>
+    ensures { option_map (λ it. it.now) result ≡ spec.named_host url.now.host }
+{
     match url.host() {
-        Some(host) if !host.is_empty() => Some(host.as_bytes()),
-        _ => None,
+        Some(host) => unless_empty(host.as_bytes()),
+        None => None,
+    }
+}
+
+/// The text, unless it is empty.
+fn unless_empty(text: &[u8]) -> Option<&[u8]>
+    ensures { option_map (λ it. it.now) result ≡ unless_empty text.now }
+{
+    match text {
+        [] => None,
+        _ => Some(text),
     }
 }
 

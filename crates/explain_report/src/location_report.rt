@@ -11,7 +11,7 @@ ghost use Rattle.gix_url.specs.GitClass.{AgreesWithGit};
 ghost use Rattle.gix_url.specs.Display.{hidden_password};
 ghost use Rattle.gix_url.specs.Settled.{IsSettled};
 ghost use Rattle.explain_report.specs.Facts.{AreFactsOf};
-ghost use Rattle.explain_report.specs.Reports.{ReportsAgain, WithholdsPlace};
+ghost use Rattle.explain_report.specs.Reports.{ReportsAgain, WithholdsPlace, safety_of};
 
 use crate::credential::Credential;
 use crate::curl::Curl;
@@ -288,7 +288,9 @@ fn arguments_of(url: &Url) -> Arguments {
 }
 
 /// The judgement of a user or a host in a word.
-fn safety_of(judged: ArgumentSafety<'_>) -> Safety {
+fn safety_of(judged: ArgumentSafety<'_>) -> Safety
+    ensures { result ≡ safety_of judged.entry }
+{
     match judged {
         ArgumentSafety::Absent => Safety::Absent,
         ArgumentSafety::Usable(_) => Safety::Usable,

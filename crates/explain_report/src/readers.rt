@@ -3,11 +3,13 @@
 //! otherwise.
 //!
 //! It uses `unmet_condition` of `gix_url`, `taken` for the hosts, `git_host` for the host that Git connects to, and
-//! `instead` for the URL. Its contract: nothing is reported of a location only if all read its text alike. A host that
-//! isn't in a part of the line that is shown is reported as `redacted`; the stored run shows which hosts are found.
+//! `instead` for the URL. Its contract: nothing is reported of a location only if all read its text alike, and no part of
+//! the URL may be a secret. A host that isn't in a part of the line that is shown is reported as `redacted`; the stored
+//! run shows which hosts are found.
 
-ghost use Rattle.std.specs.Prelude.{IfOk, IsNone};
+ghost use Rattle.std.specs.Prelude.{◌≡◌, IfOk, IfSome, IsNone, None, false, string_bytes};
 ghost use Rattle.git_readers.specs.Conditions.{IsUnambiguous};
+ghost use Rattle.explain_report.specs.Secrets.{has_secret};
 
 mod condition;
 mod git_host;
@@ -65,7 +67,9 @@ impl Readers {
         url: &Url,
         host: Option<&str>,
     ) -> Result<Option<Readers>, AllocError>
-        ensures { IfOk result (λ readers. IsNone readers → IsUnambiguous url.now) }
+        ensures none { IfOk result (λ readers. IsNone readers → IsUnambiguous url.now) }
+        ensures instead { IfOk result (λ readers. IfSome readers (λ it.
+            IfSome it.instead (λ text. has_secret (string_bytes text) ≡ false))) }
     {
         let others = others_of_location(alloc, line, url, host)?;
         match url.unmet_condition() {
@@ -86,11 +90,9 @@ impl Readers {
     }
 
     /// What is reported of a location that doesn't meet the condition.
-    fn with_condition(
-        unmet: Condition,
-        others: Vec<OtherHost>,
-        instead: Option<String>,
-    ) -> Readers {
+    fn with_condition(unmet: Condition, others: Vec<OtherHost>, instead: Option<String>) -> Readers
+        ensures { result.instead ≡ instead }
+    {
         Readers {
             condition: Some(condition::name(unmet)),
             words: condition::words(unmet),
@@ -109,7 +111,9 @@ pub fn instead_of(readers: Option<&Readers>) -> Option<&str> {
 }
 
 /// What is reported where no condition is, if there is another host.
-fn of_others(others: Vec<OtherHost>) -> Option<Readers> {
+fn of_others(others: Vec<OtherHost>) -> Option<Readers>
+    ensures { IfSome result (λ it. it.instead ≡ None) }
+{
     if others.is_empty() {
         drop(others);
         return None;

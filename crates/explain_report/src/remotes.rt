@@ -1,7 +1,10 @@
 //! The remotes of a configuration: what Git fetches from and pushes to for each, and what is found in that.
 //!
-//! It uses `remote` of `git_rules`, and `rules` for each text that Git goes to. It has no contract but that it
-//! can't abort: `scripts/hostile rules` shows its answers.
+//! It uses `remote` of `git_rules`, and `rules` for each text that Git goes to. Its contract: an entry is of the remote
+//! that its subsection names. `scripts/hostile rules` shows the answers.
+
+ghost use Rattle.std.specs.Prelude.{◌≡◌, option_map};
+ghost use Rattle.explain_report.specs.Rules.{remote_name};
 
 use crate::finding::Findings;
 use crate::memory::both;
@@ -53,7 +56,9 @@ pub fn names<'a>(alloc: Global, entries: &[Entry<'a>]) -> Result<Vec<&'a [u8]>, 
 }
 
 /// The name of the remote that an entry is of, if it is of one.
-fn name_of<'a>(entry: &Entry<'a>) -> Option<&'a [u8]> {
+fn name_of<'a>(entry: &Entry<'a>) -> Option<&'a [u8]>
+    ensures { option_map (λ it. it.now) result ≡ remote_name entry.now }
+{
     match entry.subsection {
         Some(name) if entry.is_section("remote") && !name.is_empty() && !name.starts_with(b"/") => {
             Some(name)

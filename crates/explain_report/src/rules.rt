@@ -6,8 +6,9 @@
 //! it in words. It uses the public calls of `gix_url` and `git_rules`, and has no contract but that it can't abort:
 //! `scripts/hostile rules` shows its answers.
 
-ghost use Rattle.std.specs.Prelude.{◌≡◌};
+ghost use Rattle.std.specs.Prelude.{◌≡◌, ◌↔◌, IfOk, IsNone, option_map};
 ghost use Rattle.explain_report.specs.Findings.{union};
+ghost use Rattle.explain_report.specs.Rules.{SaysSameHost};
 
 pub mod config;
 pub mod credentials;
@@ -79,7 +80,9 @@ impl Rules {
         config: Option<&Config<'_>>,
         line: &[u8],
         url: Option<&Url>,
-    ) -> Result<Option<Rules>, AllocError> {
+    ) -> Result<Option<Rules>, AllocError>
+        ensures { IfOk result (λ rules. IsNone rules ↔ IsNone config.entry) }
+    {
         match config {
             None => Ok(None),
             Some(config) => Ok(Some(Rules::of(alloc, config, line, url)?)),
@@ -247,7 +250,9 @@ fn both_named(alloc: Global, route: Route) -> Result<(Route, Vec<&'static str>),
 }
 
 /// Whether a goal names the host of a line, where both are locations.
-fn is_same_host(line: Option<&Url>, goal: &Goal) -> Option<bool> {
+fn is_same_host(line: Option<&Url>, goal: &Goal) -> Option<bool>
+    ensures { SaysSameHost (option_map (λ url. url.now) line.entry) goal.now.url result }
+{
     match (line, &goal.url) {
         (Some(line), Some(url)) => Some(names_same_host(&line.as_ref(), &url.as_ref())),
         _ => None,

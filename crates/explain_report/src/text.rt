@@ -1,14 +1,17 @@
 //! Texts as `explain` shows them: [`secret`] has what is shown of a text, [`seen`] how a line is shown that is read as a
 //! location, by the places of `place`; [`cut`] names the pieces of a line by the parts that the library finds in it,
-//! and [`line`] says how they are spelled for a terminal.
+//! `joined` compares them with what is shown, and [`line`] spells texts for a terminal by `printed` and `shell_word`.
 
 pub mod cut;
+mod joined;
 pub mod line;
 mod place;
+mod printed;
 pub mod secret;
 pub mod seen;
+mod shell_word;
 
-ghost use Rattle.std.specs.Prelude.{◌≡◌, IfOk, string_bytes};
+ghost use Rattle.std.specs.Prelude.{◌≡◌, IfOk, option_map, string_bytes};
 ghost use Rattle.git_syntax.specs.Bytes.{lossy_text};
 
 use bstr::ByteSlice;
@@ -22,7 +25,9 @@ pub(crate) fn lossy(alloc: Global, bytes: &[u8]) -> Result<String, AllocError>
 }
 
 /// A part as a text, where there is one.
-pub(crate) fn lossy_part(alloc: Global, part: Option<&[u8]>) -> Result<Option<String>, AllocError> {
+pub(crate) fn lossy_part(alloc: Global, part: Option<&[u8]>) -> Result<Option<String>, AllocError>
+    ensures { IfOk result (λ text. option_map string_bytes text ≡ option_map (λ it. lossy_text it.now) part.entry) }
+{
     match part {
         None => Ok(None),
         Some(part) => Ok(Some(lossy(alloc, part)?)),

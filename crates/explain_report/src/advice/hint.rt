@@ -2,8 +2,16 @@
 //!
 //! It decides by the bytes of a line and by what the line is read as, and shows neither. It uses
 //! `form` for the form, `slip`, `pasted`, `host_name` and `web_page` for conditions, and `secret` for a line that is
-//! refused; `words` has names and sentences. It has no contract but that it can't abort: the stored run shows which
-//! hints are found, and `scripts/hostile golden` their sentences, and that no plain remote gets one.
+//! refused; `words` has names and sentences. Its contract, memory permitting: the hints that are found are those that
+//! apply by `specs/HintRules.antt`. `scripts/hostile golden` shows their sentences, and that no plain remote gets one.
+
+ghost use Rattle.std.specs.Prelude.{◌≡◌, IfOk, option_map};
+ghost use Rattle.std.specs.List.{filter};
+ghost use Rattle.explain_report.specs.HintRules as spec;
+ghost use Rattle.explain_report.specs.HostNames.{is_host_name, is_name_of_service, is_user_and_host};
+ghost use Rattle.explain_report.specs.Marks.{some_passes};
+ghost use Rattle.explain_report.specs.Scripts.{is_mixed};
+ghost use Rattle.explain_report.specs.Slips.{is_drive};
 
 mod words;
 
@@ -13,7 +21,6 @@ use crate::advice::web_page::is_page;
 use crate::advice::{pasted, slip};
 use crate::form::Form;
 use crate::text::secret::has_secret;
-use bstr::ByteSlice;
 use serde::Serialize;
 use std::alloc::{AllocError, Global};
 
@@ -131,7 +138,9 @@ pub fn find(
     alloc: Global,
     line: &[u8],
     reading: Option<Reading<'_>>,
-) -> Result<Vec<Hint>, AllocError> {
+) -> Result<Vec<Hint>, AllocError>
+    ensures { IfOk result (λ found. found.items ≡ filter (spec.applies line.now reading.entry) spec.every_hint) }
+{
     let all = Hint::ALL;
     all.iter()
         .copied()
@@ -189,7 +198,9 @@ impl Hint {
     ];
 
     /// Whether the hint applies to a line.
-    fn applies(self, line: &[u8], reading: Option<Reading<'_>>) -> bool {
+    fn applies(self, line: &[u8], reading: Option<Reading<'_>>) -> bool
+        ensures { result ≡ spec.applies line.now reading.entry self }
+    {
         match reading {
             None => self.is_in_refused(line) || self.is_in_bytes(line),
             Some(reading) => {
@@ -199,7 +210,9 @@ impl Hint {
     }
 
     /// Whether the hint is one about another text or about what is hidden, and applies to what is read.
-    fn is_beside(self, reading: Reading<'_>) -> bool {
+    fn is_beside(self, reading: Reading<'_>) -> bool
+        ensures { result ≡ spec.is_beside self reading.entry }
+    {
         match self {
             Hint::WriteInstead => reading.has_instead,
             Hint::HiddenSecret => reading.has_hidden && !reading.has_password_with_hint(),
@@ -208,12 +221,14 @@ impl Hint {
     }
 
     /// Whether the hint is one about bytes, whatever they are read as, and applies to these.
-    fn is_in_bytes(self, line: &[u8]) -> bool {
+    fn is_in_bytes(self, line: &[u8]) -> bool
+        ensures { result ≡ spec.is_in_bytes self line.now }
+    {
         match self {
             Hint::CapitalScheme => slip::has_capital_scheme(line),
             Hint::CarriageReturn => line.ends_with(b"\r"),
             Hint::ByteOrderMark => line.starts_with(b"\xef\xbb\xbf"),
-            Hint::OuterBlank => matches!(line, [b' ' | b'\t', ..] | [.., b' ' | b'\t']),
+            Hint::OuterBlank => has_outer_blank(line),
             Hint::PastedCommand => pasted::begins_with_command(line),
             Hint::MarkdownLink => pasted::is_markdown_link(line),
             Hint::PastedSetting => pasted::is_setting(line),
@@ -234,7 +249,9 @@ impl Hint {
     }
 
     /// Whether the hint is one about refused lines, and applies to this one.
-    fn is_in_refused(self, line: &[u8]) -> bool {
+    fn is_in_refused(self, line: &[u8]) -> bool
+        ensures { result ≡ spec.is_in_refused self line.now }
+    {
         match self {
             Hint::ColonForSlash => {
                 slip::has_colon_for_slash(line)
@@ -243,28 +260,32 @@ impl Hint {
             }
             Hint::SlashInPassword => slip::has_slash_in_password(line),
             Hint::Punycode => slip::has_wide_host_of_web(line),
-            Hint::MixedScripts => slip::host_of_refused(line).is_some_and(is_mixed),
+            Hint::MixedScripts => is_mixed_if_some(slip::host_of_refused(line)),
             Hint::HiddenSecret => has_secret(line),
             _ => false,
         }
     }
 
     /// Whether the hint is one about what a line is read as, and applies to this.
-    fn is_in_read(self, line: &[u8], reading: Reading<'_>) -> bool {
+    fn is_in_read(self, line: &[u8], reading: Reading<'_>) -> bool
+        ensures { result ≡ spec.is_in_form reading.entry.form self line.now reading.entry }
+    {
         match reading.form {
             Form::Local => self.is_in_path(line),
             Form::Scp => self.is_in_scp(line, reading) || self.is_in_remote(line, reading),
             Form::Url => self.is_in_url(reading) || self.is_in_remote(line, reading),
-            Form::RemoteHelper => matches!(self, Hint::RunsCommand) && reading.scheme == "ext",
+            Form::RemoteHelper => self.is_in_helper(reading),
         }
     }
 
     /// Whether the hint is one about local paths, and applies to this one.
-    fn is_in_path(self, path: &[u8]) -> bool {
+    fn is_in_path(self, path: &[u8]) -> bool
+        ensures { result ≡ spec.is_in_path self path.now }
+    {
         match self {
-            Hint::NoScheme => slip::first_element(path).is_some_and(is_host_name),
+            Hint::NoScheme => is_host_if_some(slip::first_element(path)),
             Hint::HomeHere => path.starts_with(b"~"),
-            Hint::SlashForColon => slip::first_element(path).is_some_and(is_user_and_host),
+            Hint::SlashForColon => is_user_if_some(slip::first_element(path)),
             Hint::Relative => path == b"..".as_slice() || path.starts_with(b"../"),
             Hint::RemoteName => slip::is_remote_name(path),
             Hint::MissingColon => slip::lacks_colon(path),
@@ -274,7 +295,9 @@ impl Hint {
     }
 
     /// Whether the hint is one about the scp form, and applies to this line.
-    fn is_in_scp(self, line: &[u8], reading: Reading<'_>) -> bool {
+    fn is_in_scp(self, line: &[u8], reading: Reading<'_>) -> bool
+        ensures { result ≡ spec.is_in_scp self line.now reading.entry }
+    {
         match self {
             Hint::WindowsPath => slip::begins_with_drive(line),
             Hint::ScpPort => slip::begins_with_port(reading.path),
@@ -284,33 +307,113 @@ impl Hint {
     }
 
     /// Whether the hint is one about URLs, and applies to this one.
-    fn is_in_url(self, reading: Reading<'_>) -> bool {
+    fn is_in_url(self, reading: Reading<'_>) -> bool
+        ensures { result ≡ spec.is_in_url self reading.entry }
+    {
         match self {
             Hint::StoredPassword => reading.is_of_web() && reading.has_password,
             Hint::Unencrypted => {
-                reading.scheme == "http" && (reading.user.is_some() || reading.has_password)
+                reading.is_of("http") && (reading.user.is_some() || reading.has_password)
             }
             Hint::WebPage => reading.is_of_web() && is_page(reading.host, reading.path),
-            Hint::SshPassword => reading.scheme == "ssh" && reading.has_password,
-            Hint::FileHost => {
-                reading.is_of_file_with_host() && !reading.host.is_some_and(slip::is_drive)
-            }
-            Hint::FileDrive => reading.scheme == "file" && reading.host.is_some_and(slip::is_drive),
+            Hint::SshPassword => reading.is_of("ssh") && reading.has_password,
+            Hint::FileHost => reading.is_of_file_with_host() && !is_drive_if_some(reading.host),
+            Hint::FileDrive => reading.is_of("file") && is_drive_if_some(reading.host),
             _ => false,
         }
     }
 
     /// Whether the hint is one about URLs and the scp form, and applies to this line.
-    fn is_in_remote(self, line: &[u8], reading: Reading<'_>) -> bool {
+    fn is_in_remote(self, line: &[u8], reading: Reading<'_>) -> bool
+        ensures { result ≡ spec.is_in_remote self line.now reading.entry }
+    {
         match self {
             Hint::EndOfSentence => pasted::ends_like_sentence(line),
             Hint::HomeThere => reading.is_of_shell_or_git() && reading.path.starts_with(b"~"),
             Hint::Revision => reading.names_revision(),
-            Hint::HostAsUser => reading
-                .user
-                .is_some_and(|user| is_name_of_service(user.as_bytes())),
-            Hint::MixedScripts => reading.host.is_some_and(|host| is_mixed(host.as_bytes())),
+            Hint::HostAsUser => is_service_if_some(reading.user),
+            Hint::MixedScripts => is_mixed_part(reading.host),
             _ => false,
         }
+    }
+
+    /// Whether the hint is the one about the remote helper `ext`, and applies to this.
+    fn is_in_helper(self, reading: Reading<'_>) -> bool
+        ensures { result ≡ spec.is_in_helper self reading.entry }
+    {
+        match self {
+            Hint::RunsCommand => reading.is_of("ext"),
+            _ => false,
+        }
+    }
+}
+
+/// Whether the first or the last byte is a space or a tab.
+fn has_outer_blank(line: &[u8]) -> bool
+    ensures { result ≡ spec.has_outer_blank line.now }
+{
+    line.starts_with(b" ")
+        || line.starts_with(b"\t")
+        || line.ends_with(b" ")
+        || line.ends_with(b"\t")
+}
+
+/// Whether there is a text, and it is the name of a host.
+fn is_host_if_some(text: Option<&[u8]>) -> bool
+    ensures { result ≡ some_passes is_host_name (option_map (λ it. it.now) text.entry) }
+{
+    match text {
+        Some(text) => is_host_name(text),
+        None => false,
+    }
+}
+
+/// Whether there is a text, and it is a user and the name of a host.
+fn is_user_if_some(text: Option<&[u8]>) -> bool
+    ensures { result ≡ some_passes is_user_and_host (option_map (λ it. it.now) text.entry) }
+{
+    match text {
+        Some(text) => is_user_and_host(text),
+        None => false,
+    }
+}
+
+/// Whether there is a host, and a label of it has letters of two scripts.
+fn is_mixed_if_some(host: Option<&[u8]>) -> bool
+    ensures { result ≡ some_passes is_mixed (option_map (λ it. it.now) host.entry) }
+{
+    match host {
+        Some(host) => is_mixed(host),
+        None => false,
+    }
+}
+
+/// Whether there is a host, and a label of it has letters of two scripts.
+fn is_mixed_part(host: Option<&str>) -> bool
+    ensures { result ≡ spec.part_passes is_mixed host.entry }
+{
+    match host {
+        Some(host) => is_mixed(host.as_bytes()),
+        None => false,
+    }
+}
+
+/// Whether there is a host, and it is the letter of a drive and a colon.
+fn is_drive_if_some(host: Option<&str>) -> bool
+    ensures { result ≡ spec.part_passes is_drive host.entry }
+{
+    match host {
+        Some(host) => slip::is_drive(host),
+        None => false,
+    }
+}
+
+/// Whether there is a user, and it is the name of a host of a service.
+fn is_service_if_some(user: Option<&str>) -> bool
+    ensures { result ≡ spec.part_passes is_name_of_service user.entry }
+{
+    match user {
+        Some(user) => is_name_of_service(user.as_bytes()),
+        None => false,
     }
 }

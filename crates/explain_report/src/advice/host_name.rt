@@ -1,32 +1,66 @@
 //! Names of hosts as people write them, and users that are written so.
 //!
-//! Hints alone decide by them. Their contracts: labels and users are those of the definitions. The others have
-//! none but that they can't abort.
+//! Hints alone decide by them, and `marks` cuts texts. Its contract: labels, users and names, and labels with letters
+//! of two scripts, are those of the definitions.
 
-ghost use Rattle.std.specs.Prelude.{◌≡◌};
-ghost use Rattle.std.specs.List.{list_all};
+ghost use Rattle.std.specs.Prelude.{◌≡◌, codes};
+ghost use Rattle.std.specs.List.{list_all, list_any};
+ghost use Rattle.std.specs.Char.{is_ascii_alphabetic};
+ghost use Rattle.bstr.specs.Utf8.{lossy_chars};
+ghost use Rattle.explain_report.specs.HostNames as spec;
+ghost use Rattle.explain_report.specs.Scripts.{is_drawn_alike, is_mixed, is_mixed_label};
 ghost use Rattle.explain_report.specs.Hints.{is_label, is_label_byte, is_user, is_user_byte};
+ghost use Rattle.explain_report.specs.Marks.{is_among, last_halves, passes};
 
+use crate::advice::marks::{halves, is_among, last_halves};
+use crate::advice::slip::is_wide;
 use bstr::ByteSlice;
 use unicode::properties::Script;
 
-/// The last labels of most names of services.
-const OF_SERVICES: [&[u8]; 10] = [
-    b"com", b"org", b"net", b"io", b"dev", b"app", b"edu", b"gov", b"info", b"cloud",
-];
-
 /// Whether the bytes are the name of a host with a `.` in it.
-pub(crate) fn is_host_name(name: &[u8]) -> bool {
-    match name.rsplit_once_str(b".") {
-        Some((front, last)) => is_last_label(last) && front.split_str(b".").all(is_label),
+pub(crate) fn is_host_name(name: &[u8]) -> bool
+    ensures { result ≡ spec.is_host_name name.now }
+{
+    match last_halves(name, b".") {
+        Some((front, last)) => is_last_label(last) && are_labels(front),
         None => false,
     }
 }
 
+/// Whether the bytes are labels with a `.` between two.
+fn are_labels(front: &[u8]) -> bool
+    ensures { result ≡ list_all is_label (spec.labels front.now) }
+{
+    front
+        .split(|byte| is_dot(*byte))
+        .all(|label| is_label(label))
+}
+
+/// Whether the byte is between labels.
+fn is_dot(byte: u8) -> bool
+    ensures { result ≡ spec.is_dot byte }
+{
+    byte == b'.'
+}
+
 /// Whether the bytes are the name of a host that ends as names of services do.
-pub(crate) fn is_name_of_service(name: &[u8]) -> bool {
-    match name.rsplit_once_str(b".") {
-        Some((_, last)) => is_host_name(name) && OF_SERVICES.iter().any(|it| *it == last),
+pub(crate) fn is_name_of_service(name: &[u8]) -> bool
+    ensures { result ≡ spec.is_name_of_service name.now }
+{
+    is_host_name(name) && ends_like_service(name)
+}
+
+/// Whether the last label is one of most names of services.
+fn ends_like_service(name: &[u8]) -> bool
+    ensures { result ≡ passes (λ front last. is_among spec.services last) (last_halves (codes ".") name.now) }
+{
+    match last_halves(name, b".") {
+        Some((_, last)) => is_among(
+            last,
+            &[
+                "com", "org", "net", "io", "dev", "app", "edu", "gov", "info", "cloud",
+            ],
+        ),
         None => false,
     }
 }
@@ -56,15 +90,24 @@ fn are_label_bytes(bytes: &[u8]) -> bool
 }
 
 /// Whether the bytes may be the last label of a host, and aren't the end of a bare repository's name.
-fn is_last_label(label: &[u8]) -> bool {
-    label.len() > 1
-        && label != b"git".as_slice()
-        && label.iter().all(|byte| byte.is_ascii_alphabetic())
+fn is_last_label(label: &[u8]) -> bool
+    ensures { result ≡ spec.is_last_label label.now }
+{
+    label.len() > 1 && label != b"git".as_slice() && are_letters(label)
+}
+
+/// Whether each byte is a letter.
+fn are_letters(label: &[u8]) -> bool
+    ensures { result ≡ list_all is_ascii_alphabetic label.now }
+{
+    label.iter().all(|byte| byte.is_ascii_alphabetic())
 }
 
 /// Whether the bytes are a plain user, `@` and the name of a host.
-pub(crate) fn is_user_and_host(bytes: &[u8]) -> bool {
-    match bytes.split_once_str(b"@") {
+pub(crate) fn is_user_and_host(bytes: &[u8]) -> bool
+    ensures { result ≡ spec.is_user_and_host bytes.now }
+{
+    match halves(bytes, b"@") {
         Some((user, host)) => is_user(user) && is_host_name(host),
         None => false,
     }
@@ -95,17 +138,50 @@ fn are_user_bytes(bytes: &[u8]) -> bool
 }
 
 /// Whether a label of the host has an ASCII letter and one of another script that has letters drawn alike.
-pub(crate) fn is_mixed(host: &[u8]) -> bool {
-    !host.is_ascii() && host.split_str(b".").any(is_mixed_label)
+pub(crate) fn is_mixed(host: &[u8]) -> bool
+    ensures { result ≡ is_mixed host.now }
+{
+    is_wide(host) && has_mixed_label(host)
+}
+
+/// Whether a label of the host has an ASCII letter and one of another script that has letters drawn alike.
+fn has_mixed_label(host: &[u8]) -> bool
+    ensures { result ≡ list_any is_mixed_label (spec.labels host.now) }
+{
+    host.split(|byte| is_dot(*byte))
+        .any(|label| is_mixed_label(label))
 }
 
 /// Whether the label has an ASCII letter and one of another script that has letters drawn alike.
-fn is_mixed_label(label: &[u8]) -> bool {
-    label.iter().any(|byte| byte.is_ascii_alphabetic()) && label.chars().any(is_drawn_alike)
+fn is_mixed_label(label: &[u8]) -> bool
+    ensures { result ≡ is_mixed_label label.now }
+{
+    has_letter(label) && has_letter_alike(label)
+}
+
+/// Whether the label has an ASCII letter.
+fn has_letter(label: &[u8]) -> bool
+    ensures { result ≡ list_any is_ascii_alphabetic label.now }
+{
+    label.iter().any(|byte| byte.is_ascii_alphabetic())
+}
+
+/// Whether the label has a character of another script that has letters drawn alike.
+fn has_letter_alike(label: &[u8]) -> bool
+    ensures { result ≡ list_any is_drawn_alike (lossy_chars label.now) }
+{
+    for character in label.chars() {
+        if is_drawn_alike(character) {
+            return true;
+        }
+    }
+    false
 }
 
 /// Whether the character is of a script with letters that are drawn as ASCII letters are.
-fn is_drawn_alike(character: char) -> bool {
+fn is_drawn_alike(character: char) -> bool
+    ensures { result ≡ is_drawn_alike character }
+{
     matches!(
         Script::for_char(character),
         Script::Greek | Script::Cyrillic | Script::Armenian | Script::Cherokee

@@ -1,81 +1,140 @@
 //! What people paste with a location: commands, quotes, links, lines of a configuration, the end of a sentence.
 //!
-//! Hints alone decide by them. They have no contract but that they can't abort.
+//! Hints alone decide by them, and `marks` cuts texts. Its contract: each condition is that of its definition in
+//! `specs/Pasted.antt`.
 
-use bstr::ByteSlice;
+ghost use Rattle.std.specs.Prelude.{◌≡◌};
+ghost use Rattle.std.specs.List.{list_all};
+ghost use Rattle.explain_report.specs.Pasted as spec;
 
-/// The commands that a location is pasted with.
-const COMMANDS: [&[u8]; 8] = [
-    b"git clone ",
-    b"git fetch ",
-    b"git pull ",
-    b"git push ",
-    b"git ls-remote ",
-    b"git remote add ",
-    b"git remote set-url ",
-    b"git submodule add ",
-];
+use crate::advice::marks::{begins_with_some, halves, holds, is_among_in_any_case, last_halves};
 
 /// Whether the line begins with a command of Git, behind a prompt or without one.
-pub(crate) fn begins_with_command(line: &[u8]) -> bool {
-    let typed = match line {
-        [b'$' | b'%' | b'#' | b'>', b' ', typed @ ..] => typed,
-        _ => line,
-    };
-    COMMANDS.iter().any(|command| typed.starts_with(command))
-}
-
-/// Whether the same quotes are at both ends, or angle brackets.
-pub(crate) fn is_quoted(line: &[u8]) -> bool {
-    matches!(
-        line,
-        [b'"', .., b'"'] | [b'\'', .., b'\''] | [b'`', .., b'`'] | [b'<', .., b'>']
+pub(crate) fn begins_with_command(line: &[u8]) -> bool
+    ensures { result ≡ spec.begins_with_command line.now }
+{
+    begins_with_some(
+        without_prompt(line),
+        &[
+            "git clone ",
+            "git fetch ",
+            "git pull ",
+            "git push ",
+            "git ls-remote ",
+            "git remote add ",
+            "git remote set-url ",
+            "git submodule add ",
+        ],
     )
 }
 
+/// The line without a prompt before it.
+fn without_prompt(line: &[u8]) -> &[u8]
+    ensures { result.now ≡ spec.without_prompt line.now }
+{
+    match line {
+        [b'$' | b'%' | b'#' | b'>', b' ', typed @ ..] => typed,
+        _ => line,
+    }
+}
+
+/// Whether the same quotes are at both ends, or angle brackets.
+pub(crate) fn is_quoted(line: &[u8]) -> bool
+    ensures { result ≡ spec.is_quoted line.now }
+{
+    is_within(line, b'"', b'"')
+        || is_within(line, b'\'', b'\'')
+        || is_within(line, b'`', b'`')
+        || is_within(line, b'<', b'>')
+}
+
+/// Whether a text begins with one byte, and ends with the other behind it.
+fn is_within(text: &[u8], begin: u8, end: u8) -> bool
+    ensures { result ≡ spec.is_within begin end text.now }
+{
+    match text {
+        [first, rest @ ..] => *first == begin && rest.ends_with(&[end]),
+        [] => false,
+    }
+}
+
 /// Whether the line is a link of Markdown.
-pub(crate) fn is_markdown_link(line: &[u8]) -> bool {
-    line.starts_with(b"[") && line.ends_with(b")") && line.contains_str(b"](")
+pub(crate) fn is_markdown_link(line: &[u8]) -> bool
+    ensures { result ≡ spec.is_markdown_link line.now }
+{
+    line.starts_with(b"[") && line.ends_with(b")") && holds(line, b"](")
 }
 
 /// Whether the line is a remote as `git remote -v` lists it.
-pub(crate) fn is_listed_remote(line: &[u8]) -> bool {
+pub(crate) fn is_listed_remote(line: &[u8]) -> bool
+    ensures { result ≡ spec.is_listed_remote line.now }
+{
     line.ends_with(b" (fetch)") || line.ends_with(b" (push)")
 }
 
 /// Whether the line sets the URL of a remote or of a submodule.
-pub(crate) fn is_setting(line: &[u8]) -> bool {
-    match line.split_once_str(b"=") {
-        Some((key, _)) => is_key_of_url(key.trim_ascii()),
+pub(crate) fn is_setting(line: &[u8]) -> bool
+    ensures { result ≡ spec.is_setting line.now }
+{
+    match halves(line, b"=") {
+        Some((key, _)) => is_key_of_url(without_end_blanks(without_front_blanks(key))),
         None => false,
     }
 }
 
+/// The text without white space at its front.
+fn without_front_blanks(text: &[u8]) -> &[u8]
+    ensures { result.now ≡ spec.without_front_blanks text.now }
+{
+    text.trim_ascii_start()
+}
+
+/// The text without white space at its end.
+fn without_end_blanks(text: &[u8]) -> &[u8]
+    ensures { result.now ≡ spec.without_end_blanks text.now }
+{
+    text.trim_ascii_end()
+}
+
 /// Whether a key is that of a URL, alone or behind its section.
-fn is_key_of_url(key: &[u8]) -> bool {
-    match key.rsplit_once_str(b".") {
+fn is_key_of_url(key: &[u8]) -> bool
+    ensures { result ≡ spec.is_key_of_url key.now }
+{
+    match last_halves(key, b".") {
         Some((section, name)) => {
-            (section.starts_with(b"remote.") || section.starts_with(b"submodule."))
-                && is_name_of_url(name)
+            begins_with_some(section, &["remote.", "submodule."]) && is_name_of_url(name)
         }
         None => is_name_of_url(key),
     }
 }
 
 /// Whether a name is that of a URL in a configuration.
-fn is_name_of_url(name: &[u8]) -> bool {
-    name.eq_ignore_ascii_case(b"url") || name.eq_ignore_ascii_case(b"pushurl")
+fn is_name_of_url(name: &[u8]) -> bool
+    ensures { result ≡ spec.is_name_of_url name.now }
+{
+    is_among_in_any_case(name, &["url", "pushurl"])
 }
 
 /// Whether the name of a bare repository is at the end, before punctuation.
-pub(crate) fn ends_like_sentence(line: &[u8]) -> bool {
-    match line.rsplit_once_str(b".git") {
-        Some((_, rest)) => !rest.is_empty() && rest.iter().all(|byte| ends_clause(*byte)),
+pub(crate) fn ends_like_sentence(line: &[u8]) -> bool
+    ensures { result ≡ spec.ends_like_sentence line.now }
+{
+    match last_halves(line, b".git") {
+        Some((_, rest)) => !rest.is_empty() && end_clause(rest),
         None => false,
     }
 }
 
+/// Whether each byte ends a part of a sentence.
+fn end_clause(bytes: &[u8]) -> bool
+    ensures { result ≡ list_all spec.ends_clause bytes.now }
+{
+    bytes.iter().all(|byte| ends_clause(*byte))
+}
+
 /// Whether the byte ends a part of a sentence.
-fn ends_clause(byte: u8) -> bool {
+fn ends_clause(byte: u8) -> bool
+    ensures { result ≡ spec.ends_clause byte }
+{
     matches!(byte, b',' | b';' | b')' | b'.')
 }

@@ -1,11 +1,16 @@
 //! What a line is read as, as far as hints ask for it.
 //!
-//! It uses `location_report`, and has no contract but that it can't abort.
+//! It uses `location_report`. Its contract: what it decides of a reading is as the definitions have it. What a reading
+//! has of a report is no part of it.
 
+ghost use Rattle.std.specs.Prelude.{◌≡◌, not};
+ghost use Rattle.explain_report.specs.HintRules as spec;
+ghost use Rattle.explain_report.specs.Marks.{is_among, is_empty};
+
+use crate::advice::marks::{holds, is_among};
 use crate::form::Form;
 use crate::location_report::Report;
 use crate::path::Components;
-use bstr::ByteSlice;
 use gix_url::Url;
 
 /// What a line is read as, as far as hints ask for it.
@@ -30,16 +35,6 @@ pub struct Reading<'a> {
 /// The fields of a query that name a revision.
 const REVISIONS: [&str; 6] = ["ref", "rev", "tag", "branch", "commit", "version"];
 
-/// The short names of forges.
-const SHORT_NAMES: [&str; 6] = [
-    "github",
-    "gitlab",
-    "bitbucket",
-    "gist",
-    "codeberg",
-    "sourcehut",
-];
-
 impl<'b> Reading<'b> {
     /// What hints are found by, of a location.
     pub fn of(
@@ -62,37 +57,85 @@ impl<'b> Reading<'b> {
     }
 
     /// Whether the scheme of a URL is one of HTTP's.
-    pub(crate) fn is_of_web(self) -> bool {
-        matches!(self.scheme, "http" | "https")
+    pub(crate) fn is_of_web(self) -> bool
+        ensures { result ≡ spec.is_of_web self.entry }
+    {
+        is_among(self.scheme.as_bytes(), &["http", "https"])
     }
 
     /// Whether the scheme is that of Secure Shell or of `git://`.
-    pub(crate) fn is_of_shell_or_git(self) -> bool {
-        matches!(self.scheme, "ssh" | "git")
+    pub(crate) fn is_of_shell_or_git(self) -> bool
+        ensures { result ≡ spec.is_of_shell_or_git self.entry }
+    {
+        is_among(self.scheme.as_bytes(), &["ssh", "git"])
+    }
+
+    /// Whether the scheme is this one.
+    pub(crate) fn is_of(self, scheme: &str) -> bool
+        ensures { result ≡ spec.is_of scheme.now self.entry }
+    {
+        self.scheme.as_bytes() == scheme.as_bytes()
     }
 
     /// Whether there is a password, about which there is a hint of its own.
-    pub(crate) fn has_password_with_hint(self) -> bool {
-        self.has_password && (self.is_of_web() || self.scheme == "ssh")
+    pub(crate) fn has_password_with_hint(self) -> bool
+        ensures { result ≡ spec.has_password_with_hint self.entry }
+    {
+        self.has_password && (self.is_of_web() || self.is_of("ssh"))
     }
 
     /// Whether it is of files and has a host.
-    pub(crate) fn is_of_file_with_host(self) -> bool {
-        self.scheme == "file" && self.host.is_some_and(|host| !host.is_empty())
+    pub(crate) fn is_of_file_with_host(self) -> bool
+        ensures { result ≡ spec.is_of_file_with_host self.entry }
+    {
+        self.is_of("file") && is_some_text(self.host)
     }
 
     /// Whether a revision is named in a place of which Git knows nothing.
-    pub(crate) fn names_revision(self) -> bool {
+    pub(crate) fn names_revision(self) -> bool
+        ensures { result ≡ spec.names_revision self.entry }
+    {
         if self.is_of_shell_or_git() {
-            return self.path.contains_str(b".git#") || self.path.contains_str(b".git?");
+            return holds(self.path, b".git#") || holds(self.path, b".git?");
         }
         self.is_of_web() && self.has_revision
     }
 
     /// Whether the host is the short name of a forge, and the path one of a repository there.
-    pub(crate) fn has_short_name(self) -> bool {
-        let is_short = SHORT_NAMES.iter().any(|name| self.host == Some(name));
-        is_short && self.user.is_none() && !self.path.starts_with(b"/")
+    pub(crate) fn has_short_name(self) -> bool
+        ensures { result ≡ spec.has_short_name self.entry }
+    {
+        is_short_name(self.host) && self.user.is_none() && !self.path.starts_with(b"/")
+    }
+}
+
+/// Whether there is a part that isn't empty.
+fn is_some_text(part: Option<&str>) -> bool
+    ensures { result ≡ spec.part_passes (λ text. not (is_empty text)) part.entry }
+{
+    match part {
+        Some(text) => !text.is_empty(),
+        None => false,
+    }
+}
+
+/// Whether the host is the short name of a forge.
+fn is_short_name(host: Option<&str>) -> bool
+    ensures { result ≡ spec.part_passes (is_among spec.short_names) host.entry }
+{
+    match host {
+        Some(host) => is_among(
+            host.as_bytes(),
+            &[
+                "github",
+                "gitlab",
+                "bitbucket",
+                "gist",
+                "codeberg",
+                "sourcehut",
+            ],
+        ),
+        None => false,
     }
 }
 

@@ -1,35 +1,20 @@
 //! Conditions on the bytes of a line that may be a slip, whatever they are read as.
 //!
-//! `hint` says which hint each is for. Their contracts: a text of digits, and a word that may name a remote, are
-//! those of the definitions. The others have none but that they can't abort.
+//! `hint` says which hint each is for, and `marks` cuts texts. Its contract: each condition is that of its definition
+//! in `specs/Slips.antt`.
 
-ghost use Rattle.std.specs.Prelude.{◌≡◌};
-ghost use Rattle.std.specs.List.{list_all};
-ghost use Rattle.std.specs.Char.{is_ascii_digit};
+ghost use Rattle.std.specs.Prelude.{◌≡◌, option_map};
+ghost use Rattle.std.specs.List.{list_all, list_any};
+ghost use Rattle.std.specs.Char.{is_ascii, is_ascii_alphanumeric, is_ascii_digit, is_ascii_uppercase};
+ghost use Rattle.git_syntax.specs.Bytes.{begins_by};
 ghost use Rattle.explain_report.specs.Hints.{is_remote_name, is_word_byte};
+ghost use Rattle.explain_report.specs.Marks.{some_passes};
+ghost use Rattle.explain_report.specs.Slips as spec;
 
 use crate::advice::host_name::is_user;
-use bstr::ByteSlice;
-
-/// The schemes of URLs that name a host and a port.
-const OF_HOSTS: [&[u8]; 4] = [b"ssh", b"git", b"http", b"https"];
-
-/// The schemes that people mistype.
-const MISTYPED: [&[u8]; 5] = [b"ssh", b"git", b"http", b"https", b"file"];
-
-/// The transports that Git has or had by these names.
-const TRANSPORTS: [&[u8]; 9] = [
-    b"ssh", b"git", b"http", b"https", b"file", b"ftp", b"ftps", b"git+ssh", b"ssh+git",
-];
-
-/// What package managers write before a location.
-const PACKAGES: [&[u8]; 5] = [
-    b"git+http://",
-    b"git+https://",
-    b"git+file://",
-    b"git+git://",
-    b"git::",
-];
+use crate::advice::marks::{
+    before, begins_with_some, behind, halves, holds, is_among, is_among_in_any_case, last_halves,
+};
 
 /// Whether the line is a word that may be the name of a remote.
 pub(crate) fn is_remote_name(line: &[u8]) -> bool
@@ -58,242 +43,408 @@ fn are_word_bytes(bytes: &[u8]) -> bool
 }
 
 /// The first element of a relative path, where something follows it.
-pub(crate) fn first_element(path: &[u8]) -> Option<&[u8]> {
-    let (first, rest) = path.split_once_str(b"/")?;
-    (!rest.is_empty()).then_some(first)
+pub(crate) fn first_element(path: &[u8]) -> Option<&[u8]>
+    ensures { option_map (λ first. first.now) result ≡ spec.first_element path.now }
+{
+    match halves(path, b"/") {
+        Some((first, rest)) if !rest.is_empty() => Some(first),
+        _ => None,
+    }
 }
 
 // ---- schemes
 
-/// Whether the scheme is one of Git's except for its capitals.
-pub(crate) fn has_capital_scheme(line: &[u8]) -> bool {
-    let Some((scheme, _)) = line.split_once_str(b"://") else {
-        return false;
-    };
-    let has_capital = scheme.iter().any(|byte| byte.is_ascii_uppercase());
-    has_capital
-        && TRANSPORTS
-            .iter()
-            .any(|name| scheme.eq_ignore_ascii_case(name))
+/// Whether a word is the name of a transport that Git has or had.
+fn is_transport(word: &[u8]) -> bool
+    ensures { result ≡ spec.is_transport word.now }
+{
+    is_among(
+        word,
+        &[
+            "ssh", "git", "http", "https", "file", "ftp", "ftps", "git+ssh", "ssh+git",
+        ],
+    )
 }
 
-/// Whether a word is the name of a transport.
-fn is_transport(word: &[u8]) -> bool {
-    TRANSPORTS.iter().any(|name| *name == word)
+/// Whether a word is the name of a transport without letter case.
+fn is_transport_in_any_case(word: &[u8]) -> bool
+    ensures { result ≡ spec.is_transport_in_any_case word.now }
+{
+    is_among_in_any_case(
+        word,
+        &[
+            "ssh", "git", "http", "https", "file", "ftp", "ftps", "git+ssh", "ssh+git",
+        ],
+    )
+}
+
+/// Whether the scheme is one of Git's except for its capitals.
+pub(crate) fn has_capital_scheme(line: &[u8]) -> bool
+    ensures { result ≡ spec.has_capital_scheme line.now }
+{
+    match halves(line, b"://") {
+        Some((scheme, _)) => has_capital(scheme) && is_transport_in_any_case(scheme),
+        None => false,
+    }
+}
+
+/// Whether the text has a capital.
+fn has_capital(text: &[u8]) -> bool
+    ensures { result ≡ list_any is_ascii_uppercase text.now }
+{
+    text.iter().any(|byte| byte.is_ascii_uppercase())
 }
 
 /// Whether a transport that no host is named for has one `/` behind its colon.
-pub(crate) fn has_one_slash(line: &[u8]) -> bool {
-    let Some((scheme, rest)) = line.split_once_str(b":/") else {
-        return false;
-    };
-    is_transport(scheme) && scheme != b"git".as_slice() && !rest.starts_with(b"/")
+pub(crate) fn has_one_slash(line: &[u8]) -> bool
+    ensures { result ≡ spec.has_one_slash line.now }
+{
+    match halves(line, b":/") {
+        Some((scheme, rest)) => {
+            is_transport(scheme) && scheme != b"git".as_slice() && !rest.starts_with(b"/")
+        }
+        None => false,
+    }
 }
 
 /// Whether the line begins with the scheme of a package manager.
-pub(crate) fn begins_with_package_scheme(line: &[u8]) -> bool {
-    PACKAGES.iter().any(|front| line.starts_with(front))
+pub(crate) fn begins_with_package_scheme(line: &[u8]) -> bool
+    ensures { result ≡ spec.begins_with_package_scheme line.now }
+{
+    begins_with_some(
+        line,
+        &[
+            "git+http://",
+            "git+https://",
+            "git+file://",
+            "git+git://",
+            "git::",
+        ],
+    )
 }
 
 /// Whether a user is before the scheme of a transport.
-pub(crate) fn has_scheme_after_user(line: &[u8]) -> bool {
-    let Some((front, _)) = line.split_once_str(b"://") else {
+pub(crate) fn has_scheme_after_user(line: &[u8]) -> bool
+    ensures { result ≡ spec.has_scheme_after_user line.now }
+{
+    let Some((front, _)) = halves(line, b"://") else {
         return false;
     };
-    match front.split_once_str(b"@") {
+    match halves(front, b"@") {
         Some((user, scheme)) => is_user(user) && is_transport(scheme),
         None => false,
     }
 }
 
 /// Whether a local path begins with the name of a transport and two slashes, without a colon.
-pub(crate) fn lacks_colon(path: &[u8]) -> bool {
-    match path.split_once_str(b"//") {
+pub(crate) fn lacks_colon(path: &[u8]) -> bool
+    ensures { result ≡ spec.lacks_colon path.now }
+{
+    match halves(path, b"//") {
         Some((scheme, _)) => is_transport(scheme),
         None => false,
     }
 }
 
 /// Whether two colons and two slashes are behind the name of a transport.
-pub(crate) fn has_two_colons(line: &[u8]) -> bool {
-    match line.split_once_str(b":://") {
+pub(crate) fn has_two_colons(line: &[u8]) -> bool
+    ensures { result ≡ spec.has_two_colons line.now }
+{
+    match halves(line, b":://") {
         Some((scheme, _)) => is_transport(scheme),
         None => false,
     }
 }
 
 /// Whether the scheme of a transport is directly before that of another URL.
-pub(crate) fn has_scheme_twice(line: &[u8]) -> bool {
-    let Some((first, rest)) = line.split_once_str(b"://") else {
+pub(crate) fn has_scheme_twice(line: &[u8]) -> bool
+    ensures { result ≡ spec.has_scheme_twice line.now }
+{
+    let Some((first, rest)) = halves(line, b"://") else {
         return false;
     };
-    match rest.split_once_str(b"://") {
+    match halves(rest, b"://") {
         Some((second, _)) => is_transport(first) && is_transport(second),
         None => false,
     }
 }
 
 /// Whether the scheme is no transport, and nearly one.
-pub(crate) fn has_near_scheme(line: &[u8]) -> bool {
-    let Some((scheme, _)) = line.split_once_str(b"://") else {
-        return false;
-    };
-    let is_of_letters = scheme.iter().all(|byte| byte.is_ascii_alphanumeric());
-    is_of_letters
-        && !TRANSPORTS
-            .iter()
-            .any(|name| scheme.eq_ignore_ascii_case(name))
-        && MISTYPED.iter().any(|name| is_one_edit(scheme, name))
+pub(crate) fn has_near_scheme(line: &[u8]) -> bool
+    ensures { result ≡ spec.has_near_scheme line.now }
+{
+    match halves(line, b"://") {
+        Some((scheme, _)) => {
+            are_letters_and_digits(scheme)
+                && !is_transport_in_any_case(scheme)
+                && is_near_one_of(scheme, &["ssh", "git", "http", "https", "file"])
+        }
+        None => false,
+    }
 }
 
-/// Whether two texts are the same but for one byte that is added, taken out or replaced, or for two
-/// neighbours that are swapped.
-fn is_one_edit(text: &[u8], other: &[u8]) -> bool {
-    let (text, other) = behind_common(text, other);
+/// Whether each byte is a letter or a digit.
+fn are_letters_and_digits(text: &[u8]) -> bool
+    ensures { result ≡ list_all is_ascii_alphanumeric text.now }
+{
+    text.iter().all(|byte| byte.is_ascii_alphanumeric())
+}
+
+/// Whether the text is one edit away from one of these.
+fn is_near_one_of(text: &[u8], words: &[&str]) -> bool
+    ensures { result ≡ list_any (λ word. spec.is_one_edit text.now word.now) words.now }
+{
+    words.iter().any(|word| is_one_edit(text, word.as_bytes()))
+}
+
+/// Whether two texts are the same but for one byte that is added, taken out or replaced, or for two neighbours that
+/// are swapped, behind the front that both share.
+fn is_one_edit(text: &[u8], other: &[u8]) -> bool
+    ensures { result ≡ spec.is_one_edit text.now other.now }
+{
+    let (mut text, mut other) = (text, other);
+    while let ([first, rest @ ..], [second, others @ ..]) = (text, other) {
+        if first != second {
+            break;
+        }
+        (text, other) = (rest, others);
+    }
+    is_edited(text, other)
+}
+
+/// Whether two texts differ in an edit at their front alone.
+fn is_edited(text: &[u8], other: &[u8]) -> bool
+    ensures { result ≡ spec.is_edited text.now other.now }
+{
+    is_replaced(text, other)
+        || is_longer(text, other)
+        || is_longer(other, text)
+        || is_swapped(text, other)
+}
+
+/// Whether two texts differ in their first bytes alone.
+fn is_replaced(text: &[u8], other: &[u8]) -> bool
+    ensures { result ≡ spec.is_replaced text.now other.now }
+{
     match (text, other) {
-        ([_, rest @ ..], [_, others @ ..]) if rest == others => true,
-        ([_, rest @ ..], _) if rest == other => true,
-        (_, [_, others @ ..]) if text == others => true,
+        ([_, rest @ ..], [_, others @ ..]) => rest == others,
+        _ => false,
+    }
+}
+
+/// Whether a text is the other one behind a byte.
+fn is_longer(text: &[u8], other: &[u8]) -> bool
+    ensures { result ≡ spec.is_longer text.now other.now }
+{
+    match text {
+        [_, rest @ ..] => rest == other,
+        [] => false,
+    }
+}
+
+/// Whether two texts are the same behind two bytes that are swapped.
+fn is_swapped(text: &[u8], other: &[u8]) -> bool
+    ensures { result ≡ spec.is_swapped text.now other.now }
+{
+    match (text, other) {
         ([a, b, rest @ ..], [c, d, others @ ..]) => a == d && b == c && rest == others,
         _ => false,
     }
 }
 
-/// What is behind the front that two texts share.
-fn behind_common<'a, 'b>(text: &'a [u8], other: &'b [u8]) -> (&'a [u8], &'b [u8]) {
-    let mut at = 0usize;
-    for (byte, same) in text.iter().zip(other.iter()) {
-        if byte != same {
-            break;
-        }
-        at = at.saturating_add(1);
-    }
-    (from(text, at), from(other, at))
-}
-
-/// What a text has from a place on.
-fn from(text: &[u8], at: usize) -> &[u8] {
-    match text.get(at..) {
-        Some(rest) => rest,
-        None => b"",
-    }
-}
-
 // ---- hosts and ports
 
-/// What is before the first mark, or all where there is none.
-pub(crate) fn before<'a>(bytes: &'a [u8], mark: &[u8]) -> &'a [u8] {
-    match bytes.split_once_str(mark) {
-        Some((front, _)) => front,
-        None => bytes,
+/// What is behind the mark of a URL that names a host.
+fn rest_of_url(line: &[u8]) -> Option<&[u8]>
+    ensures { option_map (λ rest. rest.now) result ≡ spec.rest_of_url line.now }
+{
+    match halves(line, b"://") {
+        Some((scheme, rest)) if is_among(scheme, &["ssh", "git", "http", "https"]) => Some(rest),
+        _ => None,
     }
 }
 
-/// What is behind the last mark, or all where there is none.
-fn behind<'a>(bytes: &'a [u8], mark: &[u8]) -> &'a [u8] {
-    match bytes.rsplit_once_str(mark) {
-        Some((_, rest)) => rest,
-        None => bytes,
-    }
-}
-
-/// The scheme of a URL that names a host, and what is behind its mark.
-fn url_with_host(line: &[u8]) -> Option<(&[u8], &[u8])> {
-    let (scheme, rest) = line.split_once_str(b"://")?;
-    OF_HOSTS
-        .iter()
-        .any(|name| *name == scheme)
-        .then_some((scheme, rest))
+/// What a URL has in the place of its host and port.
+fn place_of(rest: &[u8]) -> &[u8]
+    ensures { result.now ≡ spec.place_of rest.now }
+{
+    behind(before(rest, b"/"), b"@")
 }
 
 /// Whether the front of a URL names a host and behind a colon what is no port.
-pub(crate) fn has_colon_for_slash(line: &[u8]) -> bool {
-    match url_with_host(line) {
-        Some((_, rest)) => is_host_and_word(behind(before(rest, b"/"), b"@")),
+pub(crate) fn has_colon_for_slash(line: &[u8]) -> bool
+    ensures { result ≡ spec.has_colon_for_slash line.now }
+{
+    match rest_of_url(line) {
+        Some(rest) => is_host_and_word(place_of(rest)),
         None => false,
     }
 }
 
 /// Whether the bytes are a host, one colon, and a word that begins with a letter or `~`.
-fn is_host_and_word(bytes: &[u8]) -> bool {
-    let Some((host, word)) = bytes.split_once_str(b":") else {
-        return false;
-    };
-    let begins = matches!(word, [b'a'..=b'z' | b'A'..=b'Z' | b'~', ..]);
-    let is_free = host.iter().all(|byte| !matches!(byte, b'[' | b']'));
-    begins && is_free && !host.is_empty() && !word.contains_str(b":")
+fn is_host_and_word(bytes: &[u8]) -> bool
+    ensures { result ≡ spec.is_host_and_word bytes.now }
+{
+    match halves(bytes, b":") {
+        Some((host, word)) => {
+            is_word(word) && !has_bracket(host) && !host.is_empty() && !holds(word, b":")
+        }
+        None => false,
+    }
+}
+
+/// Whether the text begins with a letter or `~`.
+fn is_word(text: &[u8]) -> bool
+    ensures { result ≡ begins_by spec.begins_word text.now }
+{
+    match text {
+        [first, ..] => first.is_ascii_alphabetic() || *first == b'~',
+        [] => false,
+    }
+}
+
+/// Whether the text has a bracket.
+fn has_bracket(text: &[u8]) -> bool
+    ensures { result ≡ list_any spec.is_bracket text.now }
+{
+    text.iter().any(|byte| is_bracket(*byte))
+}
+
+/// Whether the byte is a bracket.
+fn is_bracket(byte: u8) -> bool
+    ensures { result ≡ spec.is_bracket byte }
+{
+    byte == b'[' || byte == b']'
 }
 
 /// Whether a URL has an escaped `@` before what may be a host, and no other one.
-pub(crate) fn has_escaped_at(line: &[u8]) -> bool {
-    let Some((_, rest)) = url_with_host(line) else {
-        return false;
-    };
-    let front = before(before(before(rest, b"/"), b"?"), b"#");
-    match front.rsplit_once_str(b"%40") {
-        Some((_, host)) => !host.is_empty() && !front.contains_str(b"@"),
+pub(crate) fn has_escaped_at(line: &[u8]) -> bool
+    ensures { result ≡ spec.has_escaped_at line.now }
+{
+    match rest_of_url(line) {
+        Some(rest) => is_escaped_user(before(before(before(rest, b"/"), b"?"), b"#")),
+        None => false,
+    }
+}
+
+/// Whether a text has an escaped `@` before what may be a host, and no other one.
+fn is_escaped_user(front: &[u8]) -> bool
+    ensures { result ≡ spec.is_escaped_user front.now }
+{
+    match last_halves(front, b"%40") {
+        Some((_, host)) => !host.is_empty() && !holds(front, b"@"),
         None => false,
     }
 }
 
 /// Whether a URL has a colon before its first `/`, and an `@` and the front of a place behind it alone.
-pub(crate) fn has_slash_in_password(line: &[u8]) -> bool {
-    let Some((_, rest)) = url_with_host(line) else {
-        return false;
-    };
-    let Some((front, below)) = rest.split_once_str(b"/") else {
-        return false;
-    };
-    front.contains_str(b":") && !front.contains_str(b"@") && has_place_behind_user(below)
+pub(crate) fn has_slash_in_password(line: &[u8]) -> bool
+    ensures { result ≡ spec.has_slash_in_password line.now }
+{
+    match rest_of_url(line) {
+        Some(rest) => is_cut_in_password(rest),
+        None => false,
+    }
+}
+
+/// Whether a text has a colon before its first `/`, and an `@` and the front of a place behind it alone.
+fn is_cut_in_password(rest: &[u8]) -> bool
+    ensures { result ≡ spec.is_cut_in_password rest.now }
+{
+    match halves(rest, b"/") {
+        Some((front, below)) => {
+            holds(front, b":") && !holds(front, b"@") && has_place_behind_user(below)
+        }
+        None => false,
+    }
 }
 
 /// Whether the bytes have an `@`, and behind the last one something before a `/`.
-fn has_place_behind_user(bytes: &[u8]) -> bool {
-    match bytes.rsplit_once_str(b"@") {
-        Some((_, place)) => first_of_place(place),
+fn has_place_behind_user(bytes: &[u8]) -> bool
+    ensures { result ≡ spec.has_place_behind_user bytes.now }
+{
+    match last_halves(bytes, b"@") {
+        Some((_, place)) => has_host(place),
         None => false,
     }
 }
 
 /// Whether the bytes have a `/` that isn't their first byte.
-fn first_of_place(place: &[u8]) -> bool {
-    match place.split_once_str(b"/") {
+fn has_host(place: &[u8]) -> bool
+    ensures { result ≡ spec.has_host place.now }
+{
+    match halves(place, b"/") {
         Some((host, _)) => !host.is_empty(),
         None => false,
     }
 }
 
 /// What a refused URL has in the place of a host without brackets.
-pub(crate) fn host_of_refused(line: &[u8]) -> Option<&[u8]> {
-    let (_, rest) = line.split_once_str(b"://")?;
-    Some(before(behind(before(rest, b"/"), b"@"), b":"))
+pub(crate) fn host_of_refused(line: &[u8]) -> Option<&[u8]>
+    ensures { option_map (λ host. host.now) result ≡ spec.host_of_refused line.now }
+{
+    match halves(line, b"://") {
+        Some((_, rest)) => Some(before(place_of(rest), b":")),
+        None => None,
+    }
 }
 
 /// Whether a refused URL of HTTP has a byte beyond ASCII in the place of its host.
-pub(crate) fn has_wide_host_of_web(line: &[u8]) -> bool {
-    let is_of_web = line.starts_with(b"http://") || line.starts_with(b"https://");
-    is_of_web && host_of_refused(line).is_some_and(|host| !host.is_ascii())
+pub(crate) fn has_wide_host_of_web(line: &[u8]) -> bool
+    ensures { result ≡ spec.has_wide_host_of_web line.now }
+{
+    begins_with_some(line, &["http://", "https://"]) && has_wide_host(line)
+}
+
+/// Whether a refused URL has a byte beyond ASCII in the place of its host.
+fn has_wide_host(line: &[u8]) -> bool
+    ensures { result ≡ some_passes spec.is_wide (spec.host_of_refused line.now) }
+{
+    match host_of_refused(line) {
+        Some(host) => is_wide(host),
+        None => false,
+    }
+}
+
+/// Whether the text has a byte beyond ASCII.
+pub(crate) fn is_wide(text: &[u8]) -> bool
+    ensures { result ≡ spec.is_wide text.now }
+{
+    !is_narrow(text)
+}
+
+/// Whether each byte is one of ASCII.
+fn is_narrow(text: &[u8]) -> bool
+    ensures { result ≡ list_all is_ascii text.now }
+{
+    text.iter().all(|byte| byte.is_ascii())
 }
 
 /// Whether the text is no URL, and has a host and a port in brackets that a user may be before.
-pub(crate) fn has_port_in_brackets(line: &[u8]) -> bool {
-    let Some((front, _)) = line.split_once_str(b"]:") else {
+pub(crate) fn has_port_in_brackets(line: &[u8]) -> bool
+    ensures { result ≡ spec.has_port_in_brackets line.now }
+{
+    let Some((front, _)) = halves(line, b"]:") else {
         return false;
     };
-    match front.split_once_str(b"[") {
+    match halves(front, b"[") {
         Some((user, inside)) => is_before_brackets(user) && is_host_and_port(inside),
         None => false,
     }
 }
 
 /// Whether the bytes may be before the brackets of a host that is in no URL.
-fn is_before_brackets(front: &[u8]) -> bool {
-    (front.is_empty() || front.ends_with(b"@")) && !front.contains_str(b"://")
+fn is_before_brackets(front: &[u8]) -> bool
+    ensures { result ≡ spec.is_before_brackets front.now }
+{
+    (front.is_empty() || front.ends_with(b"@")) && !holds(front, b"://")
 }
 
 /// Whether the bytes are a host, a colon and digits.
-fn is_host_and_port(bytes: &[u8]) -> bool {
-    match bytes.split_once_str(b":") {
+fn is_host_and_port(bytes: &[u8]) -> bool
+    ensures { result ≡ spec.is_host_and_port bytes.now }
+{
+    match halves(bytes, b":") {
         Some((host, port)) => !host.is_empty() && !port.is_empty() && is_number(port),
         None => false,
     }
@@ -307,26 +458,49 @@ fn is_number(bytes: &[u8]) -> bool
 }
 
 /// Whether a path begins with what may be a port, and `/`.
-pub(crate) fn begins_with_port(path: &[u8]) -> bool {
-    match path.split_once_str(b"/") {
-        Some((port, _)) => matches!(port.len(), 1..=5) && is_number(port),
+pub(crate) fn begins_with_port(path: &[u8]) -> bool
+    ensures { result ≡ spec.begins_with_port path.now }
+{
+    match halves(path, b"/") {
+        Some((port, _)) => may_be_port(port),
         None => false,
     }
 }
 
+/// Whether the bytes are one to five digits.
+fn may_be_port(port: &[u8]) -> bool
+    ensures { result ≡ spec.may_be_port port.now }
+{
+    !port.is_empty() && port.len() <= 5 && is_number(port)
+}
+
 /// Whether the line begins as a path of Windows that names its drive.
-pub(crate) fn begins_with_drive(line: &[u8]) -> bool {
+pub(crate) fn begins_with_drive(line: &[u8]) -> bool
+    ensures { result ≡ spec.begins_with_drive line.now }
+{
     match line {
-        [_, b':', b'/', b'~', ..] => false,
-        [letter, b':', b'\\' | b'/', ..] => letter.is_ascii_alphabetic(),
+        [letter, b':', rest @ ..] => letter.is_ascii_alphabetic() && begins_on_drive(rest),
+        _ => false,
+    }
+}
+
+/// Whether `\` is at the front, or a `/` without `~` behind it.
+fn begins_on_drive(rest: &[u8]) -> bool
+    ensures { result ≡ spec.begins_on_drive rest.now }
+{
+    match rest {
+        [b'/', b'~', ..] => false,
+        [b'\\' | b'/', ..] => true,
         _ => false,
     }
 }
 
 /// Whether the host of a file URL is the letter of a drive and a colon.
-pub(crate) fn is_drive(host: &str) -> bool {
+pub(crate) fn is_drive(host: &str) -> bool
+    ensures { result ≡ spec.is_drive host.now }
+{
     match host.as_bytes() {
-        [letter, b':'] => letter.is_ascii_alphabetic(),
-        _ => false,
+        [letter, rest @ ..] => letter.is_ascii_alphabetic() && rest == b":".as_slice(),
+        [] => false,
     }
 }

@@ -1,97 +1,160 @@
 //! Addresses of web pages about a part of a repository, as forges have them.
 //!
-//! Hints alone decide by them. They have no contract but that they can't abort.
+//! Hints alone decide by them, and `marks` cuts texts. Its contract: pages are those of the definitions.
 
-use crate::advice::slip::before;
-use bstr::ByteSlice;
+ghost use Rattle.std.specs.Prelude.{◌≡◌, option_map};
+ghost use Rattle.explain_report.specs.Marks.{is_among, some_passes};
+ghost use Rattle.explain_report.specs.WebPages as spec;
 
-/// The forges at which each repository has a path of two segments.
-const FORGES: [&str; 5] = [
-    "github.com",
-    "codeberg.org",
-    "gitea.com",
-    "bitbucket.org",
-    "git.sr.ht",
-];
-
-/// The third segment of pages there, behind which a segment says more.
-const DETAILS: [&[u8]; 12] = [
-    b"tree", b"blob", b"raw", b"blame", b"edit", b"pull", b"commit", b"compare", b"src", b"branch",
-    b"log", b"item",
-];
-
-/// The third segment of pages there that may be the last one.
-const LISTS: [&[u8]; 10] = [
-    b"pulls",
-    b"pull-requests",
-    b"issues",
-    b"releases",
-    b"tags",
-    b"branches",
-    b"commits",
-    b"actions",
-    b"wiki",
-    b"refs",
-];
-
-/// The segment behind the first `/-/` of pages of GitLab.
-const OF_GITLAB: [&[u8]; 14] = [
-    b"tree",
-    b"blob",
-    b"raw",
-    b"blame",
-    b"commit",
-    b"commits",
-    b"compare",
-    b"merge_requests",
-    b"issues",
-    b"tags",
-    b"branches",
-    b"releases",
-    b"pipelines",
-    b"wikis",
-];
+use crate::advice::marks::{before, halves, is_among};
 
 /// Whether a path of HTTP goes on behind a repository, as forges show its parts. Without its query and its
 /// fragment it has `/-/` and then a segment of GitLab's; or the host is one of the forges, and behind two segments
 /// comes one of their lists, or one of the others and a segment.
-pub(crate) fn is_page(host: Option<&str>, path: &[u8]) -> bool {
-    let path = before(before(path, b"?"), b"#");
-    is_page_of_gitlab(path) || (is_forge(host) && is_page_of_forge(path).unwrap_or(false))
+pub(crate) fn is_page(host: Option<&str>, path: &[u8]) -> bool
+    ensures { result ≡ spec.is_page (option_map (λ h. h.now) host.entry) path.now }
+{
+    let path = path_alone(path);
+    is_page_of_gitlab(path) || (is_forge(host) && is_page_of_forge(path))
 }
 
-/// Whether the host is that of a forge.
-fn is_forge(host: Option<&str>) -> bool {
-    FORGES.iter().any(|forge| host == Some(forge))
+/// The path without its query and its fragment.
+fn path_alone(path: &[u8]) -> &[u8]
+    ensures { result.now ≡ spec.path_alone path.now }
+{
+    before(before(path, b"?"), b"#")
 }
 
-/// Whether the first `/-/` is before the name of a page.
-fn is_page_of_gitlab(path: &[u8]) -> bool {
-    match path.split_once_str(b"/-/") {
-        Some((_, rest)) => is_among(&OF_GITLAB, before(rest, b"/")),
+/// Whether the host is that of a forge at which each repository has a path of two segments.
+fn is_forge(host: Option<&str>) -> bool
+    ensures { result ≡ some_passes (is_among spec.forges) (option_map (λ h. h.now) host.entry) }
+{
+    match host {
+        Some(host) => is_among(
+            host.as_bytes(),
+            &[
+                "github.com",
+                "codeberg.org",
+                "gitea.com",
+                "bitbucket.org",
+                "git.sr.ht",
+            ],
+        ),
         None => false,
     }
 }
 
-/// Whether the path names a page behind an owner and a repository; nothing where it has fewer segments.
-fn is_page_of_forge(path: &[u8]) -> Option<bool> {
-    let (owner, rest) = path.strip_prefix(b"/")?.split_once_str(b"/")?;
-    let (repository, rest) = rest.split_once_str(b"/")?;
-    Some(!owner.is_empty() && !repository.is_empty() && is_name_of_page(rest))
+/// Whether the first `/-/` is before the name of a page.
+fn is_page_of_gitlab(path: &[u8]) -> bool
+    ensures { result ≡ spec.is_page_of_gitlab path.now }
+{
+    match halves(path, b"/-/") {
+        Some((_, rest)) => is_named_by_gitlab(before(rest, b"/")),
+        None => false,
+    }
+}
+
+/// Whether a segment is one of GitLab's pages.
+fn is_named_by_gitlab(segment: &[u8]) -> bool
+    ensures { result ≡ is_among spec.pages_of_gitlab segment.now }
+{
+    is_among(
+        segment,
+        &[
+            "tree",
+            "blob",
+            "raw",
+            "blame",
+            "commit",
+            "commits",
+            "compare",
+            "merge_requests",
+            "issues",
+            "tags",
+            "branches",
+            "releases",
+            "pipelines",
+            "wikis",
+        ],
+    )
+}
+
+/// Whether the path names a page behind an owner and a repository.
+fn is_page_of_forge(path: &[u8]) -> bool
+    ensures { result ≡ spec.is_page_of_forge path.now }
+{
+    let [b'/', path @ ..] = path else {
+        return false;
+    };
+    match halves(path, b"/") {
+        Some((owner, rest)) => !owner.is_empty() && is_below_owner(rest),
+        None => false,
+    }
+}
+
+/// Whether a path below an owner names a page behind a repository.
+fn is_below_owner(path: &[u8]) -> bool
+    ensures { result ≡ spec.is_below_owner path.now }
+{
+    match halves(path, b"/") {
+        Some((repository, rest)) => !repository.is_empty() && is_name_of_page(rest),
+        None => false,
+    }
 }
 
 /// Whether the first segment is one of the lists, or one of the others with a segment behind it.
-fn is_name_of_page(path: &[u8]) -> bool {
-    if is_among(&LISTS, before(path, b"/")) {
+fn is_name_of_page(path: &[u8]) -> bool
+    ensures { result ≡ spec.is_name_of_page path.now }
+{
+    if is_list(before(path, b"/")) {
         return true;
     }
-    match path.split_once_str(b"/") {
-        Some((kind, [first, ..])) => *first != b'/' && is_among(&DETAILS, kind),
-        _ => false,
+    match halves(path, b"/") {
+        Some((kind, rest)) => begins_segment(rest) && is_detail(kind),
+        None => false,
     }
 }
 
-/// Whether a segment is one of these.
-fn is_among(names: &[&[u8]], segment: &[u8]) -> bool {
-    names.iter().any(|name| *name == segment)
+/// Whether a text begins with another byte than `/`.
+fn begins_segment(rest: &[u8]) -> bool
+    ensures { result ≡ spec.begins_segment rest.now }
+{
+    match rest {
+        [first, ..] => *first != b'/',
+        [] => false,
+    }
+}
+
+/// Whether a segment is a list at a forge, which may be the last one.
+fn is_list(segment: &[u8]) -> bool
+    ensures { result ≡ is_among spec.lists segment.now }
+{
+    is_among(
+        segment,
+        &[
+            "pulls",
+            "pull-requests",
+            "issues",
+            "releases",
+            "tags",
+            "branches",
+            "commits",
+            "actions",
+            "wiki",
+            "refs",
+        ],
+    )
+}
+
+/// Whether a segment is one of those behind which a segment says more.
+fn is_detail(segment: &[u8]) -> bool
+    ensures { result ≡ is_among spec.details segment.now }
+{
+    is_among(
+        segment,
+        &[
+            "tree", "blob", "raw", "blame", "edit", "pull", "commit", "compare", "src", "branch",
+            "log", "item",
+        ],
+    )
 }

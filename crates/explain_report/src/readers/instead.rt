@@ -1,8 +1,11 @@
 //! A URL of the place of a line, which fewer programs read otherwise than the line.
 //!
 //! It puts a URL together, reads it, and compares the location with that of the line. It uses the public calls of
-//! `gix_url`, and `misreading` of `git_audit`. It has no contract but that it can't abort: the stored run has the URLs
-//! that the second reading finds.
+//! `gix_url`, and `misreading` of `git_audit`. Its contract: no part of the URL may be a secret. The stored run has the
+//! URLs that the second reading finds.
+
+ghost use Rattle.std.specs.Prelude.{◌≡◌, IfOk, IfSome, IsTrue, None, false, string_bytes};
+ghost use Rattle.explain_report.specs.Secrets.{has_secret};
 
 use crate::advice::slip::has_one_slash;
 use crate::text::secret::has_secret;
@@ -19,7 +22,9 @@ pub(crate) fn url_instead(
     alloc: Global,
     line: &[u8],
     url: &Url,
-) -> Result<Option<String>, AllocError> {
+) -> Result<Option<String>, AllocError>
+    ensures { IfOk result (λ found. IfSome found (λ text. has_secret (string_bytes text) ≡ false)) }
+{
     if !url.agrees_with_git() || url.password().is_some() {
         return Ok(None);
     }
@@ -46,7 +51,9 @@ fn rooted_path(url: &Url) -> Option<&str> {
 }
 
 /// The URL with this path, if it is read as the same place and better than the line.
-fn better(alloc: Global, line: &[u8], url: &Url, path: &str) -> Result<Option<String>, AllocError> {
+fn better(alloc: Global, line: &[u8], url: &Url, path: &str) -> Result<Option<String>, AllocError>
+    ensures { IfOk result (λ found. IfSome found (λ text. has_secret (string_bytes text) ≡ false)) }
+{
     let text = url_text(alloc, url, path)?;
     match parse(alloc, BStr::new(text.as_bytes())) {
         Ok(other) => {
@@ -59,7 +66,9 @@ fn better(alloc: Global, line: &[u8], url: &Url, path: &str) -> Result<Option<St
 }
 
 /// The text, if it is better.
-fn if_better(text: String, is_better: bool) -> Option<String> {
+fn if_better(text: String, is_better: bool) -> Option<String>
+    ensures { IfSome result (λ it. (it ≡ text) × IsTrue is_better) }
+{
     if is_better {
         return Some(text);
     }
@@ -68,7 +77,9 @@ fn if_better(text: String, is_better: bool) -> Option<String> {
 }
 
 /// No URL where the text is refused, unless it is memory that was refused.
-fn without(text: String, error: Error) -> Result<Option<String>, AllocError> {
+fn without(text: String, error: Error) -> Result<Option<String>, AllocError>
+    ensures { IfOk result (λ found. found ≡ None) }
+{
     drop(text);
     let is_memory = matches!(&error, Error::Memory);
     drop(error);
@@ -105,8 +116,13 @@ fn push_host(out: &mut String, host: Option<&str>) -> Result<(), AllocError> {
 }
 
 /// Whether a text that is read as another location names the same place, and others read it better than the line.
-fn is_read_better(line: &[u8], url: &Url, text: &[u8], other: &Url) -> bool {
-    if !is_same_place(url, other) || !other.agrees_with_git() || has_secret(text) {
+fn is_read_better(line: &[u8], url: &Url, text: &[u8], other: &Url) -> bool
+    ensures { IsTrue result → has_secret text.now ≡ false }
+{
+    if has_secret(text) {
+        return false;
+    }
+    if !is_same_place(url, other) || !other.agrees_with_git() {
         return false;
     }
     if is_misread(text, &other.as_ref()) {

@@ -1,6 +1,12 @@
 //! The other host that each group of readers takes from a line.
 //!
-//! It uses `misreading` of `git_audit`, and compares hosts as that does. It has no contract but that it can't abort.
+//! It uses `misreading` of `git_audit`, and compares hosts as that does. Its contract: a group takes a host if both have
+//! one name, and another host than an own one if their names differ.
+
+ghost use Rattle.std.specs.Prelude.{◌≡◌, option_map};
+ghost use Rattle.std.specs.List.{list_all, list_any};
+ghost use Rattle.git_audit.specs.Misreadings.{names_own_host, unless_own};
+ghost use Rattle.explain_report.specs.Hosts.{names_same, takes, takes_none};
 
 use git_audit::misreading::{Group, other_host};
 use git_rules::rewrite::host::is_same_host;
@@ -34,27 +40,42 @@ impl<'a> Taken<'a> {
     }
 
     /// Whether the group takes this host.
-    pub(crate) fn has(&self, host: &[u8]) -> bool {
+    pub(crate) fn has(&self, host: &[u8]) -> bool
+        ensures { result ≡ takes host.now self.now }
+    {
         match self.host {
             None => false,
-            Some(taken) => is_same_host(taken, host),
+            Some(taken) => is_same(taken, host),
         }
     }
 }
 
 /// The host, unless it is this one.
-fn unless_own<'a>(own: Option<&[u8]>, found: Option<&'a [u8]>) -> Option<&'a [u8]> {
-    match (own, found) {
-        (_, None) => None,
-        (None, Some(host)) => Some(host),
-        (Some(own), Some(host)) => {
-            if is_same_host(own, host) {
-                None
-            } else {
-                Some(host)
-            }
-        }
+fn unless_own<'a>(own: Option<&[u8]>, found: Option<&'a [u8]>) -> Option<&'a [u8]>
+    ensures { option_map (λ t. t.now) result
+        ≡ unless_own (option_map (λ t. t.now) own.entry) (option_map (λ t. t.now) found.entry) }
+{
+    match found {
+        None => None,
+        Some(host) => { if is_own(own, host) { None } else { Some(host) } }
     }
+}
+
+/// Whether there is an own host, and the text names it.
+fn is_own(own: Option<&[u8]>, host: &[u8]) -> bool
+    ensures { result ≡ names_own_host (option_map (λ t. t.now) own.entry) host.now }
+{
+    match own {
+        None => false,
+        Some(own) => is_same(own, host),
+    }
+}
+
+/// Whether both texts name one host.
+fn is_same(own: &[u8], named: &[u8]) -> bool
+    ensures { result ≡ names_same own.now named.now }
+{
+    is_same_host(own, named)
 }
 
 /// What each group takes from a line in which this location is read.
@@ -84,11 +105,15 @@ pub(crate) fn beside_host<'a>(line: &'a [u8], own: Option<&[u8]>) -> [Taken<'a>;
 }
 
 /// Whether no group takes another host.
-pub(crate) fn is_none(taken: &[Taken<'_>]) -> bool {
+pub(crate) fn is_none(taken: &[Taken<'_>]) -> bool
+    ensures { result ≡ list_all takes_none taken.now }
+{
     taken.iter().all(|it| it.host.is_none())
 }
 
 /// Whether one of these groups takes this host.
-pub(crate) fn has(taken: &[Taken<'_>], host: &[u8]) -> bool {
+pub(crate) fn has(taken: &[Taken<'_>], host: &[u8]) -> bool
+    ensures { result ≡ list_any (takes host.now) taken.now }
+{
     taken.iter().any(|it| it.has(host))
 }

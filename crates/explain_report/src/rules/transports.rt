@@ -2,15 +2,17 @@
 //!
 //! It uses `protocols` of `git_rules`, and `setting` for the entry that decides. Its contract: the verdict is
 //! that of what Git does by the definitions, and the entry and the variable that are reported are those that
-//! decide.
+//! decide; the name is shown without what may be a secret.
 
 ghost use Rattle.std.specs.Prelude.{◌≡◌, ◌↔◌, IfOk, IsTrue, Ok, option_map, string_bytes};
 ghost use Rattle.git_rules.specs.Protocols.{IsLastOf};
 ghost use Rattle.explain_report.specs.Rules as spec;
+ghost use Rattle.explain_report.specs.Secrets.{text_shown};
 ghost use Rattle.explain_report.specs.Rules.{IsAllowedToUsers, IsEntryAt, IsRefusing, IsVariableOf, ReportsPermission};
 
 use crate::memory::both;
 use crate::rules::setting::Setting;
+use crate::text::secret::shown_text;
 use git_rules::config::Entry;
 use git_rules::protocols::text::{NoTransport, transport_of};
 use git_rules::protocols::{Permission, Protocols, Reason};
@@ -20,7 +22,7 @@ use std::alloc::{AllocError, Global};
 /// A transport, and whether it may be used.
 #[derive(Drop, Serialize)]
 pub struct Transport {
-    /// Its name, or that of a remote helper.
+    /// Its name, or that of a remote helper, with `redacted` for what may be a secret.
     pub name: String,
     pub permission: Verdict,
     /// The variable of the environment that decides.
@@ -110,13 +112,13 @@ impl Transport {
         protocols: &Protocols<'_>,
         name: &str,
     ) -> Result<Transport, AllocError>
-        ensures name { IfOk result (λ t. string_bytes t.name ≡ name.now) }
+        ensures name { IfOk result (λ t. string_bytes t.name ≡ text_shown name.now) }
         ensures decides { IfOk result (λ t. ReportsPermission protocols.now name.now t.permission
             (option_map (λ v. v.now) t.variable) (option_map (λ e. e.at) t.entry)) }
     {
         let permission = protocols.permission(name);
         let entry = entry_at(alloc, protocols.entries, place_of(permission))?;
-        let (entry, own) = both(entry, String::from_str(alloc, name))?;
+        let (entry, own) = both(entry, shown_text(alloc, name.as_bytes()))?;
         Ok(Transport {
             name: own,
             permission: verdict_of(permission),

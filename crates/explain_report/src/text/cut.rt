@@ -1,10 +1,15 @@
 //! A line cut into pieces, each of which has a name: what people are shown of how a line is read.
 //!
 //! Where the parts of a location are is said by `git_refusals`, and what is between two of them is a mark; what may be
-//! a secret in another line is said by `git_audit`. It uses `bstr`, asks for no memory, and has no contract but that it
-//! can't abort. What a secret is can't be had of a piece: outside of this module the word stands for it.
+//! a secret in another line is said by `git_audit`. It uses `bstr`, and asks for no memory. What a secret is can't be had
+//! of a piece: outside of this module the word stands for it. Its contract: so is a piece shown. Which pieces a line is
+//! cut into is no part of it.
 
-use crate::text::secret::{REDACTED, between, size_of};
+ghost use Rattle.std.specs.Prelude.{◌≡◌};
+ghost use Rattle.explain_report.specs.Pieces.{cut_shown, piece_shown, pieces_shown, text_shown_as};
+ghost use Rattle.explain_report.specs.Secrets.{password_shown};
+
+use crate::text::secret::{between, size_of, word_for};
 use bstr::ByteSlice;
 use git_audit::secret::secrets;
 use git_refusals::parts::{PartForm, Parts, Span};
@@ -51,12 +56,16 @@ const FILLED: usize = 16;
 
 impl<'a> Piece<'a> {
     /// A piece of a line.
-    fn new(part: Part, text: &'a [u8]) -> Piece<'a> {
+    fn new(part: Part, text: &'a [u8]) -> Piece<'a>
+        ensures { piece_shown result ≡ text_shown_as part text.now }
+    {
         Piece { part, text }
     }
 
     /// What parts other pieces.
-    fn mark(text: &'a [u8]) -> Piece<'a> {
+    fn mark(text: &'a [u8]) -> Piece<'a>
+        ensures { piece_shown result ≡ text.now }
+    {
         Piece::new(Part::Mark, text)
     }
 
@@ -66,10 +75,22 @@ impl<'a> Piece<'a> {
     }
 
     /// What may be shown of it: its text, or the word in place of a secret.
-    pub fn shown(&self) -> &'a [u8] {
+    pub fn shown(&self) -> &'a [u8]
+        ensures { result.now ≡ piece_shown self.now }
+    {
         match self.part {
-            Part::Password if !self.text.is_empty() => REDACTED,
-            _ => self.text,
+            Part::Password => word_for(self.text),
+            Part::Scheme
+            | Part::User
+            | Part::Host
+            | Part::Port
+            | Part::Path
+            | Part::Query
+            | Part::Fragment
+            | Part::Helper
+            | Part::Address
+            | Part::Mark
+            | Part::Unknown => self.text,
         }
     }
 
@@ -91,8 +112,23 @@ impl<'a> Piece<'a> {
 
 impl<'a> Cut<'a> {
     /// The pieces.
-    pub fn pieces(&self) -> &[Piece<'a>] {
+    pub fn pieces(&self) -> &[Piece<'a>]
+        ensures { pieces_shown result.now ≡ cut_shown self.now }
+    {
         self.pieces.as_slice()
+    }
+
+    /// A line of which nothing is shown.
+    pub(crate) fn hidden(line: &'a [u8]) -> Cut<'a>
+        ensures { cut_shown result ≡ password_shown line.now }
+    {
+        let (first, empty) = (Piece::new(Part::Password, line), Piece::mark(b""));
+        Cut {
+            pieces: [
+                first, empty, empty, empty, empty, empty, empty, empty, empty, empty, empty, empty,
+                empty, empty, empty, empty, empty,
+            ],
+        }
     }
 
     /// A line without parts: what may be secrets, and what is between them. Behind the eighth secret all is one piece,

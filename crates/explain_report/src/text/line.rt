@@ -1,20 +1,24 @@
 //! A line in its pieces, and how a text is spelled for a terminal.
 //!
-//! Text goes out with `\` doubled and each control character, each byte that is no UTF-8 and each character that isn't
-//! seen or takes no column escaped as `Debug` of a byte string spells them; quotes are as they are. So what is shown
-//! is one text's alone, and speaks to no terminal. It uses `cut`, `secret`, the library's `parts_of`, and the crates
-//! `bstr` and `unicode_width`.
+//! `printed` and `shell_word` write a text. It uses `cut`, `secret` and the library's `parts_of`. Its contract: what is
+//! shown of a line is what `secret` shows of it, as a text and in its pieces, and what is written of a text has no control
+//! character, so that it speaks to no terminal. That it is one text's alone is no part of it.
 
-ghost use Rattle.std.specs.Prelude.{◌≡◌, IfOk, string_bytes};
-ghost use Rattle.explain_report.specs.Secrets.{text_shown};
+ghost use Rattle.std.specs.Prelude.{◌≡◌, ◌++◌, ℕ, IfOk, List, OnOk, string_bytes};
+ghost use Rattle.explain_report.specs.Printed.{IsPrinted, WritesPrinted};
+ghost use Rattle.explain_report.specs.Pieces.{AreShownOf, cut_shown};
+ghost use Rattle.explain_report.specs.Secrets.{shown_of, text_shown};
 
 use crate::text::cut::{Cut, Part, Piece};
-use crate::text::secret::{between, shown_text};
+use crate::text::joined::shows;
+use crate::text::lossy;
+use crate::text::printed::{Spelling, spelled, write_quoted, write_text};
+use crate::text::secret::{between, shown_bytes};
+use crate::text::shell_word::write_word;
 use bstr::ByteSlice;
 use git_refusals::parts::parts_of;
 use std::alloc::{AllocError, Global};
-use std::fmt::{self, Write};
-use unicode_width::UnicodeWidthChar;
+use std::fmt;
 
 /// A line as it may be shown.
 #[derive(Drop)]
@@ -28,24 +32,42 @@ pub struct SeenLine<'a> {
 impl<'a> SeenLine<'a> {
     /// A line as it may be shown, which is refused or has a secret in its password alone.
     pub fn of(alloc: Global, line: &'a [u8]) -> Result<SeenLine<'a>, AllocError>
-        ensures { IfOk result (λ seen. string_bytes seen.input ≡ text_shown line.now) }
+        ensures input { IfOk result (λ seen. string_bytes seen.input ≡ text_shown line.now) }
+        ensures pieces { IfOk result (λ seen. AreShownOf line.now (cut_shown seen.cut)) }
     {
         SeenLine::in_pieces(alloc, line, pieces_of(line))
     }
 
     /// A line as it may be shown, without the parts of its location.
     pub fn without_parts(alloc: Global, line: &'a [u8]) -> Result<SeenLine<'a>, AllocError>
-        ensures { IfOk result (λ seen. string_bytes seen.input ≡ text_shown line.now) }
+        ensures input { IfOk result (λ seen. string_bytes seen.input ≡ text_shown line.now) }
+        ensures pieces { IfOk result (λ seen. AreShownOf line.now (cut_shown seen.cut)) }
     {
         SeenLine::in_pieces(alloc, line, Cut::of_secrets(line))
     }
 
-    /// A line as it may be shown, in these pieces.
-    fn in_pieces(alloc: Global, line: &[u8], cut: Cut<'a>) -> Result<SeenLine<'a>, AllocError>
-        ensures { IfOk result (λ seen. string_bytes seen.input ≡ text_shown line.now) }
+    /// A line as it may be shown, in these pieces if they show that.
+    fn in_pieces(alloc: Global, line: &'a [u8], cut: Cut<'a>) -> Result<SeenLine<'a>, AllocError>
+        ensures input { IfOk result (λ seen. string_bytes seen.input ≡ text_shown line.now) }
+        ensures pieces { IfOk result (λ seen. AreShownOf line.now (cut_shown seen.cut)) }
     {
-        let input = shown_text(alloc, line)?;
-        Ok(SeenLine { cut, input })
+        let shown = shown_bytes(alloc, line)?;
+        let cut = pieces_showing(line, cut, shown.as_slice());
+        let input = lossy(alloc, shown.as_slice());
+        drop(shown);
+        Ok(SeenLine { cut, input: input? })
+    }
+}
+
+/// These pieces of a line if they show what is shown of it, and else one that is hidden.
+fn pieces_showing<'a>(line: &'a [u8], cut: Cut<'a>, shown: &[u8]) -> Cut<'a>
+    requires { shown.now ≡ shown_of line.now }
+    ensures { AreShownOf line.now (cut_shown result) }
+{
+    if shows(cut.pieces(), shown) {
+        cut
+    } else {
+        Cut::hidden(line)
     }
 }
 
@@ -54,43 +76,6 @@ pub fn pieces_of(line: &[u8]) -> Cut<'_> {
     match parts_of(line) {
         Ok(parts) => Cut::of_parts(line, &parts),
         Err(_) => Cut::of_secrets(line),
-    }
-}
-
-/// How a character is spelled.
-#[derive(Clone, Copy)]
-enum Spelling {
-    /// As it is, in so many columns.
-    Plain(usize),
-    /// By a text.
-    Short(&'static str),
-    /// Each byte by its number.
-    Bytes,
-    /// By the number of the character.
-    Number,
-}
-
-/// How a character is spelled that is in these bytes; U+FFFD also stands for bytes that are no character.
-fn spelled(character: char, bytes: &[u8]) -> Spelling {
-    match character {
-        '\0' => Spelling::Short("\\0"),
-        '\t' => Spelling::Short("\\t"),
-        '\n' => Spelling::Short("\\n"),
-        '\r' => Spelling::Short("\\r"),
-        '\\' => Spelling::Short("\\\\"),
-        ' '..='~' => Spelling::Plain(1),
-        '\0'..='\x7f' => Spelling::Bytes,
-        '\u{fffd}' if bytes != b"\xef\xbf\xbd".as_slice() => Spelling::Bytes,
-        _ => spelled_wide(character),
-    }
-}
-
-/// How a character past ASCII is spelled.
-fn spelled_wide(character: char) -> Spelling {
-    let is_printed = character.escape_debug().next() == Some(character);
-    match character.width() {
-        Some(columns) if is_printed && 0 < columns => Spelling::Plain(columns),
-        _ => Spelling::Number,
     }
 }
 
@@ -114,29 +99,23 @@ fn columns_of(character: char, bytes: &[u8]) -> usize {
 #[derive(Clone, Copy)]
 pub struct Shown<'a>(pub &'a [u8]);
 
+impl fmt::Display for Shown<'_> {
+    fn fmt<W: fmt::Write>(&self, f: &mut fmt::Formatter<W>) -> fmt::Result
+        ensures { OnOk result (WritesPrinted W.write_str_gives f.old f.new) }
+    {
+        write_text(f, self.0)
+    }
+}
+
 /// Bytes as they are shown, in quotes; those inside are escaped.
 #[derive(Clone, Copy, PartialEq)]
 pub struct Quoted<'a>(pub &'a [u8]);
 
-impl fmt::Display for Shown<'_> {
-    fn fmt<W: fmt::Write>(&self, f: &mut fmt::Formatter<W>) -> fmt::Result {
-        for (from, to, character) in self.0.char_indices() {
-            write_character(f, character, between(self.0, from, to))?;
-        }
-        Ok(())
-    }
-}
-
 impl fmt::Display for Quoted<'_> {
-    fn fmt<W: fmt::Write>(&self, f: &mut fmt::Formatter<W>) -> fmt::Result {
-        f.write_str("\"")?;
-        for (from, to, character) in self.0.char_indices() {
-            match character {
-                '"' => f.write_str("\\\"")?,
-                _ => write_character(f, character, between(self.0, from, to))?,
-            }
-        }
-        f.write_str("\"")
+    fn fmt<W: fmt::Write>(&self, f: &mut fmt::Formatter<W>) -> fmt::Result
+        ensures { OnOk result (WritesPrinted W.write_str_gives f.old f.new) }
+    {
+        write_quoted(f, self.0)
     }
 }
 
@@ -146,76 +125,22 @@ impl fmt::Display for Quoted<'_> {
 pub struct ShellWord<'a>(pub &'a [u8]);
 
 impl fmt::Display for ShellWord<'_> {
-    fn fmt<W: fmt::Write>(&self, f: &mut fmt::Formatter<W>) -> fmt::Result {
-        if has_escape(self.0) {
-            return write_escaped_word(f, self.0);
-        }
-        f.write_str("'")?;
-        for (_from, _to, character) in self.0.char_indices() {
-            match character {
-                '\'' => f.write_str("'\\''")?,
-                _ => f.write_char(character)?,
-            }
-        }
-        f.write_str("'")
-    }
-}
-
-/// Whether a character of the text is no `\`, and isn't shown as it is.
-fn has_escape(text: &[u8]) -> bool {
-    for (from, to, character) in text.char_indices() {
-        let spelling = spelled(character, between(text, from, to));
-        if character != '\\' && !matches!(spelling, Spelling::Plain(_)) {
-            return true;
-        }
-    }
-    false
-}
-
-/// Writes a word with escapes for a shell.
-fn write_escaped_word<W: fmt::Write>(f: &mut fmt::Formatter<W>, text: &[u8]) -> fmt::Result {
-    f.write_str("$'")?;
-    for (from, to, character) in text.char_indices() {
-        let bytes = between(text, from, to);
-        match spelled(character, bytes) {
-            Spelling::Plain(_) if character == '\'' => f.write_str("\\'")?,
-            Spelling::Plain(_) => f.write_char(character)?,
-            Spelling::Short(text) => f.write_str(text)?,
-            Spelling::Bytes | Spelling::Number => write_bytes(f, bytes)?,
-        }
-    }
-    f.write_str("'")
-}
-
-/// Writes each byte by its number.
-fn write_bytes<W: fmt::Write>(f: &mut fmt::Formatter<W>, bytes: &[u8]) -> fmt::Result {
-    for byte in bytes {
-        write!(f, "\\x{byte:02x}")?;
-    }
-    Ok(())
-}
-
-/// Writes a character as it is spelled.
-fn write_character<W: fmt::Write>(
-    f: &mut fmt::Formatter<W>,
-    character: char,
-    bytes: &[u8],
-) -> fmt::Result {
-    match spelled(character, bytes) {
-        Spelling::Plain(_) => f.write_char(character),
-        Spelling::Short(text) => f.write_str(text),
-        Spelling::Bytes => write_bytes(f, bytes),
-        Spelling::Number => {
-            let number = u32::from(character);
-            write!(f, "\\u{{{number:x}}}")
-        }
+    fn fmt<W: fmt::Write>(&self, f: &mut fmt::Formatter<W>) -> fmt::Result
+        ensures { OnOk result (WritesPrinted W.write_str_gives f.old f.new) }
+    {
+        write_word(f, self.0)
     }
 }
 
 /// Appends a text as it is shown.
-pub fn write_shown(out: &mut String, text: &[u8]) -> Result<(), AllocError> {
-    let shown = Shown(text);
-    write!(out, "{shown}")
+pub fn write_shown(out: &mut String, text: &[u8]) -> Result<(), AllocError>
+    ensures { OnOk result
+        ((added : List ℕ) × (string_bytes out.new ≡ string_bytes out.old ++ added) × IsPrinted added) }
+{
+    match write_text(out, text) {
+        Ok(()) => Ok(()),
+        Err(_) => Err(AllocError),
+    }
 }
 
 /// How many columns a text takes as it is shown.

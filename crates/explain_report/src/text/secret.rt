@@ -4,8 +4,8 @@
 //! its pieces by that definition, with the word for each that may be a secret. By [`law_shown`] it doesn't depend on the
 //! bytes that the word replaces.
 
-ghost use Rattle.std.specs.Prelude.{◌≡◌, ◌++◌, IfOk, OnOk, option_map, string_bytes};
-ghost use Rattle.explain_report.specs.Secrets.{LeavesSecretsOut, has_secret, is_hidden, part_shown, shown_of, text_shown};
+ghost use Rattle.std.specs.Prelude.{◌≡◌, ◌++◌, IfOk, IsTrue, OnOk, option_map, string_bytes};
+ghost use Rattle.explain_report.specs.Secrets.{LeavesSecretsOut, has_secret, is_hidden, part_shown, password_shown, shown_of, text_shown};
 ghost use Rattle.git_audit.specs.Secrets.{piece_part};
 
 use crate::text::lossy;
@@ -123,4 +123,21 @@ pub(crate) fn between(text: &[u8], from: usize, to: usize) -> &[u8] {
         Some(bytes) => bytes,
         None => b"",
     }
+}
+
+/// The word for a password, or nothing for an empty one.
+pub(crate) fn word_for(password: &[u8]) -> &'static [u8]
+    ensures { result.now ≡ password_shown password.now }
+{
+    match password {
+        [] => b"",
+        _ => REDACTED,
+    }
+}
+
+/// Whether both texts are the same.
+pub(crate) fn is_same(text: &[u8], other: &[u8]) -> bool
+    ensures { IsTrue result → text.now ≡ other.now }
+{
+    text == other
 }

@@ -3,15 +3,16 @@
 //!
 //! It uses `secret` for what is shown of the line, the library's `parts_of`, and `parse` of `gix_url`. Its contract,
 //! memory permitting: a line that is shown as itself is what is shown of it but for one part; another line is what is
-//! shown of it, and is read as a location with the same verdicts.
+//! shown of it, and is read as a location with the same verdicts; and nothing is shown only of a line of which a part may
+//! be a secret.
 
-ghost use Rattle.std.specs.Prelude.{◌≡◌, ◌++◌, ℕ, IfOk, IsTrue, List};
+ghost use Rattle.std.specs.Prelude.{◌≡◌, ◌++◌, ℕ, IfOk, IsTrue, List, option_map};
 ghost use Rattle.git_syntax.specs.Grammar.{Spells};
 ghost use Rattle.gix_url.specs.Location.{Location};
-ghost use Rattle.explain_report.specs.Secrets.{HaveSameVerdicts, IsSeen, IsShownAround, password_shown, shown_of};
+ghost use Rattle.explain_report.specs.Secrets.{HaveSameVerdicts, IsSeen, IsShownAround, has_secret, shown_as, shown_of};
 
 use crate::text::place::is_moved;
-use crate::text::secret::{REDACTED, has_secret, shown_bytes};
+use crate::text::secret::{has_secret, is_same, shown_bytes, word_for};
 use bstr::BStr;
 use git_audit::secret::law::law_secrets;
 use git_refusals::parts::{Parts, Span, parts_of};
@@ -57,7 +58,8 @@ impl Seen {
 
     /// How a line is shown in place of which this one may be.
     fn of_other(alloc: Global, line: &[u8], url: &Url, shown: Vec<u8>) -> Result<Seen, AllocError>
-        requires { shown.items ≡ shown_of line.now }
+        requires shown { shown.items ≡ shown_of line.now }
+        requires secret { IsTrue (has_secret line.now) }
         ensures { IfOk result (IsSeen line.now url.now) }
     {
         match parse(alloc, BStr::new(shown.as_slice())) {
@@ -77,6 +79,7 @@ impl Seen {
     fn of_location(line: &[u8], url: &Url, other: OtherLine) -> Seen
         requires shown { other.line.items ≡ shown_of line.now }
         requires spelled { Spells (shown_of line.now) other.url }
+        requires secret { IsTrue (has_secret line.now) }
         ensures { IsSeen line.now url.now result }
     {
         if has_same_verdicts(url, &other.url) && has_same_parts(line, other.line.as_slice()) {
@@ -88,7 +91,7 @@ impl Seen {
 
     /// How a line is shown in place of which this one is refused, unless it is memory that was refused.
     fn of_error(shown: Vec<u8>, error: Error) -> Result<Seen, AllocError>
-        ensures { (line : List ℕ) (v : Location) → IfOk result (IsSeen line v) }
+        ensures { (line : List ℕ) (v : Location) → IsTrue (has_secret line) → IfOk result (IsSeen line v) }
     {
         drop(shown);
         let is_memory = matches!(&error, Error::Memory);
@@ -100,7 +103,9 @@ impl Seen {
     }
 
     /// The line and the location of which may be shown what is read in this line, if there are such.
-    pub fn shown<'b>(&'b self, line: &'b [u8], url: &'b Url) -> Option<(&'b [u8], &'b Url)> {
+    pub fn shown<'b>(&'b self, line: &'b [u8], url: &'b Url) -> Option<(&'b [u8], &'b Url)>
+        ensures { option_map (λ it. (it.0.now, it.1.now)) result ≡ shown_as line.now url.now self.now }
+    {
         match self {
             Seen::Line => Some((line, url)),
             Seen::Other(other) => Some((other.line.as_slice(), &other.url)),
@@ -145,16 +150,6 @@ fn is_around(line: &[u8], span: Span, shown: &[u8]) -> bool
     is_joined(shown, front, word_for(password), rest)
 }
 
-/// The word for a password, or nothing for an empty one.
-fn word_for(password: &[u8]) -> &'static [u8]
-    ensures { result.now ≡ password_shown password.now }
-{
-    match password {
-        [] => b"",
-        _ => REDACTED,
-    }
-}
-
 /// Whether a text is these three, one after the other.
 fn is_joined(text: &[u8], front: &[u8], word: &[u8], rest: &[u8]) -> bool
     ensures { IsTrue result → text.now ≡ front.now ++ (word.now ++ rest.now) }
@@ -169,13 +164,6 @@ fn is_both(text: &[u8], word: &[u8], rest: &[u8]) -> bool
 {
     let (head, behind) = text.split_at(word.len().min(text.len()));
     is_same(head, word) && is_same(behind, rest)
-}
-
-/// Whether both texts are the same.
-fn is_same(text: &[u8], other: &[u8]) -> bool
-    ensures { IsTrue result → text.now ≡ other.now }
-{
-    text == other
 }
 
 /// Whether the other line, which is what is shown of this one, has the same parts.

@@ -1,0 +1,94 @@
+//! Texts around a mark, and words among others, as hints look for them.
+//!
+//! Their contracts: a text is cut around the first or the last match of a mark, and compared with words, as the
+//! definitions have it.
+
+ghost use Rattle.std.specs.Prelude.{◌≡◌, option_map};
+ghost use Rattle.std.specs.List.{list_any};
+ghost use Rattle.git_audit.specs.Dangers.{has_front};
+ghost use Rattle.explain_report.specs.Marks as spec;
+
+use bstr::ByteSlice;
+
+/// What is before the first such mark and behind it, if there is one.
+pub(crate) fn halves<'a>(text: &'a [u8], mark: &[u8]) -> Option<(&'a [u8], &'a [u8])>
+    ensures { option_map (λ p. (p.0.now, p.1.now)) result ≡ spec.halves mark.now text.now }
+{
+    text.split_once_str(mark)
+}
+
+/// What is before the last such mark and behind it, if there is one.
+pub(crate) fn last_halves<'a>(text: &'a [u8], mark: &[u8]) -> Option<(&'a [u8], &'a [u8])>
+    ensures { option_map (λ p. (p.0.now, p.1.now)) result ≡ spec.last_halves mark.now text.now }
+{
+    text.rsplit_once_str(mark)
+}
+
+/// Whether the text has such a mark.
+pub(crate) fn holds(text: &[u8], mark: &[u8]) -> bool
+    ensures { result ≡ spec.holds mark.now text.now }
+{
+    halves(text, mark).is_some()
+}
+
+/// What is before the first such mark, or all where there is none.
+pub(crate) fn before<'a>(text: &'a [u8], mark: &[u8]) -> &'a [u8]
+    ensures { result.now ≡ spec.before mark.now text.now }
+{
+    match halves(text, mark) {
+        Some((front, _)) => front,
+        None => text,
+    }
+}
+
+/// What is behind the last such mark, or all where there is none.
+pub(crate) fn behind<'a>(text: &'a [u8], mark: &[u8]) -> &'a [u8]
+    ensures { result.now ≡ spec.behind mark.now text.now }
+{
+    match last_halves(text, mark) {
+        Some((_, rest)) => rest,
+        None => text,
+    }
+}
+
+/// Whether the text is one of these.
+pub(crate) fn is_among(text: &[u8], words: &[&str]) -> bool
+    ensures { result ≡ list_any (λ word. spec.is_word text.now word.now) words.now }
+{
+    words.iter().any(|word| is_word(text, word))
+}
+
+/// Whether the text is the word.
+fn is_word(text: &[u8], word: &str) -> bool
+    ensures { result ≡ spec.is_word text.now word.now }
+{
+    text == word.as_bytes()
+}
+
+/// Whether the text is one of these without letter case.
+pub(crate) fn is_among_in_any_case(text: &[u8], words: &[&str]) -> bool
+    ensures { result ≡ list_any (λ word. spec.is_word_in_any_case text.now word.now) words.now }
+{
+    words.iter().any(|word| is_word_in_any_case(text, word))
+}
+
+/// Whether the text is the word, without letter case.
+fn is_word_in_any_case(text: &[u8], word: &str) -> bool
+    ensures { result ≡ spec.is_word_in_any_case text.now word.now }
+{
+    text.eq_ignore_ascii_case(word.as_bytes())
+}
+
+/// Whether the text begins with one of these.
+pub(crate) fn begins_with_some(text: &[u8], fronts: &[&str]) -> bool
+    ensures { result ≡ list_any (λ front. has_front text.now front.now) fronts.now }
+{
+    fronts.iter().any(|front| begins_with(text, front))
+}
+
+/// Whether the text begins with this.
+fn begins_with(text: &[u8], front: &str) -> bool
+    ensures { result ≡ has_front text.now front.now }
+{
+    text.starts_with(front.as_bytes())
+}
