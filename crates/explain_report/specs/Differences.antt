@@ -48,6 +48,10 @@ field_text name v =
     else (if bytes_eq name (codes "path") then Some (Some (lossy_text v.path))
     else None))))))
 
+-- both have the same flag, port and path
+abbrev pub HaveSameEnd : Location → Location → Type 0
+HaveSameEnd v other = (v.flag ≡ other.flag) × (v.port ≡ other.port) × (v.path ≡ other.path)
+
 -- the difference reports a public field, as it is here and as it is in another location
 pub record ReportsField (v other : Location) (report : Difference) : Type 0 where
   pub here : field_text report.field.now v ≡ Some (option_map string_bytes report.here)

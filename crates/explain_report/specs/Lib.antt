@@ -19,3 +19,4 @@ pub mod Forms
 pub mod Hosts
 pub mod Places
 pub mod Pieces
+pub mod Reasons

@@ -5,13 +5,13 @@
 //! names a public field and reports it of the location and of the one that its text spells, a password as the
 //! word `redacted`. That the field is the first, and the words, are no part of it.
 
-ghost use Rattle.std.specs.Prelude.{◌≡◌, ◌↔◌, IfOk, IfSome, IsNone, Ok, decimal, option_map, string_bytes};
+ghost use Rattle.std.specs.Prelude.{◌≡◌, ◌↔◌, IfOk, IfSome, IsNone, IsSome, Ok, decimal, option_map, string_bytes};
 ghost use Rattle.std.specs.List.{list_any};
 ghost use Rattle.bstr.specs.BStr.{bstr_bytes};
 ghost use Rattle.gix_url.specs.Settled.{IsSettled};
 ghost use Rattle.gix_url.specs.Text.{text};
 ghost use Rattle.gix_url.specs.Views.{owned_scheme};
-ghost use Rattle.explain_report.specs.Differences.{ReportsField, ReportsReread, flag_word, is_mark, scheme_words};
+ghost use Rattle.explain_report.specs.Differences.{HaveSameEnd, ReportsField, ReportsReread, flag_word, is_mark, scheme_words};
 ghost use Rattle.explain_report.specs.Facts.{AreFactsOf};
 ghost use Rattle.explain_report.specs.Marks.{some_passes};
 
@@ -138,7 +138,8 @@ fn first_difference(alloc: Global, url: &Url, other: &Url) -> Result<Option<Diff
 
 /// The first of the public fields behind the host in which the two differ.
 fn later_difference(alloc: Global, url: &Url, other: &Url) -> Result<Option<Difference>, AllocError>
-    ensures { IfOk result (λ difference. IfSome difference (ReportsField url.now other.now)) }
+    ensures report { IfOk result (λ difference. IfSome difference (ReportsField url.now other.now)) }
+    ensures none { IfOk result (λ difference. IsNone difference → HaveSameEnd url.now other.now) }
 {
     if url.serialize_alternative_form != other.serialize_alternative_form {
         let (here, instead) = (flag_text(url), flag_text(other));
@@ -173,6 +174,7 @@ fn part_difference(
     here: Option<&str>,
     instead: Option<&str>,
 ) -> Result<Option<Difference>, AllocError>
+    ensures some { IfOk result (λ difference. IsSome difference) }
     ensures named { IfOk result (λ difference. IfSome difference (λ found. found.field.now ≡ field.now)) }
     ensures here { IfOk result (λ difference. IfSome difference (λ found.
         option_map string_bytes found.here ≡ option_map (λ text. text.now) here.entry)) }

@@ -8,6 +8,7 @@
 //! run shows which hosts are found.
 
 ghost use Rattle.std.specs.Prelude.{◌≡◌, IfOk, IfSome, IsNone, None, false, string_bytes};
+ghost use Rattle.explain_report.specs.Reasons.{HasReason};
 ghost use Rattle.git_readers.specs.Conditions.{IsUnambiguous};
 ghost use Rattle.explain_report.specs.Secrets.{has_secret};
 
@@ -68,6 +69,7 @@ impl Readers {
         host: Option<&str>,
     ) -> Result<Option<Readers>, AllocError>
         ensures none { IfOk result (λ readers. IsNone readers → IsUnambiguous url.now) }
+        ensures some { IfOk result (λ readers. IfSome readers HasReason) }
         ensures instead { IfOk result (λ readers. IfSome readers (λ it.
             IfSome it.instead (λ text. has_secret (string_bytes text) ≡ false))) }
     {
@@ -91,7 +93,8 @@ impl Readers {
 
     /// What is reported of a location that doesn't meet the condition.
     fn with_condition(unmet: Condition, others: Vec<OtherHost>, instead: Option<String>) -> Readers
-        ensures { result.instead ≡ instead }
+        ensures instead { result.instead ≡ instead }
+        ensures reason { HasReason result }
     {
         Readers {
             condition: Some(condition::name(unmet)),
@@ -112,7 +115,8 @@ pub fn instead_of(readers: Option<&Readers>) -> Option<&str> {
 
 /// What is reported where no condition is, if there is another host.
 fn of_others(others: Vec<OtherHost>) -> Option<Readers>
-    ensures { IfSome result (λ it. it.instead ≡ None) }
+    ensures instead { IfSome result (λ it. it.instead ≡ None) }
+    ensures reason { IfSome result HasReason }
 {
     if others.is_empty() {
         drop(others);

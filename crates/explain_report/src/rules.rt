@@ -6,8 +6,8 @@
 //! it in words. It uses the public calls of `gix_url` and `git_rules`, and has no contract but that it can't abort:
 //! `scripts/hostile rules` shows its answers.
 
-ghost use Rattle.std.specs.Prelude.{◌≡◌, ◌↔◌, IfOk, IsNone, option_map};
-ghost use Rattle.explain_report.specs.Findings.{union};
+ghost use Rattle.std.specs.Prelude.{◌≡◌, ◌↔◌, IfOk, IsNone, MatchOption, option_map};
+ghost use Rattle.explain_report.specs.Findings.{none, union};
 ghost use Rattle.explain_report.specs.Rules.{SaysSameHost};
 
 pub mod config;
@@ -138,7 +138,10 @@ impl Rules {
 }
 
 /// What is found in the texts that a line is rewritten to by the configuration, if one is given.
-pub fn found_by(rules: Option<&Rules>) -> Findings {
+pub fn found_by(rules: Option<&Rules>) -> Findings
+    ensures { MatchOption rules.entry (result ≡ none)
+        (λ it. result ≡ union it.now.fetch.found it.now.push.found) }
+{
     match rules {
         None => Findings::none(),
         Some(rules) => rules.found(),
