@@ -201,7 +201,7 @@ fn ipv4(host: &[u8]) -> Option<Ipv4Addr> {
     Some(Ipv4Addr::from_bits(bits))
 }
 
-/// The number at the text, read as by C's `strtoul`: its prefix gives the base.
+/// The number that a text writes, read as by C's `strtoul`: its prefix gives the base.
 fn number(text: &[u8]) -> Option<u64> {
     match text {
         [] => None,
@@ -240,7 +240,7 @@ fn literal(alloc: Global, host: &[u8]) -> Result<Option<String>, AllocError> {
     Ok(Some(text))
 }
 
-/// The text in brackets before and after the first `%`, or `%25` in place of `%`.
+/// The texts inside of the brackets before and after the first `%`, which may be written `%25`.
 fn address_and_zone(host: &[u8]) -> Option<(&[u8], &[u8])> {
     let inside = host.strip_prefix(b"[")?.strip_suffix(b"]")?;
     let (address, zone) = match inside.split_once_str(b"%") {

@@ -246,7 +246,7 @@ fn unread_refused(alloc: Global, why: Unread) -> Result<GitReads, AllocError>
     in_words(alloc, words, name)
 }
 
-/// The first condition that a location of HTTP doesn't meet, for a location that isn't known to be read alike by all.
+/// The first condition that a location of HTTP doesn't meet, which is `Settled` if the location isn't settled.
 fn unmet_condition(url: &Url, is_settled: bool) -> Option<WebCondition>
     ensures unsettled { is_settled ≡ false → result ≡ Some WebCondition.Settled }
     ensures first { is_settled ≡ true → IfSome result (λ unmet. IsFirstUnmet unmet url.now) }

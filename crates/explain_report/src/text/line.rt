@@ -1,7 +1,7 @@
 //! Lines as they are shown, whole and in pieces, and texts written for a terminal.
 //!
-//! No text written here contains a control character, so it can't control a terminal. Different texts may be written
-//! alike.
+//! No text written here contains a control character, so it can't control a terminal. No contract says that
+//! different texts are written differently.
 
 ghost use Rattle.std.specs.Prelude.{◌≡◌, ◌++◌, ℕ, IfOk, List, OnOk, string_bytes};
 ghost use Rattle.explain_report.specs.Printed.{IsPrinted, WritesPrinted};
@@ -120,7 +120,7 @@ impl fmt::Display for Quoted<'_> {
 }
 
 /// Formats bytes as a word that a POSIX shell reads as these bytes: in `'..'`, with `'\''` for a quote; or in `$'..'`,
-/// which is in POSIX since 2024, if a character is escaped.
+/// which has been in POSIX since 2024, if a character is escaped.
 #[derive(Clone, Copy)]
 pub struct ShellWord<'a>(pub &'a [u8]);
 

@@ -92,7 +92,7 @@ pub fn part_of_shown<'a>(text: &[u8], part: &'a [u8]) -> &'a [u8] {
     }
 }
 
-/// Whether the bytes occur between two hidden pieces of the text.
+/// Whether the bytes occur in the text before, between or after its hidden pieces.
 fn is_in_shown(text: &[u8], bytes: &[u8]) -> bool {
     let (mut begin, mut at) = (0usize, 0usize);
     for piece in secrets(text) {
