@@ -1,4 +1,4 @@
--- What is looked for at an entry of a file of submodules.
+-- The findings about an entry of a file of submodules.
 use Rattle.std.specs.Prelude.{List, [], ◌∷◌, ◌++◌, Option, Some, None}
 use Rattle.git_modules.specs.declared.submodules.refusal.Refused.{Refused}
 use Rattle.git_modules.specs.declared.submodules.risk.Risk.{Risk}
@@ -11,7 +11,7 @@ abbrev pub all_risks : List Risk
 all_risks = risk.AbsolutePath ∷ risk.PathUpwards ∷ risk.PathIntoGit ∷ risk.OptionAsBranch ∷ risk.OptionAsUpdate
     ∷ risk.ControlCharacter ∷ risk.NoValue ∷ []
 
--- what was found before, and what fsck refuses for this reason, if there is one
+-- the findings so far, and this reason of fsck if there is one
 abbrev pub with_reason : List Kind → Option Refused → List Kind
 with_reason before None = before
 with_reason before (Some reason) = before ++ kind.Fsck reason ∷ []

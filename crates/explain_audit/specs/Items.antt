@@ -1,11 +1,11 @@
--- What was found in a text, and where it leads.
+-- The findings about a text, and the host of its location.
 use Rattle.std.specs.Prelude.{List, Option, Some, None, map}
 use Rattle.git_rules.specs.SameHost.{HaveSameHost}
 use Rattle.gix_url.specs.Location.{Location}
 use Rattle.explain_audit.specs.declared.item.Item.{Item}
 use Rattle.explain_audit.specs.declared.kind.Kind.{Kind}
 
--- what things were found, without their words
+-- the kinds of the findings
 abbrev pub kinds : List Item → List Kind
 kinds items = map (λ item. item.kind) items
 

@@ -1,4 +1,4 @@
--- What a run fails for where something is found, and how urgent that is.
+-- The condition for which a finding makes a run fail, and the level of the finding.
 use Rattle.std.specs.Prelude.{true}
 use Rattle.explain_report.specs.declared.finding.Findings.{Findings}
 use Rattle.explain_report.specs.Findings.{none}
@@ -7,7 +7,7 @@ use Rattle.explain_audit.specs.declared.kind.Kind.TheVariants as kind
 use Rattle.explain_audit.specs.declared.kind.Level.{Level}
 use Rattle.explain_audit.specs.declared.kind.Level.TheVariants as level
 
--- the part of what can be found that a kind is of
+-- the condition for which a kind makes a run fail
 abbrev pub findings_of : Kind → Findings
 findings_of (kind.Danger _) = record none { danger = true }
 findings_of (kind.Fsck _) = record none { danger = true }
@@ -23,7 +23,7 @@ findings_of kind.Unsettled = record none { unsettled = true }
 findings_of kind.GitDiffers = record none { git_differs = true }
 findings_of kind.Policy = record none { policy = true }
 
--- how urgent a kind is
+-- the level of a kind
 abbrev pub level_of : Kind → Level
 level_of (kind.Danger _) = level.Error
 level_of (kind.Fsck _) = level.Error

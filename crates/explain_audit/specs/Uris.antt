@@ -1,4 +1,4 @@
--- The URIs of files by their names.
+-- The URIs of files.
 use Rattle.std.specs.Prelude.{List, ℕ, Bool, bytes_eq, codes, if◌then◌else◌, ◌++◌, []}
 use Rattle.git_syntax.specs.Bytes.{begins_with, slash}
 use Rattle.percent_encoding.specs.Percent.{percent_encode}
@@ -8,7 +8,7 @@ use Rattle.explain_audit.specs.declared.uri.TheConstants.{ESCAPED}
 abbrev pub is_input : List ℕ → Bool
 is_input name = bytes_eq name (codes "-")
 
--- what the URI begins with: `file://` of an absolute name
+-- the front of the URI: `file://` if the name is absolute
 abbrev pub front : List ℕ → List ℕ
 front name = if begins_with slash name then codes "file://" else []
 

@@ -1,7 +1,4 @@
-//! What is found at one entry of a file of submodules, whatever the entries around it are.
-//!
-//! It uses `submodules` of `git_modules`. Its contract: the reasons are those for which Git's fsck refuses the entry,
-//! and the risks are those that it has.
+//! The findings about one entry of a file of submodules, independent of the other entries.
 
 ghost use Rattle.std.specs.Prelude.{◌≡◌, IfOk, OnOk};
 ghost use Rattle.std.specs.List.{filter};
@@ -18,25 +15,25 @@ use git_modules::submodules::submodules;
 use git_rules::config::Entry;
 use std::alloc::{AllocError, Global};
 
-/// How the URL of an entry is read.
+/// The way to audit the URL of an entry.
 #[derive(Clone, Copy)]
 pub enum Reading<'a> {
-    /// As that of a file, below the superproject if it is given.
+    /// As the URL in a file. A relative URL is resolved against the superproject's, if that is given.
     File(Option<Parent<'a>>),
-    /// Not here: a configuration decides where Git goes.
+    /// Not at all: a configuration decides which text Git uses.
     Configuration,
 }
 
-/// What was found at an entry, and the submodule that it is of.
+/// The findings about an entry, and the submodule of the entry.
 #[derive(Drop)]
 pub struct Audited<'a> {
-    /// The name of the submodule; none where the entry is of none, or Git refuses the name.
+    /// The name of the submodule, or `None` if the entry isn't one of a submodule or Git refuses the name.
     pub name: Option<&'a [u8]>,
-    /// What was found.
+    /// The findings.
     pub items: Vec<Item>,
 }
 
-/// What is found at an entry, which is also given alone in a list.
+/// Returns the findings about an entry. `alone` is a list of this entry only.
 pub fn audit<'a>(
     alloc: Global,
     entry: &Entry<'a>,
@@ -52,7 +49,7 @@ pub fn audit<'a>(
     Ok(Audited { name, items })
 }
 
-/// Adds what Git's fsck refuses of an entry: its name, then its value.
+/// Appends the reasons for which Git's fsck refuses an entry: first that of its name, then that of its value.
 fn add_refusals(alloc: Global, found: &mut Vec<Item>, refusals: Refusals) -> Result<(), AllocError>
     ensures { OnOk result (kinds found.new.items
         ≡ with_reason (with_reason (kinds found.old.items) refusals.name) refusals.value) }
@@ -61,7 +58,7 @@ fn add_refusals(alloc: Global, found: &mut Vec<Item>, refusals: Refusals) -> Res
     add_reason(alloc, found, refusals.value)
 }
 
-/// Adds what fsck refuses for this reason, if there is one.
+/// Appends this reason of fsck, if there is one.
 fn add_reason(
     alloc: Global,
     found: &mut Vec<Item>,
@@ -94,8 +91,8 @@ fn risks_of(alloc: Global, entry: &Entry<'_>) -> Result<Vec<Risk>, AllocError>
         .collect(alloc)
 }
 
-/// Adds what is found in the URL that the entries give, and returns the name of their submodule. Git uses no URL
-/// that looks like an option, and no entry whose name it refuses: fsck refuses both.
+/// Appends the findings about the URL in the entries, and returns the name of their submodule. Git uses no URL that
+/// looks like an option, and no entry whose name it refuses: fsck refuses both.
 fn add_urls<'a>(
     alloc: Global,
     found: &mut Vec<Item>,

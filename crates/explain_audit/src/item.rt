@@ -1,7 +1,4 @@
-//! What was found in a text that Git goes to, each thing with its words.
-//!
-//! It uses `danger` of `git_audit` and the reports of `explain_report`. Its contract: what is added is of the kind that
-//! is named, and follows what was there; and a relative URL leads away exactly if it is resolved to another host.
+//! The findings about a text that Git uses as a remote, each with its words.
 
 ghost use Rattle.std.specs.Prelude.{◌≡◌, ◌↔◌, ◌++◌, ◌∷◌, [], IsTrue, OnOk, option_map};
 ghost use Rattle.explain_audit.specs.Items.{LeadsAway, kinds};
@@ -18,16 +15,16 @@ use gix_url::{Error, Url};
 use std::alloc::{AllocError, Global};
 use std::fmt::Write;
 
-/// What was found.
+/// A finding.
 #[derive(Drop)]
 pub struct Item {
-    /// What it is.
+    /// The kind of the finding.
     pub kind: Kind,
-    /// It in words, without a secret.
+    /// The finding in words, which contain no secret.
     pub words: String,
 }
 
-/// Adds what was found, in the words of its kind.
+/// Appends a finding, in the words of its kind.
 pub fn add(alloc: Global, found: &mut Vec<Item>, kind: Kind) -> Result<(), AllocError>
     ensures { OnOk result (kinds found.new.items ≡ kinds found.old.items ++ kind ∷ []) }
 {
@@ -36,8 +33,8 @@ pub fn add(alloc: Global, found: &mut Vec<Item>, kind: Kind) -> Result<(), Alloc
     Ok(())
 }
 
-/// Adds what is found in a text that is used as a remote: all of its location, or that it is none. It leads to the
-/// host of a parent, if one is given.
+/// Appends the findings about a text that is used as a remote: those about its location, or its refusal. If a parent is
+/// given, a location on another host than the parent's is a finding.
 pub fn add_text(
     alloc: Global,
     found: &mut Vec<Item>,
@@ -53,7 +50,7 @@ pub fn add_text(
     added
 }
 
-/// Adds what is found in a text that is read as this location.
+/// Appends the findings about a text that is read as this location.
 fn add_location(
     alloc: Global,
     found: &mut Vec<Item>,
@@ -71,7 +68,7 @@ fn add_location(
     add_reading(alloc, found, text, url)
 }
 
-/// Whether the location names another host than the parent, if there is one.
+/// Whether there is a parent, and the location names another host.
 fn leads_away(parent: Option<&Url>, url: &Url) -> bool
     ensures { IsTrue result ↔ LeadsAway (option_map (λ p. p.now) parent.entry) url.now }
 {
@@ -81,7 +78,7 @@ fn leads_away(parent: Option<&Url>, url: &Url) -> bool
     }
 }
 
-/// Adds dangers.
+/// Appends dangers.
 pub fn add_dangers(
     alloc: Global,
     found: &mut Vec<Item>,
@@ -93,8 +90,8 @@ pub fn add_dangers(
     Ok(())
 }
 
-/// Adds that a location isn't settled, and that Git isn't known to read the same in its text, as far as that holds. The
-/// words are about the text as it is shown.
+/// Appends the findings that a location isn't settled, and that Git isn't known to read the same in its text, each if
+/// it is true. The words are about the text as it is shown.
 pub fn add_reading(
     alloc: Global,
     found: &mut Vec<Item>,
@@ -113,7 +110,7 @@ pub fn add_reading(
     added
 }
 
-/// Adds what is reported of how the text of a location is read.
+/// Appends the findings about the reading of a location's text, from its report.
 fn add_report_of(alloc: Global, found: &mut Vec<Item>, url: &Url) -> Result<(), AllocError> {
     let report = Report::of(alloc, url)?;
     let added = add_report(alloc, found, url, &report);
@@ -121,7 +118,7 @@ fn add_report_of(alloc: Global, found: &mut Vec<Item>, url: &Url) -> Result<(), 
     added
 }
 
-/// Adds how the text of a location is read of which nothing is shown.
+/// Appends the findings about the reading of a location's text that is withheld.
 fn add_withheld(alloc: Global, found: &mut Vec<Item>, url: &Url) -> Result<(), AllocError> {
     if !url.is_settled() {
         add(alloc, found, Kind::Unsettled)?;
@@ -132,7 +129,7 @@ fn add_withheld(alloc: Global, found: &mut Vec<Item>, url: &Url) -> Result<(), A
     Ok(())
 }
 
-/// Adds what a report says of how the text of a location is read.
+/// Appends the findings about the reading of a location's text, from this report.
 pub fn add_report(
     alloc: Global,
     found: &mut Vec<Item>,
@@ -160,7 +157,7 @@ pub fn add_report(
     Ok(())
 }
 
-/// Adds that a text is read as no location, unless memory is refused.
+/// Appends the finding that a text is refused. An error means that memory was refused.
 fn add_error(alloc: Global, found: &mut Vec<Item>, error: &Error) -> Result<(), AllocError> {
     if let Error::Memory = error {
         return Err(AllocError);
@@ -171,7 +168,7 @@ fn add_error(alloc: Global, found: &mut Vec<Item>, error: &Error) -> Result<(), 
     added
 }
 
-/// Adds that a text is read as no location.
+/// Appends the finding that a text is refused.
 pub fn add_refusal(
     alloc: Global,
     found: &mut Vec<Item>,
@@ -180,7 +177,7 @@ pub fn add_refusal(
     add_words(alloc, found, Kind::NoLocation, "", refusal.words.as_str())
 }
 
-/// Adds what was found, in words of two parts.
+/// Appends a finding, with words in two parts.
 pub fn add_words(
     alloc: Global,
     found: &mut Vec<Item>,

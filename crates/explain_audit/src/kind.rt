@@ -1,7 +1,4 @@
-//! What can be found: its name, its words, how urgent it is, and what a run fails for because of it.
-//!
-//! It uses the names and the words of the crates that find it. Its contract: what a run fails for is one part of
-//! [`Findings`] for each kind, and never none; and each kind has its level.
+//! The kinds of findings: for each its name, its words, its level, and the condition for which it makes a run fail.
 
 ghost use Rattle.std.specs.Prelude.{◌≡◌};
 ghost use Rattle.explain_audit.specs.Kinds as spec;
@@ -15,38 +12,38 @@ use serde::Serialize;
 use std::alloc::{AllocError, Global};
 use std::fmt::Write;
 
-/// What is found.
+/// A kind of finding.
 #[derive(Clone, Copy)]
 pub enum Kind {
-    /// A text that Git goes to has a danger.
+    /// A text that Git uses has a danger.
     Danger(Danger),
     /// Git's fsck refuses an entry of a submodule.
     Fsck(Refused),
-    /// An entry of a submodule is dangerous or broken, though fsck takes it.
+    /// An entry of a submodule is dangerous or broken, although fsck accepts it.
     Risk(Risk),
-    /// Git uses no path of a submodule.
+    /// Git uses no path for a submodule.
     NoPath,
-    /// Git uses no URL of a submodule.
+    /// Git uses no URL for a submodule.
     NoUrl,
-    /// Another submodule has the path of a submodule.
+    /// Two submodules have the same path.
     SamePath,
-    /// The URL of a submodule is relative, and leads to another host than that of the superproject.
+    /// The URL of a submodule is relative, and resolves to another host than the superproject's.
     ParentHost,
-    /// The URL of a submodule is relative, and that of the superproject isn't given.
+    /// The URL of a submodule is relative, and the superproject's URL isn't given.
     NoParent,
     /// The URL of a submodule is relative, and Git doesn't resolve it.
     Unresolved(ResolveError),
-    /// A text is read as no location.
+    /// A text is not read as a location.
     NoLocation,
-    /// The own text of a location is not read as the same location again.
+    /// The text of a location is not read as the same location again.
     Unsettled,
     /// Git isn't known to read the same in the text of a location.
     GitDiffers,
-    /// By the configuration Git has no transport for a text, or doesn't use it.
+    /// By the configuration, Git has no transport for a text or doesn't use it.
     Policy,
 }
 
-/// How urgent it is, by the words of SARIF.
+/// The level of a finding, as in SARIF.
 #[derive(Clone, Copy, Serialize)]
 #[serde(rename_all = "lowercase")]
 pub enum Level {
@@ -56,7 +53,7 @@ pub enum Level {
 }
 
 impl Kind {
-    /// All kinds, in the order of their rules. Git's reasons for not resolving a URL are one.
+    /// All kinds, in the order of their rules. Git's reasons for not resolving a URL are one kind.
     pub const ALL: [Kind; 31] = [
         Kind::Danger(Danger::Command),
         Kind::Danger(Danger::OptionLikeUser),
@@ -91,7 +88,7 @@ impl Kind {
         Kind::Policy,
     ];
 
-    /// What a run may fail for where this is found.
+    /// Returns the condition for which this finding makes a run fail.
     pub fn findings(self) -> Findings
         ensures { result ≡ spec.findings_of self }
     {
@@ -108,7 +105,7 @@ impl Kind {
         found
     }
 
-    /// The name of what a run may fail for where this is found.
+    /// Returns the name of the condition for which this finding makes a run fail.
     pub fn class(self) -> &'static str {
         match self {
             Kind::Danger(_) | Kind::Fsck(_) | Kind::Risk(_) => "danger",
@@ -120,7 +117,7 @@ impl Kind {
         }
     }
 
-    /// Its name.
+    /// Returns the kind's name.
     pub fn name(self) -> &'static str {
         match self {
             Kind::Danger(danger) => danger.name(),
@@ -139,14 +136,14 @@ impl Kind {
         }
     }
 
-    /// Its place among all of them.
+    /// Returns the kind's index in [`Kind::ALL`].
     pub fn index(self) -> usize {
         let all = Kind::ALL;
         let name = self.name();
         all.iter().position(|kind| kind.name() == name).unwrap_or(0)
     }
 
-    /// How urgent it is.
+    /// Returns the kind's level.
     pub fn level(self) -> Level
         ensures { result ≡ spec.level_of self }
     {
@@ -159,7 +156,7 @@ impl Kind {
         }
     }
 
-    /// Its words, which hold no byte of a text.
+    /// Returns the kind's words, which contain no byte of a text.
     pub fn words(self, alloc: Global) -> Result<String, AllocError> {
         let mut words = String::new(alloc);
         match self {
@@ -172,7 +169,7 @@ impl Kind {
         Ok(words)
     }
 
-    /// The words of a kind that this crate finds.
+    /// The words of a kind that this crate itself finds.
     fn own_words(self) -> &'static str {
         match self {
             Kind::NoPath => "Git has no path for the submodule",
@@ -202,7 +199,7 @@ fn risk_name(risk: Risk) -> &'static str {
     }
 }
 
-/// The names of what a run may fail for, of what was found.
+/// Returns the names of these findings, for which a run may fail.
 pub fn names_of(alloc: Global, found: Findings) -> Result<Vec<&'static str>, AllocError> {
     let mut names = Vec::new(alloc);
     if found.danger {

@@ -1,9 +1,10 @@
-//! What is found, for programs that look for faults: in the submodules of a file, and in a text that Git goes to.
+//! Audits the submodules of a file or a configuration, and texts that Git uses as remotes, for programs that look for
+//! faults.
 //!
-//! [`kind`] names what can be found and says what a run fails for because of it, [`item`] has what was found in a
-//! text, [`module`] what was found in a file of submodules, by [`entry`], [`whole`], [`url`] and [`place`]; [`sarif`]
-//! has the objects of SARIF, and [`uri`] the names of files in them. The crate uses the public calls of `git_modules` and
-//! `git_audit`, and what `explain_report` reports. Nothing is laid out here: that is for the crate above.
+//! [`kind`] lists the kinds of findings, and the condition for which each makes a run fail. [`item`] has the findings
+//! about a text, and [`module`] those about a file of submodules, with [`entry`], [`whole`], [`url`] and [`place`].
+//! [`sarif`] has the objects of SARIF, and [`uri`] the file names in them. The findings are data; the crate above
+//! formats them.
 #![tactic(auto)]
 
 pub mod entry;

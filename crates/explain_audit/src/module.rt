@@ -1,7 +1,4 @@
-//! What is found in the submodules of a file, or of a configuration, each with what Git uses of it.
-//!
-//! It uses `config_file` and `submodules` of `git_modules`, `entry` for each entry, and `whole` for each submodule of a
-//! file. Its contract: what a run fails for because of a submodule is all that was found in it.
+//! The submodules of a file or a configuration: the values that Git uses, and the findings about them.
 
 ghost use Rattle.std.specs.Prelude.{◌≡◌, IfOk, OnOk, option_map, string_bytes};
 ghost use Rattle.bstr.specs.Owned.{bstring_bytes};
@@ -30,44 +27,45 @@ use serde::Serialize;
 use std::alloc::{AllocError, Global};
 use std::collections::BTreeMap;
 
-/// A submodule of a file, and what was found in it.
+/// A submodule, and the findings about it.
 #[derive(Drop, Serialize)]
 pub struct ModuleReport {
-    /// Its name; none for all entries whose name Git refuses. In each text of it `redacted` is for what may be a secret.
+    /// Its name, or `None` for all entries whose name Git refuses. Here and in each text below, `redacted` is in place
+    /// of possible secrets.
     pub submodule: Option<String>,
     /// The folder that Git uses, if it uses one.
     pub path: Option<String>,
-    /// The URL that Git uses.
+    /// The URL that Git uses, if it uses one.
     pub url: Option<String>,
-    /// What a relative URL is resolved to.
+    /// The text to which a relative URL is resolved.
     pub resolved: Option<String>,
-    /// Where Git fetches it from by a configuration.
+    /// The texts from which Git fetches it by a configuration.
     pub fetch: Vec<Route>,
-    /// How it is updated.
+    /// The method of updates.
     pub update: Option<String>,
-    /// The branch that it is updated to.
+    /// The branch for updates.
     pub branch: Option<String>,
-    /// The names of what a run may fail for, and of what was found, each once.
+    /// The names of the conditions for which a run may fail, and of the findings, each once.
     pub findings: Vec<&'static str>,
-    /// What was found, and where.
+    /// The findings, and their places.
     pub places: Vec<Place>,
-    /// What a run may fail for.
+    /// The conditions for which a run may fail.
     #[serde(skip)]
     pub found: Findings,
 }
 
-/// What was found at an entry.
+/// A finding about an entry.
 #[derive(Drop, Serialize)]
 pub struct Place {
-    /// Its name.
+    /// The name of the finding.
     pub name: &'static str,
-    /// It in words.
+    /// The finding in words.
     pub words: String,
-    /// The line of the entry, from 1, if it is of a file.
+    /// The line of the entry, from 1, if it is in a file.
     pub line: Option<usize>,
-    /// The column of the entry, from 1.
+    /// The column of the entry, from 1, if it is in a file.
     pub column: Option<usize>,
-    /// The column after the end of the line of the entry.
+    /// The column after the end of the entry's line, if it is in a file.
     pub end_column: Option<usize>,
     /// The entry.
     pub entry: Setting,
@@ -75,11 +73,12 @@ pub struct Place {
     pub kind: Kind,
 }
 
-/// The submodules of the text of a file, in the order in which their names come first, and what is found in them.
+/// Returns the submodules of a file with this text, in the order in which their names first occur, and the findings
+/// about them.
 ///
 /// # Errors
 ///
-/// That of the text, if it is no configuration; and where memory is refused.
+/// The error of the text, if it isn't a configuration. Also fails if memory is refused.
 pub fn reports(
     alloc: Global,
     text: &[u8],
@@ -118,8 +117,8 @@ fn plain<'a>(alloc: Global, found: &[FileEntry<'a>]) -> Result<Vec<Entry<'a>>, A
     Ok(plain)
 }
 
-/// The submodules of a configuration, in the order in which their names come first, with where Git fetches them from,
-/// and what is found in them.
+/// Returns the submodules of a configuration, in the order in which their names first occur, with the texts from which
+/// Git fetches them, and the findings about them.
 pub fn configured(
     alloc: Global,
     entries: &[Entry<'_>],
@@ -139,8 +138,8 @@ pub fn configured(
     Ok(audit.reports)
 }
 
-/// What was found so far, the places of the reports by their names, and the indices of the first entries of as many
-/// submodules as were noted.
+/// The findings so far. `places` has the index of each report by the name of its submodule, and `firsts` the index of
+/// the first entry of each submodule noted so far.
 #[derive(Drop)]
 struct Audit<'a> {
     reports: Vec<ModuleReport>,
@@ -149,7 +148,7 @@ struct Audit<'a> {
 }
 
 impl<'a> Audit<'a> {
-    /// The submodules, without what is found in them.
+    /// The submodules, without findings.
     fn of(
         alloc: Global,
         listed: &[Submodule<'a>],
@@ -169,7 +168,8 @@ impl<'a> Audit<'a> {
         })
     }
 
-    /// Notes the index of an entry of a submodule, if it is the first one. Submodules are in the order of these.
+    /// Notes the index of an entry, if it is the first one of its submodule. The submodules are in the order of their
+    /// first entries.
     fn note_first(&mut self, name: Option<&'a [u8]>, index: usize) -> Result<(), AllocError> {
         let Some(name) = name else {
             return Ok(());
@@ -180,7 +180,7 @@ impl<'a> Audit<'a> {
         Ok(())
     }
 
-    /// Adds what is found in each of the submodules of a text as a whole.
+    /// Appends the findings about each submodule of a text as a whole.
     fn add_defects(
         &mut self,
         alloc: Global,
@@ -198,7 +198,7 @@ impl<'a> Audit<'a> {
         Ok(())
     }
 
-    /// Adds what was found at an entry, which is in this line of a text if it is of one.
+    /// Appends the findings about an entry. `line` is a text and the line in it, if the entry is in a file.
     fn add(
         &mut self,
         alloc: Global,
@@ -217,7 +217,7 @@ impl<'a> Audit<'a> {
         }
     }
 
-    /// The place of the report of a submodule. The empty name, which Git refuses, is for all that it refuses.
+    /// The index of a submodule's report. The empty name, which Git refuses, is used for all names that it refuses.
     fn place_of(&mut self, alloc: Global, name: &'a [u8]) -> Result<usize, AllocError> {
         if let Some(place) = self.places.get(name) {
             return Ok(*place);
@@ -230,7 +230,7 @@ impl<'a> Audit<'a> {
 }
 
 impl ModuleReport {
-    /// No submodule, in which nothing was found.
+    /// A report without a submodule and without findings.
     fn empty(alloc: Global) -> ModuleReport {
         ModuleReport {
             submodule: None,
@@ -246,7 +246,7 @@ impl ModuleReport {
         }
     }
 
-    /// What Git uses of a submodule.
+    /// The values that Git uses for a submodule.
     fn of(
         alloc: Global,
         submodule: &Submodule<'_>,
@@ -264,7 +264,7 @@ impl ModuleReport {
         Ok(report)
     }
 
-    /// Adds what was found at an entry, which is in this line of a text if it is of one.
+    /// Appends the findings about an entry. `line` is a text and the line in it, if the entry is in a file.
     fn add(
         &mut self,
         alloc: Global,
@@ -288,7 +288,7 @@ impl ModuleReport {
         Ok(())
     }
 
-    /// Adds what is found in the submodule as a whole, of which this is the index of the first entry.
+    /// Appends the findings about the submodule as a whole. `first` is the index of its first entry.
     fn add_defects(
         &mut self,
         alloc: Global,
@@ -311,7 +311,7 @@ impl ModuleReport {
         Ok(())
     }
 
-    /// Adds where Git fetches the submodule from, and what is found in that.
+    /// Adds the text from which Git fetches the submodule, and the findings about it.
     fn fetch_from(
         &mut self,
         alloc: Global,
@@ -330,7 +330,7 @@ impl ModuleReport {
         Ok(())
     }
 
-    /// Notes what a run may fail for, and the name of what was found.
+    /// Notes the kind of a finding: the condition for which it makes a run fail, and its name.
     fn note(&mut self, kind: Kind) -> Result<(), AllocError>
         ensures { OnOk result (self.new.found ≡ union self.old.found (findings_of kind)) }
     {
@@ -340,7 +340,7 @@ impl ModuleReport {
     }
 }
 
-/// Notes a name that isn't noted yet.
+/// Appends a name, unless the list contains it.
 fn note_name(names: &mut Vec<&'static str>, name: &'static str) -> Result<(), AllocError> {
     if names.iter().any(|it| *it == name) {
         return Ok(());
@@ -349,7 +349,7 @@ fn note_name(names: &mut Vec<&'static str>, name: &'static str) -> Result<(), Al
     Ok(())
 }
 
-/// The value that is used, if one is.
+/// The value that Git uses, if it uses one.
 fn value_of<'a>(used: Option<Used<'a>>) -> Option<&'a [u8]>
     ensures { option_map (λ value. value.now) result ≡ option_map (λ found. found.value.now) used.entry }
 {
@@ -359,7 +359,7 @@ fn value_of<'a>(used: Option<Used<'a>>) -> Option<&'a [u8]>
     }
 }
 
-/// What a URL is resolved to, as it is shown.
+/// The text to which a URL is resolved, as it is shown.
 fn shown_resolved(alloc: Global, text: Option<BString>) -> Result<Option<String>, AllocError>
     ensures { IfOk result (λ shown. option_map string_bytes shown ≡ option_map (λ it. text_shown (bstring_bytes it)) text) }
 {

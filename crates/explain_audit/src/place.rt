@@ -1,20 +1,20 @@
-//! Where an entry is in a text, by its line and its columns.
+//! The columns of an entry in its line.
 //!
-//! A column is a character, and bytes that are no UTF-8 count as bstr decodes them. A byte order mark at the
-//! beginning of a text is none.
+//! A column is a character. Bytes that aren't UTF-8 are counted as bstr decodes them. A byte order mark at the start of
+//! a text isn't counted.
 
 use bstr::ByteSlice;
 
 /// The columns of an entry in its line, from 1.
 #[derive(Clone, Copy)]
 pub struct Columns {
-    /// That of its first character.
+    /// The column of its first character.
     pub start: usize,
     /// The column after the end of its line.
     pub end: usize,
 }
 
-/// The columns of what begins at a place of a text, to the end of its line.
+/// Returns the columns from an offset of a text to the end of its line.
 pub fn columns_at(text: &[u8], at: usize) -> Columns {
     let (front, rest) = text.split_at(at.min(text.len()));
     let before = match front.rfind_byte(b'\n') {
@@ -32,7 +32,7 @@ pub fn columns_at(text: &[u8], at: usize) -> Columns {
     }
 }
 
-/// What follows the byte at a place of a text.
+/// The text after the byte at an offset.
 fn after(text: &[u8], place: usize) -> &[u8] {
     match text.get(place.saturating_add(1)..) {
         Some(rest) => rest,
@@ -40,7 +40,7 @@ fn after(text: &[u8], place: usize) -> &[u8] {
     }
 }
 
-/// The text without a byte order mark at its beginning.
+/// The text without a byte order mark at its start.
 fn without_mark(text: &[u8]) -> &[u8] {
     match text {
         [0xef, 0xbb, 0xbf, rest @ ..] => rest,
@@ -56,7 +56,7 @@ fn without_return(line: &[u8]) -> &[u8] {
     }
 }
 
-/// How many characters a text has.
+/// Returns the number of characters in a text.
 pub fn count(text: &[u8]) -> usize {
     let mut sum = 0usize;
     for _character in text.chars() {

@@ -1,7 +1,4 @@
 //! The objects of SARIF 2.1.0 that are written: the tool with its rules, and results.
-//!
-//! It has no contract but that it can't abort: `scripts/hostile arguments` looks at what is written, by the rules of
-//! the schema.
 
 use crate::kind::{Kind, Level};
 use serde::Serialize;
@@ -13,7 +10,7 @@ pub struct Message<'a> {
     pub text: &'a str,
 }
 
-/// The program that writes.
+/// The program that wrote the file.
 #[derive(Clone, Copy, Serialize)]
 pub struct Tool<'a> {
     pub driver: Driver<'a>,
@@ -27,7 +24,7 @@ pub struct Driver<'a> {
     pub rules: &'a [Rule],
 }
 
-/// A kind of what can be found.
+/// A rule: a kind of finding.
 #[derive(Drop, Serialize)]
 #[serde(rename_all = "camelCase")]
 pub struct Rule {
@@ -36,19 +33,19 @@ pub struct Rule {
     pub default_configuration: Configuration,
 }
 
-/// A text that is owned.
+/// A text, owned.
 #[derive(Drop, Serialize)]
 pub struct Words {
     pub text: String,
 }
 
-/// How urgent a rule is.
+/// The level of a rule.
 #[derive(Clone, Copy, Serialize)]
 pub struct Configuration {
     pub level: Level,
 }
 
-/// The rules, in the order of [`Kind::ALL`].
+/// Returns the rules, in the order of [`Kind::ALL`].
 pub fn rules(alloc: Global) -> Result<Vec<Rule>, AllocError> {
     let mut rules = Vec::new(alloc);
     let all = Kind::ALL;
@@ -66,7 +63,7 @@ pub fn rules(alloc: Global) -> Result<Vec<Rule>, AllocError> {
     Ok(rules)
 }
 
-/// Something that was found.
+/// A result: a finding.
 #[derive(Clone, Copy, Serialize)]
 #[serde(rename_all = "camelCase")]
 pub struct Outcome<'a> {
@@ -77,7 +74,7 @@ pub struct Outcome<'a> {
     pub locations: &'a [Location<'a>],
 }
 
-/// Where it was found.
+/// The place of a result.
 #[derive(Clone, Copy, Serialize)]
 #[serde(rename_all = "camelCase")]
 pub struct Location<'a> {
@@ -102,13 +99,13 @@ pub struct Artifact<'a> {
     pub uri: &'a str,
 }
 
-/// A thing that has a name.
+/// An item with a name.
 #[derive(Clone, Copy, Serialize)]
 pub struct Logical<'a> {
     pub name: &'a str,
 }
 
-/// A part of a line, by columns in characters.
+/// A part of a line, with its columns in characters.
 #[derive(Clone, Copy, Serialize)]
 #[serde(rename_all = "camelCase")]
 pub struct Region {
@@ -117,7 +114,7 @@ pub struct Region {
     pub end_column: usize,
 }
 
-/// Where something was found: in a file, at a thing that has a name, or both.
+/// The place of a result: in a file, at a named item, or both.
 #[derive(Clone, Copy)]
 pub struct Spot<'a> {
     pub uri: Option<&'a str>,

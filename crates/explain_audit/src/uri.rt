@@ -1,7 +1,6 @@
-//! Names of files as URIs.
+//! File names as URIs.
 //!
-//! Its contract: the URI of a name is the name with each byte escaped that isn't unreserved, and isn't `/`; of an
-//! absolute one with `file://` before it.
+//! In the URI of a name, each byte is escaped that is neither unreserved nor `/`. `file://` precedes an absolute name.
 
 ghost use Rattle.std.specs.Prelude.{◌≡◌, IfOk, string_bytes};
 ghost use Rattle.explain_audit.specs.Uris as spec;
@@ -9,7 +8,7 @@ ghost use Rattle.explain_audit.specs.Uris as spec;
 use percent_encoding::{AsciiSet, NON_ALPHANUMERIC, ascii_set, percent_encode};
 use std::alloc::{AllocError, Global};
 
-/// The bytes that are escaped: all but those that RFC 3986 calls unreserved, and `/`.
+/// The bytes that are escaped: all except `/` and those that RFC 3986 calls unreserved.
 pub const ESCAPED: AsciiSet = ascii_set!(
     NON_ALPHANUMERIC
         .remove(b'-')
@@ -19,7 +18,7 @@ pub const ESCAPED: AsciiSet = ascii_set!(
         .remove(b'/')
 );
 
-/// The URI of a file; `-` is standard input.
+/// Returns the URI of a file. The name `-` is standard input.
 pub fn uri_of(alloc: Global, file: &str) -> Result<String, AllocError>
     ensures { IfOk result (λ uri. string_bytes uri ≡ spec.uri_of file.now) }
 {
@@ -38,7 +37,7 @@ fn is_input(file: &str) -> bool
     file.as_bytes() == b"-".as_slice()
 }
 
-/// What the URI of a file begins with, before the name.
+/// The front of the URI of a file, before the name.
 fn front(file: &str) -> &'static str
     ensures { result.now ≡ spec.front file.now }
 {

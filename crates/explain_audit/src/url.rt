@@ -1,6 +1,4 @@
-//! What is found in the URL of a submodule.
-//!
-//! It uses `resolve` of `git_modules`, and `item` for the text that Git goes to.
+//! The findings about the URL of a submodule.
 
 use crate::item::{Item, add, add_text};
 use crate::kind::Kind;
@@ -9,14 +7,15 @@ use git_modules::resolve::{is_relative, resolve};
 use gix_url::Url;
 use std::alloc::{AllocError, Global};
 
-/// The URL of the superproject, and what it is read as.
+/// The URL of the superproject, and its location.
 #[derive(Clone, Copy)]
 pub struct Parent<'a> {
     pub text: &'a [u8],
     pub url: &'a Url,
 }
 
-/// Adds what is found in the URL of a submodule: in the URL itself, or in what it is resolved to if it is relative.
+/// Appends the findings about the URL of a submodule. If the URL is relative, they are about the text to which it is
+/// resolved.
 pub fn add_url(
     alloc: Global,
     found: &mut Vec<Item>,
@@ -32,7 +31,7 @@ pub fn add_url(
     }
 }
 
-/// Adds what is found in what a relative URL is resolved to.
+/// Appends the findings about the text to which a relative URL is resolved.
 fn add_relative(
     alloc: Global,
     found: &mut Vec<Item>,
@@ -50,7 +49,7 @@ fn add_relative(
     }
 }
 
-/// What a relative URL is resolved to, if it is one and Git resolves it.
+/// Returns the text to which a URL is resolved, if it is relative, the parent is given, and Git resolves it.
 pub fn resolved(
     alloc: Global,
     url: &[u8],

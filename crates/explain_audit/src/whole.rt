@@ -1,7 +1,4 @@
-//! What is found in a submodule of a file as a whole, whatever its entries are one by one.
-//!
-//! It uses `defect` of `git_modules`. Its contract: what is found is the defects that the submodule has, in their
-//! order.
+//! The findings about a submodule of a file as a whole, independent of those about its entries.
 
 ghost use Rattle.std.specs.Prelude.{◌≡◌, IfOk};
 ghost use Rattle.explain_audit.specs.Wholes as spec;
@@ -11,7 +8,7 @@ use git_modules::submodules::Submodule;
 use git_modules::submodules::defect::Defects;
 use std::alloc::{AllocError, Global};
 
-/// What is found in a submodule that has these defects.
+/// Returns the findings about a submodule that has these defects, in the order of the defects.
 pub fn kinds_of(alloc: Global, defects: Defects) -> Result<Vec<Kind>, AllocError>
     ensures { IfOk result (λ found. found.items ≡ spec.kinds_of defects) }
 {
@@ -28,8 +25,8 @@ pub fn kinds_of(alloc: Global, defects: Defects) -> Result<Vec<Kind>, AllocError
     Ok(found)
 }
 
-/// The index of the entry at which this is found: that of the path for [`Kind::SamePath`], else the first one of the
-/// submodule.
+/// Returns the index of the entry at which a finding is reported: that of the path for [`Kind::SamePath`], otherwise
+/// the first one of the submodule.
 pub fn index_of(kind: Kind, submodule: &Submodule<'_>, first: usize) -> usize {
     match (kind, submodule.path) {
         (Kind::SamePath, Some(path)) => path.index,

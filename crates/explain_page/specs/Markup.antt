@@ -1,4 +1,5 @@
--- How a text is put into a page: as text, which begins no tag and ends no value of an attribute; and of JSON without `<`.
+-- The text added to a page: escaped text begins no tag and ends no value of an attribute, and a text of JSON contains
+-- no `<`.
 use Rattle.std.specs.Prelude.{ℕ, Bool, true, false, not, ◌==◌, ◌&&◌, ◌||◌, List, [], ◌∷◌, codes, flat_map, nat_le, if◌then◌else◌}
 
 -- `<`
@@ -35,7 +36,7 @@ escaped_byte b =
 abbrev pub escaped : List ℕ → List ℕ
 escaped text = flat_map escaped_byte text
 
--- ---- what is never in such a text
+-- ---- properties of such a text
 
 -- the byte begins or ends a tag, or the value of an attribute
 abbrev pub is_mark : ℕ → Bool
@@ -47,24 +48,24 @@ has_front [] bytes = true
 has_front (f ∷ front) [] = false
 has_front (f ∷ front) (b ∷ bytes) = f == b && has_front front bytes
 
--- behind an `&`: the rest of a reference to one of the five bytes
+-- the rest of a reference to one of the five bytes, after its `&`
 abbrev pub ends_reference : List ℕ → Bool
 ends_reference bytes =
     has_front (codes "lt;") bytes || (has_front (codes "gt;") bytes || (has_front (codes "amp;") bytes
     || (has_front (codes "quot;") bytes || has_front (codes "#39;") bytes)))
 
--- no byte is a mark, and each `&` begins a reference
+-- no byte is of markup, and each `&` begins a reference
 abbrev pub has_no_markup : List ℕ → Bool
 has_no_markup [] = true
 has_no_markup (b ∷ bytes) = not (is_mark b) && ((if b == ampersand then ends_reference bytes else true) && has_no_markup bytes)
 
--- ---- a text that is shown as it is
+-- ---- a text that is shown unchanged
 
 -- `\`
 abbrev pub backslash : ℕ
 backslash = 92
 
--- the byte is ASCII that is seen, and not `\`
+-- the byte is visible ASCII, and not `\`
 abbrev pub is_plain : ℕ → Bool
 is_plain b = nat_le 32 b && (nat_le b 126 && not (b == backslash))
 

@@ -1,7 +1,7 @@
 //! The page that `explain --html` writes: a table with a row for each line, and the objects of `--json`.
 //!
-//! [`page::Page`] takes the [`row::Row`] of a line after the other, with the object of the line, and writes the page when
-//! it has all. Text goes in by [`markup::Markup`] alone, by whose contract it adds no markup.
+//! [`page::Page`] takes the [`row::Row`] and the object of each line in turn, and then writes the page. Text is added
+//! only through [`markup::Markup`], whose contract says that it adds no markup.
 #![tactic(auto)]
 
 pub mod markup;

@@ -1,9 +1,8 @@
-//! Text of a page in HTML: what the template says, and what is put into it.
+//! HTML text of a page, to which a caller can add only in the ways below.
 //!
-//! There is no way to add bytes but those below: a template's own text goes in as it is, and it is a constant
-//! of this program; a text of JSON goes in without `<`, and all else goes in as text. It uses `line` for how a text is
-//! shown. Its contract: of a text or a value exactly the escaped text is added, in which no byte begins a tag or ends the
-//! value of an attribute; of a text of JSON the same text with the escape of each `<`, so that it ends no element.
+//! A text of the template is a constant of this program, and is added unchanged. A text of JSON is added with an escape
+//! in place of each `<`, so that it ends no element. All other text is escaped, so that no byte of it begins a tag or
+//! ends the value of an attribute.
 
 ghost use Rattle.std.specs.Prelude.{◌≡◌, List, ℕ, ◌++◌, [], true, IfSome, OnOk, flat_map};
 ghost use Rattle.std.specs.List.{list_all};
@@ -15,7 +14,7 @@ use std::alloc::{AllocError, Global};
 use std::fmt::{Display, Write};
 use std::marker::Model;
 
-/// Text of a page. Contracts see its bytes.
+/// HTML text of a page. In contracts it is its bytes.
 #[derive(Drop)]
 pub struct Markup {
     alloc: Global,
@@ -29,7 +28,7 @@ impl Model for Markup {
 }
 
 impl Markup {
-    /// No text yet.
+    /// Returns an empty text.
     pub fn new(alloc: Global) -> Markup
         ensures { result ≡ [] }
     {
@@ -39,21 +38,21 @@ impl Markup {
         }
     }
 
-    /// The bytes.
+    /// Returns the bytes.
     pub fn as_bytes(&self) -> &[u8]
         ensures { result.now ≡ self.now }
     {
         self.bytes.as_slice()
     }
 
-    /// Appends what the template says.
+    /// Appends a text of the template, unchanged.
     pub fn push_template(&mut self, piece: &'static str) -> Result<(), AllocError>
         ensures { OnOk result (self.new ≡ self.old ++ piece.now) }
     {
         self.bytes.extend_from_slice(piece.as_bytes())
     }
 
-    /// Appends a text as text.
+    /// Appends a text, escaped.
     pub fn push_text(&mut self, text: &str) -> Result<(), AllocError>
         ensures escaped { OnOk result (self.new ≡ self.old ++ escaped text.now) }
         ensures no_markup { OnOk result
@@ -62,7 +61,7 @@ impl Markup {
         push_escaped(&mut self.bytes, text.as_bytes())
     }
 
-    /// Appends a value, as it is formatted.
+    /// Appends a value as it is formatted, escaped.
     pub fn push_value<D: Display + Drop>(&mut self, value: D) -> Result<(), AllocError>
         ensures value { IfSome (D.Display.output value)
             (λ text. OnOk result (self.new ≡ self.old ++ escaped text)) }
@@ -76,7 +75,7 @@ impl Markup {
         pushed
     }
 
-    /// Appends a text of the input, as it is shown: a plain one is shown as it is.
+    /// Appends a text of the input as it is shown, escaped. A plain text is shown unchanged.
     pub fn push_shown(&mut self, text: &[u8]) -> Result<(), AllocError>
         ensures plain { list_all spec.is_plain text.now ≡ true
             → OnOk result (self.new ≡ self.old ++ escaped text.now) }
@@ -89,7 +88,7 @@ impl Markup {
         self.push_value(Shown(text))
     }
 
-    /// Appends a text of JSON, in which `<` is in strings alone.
+    /// Appends a text of JSON, in which `<` occurs only in strings.
     pub fn push_json(&mut self, text: &str) -> Result<(), AllocError>
         ensures escaped { OnOk result (self.new ≡ self.old ++ island text.now) }
         ensures no_tag { OnOk result
@@ -99,14 +98,14 @@ impl Markup {
     }
 }
 
-/// Whether the byte is printed as it is in a text that is shown.
+/// Whether the byte is shown unchanged.
 fn is_plain(byte: u8) -> bool
     ensures { result ≡ spec.is_plain byte }
 {
     matches!(byte, b' '..=b'~') && byte != b'\\'
 }
 
-/// Appends a text, with references in place of the bytes that are markup.
+/// Appends a text, with character references in place of the bytes of markup.
 fn push_escaped(out: &mut Vec<u8>, text: &[u8]) -> Result<(), AllocError>
     ensures { OnOk result (out.new.items ≡ out.old.items ++ flat_map escaped_byte text.now) }
 {
@@ -123,7 +122,7 @@ fn push_escaped(out: &mut Vec<u8>, text: &[u8]) -> Result<(), AllocError>
     Ok(())
 }
 
-/// Appends a text, with the escape of JSON in place of each `<`.
+/// Appends a text, with the JSON escape in place of each `<`.
 fn push_island(out: &mut Vec<u8>, text: &[u8]) -> Result<(), AllocError>
     ensures { OnOk result (out.new.items ≡ out.old.items ++ flat_map island_byte text.now) }
 {

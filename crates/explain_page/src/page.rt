@@ -1,7 +1,7 @@
-//! The page that `--html` writes: the template, filled in with a row for each line and with the object of each.
+//! The page that `--html` writes: the template, filled with a row and an object for each line.
 //!
-//! The rows of dangerous lines are first, and those of lines in which nothing is found last. They are in groups, of which a
-//! browser lays out those that are seen. It uses `row`, `template` and `text`, and has no contract but that it can't abort.
+//! The rows of dangerous lines come first, and those of lines without findings last. They are in groups, so that a
+//! browser formats only those in view.
 
 use crate::markup::Markup;
 use crate::row::Row;
@@ -12,10 +12,10 @@ use gix_url::lines::RunError;
 use std::alloc::{AllocError, Global};
 use std::io::Write;
 
-/// How many bytes the rows of a group have, or a few more.
+/// The approximate number of bytes in a group of rows.
 const GROUP: usize = 40_000;
 
-/// What is known of the lines so far.
+/// The rows and the objects of the lines so far.
 #[derive(Drop)]
 pub struct Page {
     alloc: Global,
@@ -28,7 +28,7 @@ pub struct Page {
 }
 
 impl Page {
-    /// No line yet.
+    /// Returns a page without lines.
     pub fn new(alloc: Global) -> Page {
         Page {
             alloc,
@@ -41,7 +41,7 @@ impl Page {
         }
     }
 
-    /// Adds the row of the next line, and its object with a line feed at its end.
+    /// Adds the row of the next line, and its object, which ends with a line feed.
     pub fn add(&mut self, row: &Row<'_, '_>, object: &str) -> Result<(), AllocError> {
         if 0 < self.lines {
             self.objects.push_template(",")?;
@@ -58,7 +58,7 @@ impl Page {
         group(out, before)
     }
 
-    /// The rows of the lines in which such is found, to be added to.
+    /// The rows of the lines with such findings.
     fn rows_of(&mut self, found: Findings) -> &mut Markup {
         if found.danger {
             &mut self.dangerous
@@ -80,7 +80,7 @@ impl Page {
         Ok(())
     }
 
-    /// Writes what a slot is filled in with.
+    /// Writes the text of a slot.
     fn write_slot<W: Write>(
         &self,
         slot: Slot,
@@ -107,7 +107,7 @@ impl Page {
         }
     }
 
-    /// Appends what a slot is filled in with, except for the rows and the objects.
+    /// Appends the text of a slot other than those of the rows and the objects.
     fn fill(&self, slot: Slot, title: &str, out: &mut Markup) -> Result<(), AllocError> {
         match slot {
             Slot::Title => out.push_shown(title.as_bytes()),
@@ -130,7 +130,7 @@ fn push_hints(out: &mut Markup) -> Result<(), AllocError> {
     Ok(())
 }
 
-/// Ends a group of rows where the last one, before which they had so many bytes, made it long enough.
+/// Ends a group of rows if the last row, before which `out` had `before` bytes, reaches the next multiple of `GROUP`.
 fn group(out: &mut Markup, before: usize) -> Result<(), AllocError> {
     if out.as_bytes().len() / GROUP == before / GROUP {
         return Ok(());

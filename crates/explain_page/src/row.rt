@@ -1,7 +1,4 @@
 //! The row of a line in the table of the page: its number, its text, the verdict, its dangers and its host.
-//!
-//! It uses what `explain_report` found, and `text` for the cell of the text. It has no contract but that it can't abort: that
-//! nothing but text is put in is `markup`'s.
 
 use crate::markup::Markup;
 use crate::text;
@@ -12,20 +9,20 @@ use explain_report::text::line::SeenLine;
 use git_audit::danger::Danger;
 use std::alloc::{AllocError, Global};
 
-/// A line, with what is reported of it.
+/// A line and its report.
 #[derive(Clone, Copy)]
 pub struct Row<'b, 'a: 'b> {
     /// The number of the line, from 1.
     pub number: u64,
-    /// The line as it may be shown.
+    /// The line as it is shown.
     pub seen: &'b SeenLine<'a>,
-    /// What the line is read as.
+    /// The report of the line's location.
     pub location: Option<&'b Report<'a>>,
-    /// Why it is read as nothing, or nothing is shown of that.
+    /// The reason why there is no such report: the line is refused, or its location is withheld.
     pub refusal: Option<&'b Refusal>,
-    /// What is dangerous in it.
+    /// The dangers of the line.
     pub dangers: &'b [Danger],
-    /// What was found in it, for which a run may fail.
+    /// The findings about the line, for which a run may fail.
     pub found: Findings,
 }
 
@@ -57,7 +54,7 @@ impl Row<'_, '_> {
         }
     }
 
-    /// Appends the verdict, why it isn't better, and what Git does otherwise.
+    /// Appends the verdict, the reasons for it, and the findings about Git.
     fn push_verdict(&self, out: &mut Markup) -> Result<(), AllocError> {
         match (self.location, self.refusal) {
             (Some(report), _) => {
@@ -76,7 +73,7 @@ impl Row<'_, '_> {
         Ok(())
     }
 
-    /// Appends whether what a location is rewritten to is refused or, unlike itself, isn't settled.
+    /// Appends whether the rewritten text is refused, or isn't settled although the location is.
     fn push_rewritten(&self, out: &mut Markup, is_settled: bool) -> Result<(), AllocError> {
         if self.found.refused {
             out.push_template("; refused once the configuration has rewritten it")?;
@@ -88,7 +85,7 @@ impl Row<'_, '_> {
     }
 }
 
-/// Appends whether a location is settled, and what its own text is read as if it isn't.
+/// Appends whether a location is settled, and the reading of its text if it isn't.
 fn push_settled(out: &mut Markup, report: &Report<'_>) -> Result<(), AllocError> {
     if report.settled {
         return out.push_template("settled");
@@ -103,7 +100,7 @@ fn push_settled(out: &mut Markup, report: &Report<'_>) -> Result<(), AllocError>
     }
 }
 
-/// Appends why a line is read as nothing, or nothing is shown of that.
+/// Appends the reason why a line is refused, or its location is withheld.
 fn push_refusal(out: &mut Markup, refusal: &Refusal) -> Result<(), AllocError> {
     out.push_template(if refusal.error == "Withheld" {
         "withheld: "

@@ -1,7 +1,6 @@
-//! The cell of a line's text: of a location with what its pieces are, of another line with its fault marked.
+//! The cell with a line's text: the pieces of a location, or another line with its fault marked.
 //!
-//! A long text is in slices, of which a browser lays out those that are seen. It uses `cut` for the pieces and `line` for
-//! where characters begin, and has no contract but that it can't abort.
+//! A long text is in slices, so that a browser formats only those in view.
 
 use crate::markup::Markup;
 use explain_report::refusal::Refusal;
@@ -9,19 +8,20 @@ use explain_report::text::cut::{Part, Piece};
 use explain_report::text::line::{SeenLine, halves, is_hidden, write_shown};
 use std::alloc::{AllocError, Global};
 
-/// How many bytes a slice of a long text has, or a few more, and how many bytes aren't long.
+/// The largest number of bytes in a slice of a long text, which ends after a whole character. A text is long from
+/// `SHORT` bytes on.
 const SLICE: usize = 2000;
 
 const SHORT: usize = 4000;
 
-/// Bytes of a line, counted from where a piece begins.
+/// Bytes of a line, counted from the start of a piece.
 #[derive(Clone, Copy)]
 struct Region {
     at: usize,
     len: usize,
 }
 
-/// Appends the rest of the cell of a location: a letter for each piece, with its number of characters, and the text.
+/// Appends the rest of the cell of a location: for each piece a letter and its number of characters, then the text.
 pub fn push_parts(alloc: Global, out: &mut Markup, seen: &SeenLine<'_>) -> Result<(), AllocError> {
     out.push_template(" data-p=\"")?;
     for piece in seen.cut.pieces() {
@@ -37,7 +37,7 @@ pub fn push_parts(alloc: Global, out: &mut Markup, seen: &SeenLine<'_>) -> Resul
     Ok(())
 }
 
-/// Appends the rest of the cell of another line, with its fault marked where the place of that is known.
+/// Appends the rest of the cell of another line, with its fault marked if the span of the fault is known.
 pub fn push_refused(
     out: &mut Markup,
     seen: &SeenLine<'_>,
@@ -60,7 +60,7 @@ pub fn push_refused(
     Ok(())
 }
 
-/// What of a region is behind a piece of so many bytes, if something is: where a region is empty, its place.
+/// The rest of a region after a piece of this length, if there is one. The rest of an empty region is its place.
 fn behind(region: Region, len: usize) -> Option<Region> {
     let inside = len.saturating_sub(region.at).min(region.len);
     if region.at < len && inside == region.len {
@@ -72,7 +72,7 @@ fn behind(region: Region, len: usize) -> Option<Region> {
     })
 }
 
-/// Appends what is shown of a piece, with a mark around what the region takes of it.
+/// Appends a piece as it is shown, with a mark around the part of it that is in the region.
 fn push_marked(
     out: &mut Markup,
     piece: &Piece<'_>,
@@ -91,7 +91,8 @@ fn push_marked(
     }
 }
 
-/// What is shown of a piece before a region, in it and behind it: a hidden piece is in it as a whole.
+/// The parts of a piece as it is shown: before the region, in it and after it. A hidden piece is in the region as a
+/// whole.
 fn parts<'a>(piece: &Piece<'a>, region: Region) -> (&'a [u8], &'a [u8], &'a [u8]) {
     let shown = piece.shown();
     if is_hidden(piece) {
@@ -125,7 +126,7 @@ fn push_sliced(out: &mut Markup, text: &[u8]) -> Result<(), AllocError> {
     out.push_shown(left)
 }
 
-/// How many characters a text has, as it is shown.
+/// The number of characters in a text as it is shown.
 fn characters(alloc: Global, text: &[u8]) -> Result<usize, AllocError> {
     let mut shown = String::new(alloc);
     write_shown(&mut shown, text)?;
@@ -134,7 +135,7 @@ fn characters(alloc: Global, text: &[u8]) -> Result<usize, AllocError> {
     Ok(count)
 }
 
-/// The letter of a piece.
+/// The letter for a kind of piece.
 fn letter(part: Part) -> &'static str {
     match part {
         Part::Scheme => "s",

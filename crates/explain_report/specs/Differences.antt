@@ -1,5 +1,5 @@
--- What is reported of a location that isn't read as it is: a public field by its name, as it is and as it is
--- read. Nothing is reported of a password but that there is one.
+-- The report of a location whose text is read differently: a public field, as it is and as it is read. A password is
+-- reported as the word `redacted`.
 use Rattle.std.specs.Prelude.{◌≡◌, ℕ, Bool, true, false, List, ◌++◌, codes, decimal, bytes_eq, Option, Some, None, option_map, Ok, string_bytes, if◌then◌else◌, ◌||◌, ◌==◌}
 use Rattle.git_syntax.specs.Bytes.{colon, left_bracket, right_bracket}
 use Rattle.gix_url.specs.Location.{Scheme, Location}
@@ -11,7 +11,7 @@ use Rattle.gix_url.specs.Display.{hidden_password}
 use Rattle.gix_url.specs.Text.{text}
 use Rattle.explain_report.specs.declared.difference.Difference.{Difference}
 
--- the protocol is a remote helper
+-- the scheme is a remote helper
 abbrev pub is_helper : Scheme → Bool
 is_helper file = false
 is_helper git = false
@@ -22,7 +22,7 @@ is_helper ext = true
 is_helper (helper name) = true
 is_helper (helper_url name) = false
 
--- the words for a protocol: a remote helper is reported as one
+-- the words for a scheme: the word `helper` precedes the name of a remote helper
 abbrev pub scheme_words : Scheme → List ℕ
 scheme_words p = if is_helper p then codes "helper " ++ scheme_text p else scheme_text p
 
@@ -35,8 +35,7 @@ abbrev pub flag_word : Bool → List ℕ
 flag_word true = codes "true"
 flag_word false = codes "false"
 
--- what is reported of the public field of this name, if there is one: its text, where there is something to
--- report
+-- the text that is reported of the public field with this name, if there is such a field and it has a value
 abbrev pub field_text : List ℕ → Location → Option (Option (List ℕ))
 field_text name v =
     if bytes_eq name (codes "scheme") then Some (Some (scheme_words v.scheme))
@@ -52,13 +51,12 @@ field_text name v =
 abbrev pub HaveSameEnd : Location → Location → Type 0
 HaveSameEnd v other = (v.flag ≡ other.flag) × (v.port ≡ other.port) × (v.path ≡ other.path)
 
--- the difference reports a public field, as it is here and as it is in another location
+-- the difference reports a public field: its texts in the location and in another one
 pub record ReportsField (v other : Location) (report : Difference) : Type 0 where
   pub here : field_text report.field.now v ≡ Some (option_map string_bytes report.here)
   pub instead : field_text report.field.now other ≡ Some (option_map string_bytes report.instead)
 
--- the difference reports a public field, as it is in the location and as it is in the one that its text
--- spells
+-- the difference reports a public field: its texts in the location and in the one that the location's text spells
 pub record ReportsReread (v : Location) (report : Difference) : Type 0 where
   pub bytes : List ℕ
   pub other : Location

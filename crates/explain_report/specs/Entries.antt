@@ -1,4 +1,4 @@
--- How an entry of a configuration is shown.
+-- Entries of a configuration as they are shown.
 use Rattle.std.specs.Prelude.{ℕ, Bool, false, if◌then◌else◌, ◌&&◌, List, [], ◌∷◌, ◌++◌, codes, Option, Some, None}
 use Rattle.git_syntax.specs.Bytes.{begins_with, dot}
 use Rattle.git_rules.specs.Config.{ConfigEntry, sets}
@@ -26,7 +26,7 @@ is_header e (b ∷ bytes) = sets (codes "http") (codes "extraheader") e
 abbrev pub is_shell_helper : ConfigEntry → List ℕ → Bool
 is_shell_helper e value = begins_with 33 value && sets (codes "credential") (codes "helper") e
 
--- a value: a word, if it may be a secret as a whole
+-- a value, or a word in its place if the whole value may be a secret
 abbrev pub value_shown : ConfigEntry → List ℕ → List ℕ
 value_shown e value = if is_header e value then codes "redacted"
     else (if is_shell_helper e value then codes "!redacted" else text_shown value)

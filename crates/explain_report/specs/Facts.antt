@@ -1,4 +1,4 @@
--- What is found out once of a location for its report: its own text, and two verdicts of the library.
+-- The facts of a location for its report: its text, and two verdicts of the library.
 use Rattle.std.specs.Prelude.{◌≡◌, ◌↔◌, IsTrue, Result, Ok, Err}
 use Rattle.bstr.specs.declared.bstring.BString.{BString}
 use Rattle.bstr.specs.Owned.{bstring_bytes}
@@ -9,7 +9,7 @@ use Rattle.gix_url.specs.Settled.{IsSettled}
 use Rattle.gix_url.specs.Text.{text}
 use Rattle.explain_report.specs.declared.facts.Facts.{Facts}
 
--- the text of the location, or the fault for which it has none
+-- the text of the location, or the fault because of which it has none
 abbrev pub IsTextOf : Location → Result BString WriteFault → Type 0
 IsTextOf v (Ok bytes) = text v ≡ Ok (bstring_bytes bytes)
 IsTextOf v (Err fault) = text v ≡ Err fault

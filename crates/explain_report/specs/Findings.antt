@@ -1,4 +1,4 @@
--- What a line or a run was found to have, for which a run may fail.
+-- The findings about a line or a run, for which a run may fail.
 use Rattle.std.specs.Prelude.{Bool, true, false, ◌||◌, ◌&&◌, Option, Some, None}
 use Rattle.explain_report.specs.declared.finding.Findings.{Findings}
 use Rattle.std.specs.Borrow.{Bor}
@@ -6,15 +6,15 @@ use Rattle.explain_report.specs.declared.rules.transports.Transport.{Transport}
 use Rattle.explain_report.specs.declared.rules.transports.Verdict.{Verdict}
 use Rattle.explain_report.specs.declared.rules.transports.Verdict.TheVariants as verdict
 
--- nothing is found
+-- no findings
 abbrev pub none : Findings
 none = record { danger = false; unsettled = false; refused = false; git_differs = false; policy = false }
 
--- all that can be found
+-- all findings
 abbrev pub all : Findings
 all = record { danger = true; unsettled = true; refused = true; git_differs = true; policy = true }
 
--- what one of both has
+-- the findings in either set
 abbrev pub union : Findings → Findings → Findings
 union a b = record {
   danger = a.danger || b.danger;
@@ -24,7 +24,7 @@ union a b = record {
   policy = a.policy || b.policy;
 }
 
--- both have something in common
+-- the sets have a finding in common
 abbrev pub meets : Findings → Findings → Bool
 meets a b = (a.danger && b.danger) || (a.unsettled && b.unsettled) || (a.refused && b.refused)
     || (a.git_differs && b.git_differs) || (a.policy && b.policy)

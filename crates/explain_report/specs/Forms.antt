@@ -1,16 +1,16 @@
--- The form that a location is written in, as it is reported.
+-- The form in which a location is written, as it is reported.
 use Rattle.std.specs.Prelude.{Bool, true, false}
 use Rattle.gix_url.specs.Location.{Scheme, Location}
 use Rattle.gix_url.specs.Location.Scheme.{file, git, ssh, http, https, ext, helper, helper_url}
 use Rattle.explain_report.specs.declared.form.Form.{Form}
 use Rattle.explain_report.specs.declared.form.Form.TheVariants as form
 
--- a path is local in the alternative form of a file
+-- the alternative form of a file is a local path
 abbrev pub file_form : Bool → Form
 file_form true = form.Local
 file_form false = form.Url
 
--- the scp form is the alternative one of Secure Shell
+-- the alternative form of Secure Shell is the scp form
 abbrev pub ssh_form : Bool → Form
 ssh_form true = form.Scp
 ssh_form false = form.Url

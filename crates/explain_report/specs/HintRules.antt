@@ -1,4 +1,4 @@
--- Which hints apply to a line, of which there is no reading where it is refused.
+-- The hints that apply to a line. A refused line has no reading.
 use Rattle.std.specs.Prelude.{ℕ, Bool, true, false, not, ◌&&◌, ◌||◌, ◌==◌, if◌then◌else◌, bytes_eq, List, [], ◌∷◌, codes, Option, Some, None, option_map}
 use Rattle.std.specs.Option.{is_none, is_some}
 use Rattle.std.specs.Borrow.{Bor}
@@ -18,7 +18,7 @@ use Rattle.explain_report.specs.Secrets.{has_secret}
 use Rattle.explain_report.specs.Slips as slip
 use Rattle.explain_report.specs.WebPages.{is_page}
 
--- ---- what is read
+-- ---- readings
 
 -- the scheme is one of HTTP
 abbrev pub is_of_web : Reading → Bool
@@ -32,19 +32,19 @@ is_of_shell_or_git r = is_among (codes "ssh" ∷ codes "git" ∷ []) r.scheme.no
 abbrev pub is_of : List ℕ → Reading → Bool
 is_of scheme r = is_word r.scheme.now scheme
 
--- there is a part, and it passes the test
+-- the part is present, and passes the test
 abbrev pub part_passes : (List ℕ → Bool) → Option (Bor (List ℕ)) → Bool
 part_passes test part = some_passes test (option_map (λ it. it.now) part)
 
--- there is a password, about which there is a hint of its own
+-- there is a password that another hint is about
 abbrev pub has_password_with_hint : Reading → Bool
 has_password_with_hint r = r.has_password && (is_of_web r || is_of (codes "ssh") r)
 
--- it is of files, and has a host
+-- it is a file, and has a host
 abbrev pub is_of_file_with_host : Reading → Bool
 is_of_file_with_host r = is_of (codes "file") r && part_passes (λ host. not (is_empty host)) r.host
 
--- a revision is named in a place of which Git knows nothing
+-- a revision is named in a place that Git doesn't read one from
 abbrev pub names_revision : Reading → Bool
 names_revision r = if is_of_shell_or_git r then holds (codes ".git#") r.path.now || holds (codes ".git?") r.path.now
     else is_of_web r && r.has_revision
@@ -53,7 +53,7 @@ names_revision r = if is_of_shell_or_git r then holds (codes ".git#") r.path.now
 abbrev pub short_names : List (List ℕ)
 short_names = codes "github" ∷ codes "gitlab" ∷ codes "bitbucket" ∷ codes "gist" ∷ codes "codeberg" ∷ codes "sourcehut" ∷ []
 
--- the host is the short name of a forge, without a user, and the path one of a repository there
+-- the host is the short name of a forge, without a user, and the path is that of a repository there
 abbrev pub has_short_name : Reading → Bool
 has_short_name r = part_passes (is_among short_names) r.host && (is_none r.user && not (begins_with slash r.path.now))
 
@@ -67,7 +67,7 @@ is_blank b = b == space || b == tab
 abbrev pub has_outer_blank : List ℕ → Bool
 has_outer_blank line = has_front line (codes " ") || (has_front line (tab ∷ []) || (has_end line (codes " ") || has_end line (tab ∷ [])))
 
--- hints about bytes, whatever they are read as
+-- hints about the bytes of a line, however they are read
 abbrev pub is_in_bytes : Hint → List ℕ → Bool
 is_in_bytes hint.CapitalScheme line = slip.has_capital_scheme line
 is_in_bytes hint.CarriageReturn line = has_end line (13 ∷ [])
@@ -140,14 +140,14 @@ abbrev pub is_in_helper : Hint → Reading → Bool
 is_in_helper hint.RunsCommand r = is_of (codes "ext") r
 is_in_helper _ r = false
 
--- hints about what a line is read as, by its form
+-- hints about the reading of a line, by its form
 abbrev pub is_in_form : Form → Hint → List ℕ → Reading → Bool
 is_in_form form.Local h line r = is_in_path h line
 is_in_form form.Scp h line r = is_in_scp h line r || is_in_remote h line r
 is_in_form form.Url h line r = is_in_url h r || is_in_remote h line r
 is_in_form form.RemoteHelper h line r = is_in_helper h r
 
--- hints about another text, or about what is hidden
+-- hints about another text, or about a hidden part
 abbrev pub is_beside : Hint → Reading → Bool
 is_beside hint.WriteInstead r = r.has_instead
 is_beside hint.HiddenSecret r = r.has_hidden && not (has_password_with_hint r)
@@ -158,7 +158,7 @@ abbrev pub applies : List ℕ → Option Reading → Hint → Bool
 applies line None h = is_in_refused h line || is_in_bytes h line
 applies line (Some r) h = is_beside h r || (is_in_form r.form h line r || is_in_bytes h line)
 
--- every hint, in the order in which they are listed
+-- all hints, in the order in which they are listed
 abbrev pub every_hint : List Hint
 every_hint = hint.ColonForSlash ∷ hint.NoScheme ∷ hint.WindowsPath ∷ hint.CapitalScheme ∷ hint.CarriageReturn
     ∷ hint.ByteOrderMark ∷ hint.OuterBlank ∷ hint.RunsCommand ∷ hint.HomeHere ∷ hint.HomeThere ∷ hint.StoredPassword

@@ -1,4 +1,4 @@
--- Texts around a mark, and words among others.
+-- Texts cut around a mark, and comparisons with lists of words.
 use Rattle.std.specs.Prelude.{ℕ, ◌+◌, ◌==◌, Bool, true, false, bytes_eq, List, [], ◌∷◌, length, take, drop, Option, Some, None, option_map}
 use Rattle.std.specs.List.{ends_with, list_any}
 use Rattle.std.specs.Option.{is_some, unwrap_or}
@@ -8,37 +8,37 @@ use Rattle.git_audit.specs.Dangers.{has_front}
 
 -- ---- marks
 
--- the text around a mark at a place, if there is one
+-- the texts before and after a mark at this offset, if there is one
 abbrev pub around : List ℕ → List ℕ → Option ℕ → Option (List ℕ × List ℕ)
 around mark text place = option_map (λ k. (take k text, drop (k + length mark) text)) place
 
--- what is before the first such mark and behind it, if there is one
+-- the texts before and after the first such mark, if there is one
 abbrev pub halves : List ℕ → List ℕ → Option (List ℕ × List ℕ)
 halves mark text = around mark text (first_of (matches text mark 0))
 
--- what is before the last such mark and behind it, if there is one
+-- the texts before and after the last such mark, if there is one
 abbrev pub last_halves : List ℕ → List ℕ → Option (List ℕ × List ℕ)
 last_halves mark text = around mark text (first_of (rmatches text mark (length text)))
 
--- there is such a mark, and what is before it and behind it passes the test
+-- there is such a mark, and the texts before and after it pass the test
 abbrev pub passes : (List ℕ → List ℕ → Bool) → Option (List ℕ × List ℕ) → Bool
 passes test None = false
 passes test (Some halves) = test halves.0 halves.1
 
--- there is a text, and it passes the test
+-- the text is present, and passes the test
 abbrev pub some_passes : (List ℕ → Bool) → Option (List ℕ) → Bool
 some_passes test None = false
 some_passes test (Some text) = test text
 
--- the text has such a mark
+-- the text contains such a mark
 abbrev pub holds : List ℕ → List ℕ → Bool
 holds mark text = is_some (halves mark text)
 
--- what is before the first such mark, or all where there is none
+-- the text before the first such mark, or the whole text if there is none
 abbrev pub before : List ℕ → List ℕ → List ℕ
 before mark text = unwrap_or (option_map (λ p. p.0) (halves mark text)) text
 
--- what is behind the last such mark, or all where there is none
+-- the text after the last such mark, or the whole text if there is none
 abbrev pub behind : List ℕ → List ℕ → List ℕ
 behind mark text = unwrap_or (option_map (λ p. p.1) (last_halves mark text)) text
 
@@ -61,11 +61,11 @@ is_word text word = bytes_eq text word
 abbrev pub is_among : List (List ℕ) → List ℕ → Bool
 is_among words text = list_any (is_word text) words
 
--- the text is the word, without letter case, as ASCII has it
+-- the text is the word, ignoring the case of ASCII letters
 abbrev pub is_word_in_any_case : List ℕ → List ℕ → Bool
 is_word_in_any_case text word = bytes_eq (lowercase text) (lowercase word)
 
--- the text is one of these without letter case
+-- the text is one of these, ignoring the case of ASCII letters
 abbrev pub is_among_in_any_case : List (List ℕ) → List ℕ → Bool
 is_among_in_any_case words text = list_any (is_word_in_any_case text) words
 

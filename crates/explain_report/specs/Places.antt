@@ -1,4 +1,5 @@
--- A location beside what Git reads in its text, or in a refused line.
+-- Comparison of a location with the place that Git reads in its text, and of a refused line with the place that Git
+-- reads in it.
 use Rattle.std.specs.Prelude.{◌≡◌, ℕ, Bool, true, false, ◌||◌, ◌==◌, List, Option, Some, None, option_map}
 use Rattle.std.specs.List.{list_any}
 use Rattle.std.specs.Option.{option_and_then}
@@ -12,7 +13,7 @@ use Rattle.gix_url.specs.Location.Scheme.{file, git, ssh, http, https, ext, help
 use Rattle.explain_report.specs.Marks.{some_passes}
 use Rattle.explain_report.specs.Secrets.{has_secret}
 
--- the transport of Git's own that the scheme is for
+-- the built-in transport of Git for the scheme
 abbrev pub own_protocol : Scheme → Option Protocol
 own_protocol file = Some protocol.File
 own_protocol git = Some protocol.Git
@@ -23,7 +24,7 @@ own_protocol ext = None
 own_protocol (helper name) = None
 own_protocol (helper_url name) = None
 
--- Git hands the text to another remote helper than curl by the scheme
+-- Git passes the text to a remote helper other than curl because of the scheme
 abbrev pub is_for_helper : Scheme → Bool
 is_for_helper file = false
 is_for_helper git = false

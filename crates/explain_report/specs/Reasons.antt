@@ -1,4 +1,4 @@
--- Why it is reported who may read a line otherwise.
+-- The reasons for a report of other readings of a line.
 use Rattle.std.specs.Prelude.{◌≡◌, [], IsNone}
 use Rattle.explain_report.specs.declared.readers.Readers.{Readers}
 

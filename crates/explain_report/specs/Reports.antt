@@ -1,4 +1,4 @@
--- What a report says of a location beside its fields.
+-- The statements of a report about a location, besides its fields.
 use Rattle.std.specs.Prelude.{◌≡◌, ◌↔◌, ℕ, IsTrue, List, Option, None, IfSome, IsNone, IsSome}
 use Rattle.git_location.specs.declared.argument.ArgumentSafety.{ArgumentSafety}
 use Rattle.git_location.specs.declared.argument.ArgumentSafety.TheVariants as judged
@@ -11,23 +11,23 @@ use Rattle.explain_report.specs.declared.location_report.Safety.TheVariants as s
 use Rattle.explain_report.specs.Differences.{ReportsReread}
 use Rattle.explain_report.specs.Secrets.{has_secret}
 
--- no user, host and path that Git reads are reported of a location that has a password
+-- if the location has a password, the report shows no user, host and path that Git reads
 abbrev pub WithholdsPlace : Location → Option GitReads → Type 0
 WithholdsPlace v reads = IfSome reads (λ it.
     IsSome v.password → (it.user ≡ None) × (it.host ≡ None) × (it.path ≡ None))
 
--- no user, host and path that Git reads are reported of a refused text of which a part may be a secret
+-- if a part of a refused text may be a secret, the report shows no user, host and path that Git reads
 abbrev pub WithholdsSecret : List ℕ → Option GitReads → Type 0
 WithholdsSecret text reads = IfSome reads (λ it.
     IsTrue (has_secret text) → (it.user ≡ None) × (it.host ≡ None) × (it.path ≡ None))
 
--- it is reported what the own text is read as exactly where the location isn't settled, and a difference is one
--- of the location and of what that text spells
+-- there is a report of the reading of the location's text exactly if the location isn't settled, and a difference in it
+-- is one between the location and the one that this text spells
 pub record ReportsAgain (v : Location) (reread : Option Reread) : Type 0 where
   pub settled : IsNone reread ↔ IsSettled v
   pub difference : IfSome reread (λ it. IfSome it.difference (ReportsReread v))
 
--- the judgement of a user or a host in a word
+-- the safety of a user or a host, as a word
 abbrev pub safety_of : ArgumentSafety → Safety
 safety_of judged.Absent = safety.Absent
 safety_of (judged.Usable part) = safety.Usable

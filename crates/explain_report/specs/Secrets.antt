@@ -1,4 +1,4 @@
--- What is shown of a text: its pieces, with a word in place of each that may be a secret.
+-- The text that is shown of a text: its pieces, with `redacted` in place of each that may be a secret.
 use Rattle.std.specs.Prelude.{◌≡◌, ◌↔◌, ℕ, IsTrue, Bool, true, false, List, [], ◌∷◌, ◌++◌, codes, Option, Some, None}
 use Rattle.std.specs.List.{list_any}
 use Rattle.git_syntax.specs.Bytes.{lossy_text}
@@ -24,7 +24,7 @@ parts_shown (part ∷ parts) = part_shown part ++ parts_shown parts
 abbrev pub shown_of : List ℕ → List ℕ
 shown_of text = parts_shown (parts_of text)
 
--- a text as it is shown in a string
+-- a text as it is shown, decoded
 abbrev pub text_shown : List ℕ → List ℕ
 text_shown text = lossy_text (shown_of text)
 
@@ -34,7 +34,7 @@ outlined [] = []
 outlined (shown bytes ∷ parts) = shown bytes ∷ outlined parts
 outlined (hidden bytes ∷ parts) = hidden [] ∷ outlined parts
 
--- texts that differ in what may be secrets alone are shown as the same text
+-- texts that differ only in bytes that may be secrets are shown as the same text
 abbrev pub LeavesSecretsOut : Type 0
 LeavesSecretsOut = (a b : List ℕ) → outlined (parts_of a) ≡ outlined (parts_of b) → shown_of a ≡ shown_of b
 
@@ -52,24 +52,24 @@ abbrev pub password_shown : List ℕ → List ℕ
 password_shown [] = []
 password_shown (b ∷ bytes) = codes "redacted"
 
--- the text is shown as itself, but for one part of it at most
+-- the text is shown as itself, except for at most one part
 abbrev pub IsShownAround : List ℕ → Type 0
 IsShownAround text = (front : List ℕ) × (password : List ℕ) × (rest : List ℕ)
     × (text ≡ front ++ (password ++ rest)) × (shown_of text ≡ front ++ (password_shown password ++ rest))
 
--- both locations are settled or not, and Git reads the same in both or isn't known to
+-- both locations are settled or neither is, and Git is known to read the same in both or in neither
 abbrev pub HaveSameVerdicts : Location → Location → Type 0
 HaveSameVerdicts v w = (IsSettled v ↔ IsSettled w) × (AgreesWithGit v ↔ AgreesWithGit w)
 
--- how a line is shown that is read as this location: as itself but for a password; as the text that is shown of it,
--- which spells a location with the same verdicts; or not at all, and only if a part of it may be a secret
+-- the way to show a line that is read as this location: as itself except for a password; as its shown text, which
+-- spells a location with the same verdicts; or not at all, and only if a part of the line may be a secret
 abbrev pub IsSeen : List ℕ → Location → Seen → Type 0
 IsSeen line v seen.Line = IsShownAround line
 IsSeen line v (seen.Other it) = (it.line.items ≡ shown_of line) × Spells (shown_of line) it.url
     × HaveSameVerdicts v it.url
 IsSeen line v seen.Withheld = IsTrue (has_secret line)
 
--- the line and the location of which may be shown what is read in this line, if there are such
+-- the line and the location to report in place of these, unless they are withheld
 abbrev pub shown_as : List ℕ → Location → Seen → Option (List ℕ × Location)
 shown_as line v seen.Line = Some (line, v)
 shown_as line v (seen.Other it) = Some (it.line.items, it.url)

@@ -1,4 +1,4 @@
--- What a person may have meant with the bytes of a line: conditions of hints.
+-- Conditions of hints about likely mistakes in the bytes of a line.
 use Rattle.std.specs.Prelude.{ℕ, Bool, true, false, not, ◌&&◌, ◌||◌, ◌==◌, nat_le, if◌then◌else◌, bytes_eq, List, [], ◌∷◌, length, codes, Option, Some, None, option_map}
 use Rattle.std.specs.List.{list_all, list_any}
 use Rattle.std.specs.Option.{option_and_then}
@@ -21,7 +21,7 @@ schemes_of_hosts = codes "ssh" ∷ codes "git" ∷ codes "http" ∷ codes "https
 abbrev pub mistyped : List (List ℕ)
 mistyped = codes "ssh" ∷ codes "git" ∷ codes "http" ∷ codes "https" ∷ codes "file" ∷ []
 
--- what package managers write before a location
+-- the fronts that package managers write before a location
 abbrev pub packages : List (List ℕ)
 packages = codes "git+http://" ∷ codes "git+https://" ∷ codes "git+file://" ∷ codes "git+git://" ∷ codes "git::" ∷ []
 
@@ -29,7 +29,7 @@ packages = codes "git+http://" ∷ codes "git+https://" ∷ codes "git+file://" 
 abbrev pub is_transport : List ℕ → Bool
 is_transport word = is_among transports word
 
--- the word is the name of a transport without letter case
+-- the word is the name of a transport, ignoring letter case
 abbrev pub is_transport_in_any_case : List ℕ → Bool
 is_transport_in_any_case word = is_among_in_any_case transports word
 
@@ -39,17 +39,17 @@ first_element path = option_and_then (λ p. if is_empty p.1 then None else Some 
 
 -- ---- schemes
 
--- before its first `://` the line has the name of a transport without letter case, and a capital in it
+-- before its first `://` the line has the name of a transport in any letter case, with at least one capital letter
 abbrev pub has_capital_scheme : List ℕ → Bool
 has_capital_scheme line = passes (λ scheme rest. list_any is_ascii_uppercase scheme && is_transport_in_any_case scheme)
     (halves (codes "://") line)
 
--- before its first `:/` the line has the name of a transport but `git`, and no `/` behind it
+-- before its first `:/` the line has the name of a transport other than `git`, and no `/` follows
 abbrev pub has_one_slash : List ℕ → Bool
 has_one_slash line = passes (λ scheme rest. is_transport scheme && (not (is_word scheme (codes "git")) && not (begins_with slash rest)))
     (halves (codes ":/") line)
 
--- the line begins as package managers write a location
+-- the line begins with a front of package managers
 abbrev pub begins_with_package_scheme : List ℕ → Bool
 begins_with_package_scheme line = begins_with_some packages line
 
@@ -71,33 +71,34 @@ abbrev pub has_scheme_twice : List ℕ → Bool
 has_scheme_twice line = passes (λ first rest. passes (λ second more. is_transport first && is_transport second) (halves (codes "://") rest))
     (halves (codes "://") line)
 
--- the texts differ in their first bytes alone
+-- only the first bytes of the texts differ
 abbrev pub is_replaced : List ℕ → List ℕ → Bool
 is_replaced [] other = false
 is_replaced (a ∷ rest) [] = false
 is_replaced (a ∷ rest) (b ∷ others) = bytes_eq rest others
 
--- the text is the other one behind a byte
+-- the text is one byte followed by the other text
 abbrev pub is_longer : List ℕ → List ℕ → Bool
 is_longer [] other = false
 is_longer (a ∷ rest) other = bytes_eq rest other
 
--- behind two bytes that are swapped the texts are the same
+-- the texts begin with the same two bytes in opposite orders, and are otherwise equal
 abbrev pub is_swapped : List ℕ → List ℕ → Bool
 is_swapped (a ∷ b ∷ rest) (c ∷ d ∷ others) = a == d && (b == c && bytes_eq rest others)
 is_swapped text other = false
 
--- at its front one byte is replaced, taken out or added, or two neighbours are swapped
+-- one edit at the front turns a text into the other: a byte is added, removed or replaced, or two neighbours are
+-- swapped
 abbrev pub is_edited : List ℕ → List ℕ → Bool
 is_edited text other = is_replaced text other || (is_longer text other || (is_longer other text || is_swapped text other))
 
--- so it is behind the front that both texts share
+-- one such edit, after the front that both texts share, turns a text into the other
 abbrev pub is_one_edit : List ℕ → List ℕ → Bool
 is_one_edit [] other = is_edited [] other
 is_one_edit (a ∷ rest) [] = is_edited (a ∷ rest) []
 is_one_edit (a ∷ rest) (b ∷ others) = if a == b then is_one_edit rest others else is_edited (a ∷ rest) (b ∷ others)
 
--- before its first `://` the line has letters and digits that are no transport, and one edit away from a scheme
+-- before its first `://` the line has letters and digits that aren't a transport, but are one edit away from a scheme
 abbrev pub has_near_scheme : List ℕ → Bool
 has_near_scheme line = passes (λ scheme rest. list_all is_ascii_alphanumeric scheme
     && (not (is_transport_in_any_case scheme) && list_any (is_one_edit scheme) mistyped))
@@ -105,7 +106,7 @@ has_near_scheme line = passes (λ scheme rest. list_all is_ascii_alphanumeric sc
 
 -- ---- hosts and ports
 
--- what is behind the first `://`, if the scheme before it is one of a host
+-- the text after the first `://`, if the scheme before it is that of a URL with a host
 abbrev pub rest_of_url : List ℕ → Option (List ℕ)
 rest_of_url line = option_and_then (λ p. if is_among schemes_of_hosts p.0 then Some p.1 else None) (halves (codes "://") line)
 
@@ -117,47 +118,47 @@ is_bracket b = b == left_bracket || b == right_bracket
 abbrev pub begins_word : ℕ → Bool
 begins_word b = is_ascii_alphabetic b || b == tilde
 
--- a host without brackets, one `:`, and a letter or `~` behind it
+-- a host without brackets, one `:`, and a letter or `~` after it
 abbrev pub is_host_and_word : List ℕ → Bool
 is_host_and_word bytes = passes (λ host word. begins_by begins_word word
     && (not (list_any is_bracket host) && (not (is_empty host) && not (holds (codes ":") word))))
     (halves (codes ":") bytes)
 
--- what a URL has in the place of its host and port, before a `/` and behind the last `@`
+-- the text of a URL in the place of its host and port: before the first `/` and after the last `@`
 abbrev pub place_of : List ℕ → List ℕ
 place_of rest = behind (codes "@") (before (codes "/") rest)
 
--- a URL of a host has a host and no port behind a colon
+-- a URL with a host has a word in place of its port
 abbrev pub has_colon_for_slash : List ℕ → Bool
 has_colon_for_slash line = some_passes (λ rest. is_host_and_word (place_of rest)) (rest_of_url line)
 
--- the text has `%40`, something behind the last one, and no `@`
+-- the text contains `%40`, at least one byte after the last one, and no `@`
 abbrev pub is_escaped_user : List ℕ → Bool
 is_escaped_user front = passes (λ user host. not (is_empty host) && not (holds (codes "@") front)) (last_halves (codes "%40") front)
 
--- a URL of a host has an escaped `@` and no other one before the first `/`, `?` or `#`
+-- a URL with a host has an escaped `@`, and no other one, before the first `/`, `?` or `#`
 abbrev pub has_escaped_at : List ℕ → Bool
 has_escaped_at line = some_passes (λ rest. is_escaped_user (before (codes "#") (before (codes "?") (before (codes "/") rest))))
     (rest_of_url line)
 
--- something is before the first `/`
+-- at least one byte precedes the first `/`
 abbrev pub has_host : List ℕ → Bool
 has_host place = passes (λ host path. not (is_empty host)) (halves (codes "/") place)
 
--- behind the last `@` there is something, and a `/`
+-- at least one byte and then a `/` follow the last `@`
 abbrev pub has_place_behind_user : List ℕ → Bool
 has_place_behind_user bytes = passes (λ user place. has_host place) (last_halves (codes "@") bytes)
 
--- the text has a `:` and no `@` before its first `/`, and behind that an `@`, a byte and a `/`
+-- the text has a `:` and no `@` before its first `/`, and after it an `@`, which a byte and a `/` follow
 abbrev pub is_cut_in_password : List ℕ → Bool
 is_cut_in_password rest = passes (λ front below. holds (codes ":") front && (not (holds (codes "@") front) && has_place_behind_user below))
     (halves (codes "/") rest)
 
--- a URL of a host is cut in its password by a `/`
+-- a `/` cuts the password of a URL with a host
 abbrev pub has_slash_in_password : List ℕ → Bool
 has_slash_in_password line = some_passes is_cut_in_password (rest_of_url line)
 
--- what a refused URL has in the place of a host without brackets
+-- the text of a refused URL in the place of a host without brackets
 abbrev pub host_of_refused : List ℕ → Option (List ℕ)
 host_of_refused line = option_map (λ p. before (codes ":") (place_of p.1)) (halves (codes "://") line)
 
@@ -170,7 +171,7 @@ abbrev pub has_wide_host_of_web : List ℕ → Bool
 has_wide_host_of_web line = begins_with_some (codes "http://" ∷ codes "https://" ∷ []) line
     && some_passes is_wide (host_of_refused line)
 
--- nothing, or a text with an `@` at its end and without `://`
+-- the empty text, or a text that ends with `@` and doesn't contain `://`
 abbrev pub is_before_brackets : List ℕ → Bool
 is_before_brackets front = (is_empty front || has_end front (codes "@")) && not (holds (codes "://") front)
 
@@ -179,7 +180,7 @@ abbrev pub is_host_and_port : List ℕ → Bool
 is_host_and_port bytes = passes (λ host port. not (is_empty host) && (not (is_empty port) && list_all is_ascii_digit port))
     (halves (codes ":") bytes)
 
--- before the first `]:` a host and digits are in brackets, at the front or behind an `@`, and in no URL
+-- before its first `]:` the line has brackets around a host and digits, at the front or after an `@`, and isn't a URL
 abbrev pub has_port_in_brackets : List ℕ → Bool
 has_port_in_brackets line = passes (λ front rest. passes (λ user inside. is_before_brackets user && is_host_and_port inside) (halves (codes "[") front))
     (halves (codes "]:") line)
@@ -192,12 +193,12 @@ may_be_port port = not (is_empty port) && (nat_le (length port) 5 && list_all is
 abbrev pub begins_with_port : List ℕ → Bool
 begins_with_port path = passes (λ port rest. may_be_port port) (halves (codes "/") path)
 
--- the text begins with `\`, or with a `/` that has no `~` behind it
+-- the text begins with `\`, or with a `/` that no `~` follows
 abbrev pub begins_on_drive : List ℕ → Bool
 begins_on_drive [] = false
 begins_on_drive (b ∷ rest) = b == backslash || (b == slash && not (begins_with tilde rest))
 
--- the line begins with a letter, `:`, and `\` or a `/` without `~` behind it
+-- the line begins with a letter, `:`, and either `\` or a `/` that no `~` follows
 abbrev pub begins_with_drive : List ℕ → Bool
 begins_with_drive [] = false
 begins_with_drive (letter ∷ []) = false

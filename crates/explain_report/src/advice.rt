@@ -1,6 +1,7 @@
-//! What people are told beside what is reported of a line: [`danger`] says what to look out for before a
-//! location is used, and [`hint`] finds what people write by mistake, by what [`reading`] has of a location and the
-//! conditions of `slip`, `pasted`, `host_name` and `web_page`, which `marks` cuts texts for.
+//! Advice about a line: [`danger`] has warnings about the use of a location, and [`hint`] finds likely mistakes in a
+//! line and its [`reading`].
+//!
+//! The conditions of hints are in `slip`, `pasted`, `host_name` and `web_page`, which cut texts with `marks`.
 
 pub mod danger;
 pub mod hint;

@@ -1,11 +1,9 @@
-//! A field that is read as another one, in words.
-//!
-//! It has no contract but that it can't abort: `scripts/hostile golden` shows the words.
+//! A field that is read differently, in words.
 
 use std::alloc::AllocError;
 use std::fmt::{Display, Write};
 
-/// Appends that a field is read as another one, or that there is one in one place alone.
+/// Appends that a field is read as another one, or is present in only one of both.
 pub(crate) fn push_change<T: Display + Drop>(
     out: &mut String,
     field: &str,

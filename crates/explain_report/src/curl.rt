@@ -1,9 +1,8 @@
-//! What curl reads in the text of a location of HTTP: the host and the port that it connects to, and the path
-//! that it asks for.
+//! The host and the port that curl connects to for the text of a location of HTTP, and the path that it requests.
 //!
-//! What libcurl reads has no definition: each function is a step of libcurl 7.88.1, and has no contract but that
-//! it can't abort. The stored run has what `curl_reads` of `tools/web_reads.py` says, a rule by hand that
-//! `scripts/web_witness` compares with libcurl itself.
+//! No definition says how libcurl reads a text: each function here is a step of libcurl 7.88.1. The stored run compares
+//! the results with `curl_reads` of `tools/web_reads.py`, a second implementation, which `scripts/web_witness` compares
+//! with libcurl itself.
 
 ghost use Rattle.std.specs.Prelude.{◌≤◌};
 
@@ -18,21 +17,21 @@ use std::alloc::{AllocError, Global};
 use std::fmt::Write;
 use std::net::{Ipv4Addr, Ipv6Addr};
 
-/// How many bytes a zone has at most.
+/// The largest number of bytes in a zone.
 const LONGEST_ZONE: usize = 15;
 
-/// What curl connects to and asks for. User and password are no part of it.
+/// The host, the port and the path that curl uses. It has neither user nor password.
 #[derive(Drop, Serialize)]
 pub struct Curl {
     /// A name without escapes, or an address: four decimal numbers, or IPv6 in brackets.
     pub host: String,
-    /// The port, where one is written.
+    /// The port, if the text has one.
     pub port: Option<u16>,
     /// The path and the query as they are sent.
     pub path: String,
 }
 
-/// The pieces that the text is cut into. No query is an empty one.
+/// The pieces of the text. The query is empty if there is none.
 #[derive(Clone, Copy)]
 struct Pieces<'a> {
     host: &'a [u8],
@@ -42,7 +41,7 @@ struct Pieces<'a> {
 }
 
 impl Curl {
-    /// What curl reads in this text: nothing where it refuses the text.
+    /// Returns what curl reads in this text, or `None` if curl refuses the text.
     pub fn in_text(alloc: Global, text: &[u8]) -> Result<Option<Curl>, AllocError> {
         let Some(pieces) = cut(text) else {
             return Ok(None);
@@ -53,21 +52,21 @@ impl Curl {
         found
     }
 
-    /// Whether it connects to the host and the port of the location, whose text it reads: how an IPv6 address
-    /// is spelled doesn't count.
+    /// Whether curl connects to the host and the port of this location, whose text it reads. An IPv6 address may be
+    /// written differently.
     pub fn has_own_host(&self, url: &Url) -> bool {
         let host = url.host().unwrap_or("");
         let is_address = host.starts_with('[') && !host.contains('%');
         url.port == self.port && (is_address || self.host.as_str() == host)
     }
 
-    /// Whether it asks for the path of the location, as an escape of it or not.
+    /// Whether curl requests the path of this location, escaped or not.
     pub fn has_own_path(&self, url: &Url) -> bool {
         decodes_to(self.path.as_str().as_bytes(), url.path.as_bytes())
     }
 }
 
-/// The pieces of a text, unless curl refuses one of them. A third slash is passed over.
+/// The pieces of a text, or `None` if curl refuses one of them. A third slash after the scheme is skipped.
 fn cut(text: &[u8]) -> Option<Pieces<'_>> {
     let (_, rest) = text.split_once_str(b"://")?;
     let rest = rest.strip_prefix(b"/").unwrap_or(rest);
@@ -85,8 +84,8 @@ fn cut(text: &[u8]) -> Option<Pieces<'_>> {
     })
 }
 
-/// What follows user and password, which the first `@` ends. A user without a password may not have an escape
-/// of byte 0.
+/// The text after the user information, which the first `@` ends. A user without a password must not contain an escaped
+/// byte 0.
 fn behind_user(authority: &[u8]) -> Option<&[u8]> {
     let Some((information, named)) = authority.split_once_str(b"@") else {
         return Some(authority);
@@ -98,7 +97,7 @@ fn behind_user(authority: &[u8]) -> Option<&[u8]> {
     Some(named)
 }
 
-/// The host, which a colon or its brackets end, and the port.
+/// The host, which ends at a colon or after its brackets, and the port.
 fn host_and_port(named: &[u8]) -> Option<(&[u8], Option<u16>)> {
     let (host, behind) = match named {
         [b'[', ..] => named.split_at(named.find_byte(b']')? + 1),
@@ -114,7 +113,7 @@ fn host_and_port(named: &[u8]) -> Option<(&[u8], Option<u16>)> {
     }
 }
 
-/// The path and the query before any fragment. No control character may be in any of them.
+/// The path and the query, without the fragment. None of the three may contain a space or a control character.
 fn path_and_query(rest: &[u8]) -> Option<(&[u8], &[u8])> {
     if has_control(rest) {
         return None;
@@ -129,12 +128,12 @@ fn path_and_query(rest: &[u8]) -> Option<(&[u8], &[u8])> {
     }
 }
 
-/// Whether there is a space or a control character of ASCII.
+/// Whether the bytes contain a space or an ASCII control character.
 fn has_control(part: &[u8]) -> bool {
     part.iter().any(|byte| matches!(byte, 0..=b' ' | 0x7f))
 }
 
-/// What curl reads, by the pieces.
+/// Reads the pieces of a text.
 fn read(alloc: Global, pieces: Pieces<'_>, room: &mut Vec<u8>) -> Result<Option<Curl>, AllocError> {
     let Some(host) = host_of(alloc, pieces.host, room)? else {
         return Ok(None);
@@ -149,7 +148,7 @@ fn read(alloc: Global, pieces: Pieces<'_>, room: &mut Vec<u8>) -> Result<Option<
 
 // ---- hosts
 
-/// The host that curl connects to, unless it refuses it.
+/// The host that curl connects to, or `None` if curl refuses it.
 fn host_of(alloc: Global, host: &[u8], room: &mut Vec<u8>) -> Result<Option<String>, AllocError> {
     if has_control(host) {
         return Ok(None);
@@ -163,8 +162,7 @@ fn host_of(alloc: Global, host: &[u8], room: &mut Vec<u8>) -> Result<Option<Stri
     }
 }
 
-/// A name, decoded. Each `%` that is left is an escape again, since all of the URL is asked for before a
-/// transfer.
+/// A decoded name. Each `%` that remains is escaped again, because curl formats the whole URL before a transfer.
 fn name(alloc: Global, host: &[u8], room: &mut Vec<u8>) -> Result<Option<String>, AllocError> {
     room.clear();
     append_decoded(room, host)?;
@@ -178,13 +176,12 @@ fn name(alloc: Global, host: &[u8], room: &mut Vec<u8>) -> Result<Option<String>
     Ok(Some(name?))
 }
 
-/// Whether a decoded name may have the byte.
+/// Whether a decoded name may contain the byte.
 fn is_in_names(byte: u8) -> bool {
     b' ' < byte && !b"\"/:#?!@{}[]\\$'^`*<>=;,+&()".contains(&byte)
 }
 
-/// The address that is written in one to four numbers, as C's `inet_aton` has it: the last fills all bytes
-/// that are left.
+/// The address written as one to four numbers, read as by C's `inet_aton`: the last number fills all remaining bytes.
 fn ipv4(host: &[u8]) -> Option<Ipv4Addr> {
     let (mut fronts, mut limit, mut rest) = (0u64, 0x1_0000_0000u64, host);
     for _number in 0..3 {
@@ -204,7 +201,7 @@ fn ipv4(host: &[u8]) -> Option<Ipv4Addr> {
     Some(Ipv4Addr::from_bits(bits))
 }
 
-/// The number that a text writes for C's `strtoul`, in the base that it begins with.
+/// The number that a text writes, read as by C's `strtoul`: its prefix gives the base.
 fn number(text: &[u8]) -> Option<u64> {
     match text {
         [] => None,
@@ -214,7 +211,7 @@ fn number(text: &[u8]) -> Option<u64> {
     }
 }
 
-/// The number that digits write in a base, or the largest one.
+/// The number with these digits in a base, or the largest `u64` if it is larger.
 fn number_in(base: u32, digits: &[u8]) -> Option<u64>
     requires least { 2 ≤ base }
     requires most { base ≤ 36 }
@@ -229,7 +226,7 @@ fn number_in(base: u32, digits: &[u8]) -> Option<u64>
     Some(value)
 }
 
-/// An IPv6 address in brackets, in its shortest form, or as it is written where that is as short.
+/// An IPv6 address in brackets, in its shortest form, or as it is written if that isn't longer.
 fn literal(alloc: Global, host: &[u8]) -> Result<Option<String>, AllocError> {
     let Some((written, zone)) = address_and_zone(host) else {
         return Ok(None);
@@ -243,7 +240,7 @@ fn literal(alloc: Global, host: &[u8]) -> Result<Option<String>, AllocError> {
     Ok(Some(text))
 }
 
-/// What brackets hold before a `%` and behind it, or behind the `%25` that stands for one.
+/// The texts inside of the brackets before and after the first `%`, which may be written `%25`.
 fn address_and_zone(host: &[u8]) -> Option<(&[u8], &[u8])> {
     let inside = host.strip_prefix(b"[")?.strip_suffix(b"]")?;
     let (address, zone) = match inside.split_once_str(b"%") {
@@ -255,7 +252,8 @@ fn address_and_zone(host: &[u8]) -> Option<(&[u8], &[u8])> {
     (zone.len() <= LONGEST_ZONE).then_some((address, zone))
 }
 
-/// Appends an address in brackets, which is written so, with its zone. An IPv4 address at its end has dots.
+/// Appends an address with its zone, in brackets. `written` is the address as the text has it. An IPv4 address at the
+/// end is written with dots.
 fn write_literal(
     out: &mut String,
     address: Ipv6Addr,
@@ -280,7 +278,7 @@ fn write_literal(
 
 // ---- paths
 
-/// Whether a text is this one, once its escapes are decoded.
+/// Whether a text is this one once its escapes are decoded.
 fn decodes_to(text: &[u8], decoded: &[u8]) -> bool {
     let mut rest = decoded;
     for byte in percent_decode(text) {
@@ -292,7 +290,7 @@ fn decodes_to(text: &[u8], decoded: &[u8]) -> bool {
     rest.is_empty()
 }
 
-/// The path and the query that curl asks for.
+/// The path and the query that curl requests.
 fn target(alloc: Global, pieces: Pieces<'_>, room: &mut Vec<u8>) -> Result<String, AllocError> {
     room.clear();
     without_dots(room, pieces.path)?;
@@ -302,7 +300,7 @@ fn target(alloc: Global, pieces: Pieces<'_>, room: &mut Vec<u8>) -> Result<Strin
     Ok(text)
 }
 
-/// Appends a path without its segments `.` and `..`, which take the segment before them out.
+/// Appends a path without its segments `.` and `..`. Each `..` also removes the segment before it.
 fn without_dots(out: &mut Vec<u8>, path: &[u8]) -> Result<(), AllocError> {
     let mut ends_with_dots = false;
     for segment in path.split_str(b"/").skip(1) {
@@ -332,7 +330,7 @@ fn write_target(out: &mut String, path: &[u8], query: &[u8]) -> Result<(), Alloc
     write_escaped(out, query)
 }
 
-/// Appends a text with escapes in place of the bytes past 127.
+/// Appends a text, with escapes in place of the bytes above 127.
 fn write_escaped(out: &mut String, text: &[u8]) -> Result<(), AllocError> {
     for byte in text {
         match byte {

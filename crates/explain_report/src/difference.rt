@@ -1,9 +1,7 @@
-//! What the own text of a location is read as, where the location isn't settled.
+//! The reading of a location's own text, for a location that isn't settled.
 //!
-//! It reads the text again and looks for the first of the public fields, in declared order, that is another one.
-//! Its contract, memory permitting: there is an answer exactly where the location isn't settled, and a difference
-//! names a public field and reports it of the location and of the one that its text spells, a password as the
-//! word `redacted`. That the field is the first, and the words, are no part of it.
+//! The text is parsed again and compared with the location, field by field in declared order. A password is reported as
+//! the word `redacted`.
 
 ghost use Rattle.std.specs.Prelude.{◌≡◌, ◌↔◌, IfOk, IfSome, IsNone, IsSome, Ok, decimal, option_map, string_bytes};
 ghost use Rattle.std.specs.List.{list_any};
@@ -27,31 +25,31 @@ use gix_url::{Error, Scheme, Url};
 use serde::Serialize;
 use std::alloc::{AllocError, Global};
 
-/// What the own text of a location is read as in place of the location. With neither difference nor refusal
-/// it is read as the same fields, though no promise covers that.
+/// The reading of a location's own text. Without a difference or a refusal, the text is read as the same fields,
+/// although this isn't proved.
 #[derive(Drop, Serialize)]
 pub struct Reread {
-    /// The first field that is another one.
+    /// The first field that differs.
     pub difference: Option<Difference>,
-    /// Why the text is refused.
+    /// The reason why the text is refused.
     pub refusal: Option<Refusal>,
-    /// The same in words.
+    /// The reading in words.
     pub words: String,
 }
 
-/// A field that isn't read as it is.
+/// A field that differs.
 #[derive(Drop, Serialize)]
 pub struct Difference {
     /// The name of the field.
     pub field: &'static str,
-    /// What it is, if there is anything.
+    /// The field of the location, if it is present.
     pub here: Option<String>,
-    /// What it is read as, if there is anything.
+    /// The field that is read in the text, if it is present.
     pub instead: Option<String>,
 }
 
 impl Reread {
-    /// What the text of the location is read as, unless the location is settled.
+    /// Returns the reading of the location's text, or `None` if the location is settled.
     pub(crate) fn of(alloc: Global, url: &Url, facts: &Facts) -> Result<Option<Reread>, AllocError>
         requires { AreFactsOf url.now facts.now }
         ensures settled { IfOk result (λ reread. IsNone reread ↔ IsSettled url.now) }
@@ -66,7 +64,7 @@ impl Reread {
         }
     }
 
-    /// What this own text of the location is read as.
+    /// The reading of this text of the location.
     fn of_text(alloc: Global, url: &Url, own: BStr<'_>) -> Result<Reread, AllocError>
         requires { text url.now ≡ Ok (bstr_bytes own) }
         ensures { IfOk result (λ it. IfSome it.difference (ReportsReread url.now)) }
@@ -85,7 +83,7 @@ impl Reread {
         }
     }
 
-    /// What is reported where the text is read as this location.
+    /// The report of a text that is read as another location.
     fn another(alloc: Global, url: &Url, other: &Url) -> Result<Reread, AllocError>
         ensures { IfOk result (λ it. IfSome it.difference (ReportsField url.now other.now)) }
     {
@@ -97,7 +95,7 @@ impl Reread {
         })
     }
 
-    /// What is reported where the text is refused so, unless it is memory that was refused.
+    /// The report of a text that is refused with this error. An error means that memory was refused.
     fn refused(alloc: Global, error: &Error) -> Result<Reread, AllocError>
         ensures { IfOk result (λ it. IsNone it.difference) }
     {
@@ -112,7 +110,7 @@ impl Reread {
     }
 }
 
-/// The first public field in which the two differ.
+/// The first public field that differs between the two.
 fn first_difference(alloc: Global, url: &Url, other: &Url) -> Result<Option<Difference>, AllocError>
     ensures { IfOk result (λ difference. IfSome difference (ReportsField url.now other.now)) }
 {
@@ -136,7 +134,7 @@ fn first_difference(alloc: Global, url: &Url, other: &Url) -> Result<Option<Diff
     later_difference(alloc, url, other)
 }
 
-/// The first of the public fields behind the host in which the two differ.
+/// The first public field after the host that differs between the two.
 fn later_difference(alloc: Global, url: &Url, other: &Url) -> Result<Option<Difference>, AllocError>
     ensures report { IfOk result (λ difference. IfSome difference (ReportsField url.now other.now)) }
     ensures none { IfOk result (λ difference. IsNone difference → HaveSameEnd url.now other.now) }
@@ -167,7 +165,7 @@ fn later_difference(alloc: Global, url: &Url, other: &Url) -> Result<Option<Diff
     Ok(None)
 }
 
-/// A field with its two texts.
+/// A field with both of its texts.
 fn part_difference(
     alloc: Global,
     field: &'static str,
@@ -188,7 +186,7 @@ fn part_difference(
     }))
 }
 
-/// A text of its own.
+/// A copy of a text.
 fn owned(alloc: Global, text: Option<&str>) -> Result<Option<String>, AllocError>
     ensures { IfOk result (λ copy. option_map string_bytes copy ≡ option_map (λ it. it.now) text.entry) }
 {
@@ -198,7 +196,7 @@ fn owned(alloc: Global, text: Option<&str>) -> Result<Option<String>, AllocError
     }
 }
 
-/// The scheme by its text, and a remote helper as such.
+/// The text of the scheme, which for a remote helper follows the word `helper`.
 fn scheme_name(alloc: Global, scheme: &Scheme) -> Result<String, AllocError>
     ensures { IfOk result (λ name. string_bytes name ≡ scheme_words (owned_scheme scheme.now)) }
 {
@@ -223,7 +221,7 @@ fn port_text(alloc: Global, port: Option<u16>) -> Result<Option<String>, AllocEr
     }
 }
 
-/// The flag of the location in a word.
+/// The flag of the location as a word.
 fn flag_text(url: &Url) -> &'static str
     ensures { result.now ≡ flag_word url.now.flag }
 {
@@ -245,7 +243,7 @@ fn words(alloc: Global, url: &Url, difference: &Option<Difference>) -> Result<St
     Ok(words)
 }
 
-/// Why the location isn't settled, though its own text is read as the same fields.
+/// The reason why the location isn't settled, although its text is read as the same fields.
 fn same_fields(url: &Url) -> &'static str {
     if has_mark(url.host()) {
         "its own text is read with the same fields, which isn't promised: the host has a colon or a bracket"
@@ -256,7 +254,7 @@ fn same_fields(url: &Url) -> &'static str {
     }
 }
 
-/// Whether a part has a colon or a bracket.
+/// Whether a part is present and contains a colon or a bracket.
 fn has_mark(part: Option<&str>) -> bool
     ensures { result ≡ some_passes (list_any is_mark) (option_map (λ it. it.now) part.entry) }
 {
@@ -266,7 +264,7 @@ fn has_mark(part: Option<&str>) -> bool
     }
 }
 
-/// Whether a text has a colon or a bracket.
+/// Whether a text contains a colon or a bracket.
 fn holds_mark(text: &[u8]) -> bool
     ensures { result ≡ list_any is_mark text.now }
 {

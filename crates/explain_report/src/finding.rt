@@ -1,7 +1,5 @@
-//! What is found in a line for which a run may fail: a danger, a location that isn't settled, a refusal, another
+//! The findings about a line for which a run may fail: a danger, a location that isn't settled, a refusal, a different
 //! reading by Git, a transport that Git doesn't use.
-//!
-//! Its contract: what is found in lines is what is found in one of them.
 
 ghost use Rattle.std.specs.Prelude.{◌≡◌, ◌↔◌, [], IsTrue, false, not, true};
 ghost use Rattle.gix_url.specs.GitClass.{AgreesWithGit};
@@ -12,23 +10,23 @@ use crate::rules::transports::{Transport, Verdict};
 use git_audit::danger::Danger;
 use gix_url::Url;
 
-/// What was found.
+/// A set of findings.
 #[derive(Clone, Copy)]
 pub struct Findings {
     /// A location has a danger.
     pub danger: bool,
-    /// The own text of a location is not read as the same location again, or there is none.
+    /// The text of a location is not read as the same location again, or the location has no text.
     pub unsettled: bool,
-    /// A line is read as no location.
+    /// A line is refused.
     pub refused: bool,
     /// Git isn't known to read the same in the text of a location.
     pub git_differs: bool,
-    /// By the configuration Git has no transport for a line, or doesn't use it.
+    /// By the configuration, Git has no transport for a line or doesn't use it.
     pub policy: bool,
 }
 
 impl Findings {
-    /// What is found in a location that has these dangers.
+    /// Returns the findings about a location that has these dangers.
     pub fn of_location(url: &Url, dangers: &[Danger]) -> Findings
         ensures danger { IsTrue result.danger ↔ ¬ (dangers.now ≡ []) }
         ensures unsettled { IsTrue result.unsettled ↔ ¬ IsSettled url.now }
@@ -44,7 +42,7 @@ impl Findings {
         }
     }
 
-    /// What is found in a text that is read as no location.
+    /// Returns the finding about a text that is refused.
     pub fn of_refused() -> Findings
         ensures { result ≡ record spec.none { refused = true } }
     {
@@ -57,7 +55,7 @@ impl Findings {
         }
     }
 
-    /// What is found of a transport, or without one.
+    /// Returns the finding about a transport, or about a text without one.
     pub fn of_transport(transport: Option<&Transport>) -> Findings
         ensures { result ≡ record spec.none { policy = not (spec.is_used transport.entry) } }
     {
@@ -70,7 +68,7 @@ impl Findings {
         }
     }
 
-    /// Nothing.
+    /// Returns the empty set.
     pub fn none() -> Findings
         ensures { result ≡ spec.none }
     {
@@ -83,7 +81,7 @@ impl Findings {
         }
     }
 
-    /// All that can be found.
+    /// Returns all findings.
     pub fn all() -> Findings
         ensures { result ≡ spec.all }
     {
@@ -96,7 +94,7 @@ impl Findings {
         }
     }
 
-    /// The names of what can be found, and at last that of all of it.
+    /// The names of the findings, and last the name of all of them.
     pub const NAMES: [&'static str; 6] = [
         "danger",
         "unsettled",
@@ -106,7 +104,7 @@ impl Findings {
         "any",
     ];
 
-    /// What has this name; nothing has a name that isn't one of these.
+    /// Returns the findings with this name, which are none if no finding has it.
     pub fn named(name: &str) -> Findings {
         let mut found = Findings::none();
         match name {
@@ -121,7 +119,7 @@ impl Findings {
         found
     }
 
-    /// What one of both has.
+    /// Returns the findings in either set.
     pub fn union(self, other: Findings) -> Findings
         ensures { result ≡ spec.union self other }
     {
@@ -134,7 +132,7 @@ impl Findings {
         }
     }
 
-    /// Whether both have something in common.
+    /// Whether the sets have a finding in common.
     pub fn meets(self, other: Findings) -> bool
         ensures { result ≡ spec.meets self other }
     {

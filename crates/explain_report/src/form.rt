@@ -1,7 +1,4 @@
-//! The form that a location is written in, as it is reported: by name, and in words.
-//!
-//! It uses a location of `gix_url`. Its contract: the form is that of the scheme and of the flag. The words are no part
-//! of it.
+//! The form in which a location is written, as it is reported: its name and its words.
 
 ghost use Rattle.std.specs.Prelude.{◌≡◌};
 ghost use Rattle.explain_report.specs.Forms.{file_form, form_of, ssh_form};
@@ -10,7 +7,7 @@ use gix_url::{Scheme, Url};
 use serde::Serialize;
 use std::fmt;
 
-/// The form that a location is written in.
+/// The form in which a location is written.
 #[derive(Clone, Copy, Serialize)]
 #[serde(rename_all = "snake_case")]
 pub enum Form {
@@ -21,7 +18,7 @@ pub enum Form {
 }
 
 impl Form {
-    /// The form of the location.
+    /// Returns the form of the location.
     pub fn of(url: &Url) -> Form
         ensures { result ≡ form_of url.now }
     {
@@ -33,7 +30,7 @@ impl Form {
         }
     }
 
-    /// The form of a file, in its alternative form or not.
+    /// The form of a location of a file, by its flag for the alternative form.
     fn of_file(is_alternative: bool) -> Form
         ensures { result ≡ file_form is_alternative }
     {
@@ -44,7 +41,7 @@ impl Form {
         }
     }
 
-    /// The form of a location of Secure Shell, in its alternative form or not.
+    /// The form of a location of Secure Shell, by its flag for the alternative form.
     fn of_ssh(is_alternative: bool) -> Form
         ensures { result ≡ ssh_form is_alternative }
     {

@@ -1,10 +1,8 @@
-//! What Git reads in the own text of a location, where the library doesn't promise that it is the same, and
-//! in a line that is refused.
+//! The report of how Git reads the text of a location, if it isn't proved to read the same, and how it reads a refused
+//! line.
 //!
-//! It uses the public calls of `gix_url`, `web` for words on HTTP, and `secret`. Its contract: no field is
-//! reported of a location that has a password, which Git reads as a part of another one, and none of a line
-//! that is refused and of which a part may be a secret, decoded or not. The stored run shows what it reports, and
-//! `scripts/hostile golden` its words.
+//! The report shows no field if the location has a password, since Git may read the password as a part of another
+//! field, and none if a part of a refused line, decoded or not, may be a secret.
 
 ghost use Rattle.std.specs.Prelude.{◌≡◌, ◌==◌, ◌||◌, IfOk, IfSome, IsSome, IsTrue, None, Some, false, option_map, true};
 ghost use Rattle.std.specs.List.{list_any};
@@ -29,30 +27,30 @@ use serde::Serialize;
 use std::alloc::{AllocError, Global};
 use std::fmt::{Display, Write};
 
-/// What Git does with a text that it passes to a remote helper.
+/// The words for a text that Git passes to a remote helper.
 pub const PASSED_ON: &str = "passes its text to a remote helper, whose reading was not compared";
 
-/// What Git reads in the text of a location.
+/// How Git reads the text of a location.
 #[derive(Drop, Serialize)]
 pub struct GitReads {
-    /// The transport of Git's own.
+    /// The built-in transport of Git.
     pub protocol: Option<&'static str>,
     pub user: Option<String>,
     pub host: Option<String>,
     pub port: Option<u16>,
     pub path: Option<String>,
-    /// Whether all of these are the location's own, which isn't promised.
+    /// Whether all of these are equal to the location's fields, although this isn't proved.
     pub same: bool,
-    /// Why none of these is reported.
+    /// The name of the reason why no field is reported.
     pub why: Option<&'static str>,
-    /// The same in words.
+    /// The report in words.
     #[serde(skip)]
     pub words: String,
 }
 
 impl GitReads {
-    /// What Git reads in the text of the location: nothing is reported where that is known to be the same,
-    /// where the text is for a remote helper by its scheme, and where there is no text.
+    /// Returns how Git reads the text of the location. Returns `None` if Git is known to read the same, if the scheme
+    /// is that of a remote helper, or if the location has no text.
     pub(crate) fn of(
         alloc: Global,
         url: &Url,
@@ -72,7 +70,7 @@ impl GitReads {
         }
     }
 
-    /// What Git reads in this text of the location.
+    /// The report of this text of the location.
     fn in_text(
         alloc: Global,
         url: &Url,
@@ -93,7 +91,7 @@ impl GitReads {
         report
     }
 
-    /// What Git's own transports read in this text of the location.
+    /// The report of how Git's built-in transports read this text of the location.
     fn by_transport(
         alloc: Global,
         url: &Url,
@@ -109,7 +107,7 @@ impl GitReads {
         }
     }
 
-    /// What is reported of a place that Git reads.
+    /// The report of a place that Git reads.
     fn of_place(alloc: Global, url: &Url, found: &GitPlace<'_>) -> Result<GitReads, AllocError>
         ensures { IfOk result (λ it.
             IsSome url.now.password → (it.user ≡ None) × (it.host ≡ None) × (it.path ≡ None)) }
@@ -121,8 +119,7 @@ impl GitReads {
         }
     }
 
-    /// What is reported of a text in which Git reads no place. A local path that begins with `~` may have a
-    /// password.
+    /// The report of a text in which Git reads no place. A local path that begins with `~` may have a password.
     fn of_unread(alloc: Global, url: &Url, text: &[u8], why: Unread) -> Result<GitReads, AllocError>
         ensures { IfOk result (λ it. (it.user ≡ None) × (it.host ≡ None) × (it.path ≡ None)) }
     {
@@ -135,7 +132,7 @@ impl GitReads {
 }
 
 impl GitReads {
-    /// What Git reads in a line that is refused: nothing is reported of one that it hands to a remote helper.
+    /// Returns how Git reads a refused line, or `None` if Git passes the line to a remote helper.
     pub(crate) fn in_refused(alloc: Global, line: &[u8]) -> Result<Option<GitReads>, AllocError>
         ensures { IfOk result (WithholdsSecret line.now) }
     {
@@ -149,7 +146,7 @@ impl GitReads {
         Ok(Some(report?))
     }
 
-    /// What is reported of a place that Git reads in a line that is refused.
+    /// The report of a place that Git reads in a refused line.
     fn of_refused(alloc: Global, line: &[u8], found: &GitPlace<'_>) -> Result<GitReads, AllocError>
         ensures { IfOk result (λ it. WithholdsSecret line.now (Some it)) }
     {
@@ -161,7 +158,7 @@ impl GitReads {
     }
 }
 
-/// What is reported of a place that Git reads in a line that is refused and of which a part may be a secret.
+/// The report of a place that Git reads in a refused line, if a part of the line may be a secret.
 fn withheld_all_the_same(alloc: Global) -> Result<GitReads, AllocError>
     ensures { IfOk result (λ it. (it.user ≡ None) × (it.host ≡ None) × (it.path ≡ None)) }
 {
@@ -169,8 +166,8 @@ fn withheld_all_the_same(alloc: Global) -> Result<GitReads, AllocError>
     in_words(alloc, words, "Password")
 }
 
-/// What is reported of a place that Git reads in a line that is refused, unless a part of it may be a secret once it
-/// is decoded.
+/// The report of a place that Git reads in a refused line, without its fields if a part of it, once decoded, may be a
+/// secret.
 fn report_all_the_same(alloc: Global, found: &GitPlace<'_>) -> Result<GitReads, AllocError>
     ensures { IfOk result (λ it. IsTrue (spec.place_has_secret found.now)
         → (it.user ≡ None) × (it.host ≡ None) × (it.path ≡ None)) }
@@ -184,8 +181,8 @@ fn report_all_the_same(alloc: Global, found: &GitPlace<'_>) -> Result<GitReads, 
     with_fields(alloc, found, false, words)
 }
 
-/// Whether the user or the host that Git reads has a mark that is behind a user or a password, or a part may be a
-/// secret.
+/// Whether the user has the mark that ends a user, the host has the mark that ends a password, or any of the user, host
+/// and path may contain a secret.
 fn holds_secret(found: &GitPlace<'_>) -> bool
     ensures { result ≡ spec.place_has_secret found.now }
 {
@@ -194,7 +191,7 @@ fn holds_secret(found: &GitPlace<'_>) -> bool
         || has_secret(found.path)
 }
 
-/// Whether there is a part that has the mark, or of which a part may be a secret.
+/// Whether the part is present, and has the mark or may contain a secret.
 fn may_hide_if_some(part: Option<&[u8]>, mark: u8) -> bool
     ensures { result ≡ some_passes (spec.may_hide mark) (option_map (λ it. it.now) part.entry) }
 {
@@ -204,14 +201,14 @@ fn may_hide_if_some(part: Option<&[u8]>, mark: u8) -> bool
     }
 }
 
-/// Whether the text has the mark.
+/// Whether the text contains the mark.
 fn has_mark(text: &[u8], mark: u8) -> bool
     ensures { result ≡ list_any (λ b. b == mark) text.now }
 {
     text.iter().any(|byte| *byte == mark)
 }
 
-/// Appends what Git does with the place that it reads in a line that is refused.
+/// Appends how Git uses the place that it reads in a refused line.
 fn all_the_same(out: &mut String, found: &GitPlace<'_>) -> Result<(), AllocError> {
     match (found.protocol, found.host) {
         (Protocol::File, _) => {
@@ -230,8 +227,7 @@ fn all_the_same(out: &mut String, found: &GitPlace<'_>) -> Result<(), AllocError
     out.push_str(", all the same")
 }
 
-/// What is reported of a line that is refused and in which Git reads no place, unless it is memory that was
-/// refused.
+/// The report of a refused line in which Git reads no place. An error means that memory was refused.
 fn unread_refused(alloc: Global, why: Unread) -> Result<GitReads, AllocError>
     ensures { IfOk result (λ it. (it.user ≡ None) × (it.host ≡ None) × (it.path ≡ None)) }
 {
@@ -250,7 +246,7 @@ fn unread_refused(alloc: Global, why: Unread) -> Result<GitReads, AllocError>
     in_words(alloc, words, name)
 }
 
-/// The first condition that a location of HTTP doesn't meet, of which it isn't known that all read the same.
+/// The first condition that a location of HTTP doesn't meet, which is `Settled` if the location isn't settled.
 fn unmet_condition(url: &Url, is_settled: bool) -> Option<WebCondition>
     ensures unsettled { is_settled ≡ false → result ≡ Some WebCondition.Settled }
     ensures first { is_settled ≡ true → IfSome result (λ unmet. IsFirstUnmet unmet url.now) }
@@ -262,13 +258,13 @@ fn unmet_condition(url: &Url, is_settled: bool) -> Option<WebCondition>
     }
 }
 
-/// What is reported of a reading.
+/// The report of a place that Git reads, with its fields.
 fn report_reading(alloc: Global, url: &Url, found: &GitPlace<'_>) -> Result<GitReads, AllocError> {
     let words = words_of(alloc, url, found)?;
     with_fields(alloc, found, is_same(url, found), words)
 }
 
-/// What is reported of a reading in these words.
+/// The report of a place that Git reads, in these words.
 fn with_fields(
     alloc: Global,
     found: &GitPlace<'_>,
@@ -292,7 +288,7 @@ fn with_fields(
     })
 }
 
-/// What is reported where no field is.
+/// A report without fields.
 fn without_fields(words: String, why: &'static str) -> GitReads
     ensures { (result.user ≡ None) × (result.host ≡ None) × (result.path ≡ None) }
 {
@@ -308,14 +304,14 @@ fn without_fields(words: String, why: &'static str) -> GitReads
     }
 }
 
-/// What is reported where no field is, in these words.
+/// A report without fields, in these words.
 fn in_words(alloc: Global, words: &str, why: &'static str) -> Result<GitReads, AllocError>
     ensures { IfOk result (λ it. (it.user ≡ None) × (it.host ≡ None) × (it.path ≡ None)) }
 {
     Ok(without_fields(String::from_str(alloc, words)?, why))
 }
 
-/// What is reported of a text that has a password.
+/// The report of a text that has a password.
 fn withheld(alloc: Global) -> Result<GitReads, AllocError>
     ensures { IfOk result (λ it. (it.user ≡ None) × (it.host ≡ None) × (it.path ≡ None)) }
 {
@@ -323,7 +319,7 @@ fn withheld(alloc: Global) -> Result<GitReads, AllocError>
     in_words(alloc, words, "Password")
 }
 
-/// What is reported of a text in which Git reads no place, unless it is memory that was refused.
+/// The report of a text in which Git reads no place. An error means that memory was refused.
 fn unread(alloc: Global, text: &[u8], why: Unread) -> Result<GitReads, AllocError>
     ensures { IfOk result (λ it. (it.user ≡ None) × (it.host ≡ None) × (it.path ≡ None)) }
 {
@@ -342,7 +338,7 @@ fn unread(alloc: Global, text: &[u8], why: Unread) -> Result<GitReads, AllocErro
     in_words(alloc, words, name)
 }
 
-/// What is reported of a local path that begins with `~`.
+/// The report of a local path that begins with `~`.
 fn in_two_places(alloc: Global, text: &[u8]) -> Result<GitReads, AllocError>
     ensures { IfOk result (λ it. (it.user ≡ None) × (it.host ≡ None) × (it.path ≡ None)) }
 {
@@ -352,7 +348,7 @@ fn in_two_places(alloc: Global, text: &[u8]) -> Result<GitReads, AllocError>
     Ok(without_fields(words, "HomeOrHere"))
 }
 
-/// Appends what the commands of Git read in a local path that begins with `~`.
+/// Appends how the commands of Git read a local path that begins with `~`.
 fn two_places(out: &mut String, text: &[u8]) -> Result<(), AllocError> {
     let (name, below) = match text.find_byte(b'/') {
         Some(at) => text.split_at(at),
@@ -372,9 +368,9 @@ fn two_places(out: &mut String, text: &[u8]) -> Result<(), AllocError> {
     }
 }
 
-// ---- beside the location
+// ---- comparison with the location
 
-/// The transport of Git's own that the scheme of the location is for.
+/// The built-in transport of Git for the scheme of the location.
 fn own_protocol(url: &Url) -> Option<Protocol>
     ensures { result ≡ spec.own_protocol url.now.scheme }
 {
@@ -388,14 +384,14 @@ fn own_protocol(url: &Url) -> Option<Protocol>
     }
 }
 
-/// Whether the location is one of HTTP, whose text Git hands to curl.
+/// Whether the location is one of HTTP, whose text Git passes to curl.
 pub fn is_of_web(url: &Url) -> bool
     ensures { result ≡ is_of_http url.now.scheme }
 {
     matches!(&url.scheme, Scheme::Http | Scheme::Https)
 }
 
-/// Whether Git hands the text of the location to another remote helper by its scheme.
+/// Whether Git passes the text of the location to a remote helper other than curl because of its scheme.
 fn is_for_helper(url: &Url) -> bool
     ensures { result ≡ spec.is_for_helper url.now.scheme }
 {
@@ -444,7 +440,7 @@ fn unless_empty(text: &[u8]) -> Option<&[u8]>
     }
 }
 
-/// Whether Git reads the location's own fields.
+/// Whether the fields that Git reads are those of the location.
 fn is_same(url: &Url, found: &GitPlace<'_>) -> bool {
     own_protocol(url) == Some(found.protocol)
         && user_of(url) == found.user
@@ -453,7 +449,7 @@ fn is_same(url: &Url, found: &GitPlace<'_>) -> bool {
         && url.path.as_bytes() == found.path
 }
 
-/// What is read in words.
+/// The place that Git reads, in words.
 fn words_of(alloc: Global, url: &Url, found: &GitPlace<'_>) -> Result<String, AllocError> {
     if is_same(url, found) {
         return String::from_str(alloc, "reads the same in its text, which isn't promised");
@@ -464,7 +460,7 @@ fn words_of(alloc: Global, url: &Url, found: &GitPlace<'_>) -> Result<String, Al
     Ok(words)
 }
 
-/// Appends the fields that Git reads otherwise.
+/// Appends the fields that Git reads differently.
 fn differences(out: &mut String, url: &Url, found: &GitPlace<'_>) -> Result<(), AllocError> {
     let protocol = Some(protocol_name(found.protocol).as_bytes());
     let own = Some(url.scheme.as_str().as_bytes());
@@ -488,7 +484,7 @@ fn differences(out: &mut String, url: &Url, found: &GitPlace<'_>) -> Result<(), 
     out.push_str(" in its text")
 }
 
-/// Appends a field that is read as another one, behind a comma unless it is the first.
+/// Appends a field that Git reads differently, after a comma unless it is the first one.
 fn difference<T: Display + PartialEq + Drop>(
     out: &mut String,
     field: &str,

@@ -1,12 +1,11 @@
-//! What `explain` reports of a line: its location or its refusal, what others read in it, what Git does with it
-//! by a configuration, and what people may have got wrong.
+//! Reports on a line for `explain`: its location or its refusal, how other programs read it, how Git uses it by a
+//! configuration, and hints about likely mistakes.
 //!
-//! [`location_report`] puts together what is reported of a location, of which [`form`], [`path`], [`git_report`],
-//! [`credential`], [`curl`] and [`difference`] each have a part; [`refusal`] says why a line is refused. [`text`]
-//! shows a line, [`rules`] asks a configuration about it, [`remotes`] has those of the configuration itself,
-//! [`readers`] who reads it otherwise, [`advice`] has dangers and hints, and [`finding`] is what a run may fail for.
-//! The crate uses the public calls of `gix_url`, `git_rules` and `git_audit`. Nothing is laid out here: that is for
-//! the crates above.
+//! [`location_report`] assembles the report of a location from [`form`], [`path`], [`git_report`], [`credential`],
+//! [`curl`] and [`difference`]; [`refusal`] explains why a line is refused. [`text`] shows lines without secrets,
+//! [`rules`] applies a configuration to a line, [`remotes`] reports the remotes of the configuration itself,
+//! [`readers`] lists other readings, [`advice`] has dangers and hints, and [`finding`] has the conditions for which a
+//! run may fail. The reports are data; the crates above format them.
 #![tactic(auto)]
 
 pub mod advice;

@@ -1,10 +1,7 @@
-//! What is reported of a location: its form, its parts, what its path means, and what it may be used for.
+//! The report of a location: its form, its parts, the meaning of its path, and its uses.
 //!
-//! It uses the public calls of `gix_url`, `facts` for what its parts share, `path` for what the path means,
-//! `git_report` for what Git reads, and `difference` for a location that isn't settled. Its contract: where
-//! there is a password `redacted` is reported, and no text that holds it; whether a location is settled and
-//! agrees with Git is reported as the definitions of the library have it. Bytes that are no UTF-8 are reported
-//! as U+FFFD.
+//! A password is reported as `redacted`, and no reported text contains it. Bytes that aren't UTF-8 are reported as
+//! U+FFFD.
 
 ghost use Rattle.std.specs.Prelude.{◌≡◌, ◌↔◌, IfOk, IsSome, IsTrue, None, codes, option_map};
 ghost use Rattle.gix_url.specs.GitClass.{AgreesWithGit};
@@ -27,61 +24,61 @@ use serde::Serialize;
 use std::alloc::{AllocError, Global};
 use std::borrow::CowStr;
 
-/// What is reported of a location.
+/// The report of a location.
 #[derive(Drop, Serialize)]
 pub struct Report<'a> {
-    /// The form that it is written in.
+    /// The form in which the location is written.
     pub form: Form,
-    /// The text of the scheme: a remote helper's is its name.
+    /// The name of the scheme, or of the remote helper.
     pub scheme: &'a str,
     /// The user.
     pub user: Option<&'a str>,
-    /// `redacted`, where there is a password.
+    /// `redacted` if the location has a password.
     pub password: Option<&'static str>,
     /// The host.
     pub host: Option<&'a str>,
     /// The port.
     pub port: Option<u16>,
-    /// The port, or the one that the scheme stands for.
+    /// The port, or the default port of the scheme.
     pub port_or_default: Option<u16>,
     /// The path, decoded.
     pub path: CowStr<'a>,
-    /// Whether the path is reported byte for byte.
+    /// Whether the path is UTF-8, so that it is reported byte for byte.
     pub path_is_utf8: bool,
-    /// The path as it was spelled.
+    /// The path as it was written, with its escapes.
     pub original_path: CowStr<'a>,
     /// Path, query and fragment.
     pub components: Components<'a>,
-    /// Whose home folder the path begins in, at the other side of Secure Shell or of `git://`.
+    /// The home folder in which the path begins, on the server of Secure Shell or `git://`.
     pub home: Option<Home>,
-    /// The path as a shell takes it, on a system of files.
+    /// The path for a shell, if it is one in a file system.
     pub shell_path: Option<String>,
-    /// The same byte for byte.
+    /// The path for a shell, byte for byte.
     #[serde(skip)]
     pub shell_bytes: Option<BString>,
-    /// Whether parts may be given to a command.
+    /// Whether the parts are safe as arguments of a command.
     pub arguments: Arguments,
     /// The text, with `redacted` in place of the field `password`.
     pub text: Option<String>,
-    /// The text byte for byte, where it holds no password.
+    /// The text byte for byte, unless it contains a password.
     #[serde(skip)]
     pub own_text: Option<BString>,
-    /// Whether the location comes back from its own text.
+    /// Whether the location's text is read as the location again.
     pub settled: bool,
-    /// Whether Git, and of HTTP curl too, is known to read the same protocol, user, host, port and path in
-    /// the text of the location.
+    /// Whether Git, and for HTTP curl too, is known to read the same protocol, user, host, port and path in the
+    /// location's text.
     pub agrees_with_git: bool,
-    /// What Git reads there, where it isn't known to be the same, or why it may be another place.
+    /// How Git reads the location's text if it isn't known to read the same, or why it may read another place.
     pub git_reads: Option<GitReads>,
-    /// What Git's credential code asks helpers for in the text of a location of HTTP, unless Git refuses it.
+    /// The request of Git's credential code to helpers for the text of a location of HTTP, unless Git refuses the text.
     pub credential: Option<Credential>,
-    /// What curl connects to and asks for in the text of a location of HTTP, unless it refuses it.
+    /// The host and the path that curl uses for the text of a location of HTTP, unless curl refuses the text.
     pub curl: Option<Curl>,
-    /// What its own text is read as, where it is not settled.
+    /// How the location's text is read, if the location isn't settled.
     pub reread: Option<Reread>,
 }
 
-/// What the parts of a location are to a command line.
+/// The safety of the parts of a location as arguments of a command.
 #[derive(Clone, Copy, Serialize)]
 pub struct Arguments {
     pub user: Safety,
@@ -89,22 +86,22 @@ pub struct Arguments {
     pub path: Safety,
 }
 
-/// What a part of a location is to a command line.
+/// The safety of a part of a location as an argument of a command.
 #[derive(Clone, Copy, Serialize)]
 #[serde(rename_all = "snake_case")]
 pub enum Safety {
-    /// There is no such part.
+    /// The location has no such part.
     Absent,
-    /// It can't be taken for an option.
+    /// The part can't be taken for an option.
     Usable,
-    /// It begins with `-`.
+    /// The part begins with `-`.
     Dangerous,
-    /// A path that doesn't begin with `/`, or that goes on with `-` behind it.
+    /// A path that doesn't begin with `/`, or that has a `-` after it.
     Withheld,
 }
 
 impl<'a> Report<'a> {
-    /// What is reported of this location.
+    /// Returns the report of this location.
     pub fn of(alloc: Global, url: &'a Url) -> Result<Report<'a>, AllocError>
         ensures hidden { IfOk result (λ report. option_map (λ word. word.now) report.password
             ≡ option_map (λ _. codes "redacted") url.now.password) }
@@ -124,7 +121,7 @@ impl<'a> Report<'a> {
         }
     }
 
-    /// What is reported of this location, with its facts and what was found.
+    /// The report of this location, of its facts and its findings.
     fn put_together(url: &'a Url, facts: Facts, found: Found<'a>) -> Report<'a>
         ensures hidden { option_map (λ word. word.now) result.password
             ≡ option_map (λ _. codes "redacted") url.now.password }
@@ -163,7 +160,7 @@ impl<'a> Report<'a> {
     }
 }
 
-/// The own text of a location, unless it holds a password.
+/// The location's text, unless it contains a password.
 fn without_password(url: &Url, text: Result<BString, WriteFault>) -> Option<BString>
     ensures { IsSome url.now.password → result ≡ None }
 {
@@ -174,19 +171,19 @@ fn without_password(url: &Url, text: Result<BString, WriteFault>) -> Option<BStr
     text.ok()
 }
 
-/// What is found of a location by its facts.
+/// The findings about a location with its facts.
 #[derive(Drop)]
 struct Found<'a> {
     texts: Texts<'a>,
     meaning: Meaning<'a>,
     git_reads: Option<GitReads>,
-    /// What Git's credential code and curl read.
+    /// The readings of Git's credential code and of curl.
     over_web: (Option<Credential>, Option<Curl>),
     reread: Option<Reread>,
 }
 
 impl<'a> Found<'a> {
-    /// What is found of this location, which has these facts.
+    /// The findings about this location, which has these facts.
     fn of(alloc: Global, url: &'a Url, facts: &Facts) -> Result<Found<'a>, AllocError>
         requires { AreFactsOf url.now facts.now }
         ensures git { IfOk result (λ found. WithholdsPlace url.now found.git_reads) }
@@ -209,7 +206,7 @@ impl<'a> Found<'a> {
     }
 }
 
-/// What Git's credential code and curl read in the text of a location of HTTP, if it has a text.
+/// How Git's credential code and curl read the text of a location of HTTP, if it has a text.
 fn over_web(
     alloc: Global,
     url: &Url,
@@ -224,7 +221,7 @@ fn over_web(
     }
 }
 
-/// The texts that are reported of a location.
+/// The texts in the report of a location.
 #[derive(Drop)]
 struct Texts<'a> {
     path: CowStr<'a>,
@@ -258,7 +255,7 @@ fn shown_text(alloc: Global, url: &Url, facts: &Facts) -> Result<Option<String>,
     }
 }
 
-/// What Git reads in the text of the location, in words.
+/// Returns how Git reads the text of the location, in words.
 pub fn reading_of_git<'b>(url: &Url, report: &'b Report<'_>) -> &'b str {
     match &report.git_reads {
         _ if report.agrees_with_git && is_of_web(url) => "reads the same in its text, as curl does",
@@ -268,14 +265,14 @@ pub fn reading_of_git<'b>(url: &Url, report: &'b Report<'_>) -> &'b str {
     }
 }
 
-/// `redacted`, where there is a password.
+/// `redacted`, if the location has a password.
 pub(crate) fn hidden_password(url: &Url) -> Option<&'static str>
     ensures { option_map (λ word. word.now) result ≡ hidden_password url.now.password }
 {
     url.password().map(|_| "redacted")
 }
 
-/// What the parts of the location are to a command line.
+/// The safety of the location's parts as arguments of a command.
 fn arguments_of(url: &Url) -> Arguments {
     Arguments {
         user: safety_of(url.user_as_argument()),
@@ -287,7 +284,7 @@ fn arguments_of(url: &Url) -> Arguments {
     }
 }
 
-/// The judgement of a user or a host in a word.
+/// The safety of a user or a host, as a word.
 fn safety_of(judged: ArgumentSafety<'_>) -> Safety
     ensures { result ≡ safety_of judged.entry }
 {

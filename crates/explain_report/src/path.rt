@@ -1,8 +1,6 @@
-//! What the path of a location means: its components, the home folder that it begins in, and what a shell
-//! takes.
+//! The meaning of a location's path: its components, the home folder that it begins in, and the path for a shell.
 //!
-//! It uses the public calls of `gix_url`, and has no contract but that it can't abort. Bytes that are no
-//! UTF-8 are reported as U+FFFD.
+//! Bytes that aren't UTF-8 are reported as U+FFFD.
 
 use crate::memory::{both, no_memory};
 use bstr::{BStr, BString, ByteSlice};
@@ -12,18 +10,18 @@ use serde::Serialize;
 use std::alloc::{AllocError, Global};
 use std::borrow::CowStr;
 
-/// What is reported of the path of a location.
+/// The meaning of a location's path.
 #[derive(Drop)]
 pub struct Meaning<'a> {
     pub components: Components<'a>,
     pub home: Option<Home>,
     pub shell_path: Option<String>,
-    /// The same byte for byte.
+    /// The path for a shell, byte for byte.
     pub shell_bytes: Option<BString>,
 }
 
 impl<'a> Meaning<'a> {
-    /// What the path of this location means.
+    /// Returns the meaning of this location's path.
     pub fn of(alloc: Global, url: &'a Url) -> Result<Meaning<'a>, AllocError> {
         let shell_bytes = shell_path_of(alloc, url)?;
         let shell_path = lossy_path(alloc, &shell_bytes);
@@ -42,7 +40,7 @@ impl<'a> Meaning<'a> {
     }
 }
 
-/// What a path is made of.
+/// The components of a path.
 #[derive(Drop, Serialize)]
 pub struct Components<'a> {
     pub path: CowStr<'a>,
@@ -57,10 +55,10 @@ pub struct Field {
     pub value: String,
 }
 
-/// A home folder that a path begins in.
+/// The home folder in which a path begins.
 #[derive(Drop, Serialize)]
 pub struct Home {
-    /// The name of the user; the current one has none.
+    /// The name of the user, or `None` for the current user.
     pub user: Option<String>,
     /// The path below the folder.
     pub below: String,
@@ -74,7 +72,7 @@ fn components_of<'a>(alloc: Global, url: &'a Url) -> Result<Components<'a>, Allo
     components
 }
 
-/// What is reported of path, query and fragment.
+/// The report of path, query and fragment.
 fn reported_components<'a>(
     alloc: Global,
     parts: &PathComponents<'a>,
@@ -112,7 +110,7 @@ fn query(alloc: Global, parts: &PathComponents<'_>) -> Result<Option<Vec<Field>>
     Ok(Some(fields))
 }
 
-/// Adds a field of the query.
+/// Appends a field of the query.
 fn push_field(
     alloc: Global,
     fields: &mut Vec<Field>,
@@ -126,8 +124,8 @@ fn push_field(
     Ok(())
 }
 
-/// Whose home folder the path begins in, at the other side of Secure Shell or of `git://`. A path of this
-/// machine begins in none: Git takes `/~bob/r` as it is.
+/// The home folder in which the path begins, on the server of Secure Shell or `git://`. A local path begins in none:
+/// Git takes `/~bob/r` literally.
 fn home_of(alloc: Global, url: &Url) -> Result<Option<Home>, AllocError> {
     if !matches!(&url.scheme, Scheme::Ssh | Scheme::Git) {
         return Ok(None);
@@ -139,7 +137,8 @@ fn home_of(alloc: Global, url: &Url) -> Result<Option<Home>, AllocError> {
     home
 }
 
-/// The path with the `/` before `~` that a URL of Secure Shell or Git, and the scp form, have lost.
+/// The path, with `/` before a `~` at the front. URLs of Secure Shell and Git, and the scp form, are parsed without
+/// this `/`.
 fn path_with_slash(alloc: Global, url: &Url) -> Result<BString, AllocError> {
     let mut path = BString::new(Vec::new(alloc));
     if url.path.starts_with(b"~") {
@@ -149,7 +148,7 @@ fn path_with_slash(alloc: Global, url: &Url) -> Result<BString, AllocError> {
     Ok(path)
 }
 
-/// What is reported of a home folder and the path below it.
+/// The report of a home folder and of the path below it.
 fn reported_home(
     alloc: Global,
     user: &Option<ForUser>,
@@ -166,7 +165,7 @@ fn reported_home(
     }))
 }
 
-/// The path as a shell takes it, where it is one of a system of files.
+/// The path for a shell, if the location's path is one in a file system.
 fn shell_path_of(alloc: Global, url: &Url) -> Result<Option<BString>, AllocError> {
     if !matches!(&url.scheme, Scheme::File | Scheme::Ssh | Scheme::Git) {
         return Ok(None);
@@ -175,7 +174,7 @@ fn shell_path_of(alloc: Global, url: &Url) -> Result<Option<BString>, AllocError
     Ok(Some(expand_path::for_shell(alloc, path).map_err(no_memory)?))
 }
 
-/// The path with U+FFFD for bytes that are no UTF-8.
+/// The path, with U+FFFD for bytes that aren't UTF-8.
 fn lossy_path(alloc: Global, path: &Option<BString>) -> Result<Option<String>, AllocError> {
     match path {
         None => Ok(None),

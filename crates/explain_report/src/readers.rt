@@ -1,11 +1,7 @@
-//! Who may read a line otherwise: the first condition under which all read alike that its location doesn't meet, the
-//! other hosts that groups of readers take from the line, and a URL of the same place that fewer programs read
-//! otherwise.
+//! Other readings of a line: the first condition for a common reading that its location doesn't meet, the other hosts
+//! that groups of readers take from the line, and a URL of the same place that fewer programs read differently.
 //!
-//! It uses `unmet_condition` of `gix_url`, `taken` for the hosts, `git_host` for the host that Git connects to, and
-//! `instead` for the URL. Its contract: nothing is reported of a location only if all read its text alike, and no part of
-//! the URL may be a secret. A host that isn't in a part of the line that is shown is reported as `redacted`; the stored
-//! run shows which hosts are found.
+//! A host that doesn't occur in a shown part of the line is reported as `redacted`.
 
 ghost use Rattle.std.specs.Prelude.{◌≡◌, IfOk, IfSome, IsNone, None, false, string_bytes};
 ghost use Rattle.explain_report.specs.Reasons.{HasReason};
@@ -31,37 +27,37 @@ use serde::Serialize;
 use std::alloc::{AllocError, Global};
 use std::fmt::Write;
 
-/// Who may read a line otherwise.
+/// Other readings of a line.
 #[derive(Drop, Serialize)]
 pub struct Readers {
     /// The name of the first condition that the location doesn't meet. A refused line has none, nor has a location
-    /// whose own text all read alike.
+    /// whose text all programs read alike.
     pub condition: Option<&'static str>,
-    /// The same in words.
+    /// The condition in words.
     #[serde(skip)]
     pub words: &'static str,
     /// The other hosts that groups of readers take from the line.
     pub others: Vec<OtherHost>,
-    /// A URL of the same place that fewer programs read otherwise.
+    /// A URL of the same place that fewer programs read differently.
     pub instead: Option<String>,
 }
 
-/// Another host than that of the location, or of a refused line than the one that Git connects to.
+/// A host other than that of the location, or for a refused line other than the one that Git connects to.
 #[derive(Drop, Serialize)]
 pub struct OtherHost {
     pub host: String,
     /// The names of the groups of readers that take it.
     pub groups: Vec<&'static str>,
-    /// The host byte for byte.
+    /// The host, byte for byte.
     #[serde(skip)]
     pub bytes: BString,
-    /// What precedes the host in words: the location's host, and who takes this one.
+    /// The words before the host: the location's host, and the readers that take this one.
     #[serde(skip)]
     pub words: String,
 }
 
 impl Readers {
-    /// Who may read the line otherwise in which this location is read; its host is shown as this one.
+    /// Returns the other readings of a line that is read as this location, whose host is shown as `host`.
     pub fn of_location(
         alloc: Global,
         line: &[u8],
@@ -83,7 +79,7 @@ impl Readers {
         }
     }
 
-    /// Who reads a refused line with another host than the one that Git connects to.
+    /// Returns the readings of a refused line with a host other than the one that Git connects to.
     pub fn of_refused(alloc: Global, line: &[u8]) -> Result<Option<Readers>, AllocError> {
         let git = GitHost::in_line(alloc, line)?;
         let others = others_of_refused(alloc, line, &git);
@@ -91,7 +87,7 @@ impl Readers {
         Ok(of_others(others?))
     }
 
-    /// What is reported of a location that doesn't meet the condition.
+    /// The report of a location that doesn't meet the condition.
     fn with_condition(unmet: Condition, others: Vec<OtherHost>, instead: Option<String>) -> Readers
         ensures instead { result.instead ≡ instead }
         ensures reason { HasReason result }
@@ -105,7 +101,7 @@ impl Readers {
     }
 }
 
-/// The URL of the same place that fewer programs read otherwise, if one is reported.
+/// Returns the URL of the same place that fewer programs read differently, if one is reported.
 pub fn instead_of(readers: Option<&Readers>) -> Option<&str> {
     match readers {
         None => None,
@@ -113,7 +109,7 @@ pub fn instead_of(readers: Option<&Readers>) -> Option<&str> {
     }
 }
 
-/// What is reported where no condition is, if there is another host.
+/// The report without a condition, or `None` if there is no other host.
 fn of_others(others: Vec<OtherHost>) -> Option<Readers>
     ensures instead { IfSome result (λ it. it.instead ≡ None) }
     ensures reason { IfSome result HasReason }
@@ -130,7 +126,7 @@ fn of_others(others: Vec<OtherHost>) -> Option<Readers>
     })
 }
 
-/// The other hosts that groups take from a line in which this location is read.
+/// The other hosts that groups take from a line that is read as this location.
 fn others_of_location(
     alloc: Global,
     line: &[u8],
@@ -177,7 +173,7 @@ fn others_beside(
     others
 }
 
-/// Each host that a group takes from a line, once and in the order of the groups.
+/// The hosts that groups take from a line, each once and in the order of the groups.
 fn listed(
     alloc: Global,
     own: &str,
@@ -195,13 +191,13 @@ fn listed(
     Ok(others)
 }
 
-/// The groups before a place.
+/// The groups before an index.
 fn before<'b, 'a>(found: &'b [Taken<'a>], at: usize) -> &'b [Taken<'a>] {
     found.split_at(at.min(found.len())).0
 }
 
 impl OtherHost {
-    /// What is reported of a host that some of these groups take from a line, after the words for the location's own.
+    /// The report of a host that some of these groups take from a line. `own` is the words for the location's host.
     fn of(
         alloc: Global,
         own: &str,
@@ -242,7 +238,7 @@ fn names_of(
 
 // ---- words
 
-/// What precedes the host that these groups take: the words for the location's own, and the readers.
+/// The words before the host that these groups take: those for the location's own host, and the readers.
 fn words_of(
     alloc: Global,
     own: &str,
@@ -268,7 +264,7 @@ fn push_readers(out: &mut String, found: &[Taken<'_>], host: &[u8]) -> Result<()
     out.push_str(", take")
 }
 
-/// The host of the location in words, as it is shown: Git connects to it if Git reads that in the line.
+/// The host of the location in words, as it is shown: Git connects to it if Git reads this host in the line.
 fn own_words(
     alloc: Global,
     line: &[u8],
@@ -284,7 +280,7 @@ fn own_words(
     Ok(words)
 }
 
-/// Appends the host of a location, to which Git connects or not.
+/// Appends the host of a location, and whether Git connects to it.
 fn push_own(out: &mut String, host: Option<&str>, is_of_git: bool) -> Result<(), AllocError> {
     match host {
         None if is_of_git => push_git(out, None),
@@ -297,7 +293,7 @@ fn push_own(out: &mut String, host: Option<&str>, is_of_git: bool) -> Result<(),
     }
 }
 
-/// The host that Git connects to for a line in words, as it may be shown.
+/// The host that Git connects to for a line, in words and as it is shown.
 fn git_words(alloc: Global, host: Option<&[u8]>, line: &[u8]) -> Result<String, AllocError> {
     let mut words = String::new(alloc);
     let written = match host {

@@ -1,10 +1,4 @@
-//! Why a line, or the text of a location, is refused: by name, for programs, and in words; and where in a
-//! line.
-//!
-//! It uses the errors of `gix_url`, and their refusals. Its contract, memory permitting: of a line that is
-//! refused the place, the reason and the words are those of its one refusal, and what Git reads in it is
-//! reported without a user, a host and a path where a part of it may be a secret. The names of the error, of the
-//! form and of the fault are no part of it: the stored run shows them.
+//! The reason why a line, or the text of a location, is refused: its name, its words, and its span in a line.
 
 ghost use Rattle.std.specs.Prelude.{◌≡◌, ◌≢◌, ℕ, IfOk, List};
 ghost use Rattle.gix_url.specs.Flaws.{Flaw};
@@ -23,30 +17,30 @@ use std::alloc::{AllocError, Global};
 pub struct Refusal {
     /// The name of the error.
     pub error: &'static str,
-    /// The form that the text was taken for, where the error reports it.
+    /// The form for which the text was taken, if the error reports it.
     pub kind: Option<&'static str>,
-    /// The name of what is wrong, where the error reports it.
+    /// The name of the fault, if the error reports one.
     pub fault: Option<&'static str>,
-    /// The first byte of the line that is wrong, or where something is missing. A text that is no line has no
-    /// place.
+    /// The offset in the line of the first wrong byte, or at which something is missing. It is absent for a text that
+    /// isn't a line.
     pub at: Option<usize>,
-    /// How many bytes are wrong, none where something is missing.
+    /// The number of wrong bytes; 0 if something is missing.
     pub len: Option<usize>,
-    /// The name of the reason that has this place.
+    /// The name of the reason for this span.
     pub reason: Option<&'static str>,
-    /// The same in words, which show nothing of the text.
+    /// The reason in words, which contain no part of the text.
     pub words: String,
-    /// What Git reads in a line all the same, unless it hands the line to a remote helper, as one of HTTP.
+    /// How Git reads the refused line, unless Git passes it to a remote helper, as for HTTP.
     pub git_reads: Option<GitReads>,
 }
 
 impl Refusal {
-    /// The refusal that an error reports.
+    /// Returns the refusal of an error.
     pub fn of(alloc: Global, error: &Error) -> Result<Refusal, AllocError> {
         Ok(Refusal::in_words(error, error.to_string(alloc)?))
     }
 
-    /// The refusal of the line that was read with this error, with the place and the words of its reason.
+    /// Returns the refusal of a line that was parsed with this error, with the span and the words of its reason.
     pub fn of_line(alloc: Global, error: &Error) -> Result<Refusal, AllocError>
         ensures { (line : List ℕ) → error.now ≢ Error.Memory → Flaw line error.now
             → IfOk result (ReportsRefusal line) }
@@ -63,7 +57,7 @@ impl Refusal {
         })
     }
 
-    /// The refusal of the line that was read with this error, and what Git reads in the line.
+    /// Returns the refusal of a line that was parsed with this error, and how Git reads the line.
     pub fn with_git(alloc: Global, line: &[u8], error: &Error) -> Result<Refusal, AllocError>
         ensures refusal { error.now ≢ Error.Memory → Flaw line.now error.now
             → IfOk result (ReportsRefusal line.now) }
@@ -79,7 +73,8 @@ impl Refusal {
         })
     }
 
-    /// Why nothing is reported of what a line is read as: it isn't refused, but its parts may be secrets.
+    /// Returns the reason why nothing is reported of a line's location: the line isn't refused, but its parts may
+    /// contain secrets.
     pub fn withheld(alloc: Global) -> Result<Refusal, AllocError> {
         Ok(Refusal {
             error: "Withheld",
@@ -93,7 +88,7 @@ impl Refusal {
         })
     }
 
-    /// The refusal without a place, in these words.
+    /// The refusal without a span, in these words.
     fn in_words(error: &Error, words: String) -> Refusal
         ensures { result.words ≡ words }
     {
@@ -111,7 +106,7 @@ impl Refusal {
     }
 }
 
-/// The names of an error, of the form and of the fault that it reports.
+/// The names of an error, of its form and of its fault.
 fn names(error: &Error) -> (&'static str, Option<&'static str>, Option<&'static str>) {
     match error {
         Error::Memory => ("Memory", None, None),
@@ -130,7 +125,7 @@ fn names(error: &Error) -> (&'static str, Option<&'static str>, Option<&'static 
     }
 }
 
-/// The name of a form, as the answers of this program have it.
+/// The name of a form in the reports.
 fn kind_name(kind: UrlKind) -> &'static str {
     match kind {
         UrlKind::Url => "url",
@@ -139,7 +134,7 @@ fn kind_name(kind: UrlKind) -> &'static str {
     }
 }
 
-/// The name of what is wrong with a URL.
+/// The name of a URL's fault.
 fn url_fault(fault: UrlFault) -> &'static str {
     match fault {
         UrlFault::NoScheme => "NoScheme",
@@ -149,7 +144,7 @@ fn url_fault(fault: UrlFault) -> &'static str {
     }
 }
 
-/// The name of why a location has no text.
+/// The name of the reason why a location has no text.
 fn write_fault(fault: WriteFault) -> &'static str {
     match fault {
         WriteFault::HelperName => "HelperName",

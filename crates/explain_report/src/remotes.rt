@@ -1,7 +1,4 @@
-//! The remotes of a configuration: what Git fetches from and pushes to for each, and what is found in that.
-//!
-//! It uses `remote` of `git_rules`, and `rules` for each text that Git goes to. Its contract: an entry is of the remote
-//! that its subsection names. `scripts/hostile rules` shows the answers.
+//! The remotes of a configuration: the texts that Git fetches from and pushes to for each, and the findings about them.
 
 ghost use Rattle.std.specs.Prelude.{◌≡◌, option_map};
 ghost use Rattle.explain_report.specs.Rules.{remote_name};
@@ -18,14 +15,14 @@ use serde::Serialize;
 use std::alloc::{AllocError, Global};
 use std::collections::BTreeMap;
 
-/// A remote, as Git has it of a configuration.
+/// A remote of a configuration, as Git reads it.
 #[derive(Drop, Serialize)]
 pub struct RemoteReport {
-    /// Its name, with `redacted` for what may be a secret, as in each text of it.
+    /// Its name. Here and in each text below, `redacted` is in place of possible secrets.
     pub remote: String,
-    /// What it is fetched from: Git takes the first.
+    /// The texts to fetch from. Git uses the first.
     pub fetch: Vec<Route>,
-    /// What it is pushed to, all of it.
+    /// The texts to push to. Git uses all of them.
     pub push: Vec<Route>,
     /// The helper that Git runs for it.
     pub vcs: Option<String>,
@@ -35,12 +32,12 @@ pub struct RemoteReport {
     pub uploadpack: Option<String>,
     /// The program that Git runs at the other end of a push.
     pub receivepack: Option<String>,
-    /// The byte of the configuration at which the entry begins that Git stops at. Then nothing else is reported.
+    /// The offset of the entry at which Git stops, in bytes. If there is one, only the name is reported.
     pub stops_at: Option<usize>,
 }
 
-/// The names of the remotes of these entries, in the order in which they come first. Git takes a name that begins
-/// with `/` for no remote.
+/// Returns the names of the remotes of these entries, in the order in which they first occur. A name that begins with
+/// `/` is not that of a remote.
 pub fn names<'a>(alloc: Global, entries: &[Entry<'a>]) -> Result<Vec<&'a [u8]>, AllocError> {
     let mut found = Vec::new(alloc);
     let mut seen = BTreeMap::new(alloc);
@@ -55,7 +52,7 @@ pub fn names<'a>(alloc: Global, entries: &[Entry<'a>]) -> Result<Vec<&'a [u8]>, 
     Ok(found)
 }
 
-/// The name of the remote that an entry is of, if it is of one.
+/// The name of the remote that an entry configures, if it configures one.
 fn name_of<'a>(entry: &Entry<'a>) -> Option<&'a [u8]>
     ensures { option_map (λ it. it.now) result ≡ remote_name entry.now }
 {
@@ -68,7 +65,7 @@ fn name_of<'a>(entry: &Entry<'a>) -> Option<&'a [u8]>
 }
 
 impl RemoteReport {
-    /// What is reported of the remote with this name.
+    /// Returns the report of the remote with this name.
     pub fn of<'a>(
         alloc: Global,
         config: &Config<'a>,
@@ -82,7 +79,7 @@ impl RemoteReport {
         }
     }
 
-    /// A remote at one of whose entries Git stops.
+    /// The report of a remote with an entry at which Git stops.
     fn stopped(alloc: Global, remote: String, at: usize) -> RemoteReport {
         RemoteReport {
             remote,
@@ -96,7 +93,7 @@ impl RemoteReport {
         }
     }
 
-    /// A remote with this name, as it is shown.
+    /// The report of a remote with this name, as it is shown.
     fn shown(
         alloc: Global,
         config: &Config<'_>,
@@ -130,7 +127,7 @@ impl RemoteReport {
         })
     }
 
-    /// What is found in all texts that Git goes to. An entry that Git stops at counts as refused.
+    /// Returns the findings about all texts of the remote. An entry at which Git stops counts as refused.
     pub fn found(&self) -> Findings {
         let mut found = if self.stops_at.is_some() {
             Findings::of_refused()
@@ -147,7 +144,7 @@ impl RemoteReport {
     }
 }
 
-/// The programs that Git runs at the other end of a fetch and of a push, if there are some, as they are shown.
+/// The programs that Git runs at the other end of a fetch and of a push, if they are set, as they are shown.
 fn programs(
     alloc: Global,
     remote: &Remote<'_>,
@@ -158,7 +155,7 @@ fn programs(
     )
 }
 
-/// The ways to texts that are rewritten already.
+/// The routes to texts that are already rewritten.
 fn routes(
     alloc: Global,
     config: &Config<'_>,

@@ -1,10 +1,8 @@
-//! What Git does with a line by a configuration: where it fetches from and pushes to, by which transport,
-//! with which settings.
+//! The way Git uses a line by a configuration: the texts that it fetches from and pushes to, with their transports and
+//! settings.
 //!
-//! [`config`] is the configuration, read once for all lines; [`transports`], [`credentials`] and `settings` answer
-//! about what a line is rewritten to, [`setting`] shows an entry without what may be a secret, and [`rows`] has all of
-//! it in words. It uses the public calls of `gix_url` and `git_rules`, and has no contract but that it can't abort:
-//! `scripts/hostile rules` shows its answers.
+//! [`config`] is the configuration, which is read once for all lines. [`transports`], [`credentials`] and `settings`
+//! apply it to the rewritten text, [`setting`] shows an entry without secrets, and [`rows`] puts the results in words.
 
 ghost use Rattle.std.specs.Prelude.{◌≡◌, ◌↔◌, IfOk, IsNone, MatchOption, option_map};
 ghost use Rattle.explain_report.specs.Findings.{none, union};
@@ -36,45 +34,45 @@ use gix_url::{Error, Url};
 use serde::Serialize;
 use std::alloc::{AllocError, Global};
 
-/// What Git does with a line by a configuration.
+/// How Git uses a line by a configuration.
 #[derive(Drop, Serialize)]
 pub struct Rules {
-    /// Where a remote with this URL is fetched from.
+    /// The text from which a remote with this URL is fetched.
     pub fetch: Route,
-    /// Where it is pushed to.
+    /// The text to which it is pushed.
     pub push: Route,
-    /// What Git's credential code uses for the text that is fetched from, if that is of HTTP.
+    /// The settings of Git's credential code for the text to fetch from, if that is of HTTP.
     pub credential: Option<Credentials>,
     /// The entries of each name of `http.*` that Git uses for that text.
     pub http: Vec<Setting>,
 }
 
-/// Where Git goes.
+/// A text that Git fetches from or pushes to.
 #[derive(Drop, Serialize)]
 pub struct Route {
-    /// The text, with `redacted` for what may be a secret.
+    /// The text, with `redacted` in place of possible secrets.
     pub text: String,
     /// Whether a rule has rewritten it.
     pub rewritten: bool,
-    /// Whether it names the host that the line names, where both are locations.
+    /// Whether it names the same host as the line, if both are locations.
     pub same_host: Option<bool>,
     /// The transport that Git uses for the text, if it has one.
     pub transport: Option<Transport>,
-    /// Why Git has no transport for the text.
+    /// The reason why Git has no transport for the text.
     pub no_transport: Option<Lack>,
-    /// The names of what is dangerous in the text.
+    /// The names of the dangers of the text.
     pub dangers: Vec<&'static str>,
-    /// What is dangerous in the text.
+    /// The dangers of the text.
     #[serde(skip)]
     pub found_dangers: Vec<Danger>,
-    /// What is found in the text, for which a run may fail.
+    /// The findings about the text, for which a run may fail.
     #[serde(skip)]
     pub found: Findings,
 }
 
 impl Rules {
-    /// What Git does with a line, which is read as this location unless it is refused, by the configuration that is
-    /// given, if one is.
+    /// Returns how Git uses a line by the configuration, if one is given. `url` is the location of the line, unless the
+    /// line is refused.
     pub fn of_given(
         alloc: Global,
         config: Option<&Config<'_>>,
@@ -89,7 +87,7 @@ impl Rules {
         }
     }
 
-    /// What Git does with a line, which is read as this location unless it is refused.
+    /// How Git uses a line. `url` is the location of the line, unless the line is refused.
     fn of(
         alloc: Global,
         config: &Config<'_>,
@@ -107,14 +105,14 @@ impl Rules {
         rules
     }
 
-    /// What is found in the texts that the line is rewritten to.
+    /// Returns the findings about the texts to which the line is rewritten.
     pub fn found(&self) -> Findings
         ensures { result ≡ union self.now.fetch.found self.now.push.found }
     {
         self.fetch.found.union(self.push.found)
     }
 
-    /// What Git does with what the line is rewritten to.
+    /// How Git uses the texts to which the line is rewritten.
     fn of_goals(
         alloc: Global,
         config: &Config<'_>,
@@ -137,7 +135,7 @@ impl Rules {
     }
 }
 
-/// What is found in the texts that a line is rewritten to by the configuration, if one is given.
+/// Returns the findings about the texts to which a line is rewritten by the configuration, if one is given.
 pub fn found_by(rules: Option<&Rules>) -> Findings
     ensures { MatchOption rules.entry (result ≡ none)
         (λ it. result ≡ union it.now.fetch.found it.now.push.found) }
@@ -148,17 +146,17 @@ pub fn found_by(rules: Option<&Rules>) -> Findings
     }
 }
 
-/// What a line is rewritten to, and what that is read as.
+/// The text to which a line is rewritten, and its location.
 #[derive(Drop)]
 struct Goal {
     text: BString,
     is_rewritten: bool,
-    /// The location; none where the text is refused.
+    /// The location, unless the text is refused.
     url: Option<Url>,
 }
 
 impl Goal {
-    /// What becomes of a line.
+    /// The text to which a line is rewritten.
     fn of(alloc: Global, rewritten: &Rewritten<'_>) -> Result<Goal, AllocError> {
         let text = rewritten.to_bstring(alloc)?;
         let (text, url) = both_read(alloc, text)?;
@@ -171,7 +169,7 @@ impl Goal {
 }
 
 impl Goal {
-    /// What is dangerous in the text, and in the location that is read in it.
+    /// The dangers of the text and of its location.
     fn dangers(&self, alloc: Global) -> Result<Vec<Danger>, AllocError> {
         match &self.url {
             Some(url) => dangers(alloc, self.text.as_bytes(), &url.as_ref()),
@@ -179,7 +177,7 @@ impl Goal {
         }
     }
 
-    /// What is found in the text, which has these dangers.
+    /// The findings about the text, which has these dangers.
     fn found(&self, dangers: &[Danger]) -> Findings {
         match &self.url {
             Some(url) => Findings::of_location(url, dangers),
@@ -188,7 +186,7 @@ impl Goal {
     }
 }
 
-/// The text, and the location that it is read as, if it is read.
+/// The text, and its location unless it is refused.
 fn both_read(alloc: Global, text: BString) -> Result<(BString, Option<Url>), AllocError> {
     let url = match parse(alloc, text.as_bstr()) {
         Ok(url) => Ok(Some(url)),
@@ -202,7 +200,7 @@ fn both_read(alloc: Global, text: BString) -> Result<(BString, Option<Url>), All
 }
 
 impl Route {
-    /// The way to what a text is rewritten to.
+    /// Returns the route to a rewritten text.
     pub fn of_rewritten(
         alloc: Global,
         config: &Config<'_>,
@@ -214,7 +212,7 @@ impl Route {
         route
     }
 
-    /// The way to a goal, from a line that is read as this location unless it is refused.
+    /// The route to a goal. `line` is the location of the line, unless the line is refused.
     fn of(
         alloc: Global,
         config: &Config<'_>,
@@ -246,13 +244,13 @@ impl Route {
     }
 }
 
-/// A route, and the names of what is dangerous in its text.
+/// A route, and the names of the dangers of its text.
 fn both_named(alloc: Global, route: Route) -> Result<(Route, Vec<&'static str>), AllocError> {
     let names = names(alloc, route.found_dangers.as_slice());
     both(route, names)
 }
 
-/// Whether a goal names the host of a line, where both are locations.
+/// Whether a goal names the same host as the line, if both are locations.
 fn is_same_host(line: Option<&Url>, goal: &Goal) -> Option<bool>
     ensures { SaysSameHost (option_map (λ url. url.now) line.entry) goal.now.url result }
 {
@@ -262,8 +260,8 @@ fn is_same_host(line: Option<&Url>, goal: &Goal) -> Option<bool>
     }
 }
 
-/// What Git's credential code uses for a goal of HTTP, and the entries of `http.*` that Git uses for it; nothing for
-/// another goal.
+/// The settings of Git's credential code for a goal of HTTP, and the entries of `http.*` that Git uses for it. Both are
+/// empty for another goal.
 fn settings_of(
     alloc: Global,
     config: &Config<'_>,

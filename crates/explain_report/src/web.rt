@@ -1,12 +1,10 @@
-//! Words on a location of HTTP in whose text Git's credential code, curl and this library may read different
-//! places: the condition that it doesn't meet.
-//!
-//! `scripts/hostile golden` shows the sentences.
+//! Names and words for a location of HTTP whose text Git's credential code, curl and this library may read differently,
+//! by the condition that it doesn't meet.
 
 use bstr::ByteSlice;
 use gix_url::WebCondition;
 
-/// The name of the condition that isn't met.
+/// The name of the unmet condition.
 pub(crate) fn name(unmet: Option<WebCondition>) -> &'static str {
     match unmet {
         Some(WebCondition::Settled) => "NotSettled",
@@ -30,8 +28,8 @@ pub(crate) fn name(unmet: Option<WebCondition>) -> &'static str {
     }
 }
 
-/// What Git, which hands the text to curl, may do where a location with this host doesn't meet the condition, in
-/// words that follow its name.
+/// The effect of the unmet condition on Git, which passes the text to curl, for a location with this host. The words
+/// follow Git's name.
 pub(crate) fn words(unmet: Option<WebCondition>, host: &str) -> &'static str {
     match unmet {
         Some(WebCondition::Settled) => {
@@ -81,7 +79,7 @@ pub(crate) fn words(unmet: Option<WebCondition>, host: &str) -> &'static str {
     }
 }
 
-/// What Git and curl may do with a host for its last label.
+/// The effect of the host's last label on Git and curl.
 fn last_label_words(host: &[u8]) -> &'static str {
     let last = match host.rsplit_once_str(b".") {
         Some((_, last)) => last,

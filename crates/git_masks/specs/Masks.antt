@@ -34,10 +34,10 @@ pub record AreMasksOf {B : Type 0} (number : B → ℕ) (size : ℕ) (text : Lis
   pub odd : number masks.odd ≡ mask_of is_odd text
   pub host : number masks.host ≡ mask_of is_simple_byte text
 
--- the same of masks that are numbers of 64 bits
+-- such masks that are numbers of 64 bits
 abbrev pub AreShortMasksOf : List ℕ → Masks ℕ → Type 0
 AreShortMasksOf text masks = AreMasksOf (λ m. m) 64 text masks
 
--- the same of masks that are numbers of 128 bits
+-- such masks that are numbers of 128 bits
 abbrev pub AreLongMasksOf : List ℕ → Masks ℕ → Type 0
 AreLongMasksOf text masks = AreMasksOf (λ m. m) 128 text masks

@@ -1,5 +1,5 @@
-//! Numbers with a bit for each byte of a text, and what follows from such a mask: the first and the last byte of its
-//! class, whether all bytes or none are of it, and the masks of a front and of the rest.
+//! Numbers with a bit for each byte of a text, and the facts that follow from such a mask: the first and the last byte
+//! of its class, whether all bytes or none are of the class, and the masks of a front and of the rest.
 //!
 //! Masks of texts of at most 64 bytes are `u64`, which takes fewer instructions, and those of at most 128 bytes `u128`.
 
@@ -15,15 +15,15 @@ pub trait Bits: Copy {
     // The number.
     ghost number: { Self → ℕ };
 
-    // How many bits it has.
+    // The number of its bits.
     ghost size: { ℕ };
 
-    /// The place of the first byte of the class.
+    /// Returns the offset of the first byte of the class, if there is one.
     fn first(self) -> Option<usize>
         ensures { (test : ℕ → Bool) (text : List ℕ) → length text ≤ size
             → number self ≡ mask_of test text → IsFirstByte test text result };
 
-    /// The place of the last byte of the class.
+    /// Returns the offset of the last byte of the class, if there is one.
     fn last(self) -> Option<usize>
         ensures { (test : ℕ → Bool) (text : List ℕ) → length text ≤ size
             → number self ≡ mask_of test text → IsLastByte test text result };
@@ -38,30 +38,30 @@ pub trait Bits: Copy {
         ensures { (test : ℕ → Bool) (text : List ℕ) → count ≡ length text → length text ≤ size
             → number self ≡ mask_of test text → (IsTrue result ↔ (list_all test text ≡ true)) };
 
-    /// The mask of the front up to the place.
+    /// Returns the mask of the front up to the offset.
     fn front(self, place: usize) -> Self
         ensures { (test : ℕ → Bool) (text : List ℕ) → length text ≤ size
             → number self ≡ mask_of test text → number result ≡ mask_of test (take place text) };
 
-    /// The mask of the rest from the place on.
+    /// Returns the mask of the rest from the offset on.
     fn rest(self, place: usize) -> Self
         ensures { (test : ℕ → Bool) (text : List ℕ) → length text ≤ size
             → number self ≡ mask_of test text → number result ≡ mask_of test (drop place text) };
 
-    /// The mask of the bytes of one class or the other.
+    /// Returns the mask of the bytes of either class.
     fn either(self, other: Self) -> Self
         ensures { (test wide : ℕ → Bool) (text : List ℕ) → number self ≡ mask_of test text
             → number other ≡ mask_of wide text
             → number result ≡ mask_of (λ b. test b || wide b) text };
 
-    /// The place of the first `://`, by the mask of `:` and that of `/`.
+    /// Returns the offset of the first `://`, from the mask of `:` and that of `/`.
     fn first_mark(self, slash: Self) -> Option<usize>
         ensures { (text : List ℕ) → length text ≤ size
             → number self ≡ mask_of (λ b. b == spec.colon) text
             → number slash ≡ mask_of (λ b. b == spec.slash) text
             → FindsNeedle text url_mark 0 result };
 
-    /// Whether the text begins with two `/`, by the mask of `/`.
+    /// Whether the text begins with two `/`, from the mask of `/`.
     fn begins_with_slashes(self) -> bool
         ensures { (text : List ℕ) → number self ≡ mask_of (λ b. b == spec.slash) text
             → (IsTrue result ↔ (text ≡ spec.slash ∷ (spec.slash ∷ drop 2 text))) };
@@ -197,7 +197,7 @@ impl Bits for u128 {
     }
 }
 
-/// The mask of a class that each of this many bytes is of.
+/// The mask of a class that contains each of this many bytes.
 #[inline(always)]
 fn ones_64(count: usize) -> u64
     ensures { count ≤ 64 → result ≡ 2 ^ count - 1 }
@@ -209,7 +209,7 @@ fn ones_64(count: usize) -> u64
     }
 }
 
-/// The mask of a class that each of this many bytes is of.
+/// The mask of a class that contains each of this many bytes.
 #[inline(always)]
 fn ones_128(count: usize) -> u128
     ensures { count ≤ 128 → result ≡ 2 ^ count - 1 }

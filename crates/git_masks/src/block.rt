@@ -1,4 +1,4 @@
-//! The masks of 16 bytes, by operations on vectors.
+//! The masks of 16 bytes, computed by vector operations.
 
 ghost use Rattle.std.specs.Prelude.{◌≡◌, ◌==◌};
 ghost use Rattle.git_syntax.specs.Escapes.{is_plain_byte};
@@ -8,13 +8,13 @@ ghost use Rattle.git_masks.specs.Masks.{AreShortMasksOf, is_odd, is_query, mask_
 use crate::masks::Masks;
 use std::simd::prelude::*;
 
-/// How far `~` is from `!`.
+/// The distance from `!` to `~`.
 const PLAIN_SPAN: u8 = 93;
 
-/// How far `z` is from `a`.
+/// The distance from `a` to `z`.
 const LETTER_SPAN: u8 = 25;
 
-/// How far `9` is from `-`.
+/// The distance from `-` to `9`.
 const DIGIT_SPAN: u8 = 12;
 
 /// The masks of 16 bytes.
@@ -49,12 +49,12 @@ fn queries(bytes: u8x16) -> u64
     (bytes.simd_eq(u8x16::splat(b'?')) | bytes.simd_eq(u8x16::splat(b'#'))).to_bitmask()
 }
 
-/// Which bytes aren't plain: they are no printable byte of ASCII, or `%`.
+/// Which bytes aren't plain: those that aren't printable ASCII, and `%`.
 #[inline(always)]
 fn odds(bytes: u8x16) -> u64
     ensures { result ≡ mask_of is_odd bytes }
 {
-    // What is below `!` wraps to a large number.
+    // A byte below `!` wraps to a large number.
     let from_first = bytes - u8x16::splat(b'!');
     (from_first.simd_gt(u8x16::splat(PLAIN_SPAN)) | bytes.simd_eq(u8x16::splat(b'%'))).to_bitmask()
 }
@@ -64,7 +64,7 @@ fn odds(bytes: u8x16) -> u64
 fn hosts(bytes: u8x16) -> u64
     ensures { result ≡ mask_of is_simple_byte bytes }
 {
-    // What is below the first of a range wraps to a large number.
+    // A byte below the first of a range wraps to a large number.
     let letter = (bytes - u8x16::splat(b'a')).simd_le(u8x16::splat(LETTER_SPAN));
     // Only `/` is between `-`, `.` and the digits.
     let other = (bytes - u8x16::splat(b'-')).simd_le(u8x16::splat(DIGIT_SPAN));

@@ -1,5 +1,5 @@
-//! Cuts of a text by its masks, and tests of its bytes. Each has the clauses of the function of `git_syntax` that does
-//! the same without masks. A test takes the text only for its contract.
+//! Cuts of a text by its masks, and tests of its bytes. Each has the clauses of the equivalent function of
+//! `git_syntax`, which uses no masks. A test takes the text only for its contract.
 
 ghost use Rattle.std.specs.Prelude.{◌≡◌, ◌↔◌, ◌++◌, ◌∷◌, ℕ, IsTrue, List, MatchOption};
 ghost use Rattle.std.specs.List.{list_all};
@@ -42,7 +42,7 @@ pub fn cut_at_mark<'a, B: Bits>(text: &'a [u8], masks: &Masks<B>) -> Option<(&'a
     Some((text.split_at(at).0, text.split_at(at + 3).1))
 }
 
-/// What follows two slashes at the front: of `//h/p` this is `h/p`, and `/h` has none.
+/// The text after two slashes at the front: `h/p` for `//h/p`, and `None` for `/h`.
 #[inline(always)]
 pub fn after_slashes<'a, B: Bits>(text: &'a [u8], masks: &Masks<B>) -> Option<&'a [u8]>
     requires { AreMasksOf B.number B.size text.now masks.now }
@@ -56,8 +56,8 @@ pub fn after_slashes<'a, B: Bits>(text: &'a [u8], masks: &Masks<B>) -> Option<&'
     }
 }
 
-/// The front up to where a path may first start, and the rest: of `h?a/p` `h` and `?a/p` on the web,
-/// and `h?a` and `/p` elsewhere.
+/// The front up to the first possible start of a path, and the rest: of `h?a/p` `h` and `?a/p` on the web, and `h?a`
+/// and `/p` elsewhere.
 #[inline(always)]
 pub fn cut_before_path<'a, B: Bits>(
     text: &'a [u8],
@@ -88,7 +88,7 @@ fn path_starts<B: Bits>(text: &[u8], masks: &Masks<B>, web: bool) -> B
     }
 }
 
-/// Whether each byte is printable ASCII and none is `%`, as in `h/p`, and not in `h/%20`.
+/// Whether each byte is printable ASCII other than `%`, as in `h/p` but not in `h/%20`.
 #[inline(always)]
 pub fn is_plain<B: Bits>(text: &[u8], masks: &Masks<B>) -> bool
     requires { AreMasksOf B.number B.size text.now masks.now }
@@ -97,7 +97,7 @@ pub fn is_plain<B: Bits>(text: &[u8], masks: &Masks<B>) -> bool
     masks.odd.none()
 }
 
-/// Whether `%` is somewhere in the text.
+/// Whether the text contains `%`.
 #[inline(always)]
 pub fn has_percent<B: Bits>(text: &[u8], masks: &Masks<B>) -> bool
     requires { AreMasksOf B.number B.size text.now masks.now }
@@ -115,7 +115,7 @@ pub fn lacks_colons<B: Bits>(text: &[u8], masks: &Masks<B>) -> bool
     masks.colon.none()
 }
 
-/// Whether each byte is a lower-case letter, a digit, `-` or `.`, as in `a-1.b`, and not in `a_b`.
+/// Whether each byte is a lower-case letter, a digit, `-` or `.`, as in `a-1.b` but not in `a_b`.
 #[inline(always)]
 pub fn are_simple_bytes<B: Bits>(text: &[u8], masks: &Masks<B>) -> bool
     requires { AreMasksOf B.number B.size text.now masks.now }

@@ -1,6 +1,6 @@
-//! Texts with their masks, whose pieces have masks again.
+//! Texts with their masks, whose pieces have masks too.
 //!
-//! The functions are inlined, so the masks of a piece that nobody uses cost nothing.
+//! The functions are inlined, so the masks of a piece cost nothing if they aren't used.
 
 ghost use Rattle.std.specs.Prelude.{◌≡◌, ◌↔◌, ◌<◌, ◌++◌, ◌∷◌, ℕ, IfSome, IsTrue, List, MatchOption, length, option_map};
 ghost use Rattle.std.specs.List.{list_all};
@@ -17,7 +17,7 @@ use crate::cuts::{
 };
 use crate::masks::{Masks, long_masks, short_masks};
 
-/// A text with its masks: [`mark_short`] and [`mark_long`] make one.
+/// A text with its masks, as [`mark_short`] and [`mark_long`] return it.
 #[derive(Clone, Copy)]
 pub struct Marked<'a, B> {
     /// The text.
@@ -26,7 +26,7 @@ pub struct Marked<'a, B> {
     pub masks: Masks<B>,
 }
 
-/// The text with its masks, or `None` if it has more than 64 bytes.
+/// Returns the text with its masks, or `None` if it has more than 64 bytes.
 #[inline(always)]
 pub fn mark_short(text: &[u8]) -> Option<Marked<'_, u64>>
     ensures { MatchOption result (64 < length text.now)
@@ -36,7 +36,7 @@ pub fn mark_short(text: &[u8]) -> Option<Marked<'_, u64>>
     Some(Marked { text, masks })
 }
 
-/// The text with its masks, or `None` if it has more than 128 bytes.
+/// Returns the text with its masks, or `None` if it has more than 128 bytes.
 #[inline(always)]
 pub fn mark_long(text: &[u8]) -> Option<Marked<'_, u128>>
     ensures { MatchOption result (128 < length text.now)
@@ -47,7 +47,7 @@ pub fn mark_long(text: &[u8]) -> Option<Marked<'_, u128>>
 }
 
 impl<'a, B: Bits> Marked<'a, B> {
-    /// The texts before and after the first `:`: of `h:22:p` `h` and `22:p`.
+    /// Returns the texts before and after the first `:`: of `h:22:p` `h` and `22:p`.
     #[inline(always)]
     pub fn cut_at_colon(&self) -> Option<(Marked<'a, B>, Marked<'a, B>)>
         requires { IsMarked B.number B.size self.now }
@@ -58,7 +58,7 @@ impl<'a, B: Bits> Marked<'a, B> {
         Some((self.front(front), self.rest(rest)))
     }
 
-    /// The texts before and after the last `@`: of `a@b@h` `a@b` and `h`.
+    /// Returns the texts before and after the last `@`: of `a@b@h` `a@b` and `h`.
     #[inline(always)]
     pub fn cut_at_last_at(&self) -> Option<(Marked<'a, B>, Marked<'a, B>)>
         requires { IsMarked B.number B.size self.now }
@@ -69,7 +69,7 @@ impl<'a, B: Bits> Marked<'a, B> {
         Some((self.front(front), self.rest(rest)))
     }
 
-    /// The texts before and after the first `://`: of `c:d://h` `c:d` and `h`.
+    /// Returns the texts before and after the first `://`: of `c:d://h` `c:d` and `h`.
     #[inline(always)]
     pub fn cut_at_mark(&self) -> Option<(Marked<'a, B>, Marked<'a, B>)>
         requires { IsMarked B.number B.size self.now }
@@ -80,7 +80,7 @@ impl<'a, B: Bits> Marked<'a, B> {
         Some((self.front(front), self.rest(rest)))
     }
 
-    /// What follows two slashes at the front: of `//h/p` this is `h/p`, and `/h` has none.
+    /// Returns the text after two slashes at the front: `h/p` for `//h/p`, and `None` for `/h`.
     #[inline(always)]
     pub fn after_slashes(&self) -> Option<Marked<'a, B>>
         requires { IsMarked B.number B.size self.now }
@@ -93,7 +93,7 @@ impl<'a, B: Bits> Marked<'a, B> {
         Some(self.rest(behind))
     }
 
-    /// The front up to where a path may first start, and the rest: of `h?a/p` `h` and `?a/p` on the web,
+    /// Returns the front up to the first possible start of a path, and the rest: of `h?a/p` `h` and `?a/p` on the web,
     /// and `h?a` and `/p` elsewhere.
     #[inline(always)]
     pub fn cut_before_path(&self, web: bool) -> (Marked<'a, B>, Marked<'a, B>)
@@ -107,7 +107,7 @@ impl<'a, B: Bits> Marked<'a, B> {
         (self.front(front), self.rest(rest))
     }
 
-    /// Whether each byte is printable ASCII and none is `%`, as in `h/p`, and not in `h/%20`.
+    /// Whether each byte is printable ASCII other than `%`, as in `h/p` but not in `h/%20`.
     #[inline(always)]
     pub fn is_plain(&self) -> bool
         requires { IsMarked B.number B.size self.now }
@@ -116,7 +116,7 @@ impl<'a, B: Bits> Marked<'a, B> {
         is_plain(self.text, &self.masks)
     }
 
-    /// Whether `%` is somewhere in the text.
+    /// Whether the text contains `%`.
     #[inline(always)]
     pub fn has_percent(&self) -> bool
         requires { IsMarked B.number B.size self.now }
@@ -125,7 +125,7 @@ impl<'a, B: Bits> Marked<'a, B> {
         has_percent(self.text, &self.masks)
     }
 
-    /// Whether each byte is a lower-case letter, a digit, `-` or `.`, as in `a-1.b`, and not in `a_b`.
+    /// Whether each byte is a lower-case letter, a digit, `-` or `.`, as in `a-1.b` but not in `a_b`.
     #[inline(always)]
     pub fn are_simple_bytes(&self) -> bool
         requires { IsMarked B.number B.size self.now }

@@ -1,4 +1,4 @@
-//! The law on the bits of a mask, and rows of masks.
+//! The law about the bits of a mask, and examples of masks.
 
 ghost use Rattle.std.specs.Prelude.{ℕ, Bool, List};
 ghost use Rattle.git_masks.specs.Examples.MaskRows.{ColonRow, HostRow, OddRow, QueryRow};
@@ -6,8 +6,8 @@ ghost use Rattle.git_masks.specs.Masks.{HasBit};
 
 /// A bit of a mask is set exactly if the byte of the text is of the class.
 ///
-/// A mask is defined by the list of tests, as the vectors make it. Users of a mask know by this law what a bit of
-/// it says, and that no bit after the text is set.
+/// A mask is defined by the list of tests, in the way the vectors compute it. This law gives the meaning of each bit,
+/// and says that no bit after the text is set.
 pub fn law_masks()
     ensures bits { (test : ℕ → Bool) (text : List ℕ) (i : ℕ) → HasBit test text i }
 {}

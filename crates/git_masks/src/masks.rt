@@ -1,7 +1,7 @@
 //! The masks of a text of at most 128 bytes, in blocks of 16.
 //!
-//! A text of 16 bytes or more is read in place: its last block ends where the text ends, and may overlap the block
-//! before. A shorter text is copied.
+//! A text of 16 bytes or more is read in place: its last block ends with the text, and may overlap the block before. A
+//! shorter text is copied.
 
 ghost use Rattle.std.specs.Prelude.{◌≡◌, ◌+◌, ◌-◌, ◌<◌, ◌≤◌, ℕ, Bool, List, MatchOption, drop, length, take};
 ghost use Rattle.git_masks.specs.Masks.{AreLongMasksOf, AreShortMasksOf, mask_of};
@@ -9,8 +9,8 @@ ghost use Rattle.git_masks.specs.Masks.{AreLongMasksOf, AreShortMasksOf, mask_of
 use crate::block::block;
 use std::simd::prelude::*;
 
-/// The masks of a text, one for each class of bytes: a number has a bit for each byte, the lowest for the
-/// first, which is set if the byte is of the class. The mask of `:` in `h:22:` is 2 + 16.
+/// The masks of a text, one for each class of bytes: a number with a bit for each byte, the lowest for the first byte,
+/// which is set if the byte is of the class. The mask of `:` in `h:22:` is 2 + 16.
 #[derive(Clone, Copy)]
 pub struct Masks<T> {
     /// `:`.
@@ -29,7 +29,7 @@ pub struct Masks<T> {
     pub host: T,
 }
 
-/// The masks of a text, or `None` if it has more than 64 bytes.
+/// Returns the masks of a text, or `None` if it has more than 64 bytes.
 pub fn short_masks(text: &[u8]) -> Option<Masks<u64>>
     ensures { MatchOption result (64 < length text.now)
         (λ masks. AreShortMasksOf text.now masks) }
@@ -43,7 +43,7 @@ pub fn short_masks(text: &[u8]) -> Option<Masks<u64>>
     Some(by_copy(text))
 }
 
-/// The masks of a text, or `None` if it has more than 128 bytes.
+/// Returns the masks of a text, or `None` if it has more than 128 bytes.
 pub fn long_masks(text: &[u8]) -> Option<Masks<u128>>
     ensures { MatchOption result (128 < length text.now)
         (λ masks. AreLongMasksOf text.now masks) }
@@ -58,7 +58,7 @@ pub fn long_masks(text: &[u8]) -> Option<Masks<u128>>
     Some(widen(masks))
 }
 
-/// The masks of a text of less than 16 bytes, by a copy with zeros after it.
+/// The masks of a text of less than 16 bytes, computed from a copy with zeros after it.
 fn by_copy(text: &[u8]) -> Masks<u64>
     requires { length text.now < 16 }
     ensures { AreShortMasksOf text.now result }
@@ -92,8 +92,8 @@ fn widen(masks: Masks<u64>) -> Masks<u128>
     }
 }
 
-/// The masks of a text of 65 to 128 bytes, by those of its first 64 bytes and of at least 16 last ones, which may
-/// overlap them.
+/// The masks of a text of 65 to 128 bytes, computed from those of its first 64 bytes and of at least 16 last ones,
+/// which may overlap them.
 fn by_halves(text: &[u8]) -> Masks<u128>
     requires { (64 < length text.now) × (length text.now ≤ 128) }
     ensures { AreLongMasksOf text.now result }
@@ -112,8 +112,8 @@ fn by_halves(text: &[u8]) -> Masks<u128>
     }
 }
 
-/// One mask of the text, by those of its first 64 bytes and of its rest from the place on. The text is for the
-/// contract alone.
+/// One mask of the text, computed from those of its first 64 bytes and of its rest from the offset on. The text is only
+/// for the contract.
 #[inline(always)]
 fn stack(text: &[u8], low: u64, place: usize, high: u64) -> u128
     requires { (0 < place) × (place ≤ 64) × (64 < length text.now) × (length text.now ≤ 128) }
@@ -125,7 +125,7 @@ fn stack(text: &[u8], low: u64, place: usize, high: u64) -> u128
     low as u128 | ((behind as u128) << 64)
 }
 
-/// The masks of a text of 16 to 64 bytes, by blocks of which the last may overlap the one before.
+/// The masks of a text of 16 to 64 bytes, computed from those of blocks, of which the last may overlap the one before.
 fn by_blocks(text: &[u8]) -> Masks<u64>
     requires { (16 ≤ length text.now) × (length text.now ≤ 64) }
     ensures { AreShortMasksOf text.now result }
@@ -144,7 +144,7 @@ fn by_blocks(text: &[u8]) -> Masks<u64>
     masks
 }
 
-/// The masks of the 16 bytes at a place.
+/// The masks of the 16 bytes at an offset.
 #[inline(always)]
 fn block_at(text: &[u8], at: usize) -> Masks<u64>
     requires { at + 16 ≤ length text.now }
@@ -153,8 +153,8 @@ fn block_at(text: &[u8], at: usize) -> Masks<u64>
     block(u8x16::from_slice(&text[at..]))
 }
 
-/// The masks of the front of a text, by those of a shorter front and of the 16 bytes at a place. The text and
-/// the length of the shorter front are for the contract alone.
+/// The masks of the front of a text, computed from those of a shorter front and of the 16 bytes at an offset. The text
+/// and the length of the shorter front are only for the contract.
 #[inline(always)]
 fn join(text: &[u8], done: usize, front: Masks<u64>, at: usize, block: Masks<u64>) -> Masks<u64>
     requires places { (at ≤ done) × (done ≤ at + 16) × (at + 16 ≤ length text.now) }
@@ -174,7 +174,7 @@ fn join(text: &[u8], done: usize, front: Masks<u64>, at: usize, block: Masks<u64
     }
 }
 
-/// The same of one mask.
+/// One mask of the front of a text, computed in the same way.
 #[inline(always)]
 fn join_mask(text: &[u8], done: usize, front: u64, at: usize, block: u64) -> u64
     requires places { (at ≤ done) × (done ≤ at + 16) × (at + 16 ≤ length text.now) }

@@ -7,7 +7,7 @@ use crate::bits::Bits;
 use crate::masks::Masks;
 
 impl<B: Bits> Masks<B> {
-    /// The masks of the front up to the place.
+    /// The masks of the front up to the offset.
     #[inline(always)]
     pub fn front(&self, place: usize) -> Masks<B>
         ensures { (text : List ℕ) → AreMasksOf B.number B.size text self.now
@@ -24,7 +24,7 @@ impl<B: Bits> Masks<B> {
         }
     }
 
-    /// The masks of the rest from the place on.
+    /// The masks of the rest from the offset on.
     #[inline(always)]
     pub fn rest(&self, place: usize) -> Masks<B>
         ensures { (text : List ℕ) → AreMasksOf B.number B.size text self.now

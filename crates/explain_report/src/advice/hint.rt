@@ -1,9 +1,8 @@
-//! Slips of those who type or paste a location: a closed list of hints, each with a name and a sentence.
+//! Hints about likely mistakes in a location that is typed or pasted: a closed list, in which each hint has a name and
+//! a sentence.
 //!
-//! It decides by the bytes of a line and by what the line is read as, and shows neither. It uses
-//! `form` for the form, `slip`, `pasted`, `host_name` and `web_page` for conditions, and `secret` for a line that is
-//! refused; `words` has names and sentences. Its contract, memory permitting: the hints that are found are those that
-//! apply by `specs/HintRules.antt`. `scripts/hostile golden` shows their sentences, and that no plain remote gets one.
+//! A hint depends on the bytes of a line and on its location, and shows neither. [`find`] returns the hints that apply
+//! by `specs/HintRules.antt`.
 
 ghost use Rattle.std.specs.Prelude.{◌≡◌, IfOk, option_map};
 ghost use Rattle.std.specs.List.{filter};
@@ -24,21 +23,21 @@ use crate::text::secret::has_secret;
 use serde::Serialize;
 use std::alloc::{AllocError, Global};
 
-/// What people may have got wrong. Where several apply they are listed in this order.
+/// A likely mistake. If several hints apply, they are listed in this order.
 ///
-/// Below, a *name of a host* is two labels or more with a `.` between them; each is of letters, digits and
-/// `-`, and the last one of two letters or more, and not `git`, in which bare repositories end.
+/// Below, a *host name* is two or more labels separated by `.`. A label is letters, digits and `-`. The last label is
+/// two or more letters, and isn't `git`, in which the names of bare repositories end.
 #[derive(Clone, Copy, Serialize)]
 #[serde(rename_all = "snake_case")]
 pub enum Hint {
-    /// Refused: a URL of `ssh`, `git`, `http` or `https` with a host without brackets, one `:`, and a letter
-    /// or `~` behind it, unless [`Hint::SlashInPassword`] or [`Hint::EscapedAt`] applies.
+    /// Refused: a URL of `ssh`, `git`, `http` or `https` with a host without brackets, one `:`, and a letter or `~`
+    /// after it, unless [`Hint::SlashInPassword`] or [`Hint::EscapedAt`] applies.
     ColonForSlash,
-    /// A local path that begins with the name of a host, `/` and any byte.
+    /// A local path that begins with a host name, `/` and any byte.
     NoScheme,
-    /// The scp form, where the line begins with a letter, `:` and `\` or a `/` without `~` behind it.
+    /// The scp form, and the line begins with a letter, `:`, and either `\` or a `/` that no `~` follows.
     WindowsPath,
-    /// Before its first `://` the line has the name of a transport of Git, and a capital in it.
+    /// Before its first `://` the line has the name of a transport of Git, with at least one capital letter.
     CapitalScheme,
     /// The last byte is 13.
     CarriageReturn,
@@ -56,25 +55,25 @@ pub enum Hint {
     StoredPassword,
     /// HTTP without encryption, with a user or a password.
     Unencrypted,
-    /// The line begins with a command of Git that takes a location, and a space, behind a prompt if there is
-    /// one: `$`, `%`, `#` or `>`, and a space.
+    /// The line begins with a command of Git that takes a location, and a space. A prompt may precede it: `$`, `%`, `#`
+    /// or `>`, and a space.
     PastedCommand,
-    /// HTTP, and the path to a `?` or `#` is one of [`is_page`].
+    /// HTTP, and the path before any `?` or `#` is that of a page by [`is_page`].
     WebPage,
-    /// A local path that begins with a user of letters, digits, `_`, `.` and `-`, `@`, the name of a host,
-    /// `/` and any byte.
+    /// A local path that begins with a user of letters, digits, `_`, `.` and `-`, then `@`, a host name, `/` and any
+    /// byte.
     SlashForColon,
-    /// The first byte and the last one are `"`, `'` or `` ` `` both, or they are `<` and `>`.
+    /// The first and the last byte are both `"`, both `'` or both `` ` ``, or they are `<` and `>`.
     Quotes,
     /// The scp form, with a path that begins with one to five digits and `/`.
     ScpPort,
-    /// No URL: a host, `:` and digits are in the brackets before the first `]:`, which are at the front or
-    /// behind an `@`.
+    /// Not a URL: the brackets before the first `]:` contain a host, `:` and digits, and are at the front or after an
+    /// `@`.
     PortInBrackets,
-    /// Before its first `:/` the line has the name of a transport of Git but `git`, and no `/` behind it.
+    /// Before its first `:/` the line has the name of a transport of Git other than `git`, and no `/` follows.
     OneSlash,
-    /// Before its first `://` the line has letters and digits that are no transport of Git, and become `ssh`,
-    /// `git`, `http`, `https` or `file` where one is added, taken out or replaced, or two neighbours are swapped.
+    /// Before its first `://` the line has letters and digits that aren't a transport of Git, but become `ssh`, `git`,
+    /// `http`, `https` or `file` if one byte is added, removed or replaced, or two neighbours are swapped.
     NearScheme,
     /// The line begins with `git+http://`, `git+https://`, `git+file://`, `git+git://` or `git::`, unless
     /// [`Hint::TwoColons`] applies.
@@ -82,31 +81,32 @@ pub enum Hint {
     /// The scp form without a user, the host `github`, `gitlab`, `bitbucket`, `gist`, `codeberg` or `sourcehut`,
     /// and a path that doesn't begin with `/`.
     ShortName,
-    /// Before its first `://` the line has a user as above, `@` and the name of a transport of Git.
+    /// Before its first `://` the line has a user as in [`Hint::SlashForColon`], `@` and the name of a transport of
+    /// Git.
     SchemeAfterUser,
     /// HTTP with a fragment, or with a field `ref`, `rev`, `tag`, `branch`, `commit` or `version` in its query;
     /// or Secure Shell or `git://`, with `.git#` or `.git?` in the path.
     Revision,
-    /// A URL or the scp form, with a user that is the name of a host and ends as those of services do.
+    /// A URL or the scp form, with a user that is a host name and ends like the host of a service.
     HostAsUser,
-    /// A label of the host has an ASCII letter and a Greek, Cyrillic, Armenian or Cherokee one. Of a refused
-    /// URL the host is what is between `://` or the last `@` behind it and a `:`, before a `/`.
+    /// A label of the host has an ASCII letter and a Greek, Cyrillic, Armenian or Cherokee one. The host of a refused
+    /// URL is in the text between `://` and the next `/`: it begins after the last `@` and ends before the next `:`.
     MixedScripts,
     /// A local path that is `..` or begins with `../`.
     Relative,
-    /// A local path of letters, digits, `_` and `-` alone that doesn't begin with `-`.
+    /// A local path of letters, digits, `_` and `-` only that doesn't begin with `-`.
     RemoteName,
-    /// Refused: a URL of `ssh`, `git`, `http` or `https`, with a `:` and no `@` before the first `/`; behind that
-    /// an `@`, and behind the last one a byte and `/`.
+    /// Refused: a URL of `ssh`, `git`, `http` or `https`, with a `:` and no `@` before the first `/`, and an `@` after
+    /// it. At least one byte and then a `/` follow the last `@`.
     SlashInPassword,
-    /// Refused: a URL of `http` or `https` with a byte beyond ASCII in its host, which is as above.
+    /// Refused: a URL of `http` or `https` with a byte beyond ASCII in its host, as in [`Hint::MixedScripts`].
     Punycode,
     /// A URL of `ssh` with a password.
     SshPassword,
     /// A URL of `file` with a host, unless [`Hint::FileDrive`] applies.
     FileHost,
-    /// A URL of `ssh`, `git`, `http` or `https`, with a `%40` and no `@` before the first `/`, `?` or `#`, and a byte
-    /// behind the last `%40`.
+    /// A URL of `ssh`, `git`, `http` or `https`, with a `%40` and no `@` before the first `/`, `?` or `#`, and at least
+    /// one byte between the last `%40` and there.
     EscapedAt,
     /// A local path that has the name of a transport of Git before its first `//`.
     MissingColon,
@@ -118,8 +118,8 @@ pub enum Hint {
     EndOfSentence,
     /// The line begins with `[`, ends with `)`, and has `](` in it.
     MarkdownLink,
-    /// Before its first `=` the line has `url` or `pushurl` in any case, alone or at the end of a key of `remote.` or
-    /// `submodule.`, with white space around it or without.
+    /// Before its first `=` the line has `url` or `pushurl` in any letter case, alone or at the end of a key of
+    /// `remote.` or `submodule.`. White space around it is ignored.
     PastedSetting,
     /// The line ends with ` (fetch)` or ` (push)`.
     PastedRemote,
@@ -129,11 +129,11 @@ pub enum Hint {
     FileDrive,
     /// A part of the line is hidden, unless [`Hint::StoredPassword`] or [`Hint::SshPassword`] applies.
     HiddenSecret,
-    /// A URL names the same place, and fewer programs read it otherwise.
+    /// There is a URL of the same place that fewer programs read differently.
     WriteInstead,
 }
 
-/// The hints that apply to a line, of which there is no reading where it is refused.
+/// Returns the hints that apply to a line. `reading` is `None` if the line is refused.
 pub fn find(
     alloc: Global,
     line: &[u8],
@@ -209,7 +209,7 @@ impl Hint {
         }
     }
 
-    /// Whether the hint is one about another text or about what is hidden, and applies to what is read.
+    /// Whether the hint is about another text or about a hidden part, and applies to the reading.
     fn is_beside(self, reading: Reading<'_>) -> bool
         ensures { result ≡ spec.is_beside self reading.entry }
     {
@@ -220,7 +220,7 @@ impl Hint {
         }
     }
 
-    /// Whether the hint is one about bytes, whatever they are read as, and applies to these.
+    /// Whether the hint is about the bytes of a line, however they are read, and applies to these.
     fn is_in_bytes(self, line: &[u8]) -> bool
         ensures { result ≡ spec.is_in_bytes self line.now }
     {
@@ -248,7 +248,7 @@ impl Hint {
         }
     }
 
-    /// Whether the hint is one about refused lines, and applies to this one.
+    /// Whether the hint is about refused lines, and applies to this one.
     fn is_in_refused(self, line: &[u8]) -> bool
         ensures { result ≡ spec.is_in_refused self line.now }
     {
@@ -266,7 +266,7 @@ impl Hint {
         }
     }
 
-    /// Whether the hint is one about what a line is read as, and applies to this.
+    /// Whether the hint is about the reading of a line, and applies to this one.
     fn is_in_read(self, line: &[u8], reading: Reading<'_>) -> bool
         ensures { result ≡ spec.is_in_form reading.entry.form self line.now reading.entry }
     {
@@ -278,7 +278,7 @@ impl Hint {
         }
     }
 
-    /// Whether the hint is one about local paths, and applies to this one.
+    /// Whether the hint is about local paths, and applies to this one.
     fn is_in_path(self, path: &[u8]) -> bool
         ensures { result ≡ spec.is_in_path self path.now }
     {
@@ -294,7 +294,7 @@ impl Hint {
         }
     }
 
-    /// Whether the hint is one about the scp form, and applies to this line.
+    /// Whether the hint is about the scp form, and applies to this line.
     fn is_in_scp(self, line: &[u8], reading: Reading<'_>) -> bool
         ensures { result ≡ spec.is_in_scp self line.now reading.entry }
     {
@@ -306,7 +306,7 @@ impl Hint {
         }
     }
 
-    /// Whether the hint is one about URLs, and applies to this one.
+    /// Whether the hint is about URLs, and applies to this one.
     fn is_in_url(self, reading: Reading<'_>) -> bool
         ensures { result ≡ spec.is_in_url self reading.entry }
     {
@@ -323,7 +323,7 @@ impl Hint {
         }
     }
 
-    /// Whether the hint is one about URLs and the scp form, and applies to this line.
+    /// Whether the hint is about URLs and the scp form, and applies to this line.
     fn is_in_remote(self, line: &[u8], reading: Reading<'_>) -> bool
         ensures { result ≡ spec.is_in_remote self line.now reading.entry }
     {
@@ -337,7 +337,7 @@ impl Hint {
         }
     }
 
-    /// Whether the hint is the one about the remote helper `ext`, and applies to this.
+    /// Whether the hint is about the remote helper `ext`, and applies to this reading.
     fn is_in_helper(self, reading: Reading<'_>) -> bool
         ensures { result ≡ spec.is_in_helper self reading.entry }
     {
@@ -358,7 +358,7 @@ fn has_outer_blank(line: &[u8]) -> bool
         || line.ends_with(b"\t")
 }
 
-/// Whether there is a text, and it is the name of a host.
+/// Whether the text is present, and is a host name.
 fn is_host_if_some(text: Option<&[u8]>) -> bool
     ensures { result ≡ some_passes is_host_name (option_map (λ it. it.now) text.entry) }
 {
@@ -368,7 +368,7 @@ fn is_host_if_some(text: Option<&[u8]>) -> bool
     }
 }
 
-/// Whether there is a text, and it is a user and the name of a host.
+/// Whether the text is present, and is a user, `@` and a host name.
 fn is_user_if_some(text: Option<&[u8]>) -> bool
     ensures { result ≡ some_passes is_user_and_host (option_map (λ it. it.now) text.entry) }
 {
@@ -378,7 +378,7 @@ fn is_user_if_some(text: Option<&[u8]>) -> bool
     }
 }
 
-/// Whether there is a host, and a label of it has letters of two scripts.
+/// Whether the host is present, and a label of it has letters of two scripts.
 fn is_mixed_if_some(host: Option<&[u8]>) -> bool
     ensures { result ≡ some_passes is_mixed (option_map (λ it. it.now) host.entry) }
 {
@@ -388,7 +388,7 @@ fn is_mixed_if_some(host: Option<&[u8]>) -> bool
     }
 }
 
-/// Whether there is a host, and a label of it has letters of two scripts.
+/// Whether the host is present, and a label of it has letters of two scripts.
 fn is_mixed_part(host: Option<&str>) -> bool
     ensures { result ≡ spec.part_passes is_mixed host.entry }
 {
@@ -398,7 +398,7 @@ fn is_mixed_part(host: Option<&str>) -> bool
     }
 }
 
-/// Whether there is a host, and it is the letter of a drive and a colon.
+/// Whether the host is present, and is the letter of a drive and a colon.
 fn is_drive_if_some(host: Option<&str>) -> bool
     ensures { result ≡ spec.part_passes is_drive host.entry }
 {
@@ -408,7 +408,7 @@ fn is_drive_if_some(host: Option<&str>) -> bool
     }
 }
 
-/// Whether there is a user, and it is the name of a host of a service.
+/// Whether the user is present, and is the host name of a service.
 fn is_service_if_some(user: Option<&str>) -> bool
     ensures { result ≡ spec.part_passes is_name_of_service user.entry }
 {

@@ -1,7 +1,4 @@
-//! Names of hosts as people write them, and users that are written so.
-//!
-//! Hints alone decide by them, and `marks` cuts texts. Its contract: labels, users and names, and labels with letters
-//! of two scripts, are those of the definitions.
+//! Host names as people write them, with or without a user.
 
 ghost use Rattle.std.specs.Prelude.{◌≡◌, codes};
 ghost use Rattle.std.specs.List.{list_all, list_any};
@@ -17,7 +14,7 @@ use crate::advice::slip::is_wide;
 use bstr::ByteSlice;
 use unicode::properties::Script;
 
-/// Whether the bytes are the name of a host with a `.` in it.
+/// Whether the bytes are a host name with a `.` in it.
 pub(crate) fn is_host_name(name: &[u8]) -> bool
     ensures { result ≡ spec.is_host_name name.now }
 {
@@ -27,7 +24,7 @@ pub(crate) fn is_host_name(name: &[u8]) -> bool
     }
 }
 
-/// Whether the bytes are labels with a `.` between two.
+/// Whether the bytes are labels separated by `.`.
 fn are_labels(front: &[u8]) -> bool
     ensures { result ≡ list_all is_label (spec.labels front.now) }
 {
@@ -36,21 +33,21 @@ fn are_labels(front: &[u8]) -> bool
         .all(|label| is_label(label))
 }
 
-/// Whether the byte is between labels.
+/// Whether the byte separates labels.
 fn is_dot(byte: u8) -> bool
     ensures { result ≡ spec.is_dot byte }
 {
     byte == b'.'
 }
 
-/// Whether the bytes are the name of a host that ends as names of services do.
+/// Whether the bytes are a host name that ends as those of services do.
 pub(crate) fn is_name_of_service(name: &[u8]) -> bool
     ensures { result ≡ spec.is_name_of_service name.now }
 {
     is_host_name(name) && ends_like_service(name)
 }
 
-/// Whether the last label is one of most names of services.
+/// Whether the last label is one of those of most services.
 fn ends_like_service(name: &[u8]) -> bool
     ensures { result ≡ passes (λ front last. is_among spec.services last) (last_halves (codes ".") name.now) }
 {
@@ -89,7 +86,7 @@ fn are_label_bytes(bytes: &[u8]) -> bool
     bytes.iter().all(|byte| is_label_byte(*byte))
 }
 
-/// Whether the bytes may be the last label of a host, and aren't the end of a bare repository's name.
+/// Whether the bytes may be the last label of a host, and aren't the end of the name of a bare repository.
 fn is_last_label(label: &[u8]) -> bool
     ensures { result ≡ spec.is_last_label label.now }
 {
@@ -103,7 +100,7 @@ fn are_letters(label: &[u8]) -> bool
     label.iter().all(|byte| byte.is_ascii_alphabetic())
 }
 
-/// Whether the bytes are a plain user, `@` and the name of a host.
+/// Whether the bytes are a plain user, `@` and a host name.
 pub(crate) fn is_user_and_host(bytes: &[u8]) -> bool
     ensures { result ≡ spec.is_user_and_host bytes.now }
 {
@@ -113,7 +110,7 @@ pub(crate) fn is_user_and_host(bytes: &[u8]) -> bool
     }
 }
 
-/// Whether the bytes are a user with nothing unusual in it.
+/// Whether the bytes are a user without unusual characters.
 pub(crate) fn is_user(user: &[u8]) -> bool
     ensures { result ≡ is_user user.now }
 {
@@ -137,14 +134,14 @@ fn are_user_bytes(bytes: &[u8]) -> bool
     bytes.iter().all(|byte| is_user_byte(*byte))
 }
 
-/// Whether a label of the host has an ASCII letter and one of another script that has letters drawn alike.
+/// Whether a label of the host has an ASCII letter, and a character of another script with letters that look alike.
 pub(crate) fn is_mixed(host: &[u8]) -> bool
     ensures { result ≡ is_mixed host.now }
 {
     is_wide(host) && has_mixed_label(host)
 }
 
-/// Whether a label of the host has an ASCII letter and one of another script that has letters drawn alike.
+/// Whether a label of the host has an ASCII letter, and a character of another script with letters that look alike.
 fn has_mixed_label(host: &[u8]) -> bool
     ensures { result ≡ list_any is_mixed_label (spec.labels host.now) }
 {
@@ -152,7 +149,7 @@ fn has_mixed_label(host: &[u8]) -> bool
         .any(|label| is_mixed_label(label))
 }
 
-/// Whether the label has an ASCII letter and one of another script that has letters drawn alike.
+/// Whether the label has an ASCII letter, and a character of another script with letters that look alike.
 fn is_mixed_label(label: &[u8]) -> bool
     ensures { result ≡ is_mixed_label label.now }
 {
@@ -166,7 +163,7 @@ fn has_letter(label: &[u8]) -> bool
     label.iter().any(|byte| byte.is_ascii_alphabetic())
 }
 
-/// Whether the label has a character of another script that has letters drawn alike.
+/// Whether the label has a character of another script with letters that look like ASCII letters.
 fn has_letter_alike(label: &[u8]) -> bool
     ensures { result ≡ list_any is_drawn_alike (lossy_chars label.now) }
 {
@@ -178,7 +175,7 @@ fn has_letter_alike(label: &[u8]) -> bool
     false
 }
 
-/// Whether the character is of a script with letters that are drawn as ASCII letters are.
+/// Whether the character is of a script with letters that look like ASCII letters.
 fn is_drawn_alike(character: char) -> bool
     ensures { result ≡ is_drawn_alike character }
 {

@@ -1,7 +1,4 @@
-//! Texts around a mark, and words among others, as hints look for them.
-//!
-//! Their contracts: a text is cut around the first or the last match of a mark, and compared with words, as the
-//! definitions have it.
+//! Texts cut around a mark, and comparisons with lists of words.
 
 ghost use Rattle.std.specs.Prelude.{◌≡◌, option_map};
 ghost use Rattle.std.specs.List.{list_any};
@@ -10,28 +7,28 @@ ghost use Rattle.explain_report.specs.Marks as spec;
 
 use bstr::ByteSlice;
 
-/// What is before the first such mark and behind it, if there is one.
+/// The texts before and after the first such mark, if there is one.
 pub(crate) fn halves<'a>(text: &'a [u8], mark: &[u8]) -> Option<(&'a [u8], &'a [u8])>
     ensures { option_map (λ p. (p.0.now, p.1.now)) result ≡ spec.halves mark.now text.now }
 {
     text.split_once_str(mark)
 }
 
-/// What is before the last such mark and behind it, if there is one.
+/// The texts before and after the last such mark, if there is one.
 pub(crate) fn last_halves<'a>(text: &'a [u8], mark: &[u8]) -> Option<(&'a [u8], &'a [u8])>
     ensures { option_map (λ p. (p.0.now, p.1.now)) result ≡ spec.last_halves mark.now text.now }
 {
     text.rsplit_once_str(mark)
 }
 
-/// Whether the text has such a mark.
+/// Whether the text contains such a mark.
 pub(crate) fn holds(text: &[u8], mark: &[u8]) -> bool
     ensures { result ≡ spec.holds mark.now text.now }
 {
     halves(text, mark).is_some()
 }
 
-/// What is before the first such mark, or all where there is none.
+/// The text before the first such mark, or the whole text if there is none.
 pub(crate) fn before<'a>(text: &'a [u8], mark: &[u8]) -> &'a [u8]
     ensures { result.now ≡ spec.before mark.now text.now }
 {
@@ -41,7 +38,7 @@ pub(crate) fn before<'a>(text: &'a [u8], mark: &[u8]) -> &'a [u8]
     }
 }
 
-/// What is behind the last such mark, or all where there is none.
+/// The text after the last such mark, or the whole text if there is none.
 pub(crate) fn behind<'a>(text: &'a [u8], mark: &[u8]) -> &'a [u8]
     ensures { result.now ≡ spec.behind mark.now text.now }
 {
@@ -65,14 +62,14 @@ fn is_word(text: &[u8], word: &str) -> bool
     text == word.as_bytes()
 }
 
-/// Whether the text is one of these without letter case.
+/// Whether the text is one of these, ignoring letter case.
 pub(crate) fn is_among_in_any_case(text: &[u8], words: &[&str]) -> bool
     ensures { result ≡ list_any (λ word. spec.is_word_in_any_case text.now word.now) words.now }
 {
     words.iter().any(|word| is_word_in_any_case(text, word))
 }
 
-/// Whether the text is the word, without letter case.
+/// Whether the text is the word, ignoring letter case.
 fn is_word_in_any_case(text: &[u8], word: &str) -> bool
     ensures { result ≡ spec.is_word_in_any_case text.now word.now }
 {

@@ -1,7 +1,5 @@
-//! What people paste with a location: commands, quotes, links, lines of a configuration, the end of a sentence.
-//!
-//! Hints alone decide by them, and `marks` cuts texts. Its contract: each condition is that of its definition in
-//! `specs/Pasted.antt`.
+//! Texts that people paste together with a location: commands, quotes, links, lines of a configuration, the end of a
+//! sentence.
 
 ghost use Rattle.std.specs.Prelude.{◌≡◌};
 ghost use Rattle.std.specs.List.{list_all};
@@ -9,7 +7,7 @@ ghost use Rattle.explain_report.specs.Pasted as spec;
 
 use crate::advice::marks::{begins_with_some, halves, holds, is_among_in_any_case, last_halves};
 
-/// Whether the line begins with a command of Git, behind a prompt or without one.
+/// Whether the line begins with a command of Git, with or without a prompt before it.
 pub(crate) fn begins_with_command(line: &[u8]) -> bool
     ensures { result ≡ spec.begins_with_command line.now }
 {
@@ -38,7 +36,7 @@ fn without_prompt(line: &[u8]) -> &[u8]
     }
 }
 
-/// Whether the same quotes are at both ends, or angle brackets.
+/// Whether the line is in quotes or in angle brackets.
 pub(crate) fn is_quoted(line: &[u8]) -> bool
     ensures { result ≡ spec.is_quoted line.now }
 {
@@ -48,7 +46,7 @@ pub(crate) fn is_quoted(line: &[u8]) -> bool
         || is_within(line, b'<', b'>')
 }
 
-/// Whether a text begins with one byte, and ends with the other behind it.
+/// Whether a text begins with one byte, and the rest of it ends with the other.
 fn is_within(text: &[u8], begin: u8, end: u8) -> bool
     ensures { result ≡ spec.is_within begin end text.now }
 {
@@ -58,7 +56,7 @@ fn is_within(text: &[u8], begin: u8, end: u8) -> bool
     }
 }
 
-/// Whether the line is a link of Markdown.
+/// Whether the line is a Markdown link.
 pub(crate) fn is_markdown_link(line: &[u8]) -> bool
     ensures { result ≡ spec.is_markdown_link line.now }
 {
@@ -96,7 +94,7 @@ fn without_end_blanks(text: &[u8]) -> &[u8]
     text.trim_ascii_end()
 }
 
-/// Whether a key is that of a URL, alone or behind its section.
+/// Whether a key is that of a URL, alone or after its section.
 fn is_key_of_url(key: &[u8]) -> bool
     ensures { result ≡ spec.is_key_of_url key.now }
 {
@@ -115,7 +113,7 @@ fn is_name_of_url(name: &[u8]) -> bool
     is_among_in_any_case(name, &["url", "pushurl"])
 }
 
-/// Whether the name of a bare repository is at the end, before punctuation.
+/// Whether the line ends with the name of a bare repository, followed by punctuation.
 pub(crate) fn ends_like_sentence(line: &[u8]) -> bool
     ensures { result ≡ spec.ends_like_sentence line.now }
 {

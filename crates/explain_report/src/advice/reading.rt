@@ -1,7 +1,4 @@
-//! What a line is read as, as far as hints ask for it.
-//!
-//! It uses `location_report`. Its contract: what it decides of a reading is as the definitions have it. What a reading
-//! has of a report is no part of it.
+//! The reading of a line, with the facts that hints need.
 
 ghost use Rattle.std.specs.Prelude.{◌≡◌, not};
 ghost use Rattle.explain_report.specs.HintRules as spec;
@@ -13,11 +10,11 @@ use crate::location_report::Report;
 use crate::path::Components;
 use gix_url::Url;
 
-/// What a line is read as, as far as hints ask for it.
+/// The reading of a line, with the facts that hints need.
 #[derive(Clone, Copy)]
 pub struct Reading<'a> {
     pub form: Form,
-    /// The text of the scheme: a remote helper's is its name.
+    /// The name of the scheme, or of the remote helper.
     pub scheme: &'a str,
     pub user: Option<&'a str>,
     pub has_password: bool,
@@ -26,7 +23,7 @@ pub struct Reading<'a> {
     pub path: &'a [u8],
     /// Whether there is a fragment, or a field of the query that names a revision.
     pub has_revision: bool,
-    /// Whether there is a URL of the same place that fewer programs read otherwise.
+    /// Whether there is a URL of the same place that fewer programs read differently.
     pub has_instead: bool,
     /// Whether a part of the line may be a secret, and is hidden.
     pub has_hidden: bool,
@@ -36,7 +33,7 @@ pub struct Reading<'a> {
 const REVISIONS: [&str; 6] = ["ref", "rev", "tag", "branch", "commit", "version"];
 
 impl<'b> Reading<'b> {
-    /// What hints are found by, of a location.
+    /// Returns the reading of a location.
     pub fn of(
         url: &'b Url,
         report: &'b Report<'_>,
@@ -56,7 +53,7 @@ impl<'b> Reading<'b> {
         }
     }
 
-    /// Whether the scheme of a URL is one of HTTP's.
+    /// Whether the scheme is one of HTTP.
     pub(crate) fn is_of_web(self) -> bool
         ensures { result ≡ spec.is_of_web self.entry }
     {
@@ -77,21 +74,21 @@ impl<'b> Reading<'b> {
         self.scheme.as_bytes() == scheme.as_bytes()
     }
 
-    /// Whether there is a password, about which there is a hint of its own.
+    /// Whether there is a password that another hint is about.
     pub(crate) fn has_password_with_hint(self) -> bool
         ensures { result ≡ spec.has_password_with_hint self.entry }
     {
         self.has_password && (self.is_of_web() || self.is_of("ssh"))
     }
 
-    /// Whether it is of files and has a host.
+    /// Whether it is a file, and has a host.
     pub(crate) fn is_of_file_with_host(self) -> bool
         ensures { result ≡ spec.is_of_file_with_host self.entry }
     {
         self.is_of("file") && is_some_text(self.host)
     }
 
-    /// Whether a revision is named in a place of which Git knows nothing.
+    /// Whether a revision is named in a place that Git doesn't read one from.
     pub(crate) fn names_revision(self) -> bool
         ensures { result ≡ spec.names_revision self.entry }
     {
@@ -101,7 +98,7 @@ impl<'b> Reading<'b> {
         self.is_of_web() && self.has_revision
     }
 
-    /// Whether the host is the short name of a forge, and the path one of a repository there.
+    /// Whether the host is the short name of a forge, and the path is that of a repository there.
     pub(crate) fn has_short_name(self) -> bool
         ensures { result ≡ spec.has_short_name self.entry }
     {
@@ -109,7 +106,7 @@ impl<'b> Reading<'b> {
     }
 }
 
-/// Whether there is a part that isn't empty.
+/// Whether the part is present and isn't empty.
 fn is_some_text(part: Option<&str>) -> bool
     ensures { result ≡ spec.part_passes (λ text. not (is_empty text)) part.entry }
 {

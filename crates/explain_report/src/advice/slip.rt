@@ -1,7 +1,6 @@
-//! Conditions on the bytes of a line that may be a slip, whatever they are read as.
+//! Conditions on the bytes of a line that may contain a mistake, however they are read.
 //!
-//! `hint` says which hint each is for, and `marks` cuts texts. Its contract: each condition is that of its definition
-//! in `specs/Slips.antt`.
+//! Each has a definition in `specs/Slips.antt`, and `hint` chooses the hint.
 
 ghost use Rattle.std.specs.Prelude.{◌≡◌, option_map};
 ghost use Rattle.std.specs.List.{list_all, list_any};
@@ -42,7 +41,7 @@ fn are_word_bytes(bytes: &[u8]) -> bool
     bytes.iter().all(|byte| is_word_byte(*byte))
 }
 
-/// The first element of a relative path, where something follows it.
+/// The first element of a relative path, if something follows it.
 pub(crate) fn first_element(path: &[u8]) -> Option<&[u8]>
     ensures { option_map (λ first. first.now) result ≡ spec.first_element path.now }
 {
@@ -66,7 +65,7 @@ fn is_transport(word: &[u8]) -> bool
     )
 }
 
-/// Whether a word is the name of a transport without letter case.
+/// Whether a word is the name of a transport, ignoring letter case.
 fn is_transport_in_any_case(word: &[u8]) -> bool
     ensures { result ≡ spec.is_transport_in_any_case word.now }
 {
@@ -78,7 +77,7 @@ fn is_transport_in_any_case(word: &[u8]) -> bool
     )
 }
 
-/// Whether the scheme is one of Git's except for its capitals.
+/// Whether the scheme is one of Git's except for its capital letters.
 pub(crate) fn has_capital_scheme(line: &[u8]) -> bool
     ensures { result ≡ spec.has_capital_scheme line.now }
 {
@@ -88,14 +87,14 @@ pub(crate) fn has_capital_scheme(line: &[u8]) -> bool
     }
 }
 
-/// Whether the text has a capital.
+/// Whether the text has a capital letter.
 fn has_capital(text: &[u8]) -> bool
     ensures { result ≡ list_any is_ascii_uppercase text.now }
 {
     text.iter().any(|byte| byte.is_ascii_uppercase())
 }
 
-/// Whether a transport that no host is named for has one `/` behind its colon.
+/// Whether the colon of a transport other than `git` is followed by only one `/`.
 pub(crate) fn has_one_slash(line: &[u8]) -> bool
     ensures { result ≡ spec.has_one_slash line.now }
 {
@@ -123,7 +122,7 @@ pub(crate) fn begins_with_package_scheme(line: &[u8]) -> bool
     )
 }
 
-/// Whether a user is before the scheme of a transport.
+/// Whether a user precedes the scheme of a transport.
 pub(crate) fn has_scheme_after_user(line: &[u8]) -> bool
     ensures { result ≡ spec.has_scheme_after_user line.now }
 {
@@ -146,7 +145,7 @@ pub(crate) fn lacks_colon(path: &[u8]) -> bool
     }
 }
 
-/// Whether two colons and two slashes are behind the name of a transport.
+/// Whether the name of a transport is followed by two colons and two slashes.
 pub(crate) fn has_two_colons(line: &[u8]) -> bool
     ensures { result ≡ spec.has_two_colons line.now }
 {
@@ -156,7 +155,7 @@ pub(crate) fn has_two_colons(line: &[u8]) -> bool
     }
 }
 
-/// Whether the scheme of a transport is directly before that of another URL.
+/// Whether the scheme of a transport directly precedes that of another URL.
 pub(crate) fn has_scheme_twice(line: &[u8]) -> bool
     ensures { result ≡ spec.has_scheme_twice line.now }
 {
@@ -169,7 +168,7 @@ pub(crate) fn has_scheme_twice(line: &[u8]) -> bool
     }
 }
 
-/// Whether the scheme is no transport, and nearly one.
+/// Whether the scheme isn't a transport, but is close to one.
 pub(crate) fn has_near_scheme(line: &[u8]) -> bool
     ensures { result ≡ spec.has_near_scheme line.now }
 {
@@ -190,15 +189,15 @@ fn are_letters_and_digits(text: &[u8]) -> bool
     text.iter().all(|byte| byte.is_ascii_alphanumeric())
 }
 
-/// Whether the text is one edit away from one of these.
+/// Whether the text is at a distance of one edit from one of these.
 fn is_near_one_of(text: &[u8], words: &[&str]) -> bool
     ensures { result ≡ list_any (λ word. spec.is_one_edit text.now word.now) words.now }
 {
     words.iter().any(|word| is_one_edit(text, word.as_bytes()))
 }
 
-/// Whether two texts are the same but for one byte that is added, taken out or replaced, or for two neighbours that
-/// are swapped, behind the front that both share.
+/// Whether one edit turns a text into the other, after the front that both share: one byte is added, removed or
+/// replaced, or two neighbours are swapped.
 fn is_one_edit(text: &[u8], other: &[u8]) -> bool
     ensures { result ≡ spec.is_one_edit text.now other.now }
 {
@@ -212,7 +211,7 @@ fn is_one_edit(text: &[u8], other: &[u8]) -> bool
     is_edited(text, other)
 }
 
-/// Whether two texts differ in an edit at their front alone.
+/// Whether one edit at the front turns a text into the other.
 fn is_edited(text: &[u8], other: &[u8]) -> bool
     ensures { result ≡ spec.is_edited text.now other.now }
 {
@@ -222,7 +221,7 @@ fn is_edited(text: &[u8], other: &[u8]) -> bool
         || is_swapped(text, other)
 }
 
-/// Whether two texts differ in their first bytes alone.
+/// Whether only the first bytes of two texts differ.
 fn is_replaced(text: &[u8], other: &[u8]) -> bool
     ensures { result ≡ spec.is_replaced text.now other.now }
 {
@@ -232,7 +231,7 @@ fn is_replaced(text: &[u8], other: &[u8]) -> bool
     }
 }
 
-/// Whether a text is the other one behind a byte.
+/// Whether a text is one byte followed by the other text.
 fn is_longer(text: &[u8], other: &[u8]) -> bool
     ensures { result ≡ spec.is_longer text.now other.now }
 {
@@ -242,7 +241,7 @@ fn is_longer(text: &[u8], other: &[u8]) -> bool
     }
 }
 
-/// Whether two texts are the same behind two bytes that are swapped.
+/// Whether two texts begin with the same two bytes in opposite orders, and are otherwise equal.
 fn is_swapped(text: &[u8], other: &[u8]) -> bool
     ensures { result ≡ spec.is_swapped text.now other.now }
 {
@@ -254,7 +253,7 @@ fn is_swapped(text: &[u8], other: &[u8]) -> bool
 
 // ---- hosts and ports
 
-/// What is behind the mark of a URL that names a host.
+/// The text after the `://` of a URL that names a host.
 fn rest_of_url(line: &[u8]) -> Option<&[u8]>
     ensures { option_map (λ rest. rest.now) result ≡ spec.rest_of_url line.now }
 {
@@ -264,14 +263,14 @@ fn rest_of_url(line: &[u8]) -> Option<&[u8]>
     }
 }
 
-/// What a URL has in the place of its host and port.
+/// The text of a URL in the place of its host and port.
 fn place_of(rest: &[u8]) -> &[u8]
     ensures { result.now ≡ spec.place_of rest.now }
 {
     behind(before(rest, b"/"), b"@")
 }
 
-/// Whether the front of a URL names a host and behind a colon what is no port.
+/// Whether a URL has a host, and a text other than a port after its colon.
 pub(crate) fn has_colon_for_slash(line: &[u8]) -> bool
     ensures { result ≡ spec.has_colon_for_slash line.now }
 {
@@ -303,7 +302,7 @@ fn is_word(text: &[u8]) -> bool
     }
 }
 
-/// Whether the text has a bracket.
+/// Whether the text contains a bracket.
 fn has_bracket(text: &[u8]) -> bool
     ensures { result ≡ list_any spec.is_bracket text.now }
 {
@@ -317,7 +316,7 @@ fn is_bracket(byte: u8) -> bool
     byte == b'[' || byte == b']'
 }
 
-/// Whether a URL has an escaped `@` before what may be a host, and no other one.
+/// Whether a URL has an escaped `@`, and no other one, before a possible host.
 pub(crate) fn has_escaped_at(line: &[u8]) -> bool
     ensures { result ≡ spec.has_escaped_at line.now }
 {
@@ -327,7 +326,7 @@ pub(crate) fn has_escaped_at(line: &[u8]) -> bool
     }
 }
 
-/// Whether a text has an escaped `@` before what may be a host, and no other one.
+/// Whether a text has an escaped `@`, and no other one, before a possible host.
 fn is_escaped_user(front: &[u8]) -> bool
     ensures { result ≡ spec.is_escaped_user front.now }
 {
@@ -337,7 +336,7 @@ fn is_escaped_user(front: &[u8]) -> bool
     }
 }
 
-/// Whether a URL has a colon before its first `/`, and an `@` and the front of a place behind it alone.
+/// Whether a URL has a colon and no `@` before its first `/`, and an `@` and the beginning of a place after it.
 pub(crate) fn has_slash_in_password(line: &[u8]) -> bool
     ensures { result ≡ spec.has_slash_in_password line.now }
 {
@@ -347,7 +346,7 @@ pub(crate) fn has_slash_in_password(line: &[u8]) -> bool
     }
 }
 
-/// Whether a text has a colon before its first `/`, and an `@` and the front of a place behind it alone.
+/// Whether a text has a colon and no `@` before its first `/`, and an `@` and the beginning of a place after it.
 fn is_cut_in_password(rest: &[u8]) -> bool
     ensures { result ≡ spec.is_cut_in_password rest.now }
 {
@@ -359,7 +358,7 @@ fn is_cut_in_password(rest: &[u8]) -> bool
     }
 }
 
-/// Whether the bytes have an `@`, and behind the last one something before a `/`.
+/// Whether the bytes contain an `@`, and at least one byte and then a `/` follow the last one.
 fn has_place_behind_user(bytes: &[u8]) -> bool
     ensures { result ≡ spec.has_place_behind_user bytes.now }
 {
@@ -369,7 +368,7 @@ fn has_place_behind_user(bytes: &[u8]) -> bool
     }
 }
 
-/// Whether the bytes have a `/` that isn't their first byte.
+/// Whether the bytes contain a `/` after their first byte.
 fn has_host(place: &[u8]) -> bool
     ensures { result ≡ spec.has_host place.now }
 {
@@ -379,7 +378,7 @@ fn has_host(place: &[u8]) -> bool
     }
 }
 
-/// What a refused URL has in the place of a host without brackets.
+/// The text of a refused URL in the place of a host without brackets.
 pub(crate) fn host_of_refused(line: &[u8]) -> Option<&[u8]>
     ensures { option_map (λ host. host.now) result ≡ spec.host_of_refused line.now }
 {
@@ -413,14 +412,14 @@ pub(crate) fn is_wide(text: &[u8]) -> bool
     !is_narrow(text)
 }
 
-/// Whether each byte is one of ASCII.
+/// Whether each byte is ASCII.
 fn is_narrow(text: &[u8]) -> bool
     ensures { result ≡ list_all is_ascii text.now }
 {
     text.iter().all(|byte| byte.is_ascii())
 }
 
-/// Whether the text is no URL, and has a host and a port in brackets that a user may be before.
+/// Whether the text isn't a URL, and has a host and a port in brackets, with or without a user before them.
 pub(crate) fn has_port_in_brackets(line: &[u8]) -> bool
     ensures { result ≡ spec.has_port_in_brackets line.now }
 {
@@ -433,7 +432,7 @@ pub(crate) fn has_port_in_brackets(line: &[u8]) -> bool
     }
 }
 
-/// Whether the bytes may be before the brackets of a host that is in no URL.
+/// Whether the bytes may precede the brackets of a host that isn't in a URL.
 fn is_before_brackets(front: &[u8]) -> bool
     ensures { result ≡ spec.is_before_brackets front.now }
 {
@@ -457,7 +456,7 @@ fn is_number(bytes: &[u8]) -> bool
     bytes.iter().all(|byte| byte.is_ascii_digit())
 }
 
-/// Whether a path begins with what may be a port, and `/`.
+/// Whether a path begins with a possible port and `/`.
 pub(crate) fn begins_with_port(path: &[u8]) -> bool
     ensures { result ≡ spec.begins_with_port path.now }
 {
@@ -474,7 +473,7 @@ fn may_be_port(port: &[u8]) -> bool
     !port.is_empty() && port.len() <= 5 && is_number(port)
 }
 
-/// Whether the line begins as a path of Windows that names its drive.
+/// Whether the line begins like a Windows path with a drive.
 pub(crate) fn begins_with_drive(line: &[u8]) -> bool
     ensures { result ≡ spec.begins_with_drive line.now }
 {
@@ -484,7 +483,7 @@ pub(crate) fn begins_with_drive(line: &[u8]) -> bool
     }
 }
 
-/// Whether `\` is at the front, or a `/` without `~` behind it.
+/// Whether the text begins with `\`, or with a `/` that no `~` follows.
 fn begins_on_drive(rest: &[u8]) -> bool
     ensures { result ≡ spec.begins_on_drive rest.now }
 {

@@ -1,6 +1,4 @@
-//! Addresses of web pages about a part of a repository, as forges have them.
-//!
-//! Hints alone decide by them, and `marks` cuts texts. Its contract: pages are those of the definitions.
+//! Addresses of web pages about a part of a repository, as forges write them.
 
 ghost use Rattle.std.specs.Prelude.{◌≡◌, option_map};
 ghost use Rattle.explain_report.specs.Marks.{is_among, some_passes};
@@ -8,9 +6,9 @@ ghost use Rattle.explain_report.specs.WebPages as spec;
 
 use crate::advice::marks::{before, halves, is_among};
 
-/// Whether a path of HTTP goes on behind a repository, as forges show its parts. Without its query and its
-/// fragment it has `/-/` and then a segment of GitLab's; or the host is one of the forges, and behind two segments
-/// comes one of their lists, or one of the others and a segment.
+/// Whether a path of HTTP names a page about a part of a repository, as forges write it. Either the path without query
+/// and fragment has `/-/` followed by a page segment of GitLab; or the host is one of the forges, and two segments are
+/// followed by one of their lists, or by a segment of their details and another segment.
 pub(crate) fn is_page(host: Option<&str>, path: &[u8]) -> bool
     ensures { result ≡ spec.is_page (option_map (λ h. h.now) host.entry) path.now }
 {
@@ -44,7 +42,7 @@ fn is_forge(host: Option<&str>) -> bool
     }
 }
 
-/// Whether the first `/-/` is before the name of a page.
+/// Whether the first `/-/` precedes the name of a page.
 fn is_page_of_gitlab(path: &[u8]) -> bool
     ensures { result ≡ spec.is_page_of_gitlab path.now }
 {
@@ -79,7 +77,7 @@ fn is_named_by_gitlab(segment: &[u8]) -> bool
     )
 }
 
-/// Whether the path names a page behind an owner and a repository.
+/// Whether the path names a page after an owner and a repository.
 fn is_page_of_forge(path: &[u8]) -> bool
     ensures { result ≡ spec.is_page_of_forge path.now }
 {
@@ -92,7 +90,7 @@ fn is_page_of_forge(path: &[u8]) -> bool
     }
 }
 
-/// Whether a path below an owner names a page behind a repository.
+/// Whether a path below an owner names a page after a repository.
 fn is_below_owner(path: &[u8]) -> bool
     ensures { result ≡ spec.is_below_owner path.now }
 {
@@ -102,7 +100,7 @@ fn is_below_owner(path: &[u8]) -> bool
     }
 }
 
-/// Whether the first segment is one of the lists, or one of the others with a segment behind it.
+/// Whether the first segment is one of the lists, or one of the details and another segment follows it.
 fn is_name_of_page(path: &[u8]) -> bool
     ensures { result ≡ spec.is_name_of_page path.now }
 {
@@ -115,7 +113,7 @@ fn is_name_of_page(path: &[u8]) -> bool
     }
 }
 
-/// Whether a text begins with another byte than `/`.
+/// Whether a text begins with a byte other than `/`.
 fn begins_segment(rest: &[u8]) -> bool
     ensures { result ≡ spec.begins_segment rest.now }
 {
@@ -125,7 +123,7 @@ fn begins_segment(rest: &[u8]) -> bool
     }
 }
 
-/// Whether a segment is a list at a forge, which may be the last one.
+/// Whether a segment names a list at a forge, and may be the last one.
 fn is_list(segment: &[u8]) -> bool
     ensures { result ≡ is_among spec.lists segment.now }
 {
@@ -146,7 +144,7 @@ fn is_list(segment: &[u8]) -> bool
     )
 }
 
-/// Whether a segment is one of those behind which a segment says more.
+/// Whether a segment names a detail at a forge, and needs another segment after it.
 fn is_detail(segment: &[u8]) -> bool
     ensures { result ≡ is_among spec.details segment.now }
 {

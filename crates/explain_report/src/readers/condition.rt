@@ -1,10 +1,8 @@
-//! The conditions under which all readers find the same parts in a text, by name and in words.
-//!
-//! It has no contract: each condition has one name, that of `Condition`, and one sentence.
+//! The conditions under which all programs read the same parts in a text: their names and their words.
 
 use gix_url::unambiguous::Condition;
 
-/// The name of the condition, as `Condition` has it.
+/// The name of the condition, as in `Condition`.
 pub(crate) fn name(unmet: Condition) -> &'static str {
     match unmet {
         Condition::Git => "Git",
@@ -21,8 +19,8 @@ pub(crate) fn name(unmet: Condition) -> &'static str {
     }
 }
 
-/// Why readers may find other parts in the text of a location that doesn't meet the condition, in words that begin in
-/// lower case and have no end mark.
+/// The reason why programs may read other parts in the text of a location that doesn't meet the condition. The words
+/// begin in lower case and have no full stop.
 pub(crate) fn words(unmet: Condition) -> &'static str {
     match unmet {
         Condition::Git => "it isn't settled, or Git may read another place in it",

@@ -1,7 +1,4 @@
 //! The host that Git connects to for a line.
-//!
-//! It uses what Git's transports read in a text, and `curl`, to which Git hands a text of HTTP. It has no contract but
-//! that it can't abort.
 
 use crate::curl::Curl;
 use bstr::BString;
@@ -12,11 +9,11 @@ use std::alloc::{AllocError, Global};
 /// The host that Git connects to.
 #[derive(Drop)]
 pub(crate) enum GitHost {
-    /// It opens a local path.
+    /// Git opens a local path.
     Local,
     /// A host with a name.
     Named(BString),
-    /// It connects to none, or that isn't known.
+    /// Git connects to no host, or the host isn't known.
     Unknown,
 }
 
@@ -30,7 +27,7 @@ impl GitHost {
         }
     }
 
-    /// The host that curl connects to, unless it isn't text.
+    /// The host that curl connects to, if it is valid text.
     fn by_curl(alloc: Global, line: &[u8]) -> Result<GitHost, AllocError> {
         match Curl::in_text(alloc, line)? {
             None => Ok(GitHost::Unknown),
@@ -42,7 +39,7 @@ impl GitHost {
         }
     }
 
-    /// A host with this name, in which U+FFFD stands for bytes that aren't text.
+    /// A host with this name. In the name U+FFFD replaces bytes that aren't valid text.
     fn of_text(alloc: Global, host: &str) -> Result<GitHost, AllocError> {
         if host.contains('\u{fffd}') {
             Ok(GitHost::Unknown)
@@ -71,7 +68,7 @@ impl GitHost {
         }
     }
 
-    /// No host of a line in which Git reads no place, unless it is memory that was refused.
+    /// No known host, since Git reads no place in the line. An error means that memory was refused.
     fn of_unread(why: Unread) -> Result<GitHost, AllocError> {
         match why {
             Unread::Memory => Err(AllocError),
@@ -89,7 +86,7 @@ impl GitHost {
         Ok(GitHost::Named(BString::from_slice(alloc, host)?))
     }
 
-    /// Whether it is this host, or there is none and Git opens a local path.
+    /// Whether this is the host, or `host` is `None` and Git opens a local path.
     pub(crate) fn is_host(&self, host: Option<&str>) -> bool {
         match (self, host) {
             (GitHost::Local, None) => true,

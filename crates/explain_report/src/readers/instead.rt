@@ -1,8 +1,6 @@
-//! A URL of the place of a line, which fewer programs read otherwise than the line.
+//! A URL of the same place as a line, which fewer programs read differently than the line.
 //!
-//! It puts a URL together, reads it, and compares the location with that of the line. It uses the public calls of
-//! `gix_url`, and `misreading` of `git_audit`. Its contract: no part of the URL may be a secret. The stored run has the
-//! URLs that the second reading finds.
+//! The URL is written from the fields, parsed, and compared with the location of the line.
 
 ghost use Rattle.std.specs.Prelude.{◌≡◌, IfOk, IfSome, IsTrue, None, false, string_bytes};
 ghost use Rattle.explain_report.specs.Secrets.{has_secret};
@@ -16,8 +14,9 @@ use gix_url::{Error, Scheme, Url};
 use std::alloc::{AllocError, Global};
 use std::fmt::Write;
 
-/// A URL of the place of this location, which is read in the line and not alike by all: all read it alike, or no group
-/// of readers takes another host from it, though one does from the line. No part of either may be a secret.
+/// Returns a URL of the place of this location, which is read in the line, if not all programs read the location alike
+/// and the URL is better. It is better if all read it alike, or if some group of readers takes another host from the
+/// line and none does from the URL. No part of the line or the URL may be a secret.
 pub(crate) fn url_instead(
     alloc: Global,
     line: &[u8],
@@ -37,7 +36,7 @@ pub(crate) fn url_instead(
     }
 }
 
-/// The path of a location of Secure Shell, `git://` or a file, if it is a text that begins with `/`.
+/// The path of a location of Secure Shell, `git://` or a file, if it is valid text and begins with `/`.
 fn rooted_path(url: &Url) -> Option<&str> {
     match &url.scheme {
         Scheme::Ssh | Scheme::Git | Scheme::File => {
@@ -76,7 +75,7 @@ fn if_better(text: String, is_better: bool) -> Option<String>
     None
 }
 
-/// No URL where the text is refused, unless it is memory that was refused.
+/// No URL, since the text is refused. An error means that memory was refused.
 fn without(text: String, error: Error) -> Result<Option<String>, AllocError>
     ensures { IfOk result (λ found. found ≡ None) }
 {
@@ -89,7 +88,7 @@ fn without(text: String, error: Error) -> Result<Option<String>, AllocError>
     Ok(None)
 }
 
-/// The URL with this path: without escapes, and with brackets around a host with a colon.
+/// The URL with this path, without escapes, and with brackets around a host that contains a colon.
 fn url_text(alloc: Global, url: &Url, path: &str) -> Result<String, AllocError> {
     let mut text = String::new(alloc);
     text.push_str(url.scheme.as_str())?;
@@ -106,7 +105,7 @@ fn url_text(alloc: Global, url: &Url, path: &str) -> Result<String, AllocError> 
     Ok(text)
 }
 
-/// Appends a host, in brackets if it has a colon.
+/// Appends a host, in brackets if it contains a colon.
 fn push_host(out: &mut String, host: Option<&str>) -> Result<(), AllocError> {
     match host {
         None => Ok(()),
@@ -115,7 +114,7 @@ fn push_host(out: &mut String, host: Option<&str>) -> Result<(), AllocError> {
     }
 }
 
-/// Whether a text that is read as another location names the same place, and others read it better than the line.
+/// Whether a text, which is read as another location, names the same place and is read better than the line.
 fn is_read_better(line: &[u8], url: &Url, text: &[u8], other: &Url) -> bool
     ensures { IsTrue result → has_secret text.now ≡ false }
 {
@@ -131,7 +130,7 @@ fn is_read_better(line: &[u8], url: &Url, text: &[u8], other: &Url) -> bool
     other.is_unambiguous() || is_misread(line, &url.as_ref())
 }
 
-/// Whether both have the same fields; neither has a password.
+/// Whether the fields of both are equal. Neither may have a password.
 fn is_same_place(url: &Url, other: &Url) -> bool {
     url.scheme == other.scheme
         && url.user() == other.user()

@@ -1,7 +1,4 @@
-//! The other host that each group of readers takes from a line.
-//!
-//! It uses `misreading` of `git_audit`, and compares hosts as that does. Its contract: a group takes a host if both have
-//! one name, and another host than an own one if their names differ.
+//! The other host that each group of readers takes from a line. Hosts are compared as `is_same_host` compares them.
 
 ghost use Rattle.std.specs.Prelude.{◌≡◌, option_map};
 ghost use Rattle.std.specs.List.{list_all, list_any};
@@ -12,10 +9,10 @@ use git_audit::misreading::{Group, other_host};
 use git_rules::rewrite::host::is_same_host;
 use gix_url::UrlRef;
 
-/// As many groups as there are.
+/// The number of groups.
 pub(crate) const GROUPS: usize = 7;
 
-/// A group of readers, with the other host that it takes, if it takes one.
+/// A group of readers, and the other host that it takes, if any.
 #[derive(Clone, Copy)]
 pub(crate) struct Taken<'a> {
     pub(crate) group: Group,
@@ -23,7 +20,7 @@ pub(crate) struct Taken<'a> {
 }
 
 impl<'a> Taken<'a> {
-    /// The host that a group takes from a line in which this location is read, if it isn't the location's.
+    /// The host that a group takes from a line which is read as this location, unless it is the location's host.
     fn beside_location(line: &'a [u8], url: &UrlRef<'_>, group: Group) -> Taken<'a> {
         Taken {
             group,
@@ -31,7 +28,7 @@ impl<'a> Taken<'a> {
         }
     }
 
-    /// The host that a group takes from a line, if it isn't this one.
+    /// The host that a group takes from a line, unless it is this one.
     fn beside_host(line: &'a [u8], own: Option<&[u8]>, group: Group) -> Taken<'a> {
         Taken {
             group,
@@ -61,7 +58,7 @@ fn unless_own<'a>(own: Option<&[u8]>, found: Option<&'a [u8]>) -> Option<&'a [u8
     }
 }
 
-/// Whether there is an own host, and the text names it.
+/// Whether there is an own host, and the text names the same host.
 fn is_own(own: Option<&[u8]>, host: &[u8]) -> bool
     ensures { result ≡ names_own_host (option_map (λ t. t.now) own.entry) host.now }
 {
@@ -71,14 +68,14 @@ fn is_own(own: Option<&[u8]>, host: &[u8]) -> bool
     }
 }
 
-/// Whether both texts name one host.
+/// Whether both texts name the same host.
 fn is_same(own: &[u8], named: &[u8]) -> bool
     ensures { result ≡ names_same own.now named.now }
 {
     is_same_host(own, named)
 }
 
-/// What each group takes from a line in which this location is read.
+/// The hosts that the groups take from a line which is read as this location.
 pub(crate) fn beside_location<'a>(line: &'a [u8], url: &UrlRef<'_>) -> [Taken<'a>; GROUPS] {
     [
         Taken::beside_location(line, url, Group::Urls),
@@ -91,7 +88,7 @@ pub(crate) fn beside_location<'a>(line: &'a [u8], url: &UrlRef<'_>) -> [Taken<'a
     ]
 }
 
-/// What each group takes from a line for which Git connects to this host, or to none.
+/// The hosts that the groups take from a line for which Git connects to this host, or to none.
 pub(crate) fn beside_host<'a>(line: &'a [u8], own: Option<&[u8]>) -> [Taken<'a>; GROUPS] {
     [
         Taken::beside_host(line, own, Group::Urls),

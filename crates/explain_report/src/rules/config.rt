@@ -1,7 +1,4 @@
-//! The configuration that `--config` names, read once for all lines, and what of it isn't understood.
-//!
-//! It uses `git_rules`, whose rules are filled here; `rules` asks them about a line. It has no contract but
-//! that it can't abort: `scripts/hostile rules` shows its answers.
+//! The configuration of `--config`, which is read once for all lines, and its faults.
 
 use crate::memory::both;
 use bstr::ByteSlice;
@@ -14,7 +11,7 @@ use git_rules::stops::{Stop, stop_at};
 use std::alloc::{AllocError, Global};
 use std::collections::BTreeMap;
 
-/// What Git does by a configuration and two variables.
+/// The configuration, and two variables of the environment.
 #[derive(Drop)]
 pub struct Config<'a> {
     /// The entries of `protocol.*`, and the variables.
@@ -24,9 +21,9 @@ pub struct Config<'a> {
     pub remotes: Vec<Entry<'a>>,
     /// The entries of `credential.*`.
     pub credentials: Vec<Entry<'a>>,
-    /// The entries of `http.*`, in the order in which their names come first.
+    /// The entries of `http.*`, in the order in which their names first occur.
     pub http: Vec<Variable<'a>>,
-    /// How long a room has to be for the URL of each entry.
+    /// The buffer size in bytes that suffices for the URL of each entry.
     pub room: usize,
 }
 
@@ -38,7 +35,7 @@ pub struct Variable<'a> {
 }
 
 impl<'a> Config<'a> {
-    /// What these entries say, of which those of `protocol.*` are in `protocols` too. Rules that can't be
+    /// Returns the configuration of these entries. `protocols` contains those of `protocol.*` too. Rules that are not
     /// understood are left out.
     pub fn of(
         alloc: Global,
@@ -64,7 +61,7 @@ impl<'a> Config<'a> {
     }
 }
 
-/// The length of the subsection of an entry.
+/// The length of the subsection of an entry, in bytes.
 fn url_len(entry: &Entry<'_>) -> usize {
     match entry.subsection {
         None => 0,
@@ -72,7 +69,7 @@ fn url_len(entry: &Entry<'_>) -> usize {
     }
 }
 
-/// The rules that rewrite locations. One without a value is left out, at which Git stops.
+/// The rules that rewrite locations. A rule without a value, at which Git stops, is left out.
 fn rewrites_of<'a>(alloc: Global, entries: &[Entry<'a>]) -> Result<Rewrites<'a>, AllocError> {
     let mut rules = Rewrites::new(alloc);
     for entry in entries {
@@ -84,7 +81,7 @@ fn rewrites_of<'a>(alloc: Global, entries: &[Entry<'a>]) -> Result<Rewrites<'a>,
     Ok(rules)
 }
 
-/// The entries of `http.*`, those of a name together.
+/// The entries of `http.*`, grouped by name.
 fn variables_of<'a>(alloc: Global, entries: &[Entry<'a>]) -> Result<Vec<Variable<'a>>, AllocError> {
     let mut found = Vec::new(alloc);
     let mut places = BTreeMap::new(alloc);
@@ -96,7 +93,7 @@ fn variables_of<'a>(alloc: Global, entries: &[Entry<'a>]) -> Result<Vec<Variable
     Ok(found)
 }
 
-/// Puts an entry with those of its name. The places of the names are found by the names in lower case.
+/// Adds an entry to those with its name. `places` maps names in lower case to indices.
 fn put<'a>(
     alloc: Global,
     found: &mut Vec<Variable<'a>>,
@@ -126,14 +123,14 @@ impl<'a> Variable<'a> {
     }
 }
 
-/// What isn't understood of a configuration: where, and in words.
+/// A fault of a configuration: its place and its words.
 #[derive(Clone, Copy)]
 pub struct Fault {
     pub at: usize,
     pub words: &'static str,
 }
 
-/// All that isn't understood of a configuration, in its order.
+/// Returns all faults of a configuration, in their order.
 pub fn faults(alloc: Global, text: &[u8]) -> Result<Vec<Fault>, AllocError> {
     let mut room = vec![in alloc; 0u8; room_for(text.len())]?;
     let mut found = Vec::new(alloc);
@@ -145,7 +142,7 @@ pub fn faults(alloc: Global, text: &[u8]) -> Result<Vec<Fault>, AllocError> {
     Ok(found)
 }
 
-/// What isn't understood of an entry, or of what is none.
+/// The fault of an entry, or of a text that isn't an entry.
 fn fault_of(item: Result<Entry<'_>, EntryError>, room: &mut [u8]) -> Option<Fault> {
     match item {
         Err(EntryError::NoKey { at }) => Some(Fault {
@@ -164,7 +161,7 @@ fn fault_of(item: Result<Entry<'_>, EntryError>, room: &mut [u8]) -> Option<Faul
     }
 }
 
-/// What isn't understood of an entry, in words.
+/// The fault of an entry, in words.
 fn words_of(entry: &Entry<'_>, room: &mut [u8]) -> Option<&'static str> {
     match words_of_url(entry, room) {
         None => stop_at(entry).map(words_of_stop),
@@ -172,7 +169,7 @@ fn words_of(entry: &Entry<'_>, room: &mut [u8]) -> Option<&'static str> {
     }
 }
 
-/// Why the URL of an entry of `http.*` isn't understood, in words.
+/// The fault of the URL of an entry of `http.*`, in words.
 fn words_of_url(entry: &Entry<'_>, room: &mut [u8]) -> Option<&'static str> {
     if !entry.is_section("http") || UrlPattern::parse_in(entry.subsection?, room).is_ok() {
         return None;
@@ -180,7 +177,7 @@ fn words_of_url(entry: &Entry<'_>, room: &mut [u8]) -> Option<&'static str> {
     Some("has no URL that Git takes: it is for no location")
 }
 
-/// Why Git stops at an entry, in words.
+/// The reason why Git stops at an entry, in words.
 fn words_of_stop(stop: Stop) -> &'static str {
     match stop {
         Stop::NoValue => "has no value: Git stops at it",

@@ -1,7 +1,4 @@
-//! What Git's credential code uses of a configuration for a text of HTTP.
-//!
-//! It uses `credential` of `git_reads` and `credentials` of `git_rules`, and `setting` and `secret` for what is shown.
-//! It has no contract but that it can't abort: `scripts/hostile rules` shows its answers.
+//! The settings of Git's credential code by a configuration, for a text of HTTP.
 
 use crate::memory::both;
 use crate::rules::setting::Setting;
@@ -12,19 +9,19 @@ use gix_url::credential::{Buffers, reading};
 use serde::Serialize;
 use std::alloc::{AllocError, Global};
 
-/// What Git's credential code uses.
+/// The settings of Git's credential code.
 #[derive(Drop, Serialize)]
 pub struct Credentials {
-    /// The entries whose values are the helpers, in the order in which Git asks them.
+    /// The entries whose values are the helpers, in the order in which Git calls them.
     pub helpers: Vec<Setting>,
-    /// The user that helpers are asked about, with `redacted` for what may be a secret.
+    /// The user in the request to helpers, with `redacted` in place of possible secrets.
     pub user: Option<String>,
-    /// Whether helpers are told the path.
+    /// Whether the request to helpers has the path.
     pub use_http_path: bool,
 }
 
 impl Credentials {
-    /// What it uses of these entries for a text; none where it asks for nothing, or stops at an entry.
+    /// Returns the settings for a text. Returns `None` if Git asks for no credentials, or stops at an entry.
     pub fn of(
         alloc: Global,
         entries: &[Entry<'_>],
@@ -46,7 +43,7 @@ impl Credentials {
         }
     }
 
-    /// What is used of these entries and for this user, as it is shown.
+    /// The settings by these entries for this user, as they are shown.
     fn shown(
         alloc: Global,
         entries: &[Entry<'_>],
@@ -66,7 +63,8 @@ impl Credentials {
     }
 }
 
-/// The user that is used: one that is asked for in a text that may have a secret only if the text shows it.
+/// The user of the request. A user that is read in a text with a possible secret is shown only if the text as it is
+/// shown contains it.
 fn user_of<'a>(text: &[u8], asked: Option<&[u8]>, used: Option<&'a [u8]>) -> Option<&'a [u8]> {
     match used {
         Some(user) if asked.is_some() && has_secret(text) => Some(part_of_shown(text, user)),

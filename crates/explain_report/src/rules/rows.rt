@@ -1,8 +1,7 @@
-//! What Git does by a configuration in rows for people: each row has a name, and pieces of words and of texts.
+//! The way Git uses a line by a configuration, as rows for people: each row has a name, and pieces of words and texts.
 //!
-//! A terminal and a page lay out the same rows, each in its own way, so each sentence is here alone. A piece that shows
-//! a member of `rules` in the JSON object names that member. It uses what `rules` found, and has no contract but that it
-//! can't abort: `scripts/hostile rules` and `scripts/page_test rules` show its answers.
+//! A terminal and a page format the same rows, so each sentence is only here. A piece that shows a member of `rules` in
+//! the JSON object names that member.
 
 use crate::rules::credentials::Credentials;
 use crate::rules::setting::Setting;
@@ -14,23 +13,24 @@ use std::alloc::{AllocError, Global};
 #[derive(Drop)]
 pub struct Row<'a> {
     pub name: &'static str,
-    /// The member of the JSON object that the row is about.
+    /// The member of the JSON object that the row shows.
     pub of: &'static str,
     pub pieces: Vec<Piece<'a>>,
 }
 
-/// A piece of a row. Where it shows a member of the JSON object, `below` is what follows the row's in the name of that.
+/// A piece of a row. If it shows a member of the JSON object, `below` is the end of the member's name, after that of
+/// the row's member.
 #[derive(Clone, Copy)]
 pub enum Piece<'a> {
-    /// Words of this program, which show no member.
+    /// Words of this program that show no member.
     Words(&'static str),
-    /// Words of this program, and the name that programs have for them, if there is one.
+    /// Words of this program, and their name in the JSON object, if they have one.
     Named {
         below: &'static str,
         value: &'static str,
         words: &'a str,
     },
-    /// A text of the line or of the configuration, and whether a rule has made it.
+    /// A text of the line or of the configuration, and whether a rule has changed it.
     Text {
         below: &'static str,
         is_made: bool,
@@ -43,7 +43,7 @@ pub enum Piece<'a> {
     },
 }
 
-/// What Git goes to a text for.
+/// The operation for which Git uses a text.
 #[derive(Clone, Copy)]
 pub enum Way {
     Fetch,
@@ -51,7 +51,7 @@ pub enum Way {
 }
 
 impl Way {
-    /// The name of its row.
+    /// Returns the name of the operation's row.
     pub fn name(self) -> &'static str {
         match self {
             Way::Fetch => "fetches",
@@ -68,7 +68,7 @@ impl Way {
     }
 }
 
-/// The rows of what Git does with a line.
+/// Returns the rows of a line.
 pub fn of_line<'a>(alloc: Global, rules: &'a Rules) -> Result<Vec<Row<'a>>, AllocError> {
     let mut rows: Vec<Row<'a>> = Vec::new(alloc);
     line_route(alloc, &mut rows, Way::Fetch, &rules.fetch)?;
@@ -85,7 +85,7 @@ pub fn of_line<'a>(alloc: Global, rules: &'a Rules) -> Result<Vec<Row<'a>>, Allo
     Ok(rows)
 }
 
-/// The rows of a text that Git goes to for a remote or a submodule: the text, its transport and what is found in it.
+/// Returns the rows of a text that Git uses for a remote or a submodule: the text, its transport and its findings.
 pub fn of_route<'a>(alloc: Global, way: Way, route: &'a Route) -> Result<Vec<Row<'a>>, AllocError> {
     let mut rows: Vec<Row<'a>> = Vec::new(alloc);
     text(alloc, &mut rows, way, route)?;
@@ -94,7 +94,7 @@ pub fn of_route<'a>(alloc: Global, way: Way, route: &'a Route) -> Result<Vec<Row
     Ok(rows)
 }
 
-/// Adds the rows of where Git goes from a line: the text, and what is found in it, unless it is the line.
+/// Appends the rows of a text that Git uses for a line. The findings are left out if the text is the line.
 fn line_route<'a>(
     alloc: Global,
     rows: &mut Vec<Row<'a>>,
@@ -108,7 +108,7 @@ fn line_route<'a>(
     Ok(())
 }
 
-/// Adds the row of a text that Git goes to, with a warning where that is on another host than the line's.
+/// Appends the row of a text that Git uses, with a warning if it names a host other than the line's.
 fn text<'a>(
     alloc: Global,
     rows: &mut Vec<Row<'a>>,
@@ -131,7 +131,7 @@ fn text<'a>(
     add(rows, way.name(), way.of(), pieces)
 }
 
-/// Adds the rows of what is found in a text that Git goes to.
+/// Appends the rows of the findings about a text that Git uses.
 fn found<'a>(
     alloc: Global,
     rows: &mut Vec<Row<'a>>,
@@ -184,7 +184,7 @@ fn found<'a>(
     Ok(())
 }
 
-/// Adds a row.
+/// Appends a row.
 fn add<'a>(
     rows: &mut Vec<Row<'a>>,
     name: &'static str,
@@ -195,7 +195,7 @@ fn add<'a>(
     Ok(())
 }
 
-/// Adds a row with one piece.
+/// Appends a row with one piece.
 fn add_one<'a>(
     alloc: Global,
     rows: &mut Vec<Row<'a>>,
@@ -208,8 +208,8 @@ fn add_one<'a>(
     add(rows, name, of, pieces)
 }
 
-/// Adds the rows of what Git's credential code uses: its helpers, for whom they are asked and with what. Without
-/// helpers there are none.
+/// Appends the rows of the settings of Git's credential code: its helpers, the user and the path in the request.
+/// Without helpers there are no rows.
 fn credential<'a>(
     alloc: Global,
     rows: &mut Vec<Row<'a>>,
@@ -251,7 +251,7 @@ fn credential<'a>(
     Ok(())
 }
 
-/// Adds the rows of entries.
+/// Appends the rows of entries.
 fn settings<'a>(
     alloc: Global,
     rows: &mut Vec<Row<'a>>,
@@ -265,7 +265,7 @@ fn settings<'a>(
     Ok(())
 }
 
-/// Adds the rows of the transports: one where fetching and pushing take the same.
+/// Appends the rows of the transports. There is one row if fetching and pushing use the same.
 fn transports<'a>(
     alloc: Global,
     rows: &mut Vec<Row<'a>>,
@@ -279,7 +279,7 @@ fn transports<'a>(
     }
 }
 
-/// Whether both have the same transport, of which then the same holds, or have none for the same reason.
+/// Whether both have the same transport, and thus the same verdict, or have none for the same reason.
 fn is_same(fetch: &Route, push: &Route) -> bool {
     match (&fetch.transport, &push.transport) {
         (Some(fetch), Some(push)) => fetch.name.as_str() == push.name.as_str(),
@@ -293,7 +293,7 @@ fn reason_name(route: &Route) -> Option<&'static str> {
     route.no_transport.as_ref().map(|lack| lack.reason)
 }
 
-/// Adds the row of a transport, or of why Git has none.
+/// Appends the row of a transport, or of the reason why Git has none.
 fn transport<'a>(
     alloc: Global,
     rows: &mut Vec<Row<'a>>,
@@ -305,7 +305,8 @@ fn transport<'a>(
     add(rows, "transport", way.of(), pieces)
 }
 
-/// A transport, whether Git uses it and what decides, or why Git has none.
+/// Returns a transport, whether Git uses it, and the variable or entry that decides; or the reason why Git has no
+/// transport.
 pub fn transport_pieces<'a>(
     alloc: Global,
     route: &'a Route,
@@ -328,7 +329,7 @@ pub fn transport_pieces<'a>(
     Ok(pieces)
 }
 
-/// Appends a transport: its name, what it is for, and whether Git uses it, by what.
+/// Appends a transport: its name, its operation, whether Git uses it, and the variable or entry that decides.
 fn push_transport<'a>(
     pieces: &mut Vec<Piece<'a>>,
     transport: &'a Transport,
@@ -349,7 +350,7 @@ fn push_transport<'a>(
     push_reason(pieces, transport)
 }
 
-/// Appends what decides on a transport.
+/// Appends the variable or the entry that decides on a transport.
 fn push_reason<'a>(
     pieces: &mut Vec<Piece<'a>>,
     transport: &'a Transport,

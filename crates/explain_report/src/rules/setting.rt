@@ -1,7 +1,6 @@
-//! Entries of a configuration as they are shown: with their place, and without what may be a secret.
+//! Entries of a configuration as they are shown: with their place, and without secrets.
 //!
-//! It uses `config` of `git_rules`, and `secret` for what is shown of a text. Its contract: place, key and value are the
-//! entry's own as they are shown; a header, or a credential helper that a shell runs, is shown as a word alone.
+//! A header of HTTP, and a credential helper that a shell runs, is replaced as a whole by a word.
 
 ghost use Rattle.std.specs.Prelude.{◌≡◌, ◌++◌, ◌∷◌, IfOk, OnOk, option_map, string_bytes};
 ghost use Rattle.git_syntax.specs.Bytes.{dot};
@@ -17,16 +16,16 @@ use std::alloc::{AllocError, Global};
 /// An entry of a configuration, as it is shown.
 #[derive(Drop, Serialize)]
 pub struct Setting {
-    /// The byte of the configuration at which the entry begins.
+    /// The offset in the configuration at which the entry begins, in bytes.
     pub at: usize,
-    /// The key, with `redacted` for what may be a secret in it.
+    /// The key, with `redacted` in place of possible secrets.
     pub key: String,
-    /// The value, where there is one, with `redacted` for what may be a secret.
+    /// The value, if the entry has one, with `redacted` in place of possible secrets.
     pub value: Option<String>,
 }
 
 impl Setting {
-    /// The entry as it is shown.
+    /// Returns the entry as it is shown.
     pub fn of(alloc: Global, entry: &Entry<'_>) -> Result<Setting, AllocError>
         ensures at { IfOk result (λ s. s.at ≡ entry.now.at) }
         ensures key { IfOk result (λ s. string_bytes s.key ≡ key_shown entry.now) }
@@ -40,7 +39,7 @@ impl Setting {
         })
     }
 
-    /// What is between the key and the value in words, or behind the key where there is no value.
+    /// Returns the words between the key and the value, or after the key if there is no value.
     pub fn link(&self) -> &'static str {
         match &self.value {
             None => " has no value",
@@ -102,7 +101,7 @@ fn value_of(alloc: Global, entry: &Entry<'_>) -> Result<Option<String>, AllocErr
     }
 }
 
-/// A value of this entry: a word in place of one that may be a secret as a whole.
+/// A value of this entry, or a word in its place if the whole value may be a secret.
 fn value_text(alloc: Global, entry: &Entry<'_>, value: &[u8]) -> Result<String, AllocError>
     ensures { IfOk result (λ text. string_bytes text ≡ value_shown entry.now value.now) }
 {

@@ -1,8 +1,4 @@
-//! Which entries of `http.*` Git uses for a text of HTTP.
-//!
-//! It uses the settings of `git_rules`, and `setting` for what is shown of an entry. Its
-//! contract: of a name of `http.*` the entries are those that Git uses, for a place and for a text without a normal
-//! form. The rest `scripts/hostile rules` shows.
+//! The entries of `http.*` that Git uses for a text of HTTP.
 
 ghost use Rattle.std.specs.Prelude.{IfOk, None, Some, length};
 ghost use Rattle.explain_report.specs.Rules.{AreShown};
@@ -14,7 +10,7 @@ use git_rules::normal::{NormalUrl, room_for};
 use git_rules::pattern::settings::{self, SettingsError};
 use std::alloc::{AllocError, Global};
 
-/// The entries of each name of `http.*` that Git uses for a text of HTTP.
+/// Returns the entries that Git uses for a text of HTTP, of each name of `http.*`.
 pub fn settings_for(
     alloc: Global,
     config: &Config<'_>,
@@ -72,7 +68,8 @@ fn push_entries(
     Ok(())
 }
 
-/// The indices of the entries of a name of `http.*` that Git uses for a place; none where it stops at one.
+/// The indices of the entries of a name of `http.*` that Git uses for a place. There are none if Git stops at one of
+/// them.
 fn used_of(
     alloc: Global,
     entries: &[Entry<'_>],
@@ -90,7 +87,8 @@ fn used_of(
     }
 }
 
-/// The indices of those that Git uses for a text without a normal form; none where it stops at one.
+/// The indices of the entries that Git uses for a text without a normal form. There are none if Git stops at one of
+/// them.
 fn used_without_place(
     alloc: Global,
     entries: &[Entry<'_>],

@@ -1,8 +1,4 @@
-//! A transport, and whether Git uses it by a configuration and the variables of the environment.
-//!
-//! It uses `protocols` of `git_rules`, and `setting` for the entry that decides. Its contract: the verdict is
-//! that of what Git does by the definitions, and the entry and the variable that are reported are those that
-//! decide; the name is shown without what may be a secret.
+//! The transport of a text, and whether Git uses it by a configuration and the variables of the environment.
 
 ghost use Rattle.std.specs.Prelude.{◌≡◌, ◌↔◌, IfOk, IsTrue, Ok, option_map, string_bytes};
 ghost use Rattle.git_rules.specs.Protocols.{IsLastOf};
@@ -22,29 +18,29 @@ use std::alloc::{AllocError, Global};
 /// A transport, and whether it may be used.
 #[derive(Drop, Serialize)]
 pub struct Transport {
-    /// Its name, or that of a remote helper, with `redacted` for what may be a secret.
+    /// The name of the transport or the remote helper, with `redacted` in place of possible secrets.
     pub name: String,
     pub permission: Verdict,
     /// The variable of the environment that decides.
     pub variable: Option<&'static str>,
-    /// The entry that decides. Without a variable too it is the default.
+    /// The entry that decides. If there is neither an entry nor a variable, Git's default decides.
     pub entry: Option<Setting>,
 }
 
-/// What Git does about a transport.
+/// The verdict of Git on a transport.
 #[derive(Clone, Copy, Serialize)]
 #[serde(rename_all = "snake_case")]
 pub enum Verdict {
     Allowed,
     Refused,
-    /// It stops: the value of the entry that decides isn't one of `protocol.allow`.
+    /// Git stops: the value of the entry that decides isn't one of `protocol.allow`.
     UnknownAllowance,
-    /// It stops: the variable that decides is no boolean value.
+    /// Git stops: the value of the variable that decides isn't a boolean.
     UnknownFromUser,
 }
 
 impl Verdict {
-    /// The name that the JSON object has for it.
+    /// Returns the name of the verdict in the JSON object.
     pub fn name(self) -> &'static str {
         match self {
             Verdict::Allowed => "allowed",
@@ -54,7 +50,7 @@ impl Verdict {
         }
     }
 
-    /// It in words, behind the name of the transport.
+    /// Returns the verdict in words, which follow the name of the transport.
     pub fn words(self) -> &'static str {
         match self {
             Verdict::Allowed => "is allowed",
@@ -64,16 +60,16 @@ impl Verdict {
     }
 }
 
-/// Why Git has no transport for a text.
+/// The reason why Git has no transport for a text.
 #[derive(Drop, Serialize)]
 pub struct Lack {
     /// The name of the reason.
     pub reason: &'static str,
-    /// It in words.
+    /// The reason in words.
     pub words: String,
 }
 
-/// The transport that Git uses for a text, or why it has none.
+/// Returns the transport that Git uses for a text, or the reason why it has none.
 pub fn transport_for(
     alloc: Global,
     protocols: &Protocols<'_>,
@@ -106,7 +102,7 @@ fn name_of(why: NoTransport) -> &'static str {
 }
 
 impl Transport {
-    /// The transport with this name.
+    /// Returns the transport with this name.
     pub fn named(
         alloc: Global,
         protocols: &Protocols<'_>,
@@ -140,7 +136,7 @@ fn verdict_of(permission: Permission) -> Verdict
     }
 }
 
-/// The place of the entry that decides, if one does.
+/// The offset of the entry that decides, if an entry does.
 fn place_of(permission: Permission) -> Option<usize>
     ensures { result ≡ spec.place_of permission }
 {
@@ -151,7 +147,7 @@ fn place_of(permission: Permission) -> Option<usize>
     }
 }
 
-/// The place of the entry that a reason names, if it names one.
+/// The offset of the entry that a reason names, if it names one.
 fn place_in(by: Reason) -> Option<usize>
     ensures { result ≡ spec.place_in by }
 {
@@ -161,7 +157,7 @@ fn place_in(by: Reason) -> Option<usize>
     }
 }
 
-/// The variable of the environment that decides: without it the permission is another one.
+/// The variable of the environment that decides, if one does: without it the permission is different.
 fn variable_of(
     protocols: &Protocols<'_>,
     name: &str,
@@ -177,7 +173,7 @@ fn variable_of(
     }
 }
 
-/// The variable that allows a transport, for this reason.
+/// The variable that allows a transport for this reason.
 fn allowing(by: Reason) -> Option<&'static str>
     ensures { option_map (λ v. v.now) result ≡ spec.list_variable by }
 {
@@ -187,7 +183,7 @@ fn allowing(by: Reason) -> Option<&'static str>
     }
 }
 
-/// The variable that refuses a transport, for this reason.
+/// The variable that refuses a transport for this reason.
 fn refusing(protocols: &Protocols<'_>, name: &str, by: Reason) -> Option<&'static str>
     ensures { IsRefusing protocols.now name.now by (option_map (λ v. v.now) result) }
 {
@@ -212,7 +208,7 @@ fn is_for_users(protocols: &Protocols<'_>, name: &str) -> bool
     of_users.permission(name).is_allowed()
 }
 
-/// The entry that begins at this place, as it is shown.
+/// The entry that begins at this offset, as it is shown.
 fn entry_at(
     alloc: Global,
     entries: &[Entry<'_>],
@@ -229,7 +225,7 @@ fn entry_at(
     }
 }
 
-/// The last entry that begins at this place, of which there is one at most.
+/// The last entry that begins at this offset. There is at most one.
 fn last_at<'b, 'a>(entries: &'b [Entry<'a>], place: usize) -> Option<&'b Entry<'a>>
     ensures { IsLastOf (λ e. e.at ≡ place) entries.now (option_map (λ e. e.now) result) }
 {
@@ -243,7 +239,7 @@ fn last_at<'b, 'a>(entries: &'b [Entry<'a>], place: usize) -> Option<&'b Entry<'
     None
 }
 
-/// Whether the entry begins at this place.
+/// Whether the entry begins at this offset.
 fn is_at(entry: &Entry<'_>, place: usize) -> bool
     ensures { IsTrue result ↔ (entry.now.at ≡ place) }
 {

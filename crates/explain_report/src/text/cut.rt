@@ -1,9 +1,8 @@
-//! A line cut into pieces, each of which has a name: what people are shown of how a line is read.
+//! A line cut into named pieces, which show how it is read.
 //!
-//! Where the parts of a location are is said by `git_refusals`, and what is between two of them is a mark; what may be
-//! a secret in another line is said by `git_audit`. It uses `bstr`, and asks for no memory. What a secret is can't be had
-//! of a piece: outside of this module the word stands for it. Its contract: so is a piece shown. Which pieces a line is
-//! cut into is no part of it.
+//! The parts of a location are those of `git_refusals`, and the text between two parts is a mark. In a line without
+//! parts, `git_audit` finds the possible secrets. A secret can't be read from a piece: outside of this module there is
+//! only the word `redacted` in its place.
 
 ghost use Rattle.std.specs.Prelude.{◌≡◌};
 ghost use Rattle.explain_report.specs.Pieces.{cut_shown, piece_shown, pieces_shown, text_shown_as};
@@ -14,12 +13,12 @@ use bstr::ByteSlice;
 use git_audit::secret::secrets;
 use git_refusals::parts::{PartForm, Parts, Span};
 
-/// What a piece of a line is.
+/// The kind of a piece.
 #[derive(Clone, Copy)]
 pub enum Part {
     Scheme,
     User,
-    /// A password, or what may be another secret.
+    /// A password, or another possible secret.
     Password,
     Host,
     Port,
@@ -28,30 +27,30 @@ pub enum Part {
     Fragment,
     /// The name of a remote helper.
     Helper,
-    /// What a remote helper gets.
+    /// The text that Git passes to a remote helper.
     Address,
-    /// What parts the others, as `://`.
+    /// A text between other parts, such as `://`.
     Mark,
     Unknown,
 }
 
-/// A piece of a line. What a secret is can't be had of it.
+/// A piece of a line. Its secret, if it is one, can't be read from it.
 #[derive(Clone, Copy)]
 pub struct Piece<'a> {
     part: Part,
     text: &'a [u8],
 }
 
-/// The pieces of a line in their order, some of which may be empty.
+/// The pieces of a line in their order. Some of them may be empty.
 #[derive(Clone, Copy)]
 pub struct Cut<'a> {
     pieces: [Piece<'a>; PIECES],
 }
 
-/// As many pieces as a URL has at most.
+/// The largest number of pieces of a URL.
 pub const PIECES: usize = 17;
 
-/// As many pieces as there may be before the last one: what is shown and a secret behind it, eight times.
+/// The largest number of pieces before the last one: eight pairs of a shown text and a secret.
 const FILLED: usize = 16;
 
 impl<'a> Piece<'a> {
@@ -62,19 +61,19 @@ impl<'a> Piece<'a> {
         Piece { part, text }
     }
 
-    /// What parts other pieces.
+    /// A piece that separates other pieces.
     fn mark(text: &'a [u8]) -> Piece<'a>
         ensures { piece_shown result ≡ text.now }
     {
         Piece::new(Part::Mark, text)
     }
 
-    /// What it is.
+    /// Returns the kind of the piece.
     pub fn part(&self) -> Part {
         self.part
     }
 
-    /// What may be shown of it: its text, or the word in place of a secret.
+    /// Returns the text to show: that of the piece, or `redacted` in place of a secret.
     pub fn shown(&self) -> &'a [u8]
         ensures { result.now ≡ piece_shown self.now }
     {
@@ -94,31 +93,31 @@ impl<'a> Piece<'a> {
         }
     }
 
-    /// How many bytes of the line it takes.
+    /// Returns the length of the piece in the line, in bytes.
     pub fn len(&self) -> usize {
         self.text.len()
     }
 
-    /// Whether it is the scheme of HTTP.
+    /// Whether the piece is a scheme of HTTP.
     fn is_of_web(&self) -> bool {
         matches!(self.part, Part::Scheme) && matches!(self.text, b"http" | b"https")
     }
 
-    /// Whether it is a scheme of Secure Shell.
+    /// Whether the piece is a scheme of Secure Shell.
     fn is_of_ssh(&self) -> bool {
         matches!(self.part, Part::Scheme) && matches!(self.text, b"ssh" | b"ssh+git" | b"git+ssh")
     }
 }
 
 impl<'a> Cut<'a> {
-    /// The pieces.
+    /// Returns the pieces.
     pub fn pieces(&self) -> &[Piece<'a>]
         ensures { pieces_shown result.now ≡ cut_shown self.now }
     {
         self.pieces.as_slice()
     }
 
-    /// A line of which nothing is shown.
+    /// A line that is hidden as a whole.
     pub(crate) fn hidden(line: &'a [u8]) -> Cut<'a>
         ensures { cut_shown result ≡ password_shown line.now }
     {
@@ -131,8 +130,8 @@ impl<'a> Cut<'a> {
         }
     }
 
-    /// A line without parts: what may be secrets, and what is between them. Behind the eighth secret all is one piece,
-    /// which is hidden if a secret is in it.
+    /// A line without parts: its possible secrets, and the text between them. The text after the eighth secret is one
+    /// piece, which is hidden if it contains a secret.
     pub(crate) fn of_secrets(line: &'a [u8]) -> Cut<'a> {
         let mut filling = Filling::of(line);
         let mut at = 0usize;
@@ -147,7 +146,7 @@ impl<'a> Cut<'a> {
         filling.ended()
     }
 
-    /// A text with these parts.
+    /// Cuts a text into these parts.
     pub fn of_parts(text: &'a [u8], parts: &Parts) -> Cut<'a> {
         let (front, end) = match parts.form {
             PartForm::RemoteHelper => (Part::Helper, Part::Address),
@@ -192,19 +191,19 @@ impl<'a> Cut<'a> {
     }
 }
 
-/// The pieces of a line so far, how many there are, and the place behind them.
+/// The pieces of a line so far, their number, and the offset at which they end.
 #[derive(Drop)]
 struct Filling<'a> {
     line: &'a [u8],
     pieces: [Piece<'a>; PIECES],
     filled: usize,
     at: usize,
-    /// Whether a secret is behind them.
+    /// Whether a secret follows them.
     hides_more: bool,
 }
 
 impl<'a> Filling<'a> {
-    /// No piece of this line.
+    /// Begins with no piece of this line.
     fn of(line: &'a [u8]) -> Filling<'a> {
         Filling {
             line,
@@ -215,7 +214,7 @@ impl<'a> Filling<'a> {
         }
     }
 
-    /// Adds what is shown before a secret, and the secret, as long as there is a place for it.
+    /// Appends the shown text before a secret, and the secret, as long as there is space for both.
     fn hide(&mut self, begin: usize, end: usize) {
         if FILLED <= self.filled {
             self.hides_more = true;
@@ -225,7 +224,7 @@ impl<'a> Filling<'a> {
         self.push(Part::Password, end);
     }
 
-    /// Adds what goes to this place as a piece.
+    /// Appends the text up to this offset as a piece.
     fn push(&mut self, part: Part, end: usize) {
         let (text, filled) = (between(self.line, self.at, end), self.filled);
         if let Some(piece) = self.pieces.get_mut(filled) {
@@ -235,7 +234,7 @@ impl<'a> Filling<'a> {
         self.at = end;
     }
 
-    /// All pieces, the last one with what is left.
+    /// Ends the line: the last piece is the remaining text.
     fn ended(self) -> Cut<'a> {
         let mut all = self;
         let part = if all.hides_more {
@@ -249,7 +248,7 @@ impl<'a> Filling<'a> {
     }
 }
 
-/// A walk over a text: how many bytes were taken of it, and those behind them.
+/// A cursor on a text: the number of bytes taken, and the remaining bytes.
 #[derive(Drop)]
 struct Walk<'a> {
     taken: usize,
@@ -257,7 +256,7 @@ struct Walk<'a> {
 }
 
 impl<'a> Walk<'a> {
-    /// The mark before a part, and the part. Both are empty where there is no such part.
+    /// The mark before a part, and the part. Both are empty if the part is absent.
     fn part(&mut self, part: Part, span: Option<Span>) -> (Piece<'a>, Piece<'a>) {
         let Some(span) = span else {
             return (Piece::mark(b""), Piece::new(part, b""));
@@ -267,7 +266,7 @@ impl<'a> Walk<'a> {
         (mark, Piece::new(part, self.take_to(end)))
     }
 
-    /// Takes what is before a place of the text.
+    /// Takes the bytes before an offset of the text.
     fn take_to(&mut self, place: usize) -> &'a [u8] {
         let count = place.saturating_sub(self.taken).min(self.rest.len());
         let (front, rest) = self.rest.split_at(count);
@@ -277,8 +276,8 @@ impl<'a> Walk<'a> {
     }
 }
 
-/// A host with the marks before and after it, which only Secure Shell has: its brackets, and a colon that ends it, if
-/// it has no other one, also as an escape.
+/// A host without the marks before and after it, which occur only with Secure Shell: brackets, and a colon at the end
+/// if there is no other colon, escaped or not.
 fn host_alone(text: &[u8], is_of_ssh: bool) -> (&[u8], &[u8], &[u8]) {
     if !is_of_ssh {
         return (b"", text, b"");
@@ -296,17 +295,17 @@ fn host_alone(text: &[u8], is_of_ssh: bool) -> (&[u8], &[u8], &[u8]) {
     }
 }
 
-/// Whether a text has an escaped colon.
+/// Whether a text contains an escaped colon.
 fn has_escaped_colon(text: &[u8]) -> bool {
     text.contains_str(b"%3A") || text.contains_str(b"%3a")
 }
 
-/// What is in the brackets around a text.
+/// The text inside of brackets.
 fn in_brackets(text: &[u8]) -> Option<&[u8]> {
     text.strip_prefix(b"[")?.strip_suffix(b"]")
 }
 
-/// The text around the first mark and the mark, where there is one and it is looked for.
+/// The text before the first mark, the mark, and the text after it, if the mark is looked for and found.
 fn halves_at<'a>(
     text: &'a [u8],
     mark: &'static [u8],

@@ -1,7 +1,4 @@
-//! Pieces of a line as they are shown, compared with a text.
-//!
-//! It uses `cut` for the pieces. Its contract: pieces are told to show a text only if they are shown as the text, or as
-//! a front of it and the word for the rest.
+//! Comparison of the pieces of a line, as they are shown, with a text.
 
 ghost use Rattle.std.specs.Prelude.{◌≡◌, ◌++◌, ◌⊎◌, IsTrue, MatchOption, codes, ⊤};
 ghost use Rattle.explain_report.specs.Pieces.{IsShownAs, pieces_shown};
@@ -9,7 +6,7 @@ ghost use Rattle.explain_report.specs.Pieces.{IsShownAs, pieces_shown};
 use crate::text::cut::Piece;
 use crate::text::secret::is_same;
 
-/// Whether pieces are shown as a text, or as a front of it and the word for the rest.
+/// Whether the pieces are shown as the text, or as a front of it followed by `redacted` in place of the rest.
 pub(crate) fn shows(pieces: &[Piece<'_>], text: &[u8]) -> bool
     ensures { IsTrue result → IsShownAs text.now (pieces_shown pieces.now) }
 {
@@ -22,14 +19,14 @@ pub(crate) fn shows(pieces: &[Piece<'_>], text: &[u8]) -> bool
     }
 }
 
-/// Whether what is shown last is this rest of a text, or the word for it.
+/// Whether the last piece is shown as the rest of a text, or as `redacted`.
 fn is_last(last: &[u8], rest: &[u8]) -> bool
     ensures { IsTrue result → (last.now ≡ rest.now) ⊎ (last.now ≡ codes "redacted") }
 {
     is_same(last, rest) || is_same(last, b"redacted")
 }
 
-/// What is behind these pieces in a text, if it begins as they are shown.
+/// The rest of a text after these pieces as they are shown, if the text begins with them.
 fn behind_all<'a>(pieces: &[Piece<'_>], text: &'a [u8]) -> Option<&'a [u8]>
     ensures { MatchOption result ⊤ (λ rest. text.now ≡ pieces_shown pieces.now ++ rest.now) }
 {
@@ -40,7 +37,7 @@ fn behind_all<'a>(pieces: &[Piece<'_>], text: &'a [u8]) -> Option<&'a [u8]>
     Some(rest)
 }
 
-/// What is behind a front of a text, if it begins so.
+/// The rest of a text after a front, if the text begins with it.
 fn behind<'a>(text: &'a [u8], front: &[u8]) -> Option<&'a [u8]>
     ensures { MatchOption result ⊤ (λ rest. text.now ≡ front.now ++ rest.now) }
 {

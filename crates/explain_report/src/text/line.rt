@@ -1,8 +1,7 @@
-//! A line in its pieces, and how a text is spelled for a terminal.
+//! Lines as they are shown, whole and in pieces, and texts written for a terminal.
 //!
-//! `printed` and `shell_word` write a text. It uses `cut`, `secret` and the library's `parts_of`. Its contract: what is
-//! shown of a line is what `secret` shows of it, as a text and in its pieces, and what is written of a text has no control
-//! character, so that it speaks to no terminal. That it is one text's alone is no part of it.
+//! No text written here contains a control character, so it can't control a terminal. No contract says that
+//! different texts are written differently.
 
 ghost use Rattle.std.specs.Prelude.{◌≡◌, ◌++◌, ℕ, IfOk, List, OnOk, string_bytes};
 ghost use Rattle.explain_report.specs.Printed.{IsPrinted, WritesPrinted};
@@ -20,17 +19,17 @@ use git_refusals::parts::parts_of;
 use std::alloc::{AllocError, Global};
 use std::fmt;
 
-/// A line as it may be shown.
+/// A line as it is shown.
 #[derive(Drop)]
 pub struct SeenLine<'a> {
     /// Its pieces.
     pub cut: Cut<'a>,
-    /// The line as one text, with the word for what may be a secret and U+FFFD for bytes that are no UTF-8.
+    /// The line as one text, with `redacted` in place of possible secrets, and U+FFFD for bytes that aren't UTF-8.
     pub input: String,
 }
 
 impl<'a> SeenLine<'a> {
-    /// A line as it may be shown, which is refused or has a secret in its password alone.
+    /// Returns a line, which is refused or has no secret except in its password, as it is shown.
     pub fn of(alloc: Global, line: &'a [u8]) -> Result<SeenLine<'a>, AllocError>
         ensures input { IfOk result (λ seen. string_bytes seen.input ≡ text_shown line.now) }
         ensures pieces { IfOk result (λ seen. AreShownOf line.now (cut_shown seen.cut)) }
@@ -38,7 +37,7 @@ impl<'a> SeenLine<'a> {
         SeenLine::in_pieces(alloc, line, pieces_of(line))
     }
 
-    /// A line as it may be shown, without the parts of its location.
+    /// Returns a line as it is shown, without the parts of its location.
     pub fn without_parts(alloc: Global, line: &'a [u8]) -> Result<SeenLine<'a>, AllocError>
         ensures input { IfOk result (λ seen. string_bytes seen.input ≡ text_shown line.now) }
         ensures pieces { IfOk result (λ seen. AreShownOf line.now (cut_shown seen.cut)) }
@@ -46,7 +45,7 @@ impl<'a> SeenLine<'a> {
         SeenLine::in_pieces(alloc, line, Cut::of_secrets(line))
     }
 
-    /// A line as it may be shown, in these pieces if they show that.
+    /// A line as it is shown, in these pieces if they are shown as the line is.
     fn in_pieces(alloc: Global, line: &'a [u8], cut: Cut<'a>) -> Result<SeenLine<'a>, AllocError>
         ensures input { IfOk result (λ seen. string_bytes seen.input ≡ text_shown line.now) }
         ensures pieces { IfOk result (λ seen. AreShownOf line.now (cut_shown seen.cut)) }
@@ -59,7 +58,7 @@ impl<'a> SeenLine<'a> {
     }
 }
 
-/// These pieces of a line if they show what is shown of it, and else one that is hidden.
+/// These pieces of a line if they are shown as this text of the line, otherwise one hidden piece.
 fn pieces_showing<'a>(line: &'a [u8], cut: Cut<'a>, shown: &[u8]) -> Cut<'a>
     requires { shown.now ≡ shown_of line.now }
     ensures { AreShownOf line.now (cut_shown result) }
@@ -71,7 +70,8 @@ fn pieces_showing<'a>(line: &'a [u8], cut: Cut<'a>, shown: &[u8]) -> Cut<'a>
     }
 }
 
-/// The pieces of a line: the parts of its location, or of a refused line what may be secrets and what is between them.
+/// Returns the pieces of a line: the parts of its location, or for a refused line its possible secrets and the text
+/// between them.
 pub fn pieces_of(line: &[u8]) -> Cut<'_> {
     match parts_of(line) {
         Ok(parts) => Cut::of_parts(line, &parts),
@@ -79,7 +79,7 @@ pub fn pieces_of(line: &[u8]) -> Cut<'_> {
     }
 }
 
-/// How many columns the spelling of a character takes.
+/// The width of a character as it is written, in columns.
 fn columns_of(character: char, bytes: &[u8]) -> usize {
     match spelled(character, bytes) {
         Spelling::Plain(columns) => columns,
@@ -95,7 +95,7 @@ fn columns_of(character: char, bytes: &[u8]) -> usize {
     }
 }
 
-/// Bytes as they are shown.
+/// Formats bytes as they are shown.
 #[derive(Clone, Copy)]
 pub struct Shown<'a>(pub &'a [u8]);
 
@@ -107,7 +107,7 @@ impl fmt::Display for Shown<'_> {
     }
 }
 
-/// Bytes as they are shown, in quotes; those inside are escaped.
+/// Formats bytes as they are shown, in quotes. Quotes inside are escaped.
 #[derive(Clone, Copy, PartialEq)]
 pub struct Quoted<'a>(pub &'a [u8]);
 
@@ -119,8 +119,8 @@ impl fmt::Display for Quoted<'_> {
     }
 }
 
-/// Bytes as a word for a POSIX shell that means them: in `'..'`, a quote as `'\''`; where a character is escaped,
-/// in `$'..'`, which POSIX has since 2024.
+/// Formats bytes as a word that a POSIX shell reads as these bytes: in `'..'`, with `'\''` for a quote; or in `$'..'`,
+/// which has been in POSIX since 2024, if a character is escaped.
 #[derive(Clone, Copy)]
 pub struct ShellWord<'a>(pub &'a [u8]);
 
@@ -132,7 +132,7 @@ impl fmt::Display for ShellWord<'_> {
     }
 }
 
-/// Appends a text as it is shown.
+/// Appends a text as it is shown. An error means that memory was refused.
 pub fn write_shown(out: &mut String, text: &[u8]) -> Result<(), AllocError>
     ensures { OnOk result
         ((added : List ℕ) × (string_bytes out.new ≡ string_bytes out.old ++ added) × IsPrinted added) }
@@ -143,7 +143,7 @@ pub fn write_shown(out: &mut String, text: &[u8]) -> Result<(), AllocError>
     }
 }
 
-/// How many columns a text takes as it is shown.
+/// Returns the width of a text as it is shown, in columns.
 pub fn columns(text: &[u8]) -> usize {
     let mut sum = 0usize;
     for (from, to, character) in text.char_indices() {
@@ -152,7 +152,7 @@ pub fn columns(text: &[u8]) -> usize {
     sum
 }
 
-/// The longest front of whole characters that takes at most so many columns.
+/// Returns the longest front of whole characters that takes at most `limit` columns.
 pub fn front(text: &[u8], limit: usize) -> &[u8] {
     let mut sum = 0usize;
     for (from, to, character) in text.char_indices() {
@@ -164,7 +164,7 @@ pub fn front(text: &[u8], limit: usize) -> &[u8] {
     text
 }
 
-/// The longest end of whole characters that takes at most so many columns.
+/// Returns the longest end of whole characters that takes at most `limit` columns.
 pub fn end(text: &[u8], limit: usize) -> &[u8] {
     let mut sum = 0usize;
     for (from, to, character) in text.char_indices().rev() {
@@ -176,8 +176,8 @@ pub fn end(text: &[u8], limit: usize) -> &[u8] {
     text
 }
 
-/// The text before a place and from there on. A place inside a character means its beginning, one past the
-/// end the end.
+/// Splits a text at an offset in bytes. An offset inside of a character is rounded down to its start, and one past the
+/// end is the end.
 pub fn halves(text: &[u8], place: usize) -> (&[u8], &[u8]) {
     let mut at = 0usize;
     for (_from, to, _character) in text.char_indices() {
@@ -189,7 +189,7 @@ pub fn halves(text: &[u8], place: usize) -> (&[u8], &[u8]) {
     text.split_at(at.min(text.len()))
 }
 
-/// Whether the piece stands for a secret.
+/// Whether the piece is a hidden one.
 pub fn is_hidden(piece: &Piece<'_>) -> bool {
     matches!(piece.part(), Part::Password)
 }

@@ -1,13 +1,10 @@
-//! Where a place of a text is in what is shown of the text.
-//!
-//! It uses `secret` for what is shown, and has no contract but that it can't abort: the stored run has the parts that
-//! the second reading finds.
+//! Offsets of a text in the text as it is shown.
 
 use crate::text::secret::{REDACTED, size_of};
 use git_audit::secret::secrets;
 use git_refusals::parts::Span;
 
-/// Whether a part of a text is at this place in what is shown of the text, or is in neither.
+/// Whether a part of a text has this span in the text as it is shown, or is absent from both.
 pub(crate) fn is_moved(text: &[u8], part: Option<Span>, shown: Option<Span>) -> bool {
     match (part, shown) {
         (None, None) => true,
@@ -16,14 +13,14 @@ pub(crate) fn is_moved(text: &[u8], part: Option<Span>, shown: Option<Span>) -> 
     }
 }
 
-/// Whether a part of a text is at this place in what is shown of the text.
+/// Whether a part of a text has this span in the text as it is shown.
 fn is_between(text: &[u8], part: Span, shown: Span) -> bool {
     let end = part.at.saturating_add(part.len);
     let end_shown = shown.at.saturating_add(shown.len);
     moved(text, part.at) == Some(shown.at) && moved(text, end) == Some(end_shown)
 }
 
-/// Where a place of a text is in what is shown of the text; none within what is hidden.
+/// The offset in the text as it is shown of an offset in the text, or `None` inside of a hidden piece.
 fn moved(text: &[u8], place: usize) -> Option<usize> {
     let (mut at, mut shown) = (0usize, 0usize);
     for piece in secrets(text) {
@@ -38,7 +35,7 @@ fn moved(text: &[u8], place: usize) -> Option<usize> {
     Some(shown.saturating_add(place.saturating_sub(at)))
 }
 
-/// So many bytes behind a place that is shown, in a piece that is hidden or not.
+/// The offset `bytes` after the shown start of a piece, unless it is inside of a hidden piece.
 fn within(is_hidden: bool, bytes: usize, shown: usize) -> Option<usize> {
     if is_hidden && 0 < bytes {
         None

@@ -1,8 +1,7 @@
-//! How a character is spelled for a terminal, and texts that are written so.
+//! Characters and texts written for a terminal.
 //!
-//! `\` is doubled, and each control character, each byte that is no UTF-8 and each character that isn't seen or takes no
-//! column is escaped as `Debug` of a byte string spells it. It uses the crates `bstr` and `unicode_width`. Its contract:
-//! what is written has no control character.
+//! `\` is doubled. A control character, a byte that isn't UTF-8, and a character that is invisible or has no width are
+//! escaped as in the `Debug` output of a byte string.
 
 ghost use Rattle.std.specs.Prelude.{◌≡◌, ◌<◌, OnOk, true};
 ghost use Rattle.explain_report.specs.Printed.{AddsPrinted, IsSpelled, is_printed};
@@ -12,20 +11,20 @@ use bstr::ByteSlice;
 use std::fmt::{self, Write};
 use unicode_width::UnicodeWidthChar;
 
-/// How a character is spelled.
+/// The way to write a character.
 #[derive(Clone, Copy)]
 pub(crate) enum Spelling {
-    /// As it is, in so many columns.
+    /// Unchanged, with this number of columns.
     Plain(usize),
-    /// By a text.
+    /// As this text.
     Short(&'static str),
-    /// Each byte by its number.
+    /// Each byte as a hexadecimal escape.
     Bytes,
-    /// By the number of the character.
+    /// As an escape of the character's number.
     Number,
 }
 
-/// How a character is spelled that is in these bytes; U+FFFD also stands for bytes that are no character.
+/// The way to write a character with these bytes. Bytes that aren't a character are U+FFFD.
 pub(crate) fn spelled(character: char, bytes: &[u8]) -> Spelling
     ensures { IsSpelled character result }
 {
@@ -42,7 +41,7 @@ pub(crate) fn spelled(character: char, bytes: &[u8]) -> Spelling
     }
 }
 
-/// How a character past ASCII is spelled.
+/// The way to write a character beyond ASCII.
 fn spelled_wide(character: char) -> Spelling
     ensures { IsSpelled character result }
 {
@@ -56,7 +55,7 @@ fn spelled_wide(character: char) -> Spelling
     }
 }
 
-/// Writes a character as it is spelled.
+/// Writes a character.
 pub(crate) fn write_character<W: Write>(out: &mut W, character: char, bytes: &[u8]) -> fmt::Result
     ensures { OnOk result (AddsPrinted W.write_str_gives out.old out.new) }
 {
@@ -68,7 +67,7 @@ pub(crate) fn write_character<W: Write>(out: &mut W, character: char, bytes: &[u
     }
 }
 
-/// Writes each byte by its number.
+/// Writes each byte as a hexadecimal escape.
 pub(crate) fn write_bytes<W: Write>(out: &mut W, bytes: &[u8]) -> fmt::Result
     ensures { OnOk result (AddsPrinted W.write_str_gives out.old out.new) }
 {
@@ -78,7 +77,7 @@ pub(crate) fn write_bytes<W: Write>(out: &mut W, bytes: &[u8]) -> fmt::Result
     Ok(())
 }
 
-/// Writes a byte by its number.
+/// Writes a byte as a hexadecimal escape.
 fn write_byte<W: Write>(out: &mut W, byte: u8) -> fmt::Result
     ensures { OnOk result (AddsPrinted W.write_str_gives out.old out.new) }
 {
@@ -99,7 +98,7 @@ fn digit(value: u8) -> char
     }
 }
 
-/// Writes a character by its number.
+/// Writes the escape of a character's number.
 fn write_number<W: Write>(out: &mut W, character: char) -> fmt::Result
     ensures { OnOk result (AddsPrinted W.write_str_gives out.old out.new) }
 {
@@ -120,7 +119,7 @@ pub(crate) fn write_text<W: Write>(out: &mut W, text: &[u8]) -> fmt::Result
     Ok(())
 }
 
-/// Writes a text in quotes, as it is shown; those inside are escaped.
+/// Writes a text in quotes, as it is shown. Quotes inside are escaped.
 pub(crate) fn write_quoted<W: Write>(out: &mut W, text: &[u8]) -> fmt::Result
     ensures { OnOk result (AddsPrinted W.write_str_gives out.old out.new) }
 {
@@ -131,7 +130,7 @@ pub(crate) fn write_quoted<W: Write>(out: &mut W, text: &[u8]) -> fmt::Result
     out.write_str("\"")
 }
 
-/// Writes a character of a text in quotes.
+/// Writes a character of a quoted text.
 fn write_in_quotes<W: Write>(out: &mut W, character: char, bytes: &[u8]) -> fmt::Result
     ensures { OnOk result (AddsPrinted W.write_str_gives out.old out.new) }
 {

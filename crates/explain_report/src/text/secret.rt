@@ -1,8 +1,7 @@
-//! Texts as they are shown: with the word `redacted` in place of what may be a secret.
+//! Texts as they are shown, with the word `redacted` in place of each possible secret.
 //!
-//! It uses `secret` of `git_audit`, whose definition decides what may be one. Its contract: what is shown of a text is
-//! its pieces by that definition, with the word for each that may be a secret. By [`law_shown`] it doesn't depend on the
-//! bytes that the word replaces.
+//! A definition of `git_audit` decides which pieces of a text may be secrets. By [`law_shown`] the shown text doesn't
+//! depend on the bytes that are replaced.
 
 ghost use Rattle.std.specs.Prelude.{◌≡◌, ◌++◌, IfOk, IsTrue, OnOk, option_map, string_bytes};
 ghost use Rattle.explain_report.specs.Secrets.{LeavesSecretsOut, has_secret, is_hidden, part_shown, password_shown, shown_of, text_shown};
@@ -13,10 +12,10 @@ use bstr::ByteSlice;
 use git_audit::secret::{Piece, secrets};
 use std::alloc::{AllocError, Global};
 
-/// The word in place of what may be a secret.
+/// The word in place of a possible secret.
 pub const REDACTED: &[u8] = b"redacted";
 
-/// A law: texts that differ only in bytes that may be secrets are shown as the same text.
+/// Texts that differ only in bytes that may be secrets are shown as the same text.
 pub fn law_shown()
     ensures { LeavesSecretsOut }
 {}
@@ -43,7 +42,7 @@ fn is_hidden(piece: Piece<'_>) -> bool
     }
 }
 
-/// The text as it is shown, byte for byte.
+/// Returns the text as it is shown, byte for byte. Allocates the result.
 pub fn shown_bytes(alloc: Global, text: &[u8]) -> Result<Vec<u8>, AllocError>
     ensures { IfOk result (λ shown. shown.items ≡ shown_of text.now) }
 {
@@ -64,7 +63,7 @@ fn push_piece(out: &mut Vec<u8>, piece: Piece<'_>) -> Result<(), AllocError>
     }
 }
 
-/// The text as it is shown. Bytes that are not UTF-8 are U+FFFD.
+/// Returns the text as it is shown, with U+FFFD for bytes that aren't UTF-8. Allocates the result.
 pub fn shown_text(alloc: Global, text: &[u8]) -> Result<String, AllocError>
     ensures { IfOk result (λ shown. string_bytes shown ≡ text_shown text.now) }
 {
@@ -74,7 +73,7 @@ pub fn shown_text(alloc: Global, text: &[u8]) -> Result<String, AllocError>
     shown
 }
 
-/// A part as it is shown, if there is one.
+/// Returns a part as it is shown, if it is present.
 pub fn shown_part(alloc: Global, part: Option<&[u8]>) -> Result<Option<String>, AllocError>
     ensures { IfOk result (λ shown. option_map string_bytes shown ≡ option_map (λ it. text_shown it.now) part.entry) }
 {
@@ -84,7 +83,7 @@ pub fn shown_part(alloc: Global, part: Option<&[u8]>) -> Result<Option<String>, 
     }
 }
 
-/// A part of a text, or the word in place of one that isn't in a piece of the text that is shown.
+/// Returns a part of a text, or `redacted` if the part doesn't occur in a shown piece of the text.
 pub fn part_of_shown<'a>(text: &[u8], part: &'a [u8]) -> &'a [u8] {
     if is_in_shown(text, part) {
         part
@@ -93,7 +92,7 @@ pub fn part_of_shown<'a>(text: &[u8], part: &'a [u8]) -> &'a [u8] {
     }
 }
 
-/// Whether some bytes are in a part of the text that may be shown.
+/// Whether the bytes occur in the text before, between or after its hidden pieces.
 fn is_in_shown(text: &[u8], bytes: &[u8]) -> bool {
     let (mut begin, mut at) = (0usize, 0usize);
     for piece in secrets(text) {
@@ -109,7 +108,7 @@ fn is_in_shown(text: &[u8], bytes: &[u8]) -> bool {
     between(text, begin, text.len()).contains_str(bytes)
 }
 
-/// How many bytes a piece has, and whether it is hidden.
+/// The length of a piece in bytes, and whether it is hidden.
 pub(crate) fn size_of(piece: Piece<'_>) -> (usize, bool) {
     match piece {
         Piece::Shown(bytes) => (bytes.len(), false),
@@ -117,7 +116,7 @@ pub(crate) fn size_of(piece: Piece<'_>) -> (usize, bool) {
     }
 }
 
-/// The bytes from one place of a text to another.
+/// The bytes between two offsets of a text, or none if there are no such offsets.
 pub(crate) fn between(text: &[u8], from: usize, to: usize) -> &[u8] {
     match text.get(from..to) {
         Some(bytes) => bytes,
@@ -125,7 +124,7 @@ pub(crate) fn between(text: &[u8], from: usize, to: usize) -> &[u8] {
     }
 }
 
-/// The word for a password, or nothing for an empty one.
+/// The word for a password, which is empty for an empty password.
 pub(crate) fn word_for(password: &[u8]) -> &'static [u8]
     ensures { result.now ≡ password_shown password.now }
 {
@@ -135,7 +134,7 @@ pub(crate) fn word_for(password: &[u8]) -> &'static [u8]
     }
 }
 
-/// Whether both texts are the same.
+/// Whether both texts are equal.
 pub(crate) fn is_same(text: &[u8], other: &[u8]) -> bool
     ensures { IsTrue result → text.now ≡ other.now }
 {

@@ -1,10 +1,8 @@
-//! How a line is shown that is read as a location: as itself, with the word for its password; or, where something else
-//! in it may be a secret, as the text that is shown of it, and what is reported is read in that.
+//! The way to show a line that is read as a location.
 //!
-//! It uses `secret` for what is shown of the line, the library's `parts_of`, and `parse` of `gix_url`. Its contract,
-//! memory permitting: a line that is shown as itself is what is shown of it but for one part; another line is what is
-//! shown of it, and is read as a location with the same verdicts; and nothing is shown only of a line of which a part may
-//! be a secret.
+//! If the password is the only possible secret, the line is shown with `redacted` in its place. Otherwise the text
+//! shown of the line is parsed in place of the line, and reported if it has the same parts and verdicts. If it hasn't,
+//! nothing is reported of the location.
 
 ghost use Rattle.std.specs.Prelude.{◌≡◌, ◌++◌, ℕ, IfOk, IsTrue, List, option_map};
 ghost use Rattle.git_syntax.specs.Grammar.{Spells};
@@ -20,27 +18,27 @@ use gix_url::parse::parse;
 use gix_url::{Error, Url};
 use std::alloc::{AllocError, Global};
 
-/// How a line is shown that is read as a location.
+/// The way to show a line that is read as a location.
 #[derive(Drop)]
 pub enum Seen {
-    /// As itself, with the word for its password if it has one.
+    /// The line itself, with `redacted` in place of its password if it has one.
     Line,
-    /// As another line, which is read as another location.
+    /// Another line, which is read as another location.
     Other(OtherLine),
-    /// Nothing is shown of what it is read as.
+    /// Nothing of the location is shown.
     Withheld,
 }
 
-/// A line that is shown in place of one that may have secrets.
+/// A line shown in place of one that may contain secrets.
 #[derive(Drop)]
 pub struct OtherLine {
     pub line: Vec<u8>,
-    /// The location that is read in it.
+    /// The location that this line is read as.
     pub url: Url,
 }
 
 impl Seen {
-    /// How a line is shown in which this location is read.
+    /// Returns the way to show a line that is read as this location.
     pub fn of(alloc: Global, line: &[u8], url: &Url) -> Result<Seen, AllocError>
         ensures { IfOk result (IsSeen line.now url.now) }
     {
@@ -56,7 +54,7 @@ impl Seen {
         Seen::of_other(alloc, line, url, shown)
     }
 
-    /// How a line is shown in place of which this one may be.
+    /// The way to show a line, if possibly this shown text takes its place.
     fn of_other(alloc: Global, line: &[u8], url: &Url, shown: Vec<u8>) -> Result<Seen, AllocError>
         requires shown { shown.items ≡ shown_of line.now }
         requires secret { IsTrue (has_secret line.now) }
@@ -75,7 +73,7 @@ impl Seen {
         }
     }
 
-    /// How a line is shown in place of which this one is read as a location.
+    /// The way to show a line, if its shown text is read as another location.
     fn of_location(line: &[u8], url: &Url, other: OtherLine) -> Seen
         requires shown { other.line.items ≡ shown_of line.now }
         requires spelled { Spells (shown_of line.now) other.url }
@@ -89,7 +87,7 @@ impl Seen {
         Seen::Withheld
     }
 
-    /// How a line is shown in place of which this one is refused, unless it is memory that was refused.
+    /// The way to show a line whose shown text is refused. An error means that memory was refused.
     fn of_error(shown: Vec<u8>, error: Error) -> Result<Seen, AllocError>
         ensures { (line : List ℕ) (v : Location) → IsTrue (has_secret line) → IfOk result (IsSeen line v) }
     {
@@ -102,7 +100,7 @@ impl Seen {
         Ok(Seen::Withheld)
     }
 
-    /// The line and the location of which may be shown what is read in this line, if there are such.
+    /// Returns the line and the location to report in place of these, or `None` if they are withheld.
     pub fn shown<'b>(&'b self, line: &'b [u8], url: &'b Url) -> Option<(&'b [u8], &'b Url)>
         ensures { option_map (λ it. (it.0.now, it.1.now)) result ≡ shown_as line.now url.now self.now }
     {
@@ -114,14 +112,14 @@ impl Seen {
     }
 }
 
-/// Whether both are settled or not, and Git reads the same in both or isn't known to.
+/// Whether both are settled or neither is, and Git is known to read the same in both or in neither.
 fn has_same_verdicts(url: &Url, other: &Url) -> bool
     ensures { IsTrue result → HaveSameVerdicts url.now other.now }
 {
     url.is_settled() == other.is_settled() && url.agrees_with_git() == other.agrees_with_git()
 }
 
-/// Whether what is shown of a line is the line, with the word for its password if it has one.
+/// Whether the shown text of a line is the line, with `redacted` in place of its password if it has one.
 fn is_around_password(line: &[u8], shown: &[u8]) -> bool
     requires { shown.now ≡ shown_of line.now }
     ensures { IsTrue result → IsShownAround line.now }
@@ -132,7 +130,7 @@ fn is_around_password(line: &[u8], shown: &[u8]) -> bool
     }
 }
 
-/// The place of the password of a line, if it has one.
+/// The span of the password of a line, if it has one.
 fn password_of(line: &[u8]) -> Option<Span> {
     match parts_of(line) {
         Ok(parts) => parts.password,
@@ -140,7 +138,7 @@ fn password_of(line: &[u8]) -> Option<Span> {
     }
 }
 
-/// Whether what is shown of a line is the line, with the word for the password at this place.
+/// Whether the shown text of a line is the line, with `redacted` in place of the password at this span.
 fn is_around(line: &[u8], span: Span, shown: &[u8]) -> bool
     requires { shown.now ≡ shown_of line.now }
     ensures { IsTrue result → IsShownAround line.now }
@@ -150,7 +148,7 @@ fn is_around(line: &[u8], span: Span, shown: &[u8]) -> bool
     is_joined(shown, front, word_for(password), rest)
 }
 
-/// Whether a text is these three, one after the other.
+/// Whether a text is the concatenation of these three.
 fn is_joined(text: &[u8], front: &[u8], word: &[u8], rest: &[u8]) -> bool
     ensures { IsTrue result → text.now ≡ front.now ++ (word.now ++ rest.now) }
 {
@@ -158,7 +156,7 @@ fn is_joined(text: &[u8], front: &[u8], word: &[u8], rest: &[u8]) -> bool
     is_same(head, front) && is_both(behind, word, rest)
 }
 
-/// Whether a text is these two, one after the other.
+/// Whether a text is the concatenation of these two.
 fn is_both(text: &[u8], word: &[u8], rest: &[u8]) -> bool
     ensures { IsTrue result → text.now ≡ word.now ++ rest.now }
 {
@@ -166,7 +164,7 @@ fn is_both(text: &[u8], word: &[u8], rest: &[u8]) -> bool
     is_same(head, word) && is_same(behind, rest)
 }
 
-/// Whether the other line, which is what is shown of this one, has the same parts.
+/// Whether the shown text of this line has the same parts as the line.
 fn has_same_parts(line: &[u8], other: &[u8]) -> bool {
     match (parts_of(line), parts_of(other)) {
         (Ok(parts), Ok(others)) => are_moved(line, &parts, &others),
@@ -174,7 +172,7 @@ fn has_same_parts(line: &[u8], other: &[u8]) -> bool {
     }
 }
 
-/// Whether each part is where the line shows it.
+/// Whether each part is at its place in the shown text of the line.
 fn are_moved(line: &[u8], parts: &Parts, others: &Parts) -> bool {
     parts.form == others.form
         && is_moved(line, parts.scheme, others.scheme)

@@ -1,6 +1,4 @@
-//! Bytes as a word for a POSIX shell that means them.
-//!
-//! It uses `printed` for how a character is spelled. Its contract: no control character is written.
+//! Bytes written as a word for a POSIX shell, which reads it as these bytes.
 
 ghost use Rattle.std.specs.Prelude.{OnOk};
 ghost use Rattle.explain_report.specs.Printed.{AddsPrinted, IsPrinted};
@@ -23,14 +21,14 @@ pub(crate) fn write_word<W: Write>(out: &mut W, text: &[u8]) -> fmt::Result
     out.write_str("'")
 }
 
-/// How a word begins, in which characters are escaped or none.
+/// The opening quote of a word, with or without escaped characters.
 fn opening(is_escaped: bool) -> &'static str
     ensures { IsPrinted result.now }
 {
     if is_escaped { "$'" } else { "'" }
 }
 
-/// Whether a character of the text is no `\`, and isn't shown as it is.
+/// Whether a character of the text other than `\` is written as an escape.
 fn has_escape(text: &[u8]) -> bool {
     for (from, to, character) in text.char_indices() {
         let spelling = spelled(character, between(text, from, to));
@@ -41,7 +39,7 @@ fn has_escape(text: &[u8]) -> bool {
     false
 }
 
-/// Writes a character of a word for a shell, in which some are escaped or none.
+/// Writes a character of a word for a shell, with or without escaped characters.
 fn write_in_word<W: Write>(
     out: &mut W,
     character: char,
@@ -59,7 +57,7 @@ fn write_in_word<W: Write>(
     }
 }
 
-/// A quote in a word, in which characters are escaped or none.
+/// A quote in a word, with or without escaped characters.
 fn quote(is_escaped: bool) -> &'static str
     ensures { IsPrinted result.now }
 {

@@ -1,4 +1,4 @@
--- Rows of masks.
+-- Examples of masks.
 use Rattle.std.specs.Prelude.{◌≡◌, ◌+◌, ◌==◌, codes}
 use Rattle.git_syntax.specs.Bytes.{colon}
 use Rattle.git_syntax.specs.Internal.HostPieces.{is_simple_byte}

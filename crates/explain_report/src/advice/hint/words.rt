@@ -1,12 +1,9 @@
 //! The names and the sentences of hints.
-//!
-//! They have no contract: `scripts/hostile golden` shows the sentences, and `scripts/documents` compares them with
-//! docs/EXPLAIN.md.
 
 use crate::advice::hint::Hint;
 
 impl Hint {
-    /// Its name, as programs are given it.
+    /// Returns the hint's name for programs.
     pub fn name(self) -> &'static str {
         match self {
             Hint::ColonForSlash => "colon_for_slash",
@@ -56,7 +53,8 @@ impl Hint {
         }
     }
 
-    /// The hint in words, which hold no byte of the line. A URL follows those of [`Hint::WriteInstead`].
+    /// Returns the hint in words, which contain no byte of the line. The URL of [`Hint::WriteInstead`] follows its
+    /// words.
     pub fn sentence(self) -> &'static str {
         match self {
             Hint::ColonForSlash => {
