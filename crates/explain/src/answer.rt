@@ -149,11 +149,11 @@ impl Line<'_, '_> {
     }
 
     /// The report about a location whose line is shown as these bytes, with the programs that may read it differently.
-    fn shown_so(
+    fn shown_so<'t>(
         self,
         alloc: Global,
-        bytes: &[u8],
-        url: &Url,
+        bytes: &'t [u8],
+        url: &'t Url,
         readers: Result<Option<Readers>, AllocError>,
         notes: Notes<'_>,
         page: &mut Page,
@@ -172,17 +172,29 @@ impl Line<'_, '_> {
             hints: found.as_slice(),
             rules: notes.rules,
         };
-        let row = self.row(&seen, Some(&report), None, notes);
-        let answer = if self.style.layout.has_objects() {
-            self.object(alloc, &row, notes, page)
-        } else {
-            shown::location(alloc, self, url, &report, &seen, notes)
-        };
+        let answer = self.laid_out(alloc, url, &report, &seen, notes, page);
         drop(found);
         drop(readers);
         drop(report);
         drop(seen);
         answer
+    }
+
+    /// The report about a location that is shown, in the layout of the run.
+    fn laid_out<'x, 'a: 'x>(
+        self,
+        alloc: Global,
+        url: &Url,
+        report: &'x Report<'a>,
+        seen: &'x SeenLine<'a>,
+        notes: Notes<'x>,
+        page: &mut Page,
+    ) -> Result<String, AllocError> {
+        if self.style.layout.has_objects() {
+            let row = self.row(seen, Some(report), None, notes);
+            return self.object(alloc, &row, notes, page);
+        }
+        shown::location(alloc, self, url, report, seen, notes)
     }
 
     /// The report about a location that isn't shown, because its parts may be secrets.
