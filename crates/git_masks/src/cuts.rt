@@ -14,7 +14,10 @@ use crate::masks::Masks;
 
 /// The texts before and after the first `:`: of `h:22:p` `h` and `22:p`.
 #[inline(always)]
-pub fn cut_at_colon<'a, B: Bits>(text: &'a [u8], masks: &Masks<B>) -> Option<(&'a [u8], &'a [u8])>
+pub(crate) fn cut_at_colon<'a, B: Bits>(
+    text: &'a [u8],
+    masks: &Masks<B>,
+) -> Option<(&'a [u8], &'a [u8])>
     requires { AreMasksOf B.number B.size text.now masks.now }
     ensures { CutsAt colon text.now result }
 {
@@ -24,7 +27,10 @@ pub fn cut_at_colon<'a, B: Bits>(text: &'a [u8], masks: &Masks<B>) -> Option<(&'
 
 /// The texts before and after the last `@`: of `a@b@h` `a@b` and `h`.
 #[inline(always)]
-pub fn cut_at_last_at<'a, B: Bits>(text: &'a [u8], masks: &Masks<B>) -> Option<(&'a [u8], &'a [u8])>
+pub(crate) fn cut_at_last_at<'a, B: Bits>(
+    text: &'a [u8],
+    masks: &Masks<B>,
+) -> Option<(&'a [u8], &'a [u8])>
     requires { AreMasksOf B.number B.size text.now masks.now }
     ensures { CutsAtLast at_sign text.now result }
 {
@@ -34,7 +40,10 @@ pub fn cut_at_last_at<'a, B: Bits>(text: &'a [u8], masks: &Masks<B>) -> Option<(
 
 /// The texts before and after the first `://`: of `c:d://h` `c:d` and `h`.
 #[inline(always)]
-pub fn cut_at_mark<'a, B: Bits>(text: &'a [u8], masks: &Masks<B>) -> Option<(&'a [u8], &'a [u8])>
+pub(crate) fn cut_at_mark<'a, B: Bits>(
+    text: &'a [u8],
+    masks: &Masks<B>,
+) -> Option<(&'a [u8], &'a [u8])>
     requires { AreMasksOf B.number B.size text.now masks.now }
     ensures { CutsAtMark text.now result }
 {
@@ -44,7 +53,7 @@ pub fn cut_at_mark<'a, B: Bits>(text: &'a [u8], masks: &Masks<B>) -> Option<(&'a
 
 /// The text after two slashes at the front: `h/p` for `//h/p`, and `None` for `/h`.
 #[inline(always)]
-pub fn after_slashes<'a, B: Bits>(text: &'a [u8], masks: &Masks<B>) -> Option<&'a [u8]>
+pub(crate) fn after_slashes<'a, B: Bits>(text: &'a [u8], masks: &Masks<B>) -> Option<&'a [u8]>
     requires { AreMasksOf B.number B.size text.now masks.now }
     ensures { MatchOption result ((behind : List ℕ) → ¬ (text.now ≡ slash ∷ (slash ∷ behind)))
         (λ behind. text.now ≡ slash ∷ (slash ∷ behind.now)) }
@@ -59,7 +68,7 @@ pub fn after_slashes<'a, B: Bits>(text: &'a [u8], masks: &Masks<B>) -> Option<&'
 /// The front up to the first possible start of a path, and the rest: of `h?a/p` `h` and `?a/p` on the web, and `h?a`
 /// and `/p` elsewhere.
 #[inline(always)]
-pub fn cut_before_path<'a, B: Bits>(
+pub(crate) fn cut_before_path<'a, B: Bits>(
     text: &'a [u8],
     masks: &Masks<B>,
     web: bool,
@@ -90,7 +99,7 @@ fn path_starts<B: Bits>(text: &[u8], masks: &Masks<B>, web: bool) -> B
 
 /// Whether each byte is printable ASCII other than `%`, as in `h/p` but not in `h/%20`.
 #[inline(always)]
-pub fn is_plain<B: Bits>(text: &[u8], masks: &Masks<B>) -> bool
+pub(crate) fn is_plain<B: Bits>(text: &[u8], masks: &Masks<B>) -> bool
     requires { AreMasksOf B.number B.size text.now masks.now }
     ensures { result ≡ spec.is_plain text.now }
 {
@@ -99,7 +108,7 @@ pub fn is_plain<B: Bits>(text: &[u8], masks: &Masks<B>) -> bool
 
 /// Whether the text contains `%`.
 #[inline(always)]
-pub fn has_percent<B: Bits>(text: &[u8], masks: &Masks<B>) -> bool
+pub(crate) fn has_percent<B: Bits>(text: &[u8], masks: &Masks<B>) -> bool
     requires { AreMasksOf B.number B.size text.now masks.now }
     ensures { result ≡ spec.has_percent text.now }
 {
@@ -108,7 +117,7 @@ pub fn has_percent<B: Bits>(text: &[u8], masks: &Masks<B>) -> bool
 
 /// Whether no byte is `:`.
 #[inline(always)]
-pub fn lacks_colons<B: Bits>(text: &[u8], masks: &Masks<B>) -> bool
+pub(crate) fn lacks_colons<B: Bits>(text: &[u8], masks: &Masks<B>) -> bool
     requires { AreMasksOf B.number B.size text.now masks.now }
     ensures { IsTrue result ↔ FreeOf colon text.now }
 {
@@ -117,7 +126,7 @@ pub fn lacks_colons<B: Bits>(text: &[u8], masks: &Masks<B>) -> bool
 
 /// Whether each byte is a lower-case letter, a digit, `-` or `.`, as in `a-1.b` but not in `a_b`.
 #[inline(always)]
-pub fn are_simple_bytes<B: Bits>(text: &[u8], masks: &Masks<B>) -> bool
+pub(crate) fn are_simple_bytes<B: Bits>(text: &[u8], masks: &Masks<B>) -> bool
     requires { AreMasksOf B.number B.size text.now masks.now }
     ensures { result ≡ list_all is_simple_byte text.now }
 {

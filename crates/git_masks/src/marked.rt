@@ -19,16 +19,16 @@ use crate::masks::{Masks, long_masks, short_masks};
 
 /// A text with its masks, as [`mark_short`] and [`mark_long`] return it.
 #[derive(Clone, Copy)]
-pub struct Marked<'a, B> {
+pub(crate) struct Marked<'a, B> {
     /// The text.
-    pub text: &'a [u8],
+    pub(crate) text: &'a [u8],
     /// Its masks.
-    pub masks: Masks<B>,
+    pub(crate) masks: Masks<B>,
 }
 
 /// Returns the text with its masks, or `None` if it has more than 64 bytes.
 #[inline(always)]
-pub fn mark_short(text: &[u8]) -> Option<Marked<'_, u64>>
+pub(crate) fn mark_short(text: &[u8]) -> Option<Marked<'_, u64>>
     ensures { MatchOption result (64 < length text.now)
         (λ found. IsMarked (λ m. m) 64 found × (found.text.now ≡ text.now)) }
 {
@@ -38,7 +38,7 @@ pub fn mark_short(text: &[u8]) -> Option<Marked<'_, u64>>
 
 /// Returns the text with its masks, or `None` if it has more than 128 bytes.
 #[inline(always)]
-pub fn mark_long(text: &[u8]) -> Option<Marked<'_, u128>>
+pub(crate) fn mark_long(text: &[u8]) -> Option<Marked<'_, u128>>
     ensures { MatchOption result (128 < length text.now)
         (λ found. IsMarked (λ m. m) 128 found × (found.text.now ≡ text.now)) }
 {
@@ -49,7 +49,7 @@ pub fn mark_long(text: &[u8]) -> Option<Marked<'_, u128>>
 impl<'a, B: Bits> Marked<'a, B> {
     /// Returns the texts before and after the first `:`: of `h:22:p` `h` and `22:p`.
     #[inline(always)]
-    pub fn cut_at_colon(&self) -> Option<(Marked<'a, B>, Marked<'a, B>)>
+    pub(crate) fn cut_at_colon(&self) -> Option<(Marked<'a, B>, Marked<'a, B>)>
         requires { IsMarked B.number B.size self.now }
         ensures cut { CutsAt colon self.now.text.now (option_map texts_of result) }
         ensures masks { IfSome result (λ p. IsMarked B.number B.size p.0 × IsMarked B.number B.size p.1) }
@@ -60,7 +60,7 @@ impl<'a, B: Bits> Marked<'a, B> {
 
     /// Returns the texts before and after the last `@`: of `a@b@h` `a@b` and `h`.
     #[inline(always)]
-    pub fn cut_at_last_at(&self) -> Option<(Marked<'a, B>, Marked<'a, B>)>
+    pub(crate) fn cut_at_last_at(&self) -> Option<(Marked<'a, B>, Marked<'a, B>)>
         requires { IsMarked B.number B.size self.now }
         ensures cut { CutsAtLast at_sign self.now.text.now (option_map texts_of result) }
         ensures masks { IfSome result (λ p. IsMarked B.number B.size p.0 × IsMarked B.number B.size p.1) }
@@ -71,7 +71,7 @@ impl<'a, B: Bits> Marked<'a, B> {
 
     /// Returns the texts before and after the first `://`: of `c:d://h` `c:d` and `h`.
     #[inline(always)]
-    pub fn cut_at_mark(&self) -> Option<(Marked<'a, B>, Marked<'a, B>)>
+    pub(crate) fn cut_at_mark(&self) -> Option<(Marked<'a, B>, Marked<'a, B>)>
         requires { IsMarked B.number B.size self.now }
         ensures cut { CutsAtMark self.now.text.now (option_map texts_of result) }
         ensures masks { IfSome result (λ p. IsMarked B.number B.size p.0 × IsMarked B.number B.size p.1) }
@@ -82,7 +82,7 @@ impl<'a, B: Bits> Marked<'a, B> {
 
     /// Returns the text after two slashes at the front: `h/p` for `//h/p`, and `None` for `/h`.
     #[inline(always)]
-    pub fn after_slashes(&self) -> Option<Marked<'a, B>>
+    pub(crate) fn after_slashes(&self) -> Option<Marked<'a, B>>
         requires { IsMarked B.number B.size self.now }
         ensures cut { MatchOption result
             ((behind : List ℕ) → ¬ (self.now.text.now ≡ slash ∷ (slash ∷ behind)))
@@ -96,7 +96,7 @@ impl<'a, B: Bits> Marked<'a, B> {
     /// Returns the front up to the first possible start of a path, and the rest: of `h?a/p` `h` and `?a/p` on the web,
     /// and `h?a` and `/p` elsewhere.
     #[inline(always)]
-    pub fn cut_before_path(&self, web: bool) -> (Marked<'a, B>, Marked<'a, B>)
+    pub(crate) fn cut_before_path(&self, web: bool) -> (Marked<'a, B>, Marked<'a, B>)
         requires { IsMarked B.number B.size self.now }
         ensures joined { self.now.text.now ≡ result.0.text.now ++ result.1.text.now }
         ensures front { Lacks (is_path_start web) result.0.text.now }
@@ -109,7 +109,7 @@ impl<'a, B: Bits> Marked<'a, B> {
 
     /// Whether each byte is printable ASCII other than `%`, as in `h/p` but not in `h/%20`.
     #[inline(always)]
-    pub fn is_plain(&self) -> bool
+    pub(crate) fn is_plain(&self) -> bool
         requires { IsMarked B.number B.size self.now }
         ensures { result ≡ spec.is_plain self.now.text.now }
     {
@@ -118,7 +118,7 @@ impl<'a, B: Bits> Marked<'a, B> {
 
     /// Whether the text contains `%`.
     #[inline(always)]
-    pub fn has_percent(&self) -> bool
+    pub(crate) fn has_percent(&self) -> bool
         requires { IsMarked B.number B.size self.now }
         ensures { result ≡ spec.has_percent self.now.text.now }
     {
@@ -127,7 +127,7 @@ impl<'a, B: Bits> Marked<'a, B> {
 
     /// Whether each byte is a lower-case letter, a digit, `-` or `.`, as in `a-1.b` but not in `a_b`.
     #[inline(always)]
-    pub fn are_simple_bytes(&self) -> bool
+    pub(crate) fn are_simple_bytes(&self) -> bool
         requires { IsMarked B.number B.size self.now }
         ensures { result ≡ list_all is_simple_byte self.now.text.now }
     {
@@ -136,7 +136,7 @@ impl<'a, B: Bits> Marked<'a, B> {
 
     /// Whether no byte is `:`.
     #[inline(always)]
-    pub fn lacks_colons(&self) -> bool
+    pub(crate) fn lacks_colons(&self) -> bool
         requires { IsMarked B.number B.size self.now }
         ensures { IsTrue result ↔ FreeOf colon self.now.text.now }
     {
