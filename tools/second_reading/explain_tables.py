@@ -1,6 +1,6 @@
 """The tables of texts that surprise, in docs/GRAMMAR.md, and of reasons and hints, in docs/EXPLAIN.md, compared with the second reading.
 
-The sentences of the hints are compared with the code.
+The sentences of the hints (`hint_sentences.py`) are compared with the code.
 """
 import itertools
 import os
@@ -9,12 +9,13 @@ import re
 from rt_api import ROOT
 from second_reading import errors, fault_places, grammar, hidden
 from second_reading.explain import told
+from second_reading.hint_sentences import SENTENCES
 from second_reading.hints import HINTS, hints
 
 HEAD = "| Text | Read as | Written | Settled | Why |"
-REASONS_HEAD = "| Reason | Words | Example | `at` | `len` |"
-HINTS_HEAD = "| Hint | Sentence | Example |"
-SENTENCES = f"{ROOT}/crates/explain_report/src/advice/hint/words.rt"
+REASONS_HEAD = "| Reason | Example | `at` | `len` |"
+HINTS_HEAD = "| Hint | Example |"
+CODE = f"{ROOT}/crates/explain_report/src/advice/hint/words.rt"
 NAMES = {"remote_helper": "remote helper", "url": "URL", "scp": "scp form", "local": "local path"}
 DOCS = f"{ROOT}/docs"
 
@@ -33,34 +34,34 @@ def table():
 
 
 def reasons():
-    """The rows of the reasons: name, words, an example in backquotes or in words, and its place."""
+    """The rows of the reasons: name, an example in backquotes or in words, and its place."""
     return rows_below("EXPLAIN.md", REASONS_HEAD)
 
 
 def reason_examples():
     """The examples of the reasons that are shown literally, each with its row."""
-    return {row[2].strip("`").encode(): row for row in reasons() if row[2].startswith("`")}
+    return {row[1].strip("`").encode(): row for row in reasons() if row[1].startswith("`")}
 
 
 def reason_faults():
     """The rows of the reasons that differ from the second reading."""
-    said = {row[0].strip("`"): row[1] for row in reasons()}
-    if list(said.items()) != list(fault_places.SENTENCES.items()):
-        yield f"the reasons of docs/EXPLAIN.md are {said}, and not {fault_places.SENTENCES}"
-    for text, (name, _, _, at, size) in reason_examples().items():
+    said = [row[0].strip("`") for row in reasons()]
+    if said != [*fault_places.SENTENCES]:
+        yield f"the reasons of docs/EXPLAIN.md are {said}, and not {[*fault_places.SENTENCES]}"
+    for text, (name, _, at, size) in reason_examples().items():
         found = fault_places.place(text)
         if [f"`{found.reason}`", str(found.at), str(found.len)] != [name, at, size]:
             yield f"{text}: the table has {name}, {at} and {size}, and not {found}"
 
 
 def hint_rows():
-    """The rows of the hints: name, sentence, and an example in backquotes or in words."""
+    """The rows of the hints: name, and an example in backquotes or in words."""
     return [[row[0].strip("`"), *row[1:]] for row in rows_below("EXPLAIN.md", HINTS_HEAD)]
 
 
 def sentences():
     """The sentences of the hints by their names, as the code has them."""
-    with open(SENTENCES, encoding="utf-8") as file:
+    with open(CODE, encoding="utf-8") as file:
         of_names, of_sentences = file.read().split("fn sentence")
     names = dict(re.findall(r'Hint::(\w+) => "(\w+)"', of_names))
     return {names[it]: text for it, text in re.findall(r'Hint::(\w+) => (?:\{\s*)?"(.*?)"', of_sentences)}
@@ -69,11 +70,11 @@ def sentences():
 def hint_faults():
     """The rows of the hints that differ from the code, or have an example to which the second reading applies no such hint."""
     found = hint_rows()
-    if [name for name, _, _ in found] != [*HINTS]:
+    if not [name for name, _ in found] == [*HINTS] == [*SENTENCES]:
         yield "the hints of docs/EXPLAIN.md are others than those of the second reading, or in another order"
-    if {name: sentence for name, sentence, _ in found} != sentences():
-        yield f"the sentences of docs/EXPLAIN.md and of {os.path.relpath(SENTENCES, ROOT)} differ"
-    for name, _, example in found:
+    if SENTENCES != sentences():
+        yield f"the sentences of the hints in the second reading and in {os.path.relpath(CODE, ROOT)} differ"
+    for name, example in found:
         line = example.strip("`").encode()
         if example.startswith("`") and name not in hints(line, grammar.spells(line), bool(hidden.places(line))):
             yield f"{example} has not the hint {name}"

@@ -1,6 +1,6 @@
 """The parts of a text that `explain` hides, and the places of the parts of a line that is read as a location.
 
-It is written from the words of docs/EXPLAIN.md, not from the code.
+It is written from the words of `secrets` in docs/reference/git_audit.md, not from the code.
 """
 import re
 

@@ -1,4 +1,4 @@
-"""The hints of `explain`: for each its name, and its condition; docs/EXPLAIN.md has them in words."""
+"""The hints of `explain`: for each its name, and its condition; `Hint` of `explain_report` has the conditions in words."""
 import re
 import unicodedata
 

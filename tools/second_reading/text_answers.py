@@ -11,8 +11,9 @@ from git_reads import git_reads
 from second_reading import grammar, hidden
 from second_reading.dangers import WORDS, dangers
 from second_reading.explain import agrees_with_git, form, told
-from second_reading.explain_tables import NAMES, hint_rows
+from second_reading.explain_tables import NAMES
 from second_reading.groups import host_name, is_own, other_hosts
+from second_reading.hint_sentences import SENTENCES
 from second_reading.plain_paths import shell_path
 from second_reading.readers import git_host
 from second_reading.seen import seen
@@ -257,10 +258,9 @@ def read_in_refused(line, it):
 
 
 def rows_of_hints(it):
-    sentences = {name: sentence.replace("`", "") for name, sentence, _ in hint_rows()}
     for name in it["hints"]:
         url = f" {quoted(it['readers']['instead'].encode())}" if name == "write_instead" else ""
-        yield "hint", sentences[name] + url
+        yield "hint", SENTENCES[name].replace("`", "") + url
 
 
 def heading(it, v):
