@@ -1,4 +1,5 @@
-"""The tables of `vectors/readers/`: the findings of `scripts/readers_witness`, and their part in `docs/READERS.md`.
+"""The tables of `vectors/readers/`: the findings of `scripts/readers_witness`, and the pages that show them: `docs/READERS.md`, and
+`conditions.md` beside them.
 
 `conditions.jsonl` has a line for each condition of the class: its name and words, an example, the host that Git connects to in
 it, and the readers that find another host or read another part; and the readers that read another host, or another part, or
@@ -18,7 +19,9 @@ from rt_api import ROOT
 from second_reading.groups import GROUPS as READER_GROUPS
 from second_reading.unambiguous import CONDITIONS, broken
 
-FOLDER, DOCUMENT = f"{ROOT}/vectors/readers", f"{ROOT}/docs/READERS.md"
+FOLDER = f"{ROOT}/vectors/readers"
+# The pages that have a table between marks.
+PAGES = ("docs/READERS.md", "vectors/readers/conditions.md")
 OWN = {"Git": "git", "Git credential": "git", "libcurl": "git", "OpenSSH": "openssh-client"}
 GROUPS = {
     "Git": ("Git", "Git credential", "libcurl", "OpenSSH"), "Git libraries": ("libgit2", "dulwich", "JGit", "go-git"),
@@ -26,7 +29,7 @@ GROUPS = {
 # The letters of the table, by the behaviour of a reader in some text that breaks only this condition: the strongest is shown.
 KINDS = {"host": "**h**", "other": "o", "refused": "r"}
 # More readers than this are counted, and not named, in a table of the document.
-MANY = 8
+MANY = 3
 SHORT = {
     "Git credential": "cred", "OpenSSH": "ssh", "libgit2": "lg2", "dulwich": "dul", "JGit": "jgit", "go-git": "gog", "gh": "gh",
     "hosted-git-info": "hgi", "pip": "pip", "WHATWG (Node)": "wh", "Rust url": "rs", "Node url.parse": "node", "url-parse": "up",
@@ -147,7 +150,7 @@ def group(reader):
 
 
 def record(cases, readers, found, beside):
-    """Writes the tables and the document. The examples and the texts stay."""
+    """Writes the tables and their pages. The examples and the texts stay."""
     bases = {reader.name: reader.packages for reader in READERS} | OWN
     write("readers", [{"reader": it.name, "version": it.version, "group": group(it.name), "packages": bases[it.name]} for it in readers])
     examples = {it["name"]: bytes_of(it["example"]) for it in lines("conditions")}
@@ -155,11 +158,12 @@ def record(cases, readers, found, beside):
     singles = [bytes_of(it["text"]) for it in lines("confusions")]
     write("confusions", [{"text": text_of(it), "conditions": broken(it), **place_of(it, cases, readers)} for it in singles])
     write("groups", group_lines(readers))
-    given = read_document()
-    for mark, table in tables().items():
-        given = re.sub(rf"(<!-- {mark} -->\n).*?(<!-- end -->)", lambda it, table=table: it[1] + table + it[2], given, flags=re.S)
-    with open(DOCUMENT, "w", encoding="utf-8") as it:
-        it.write(given)
+    for page in PAGES:
+        given = read_page(page)
+        for mark, table in tables().items():
+            given = re.sub(rf"(<!-- {mark} -->\n).*?(<!-- end -->)", lambda it, table=table: it[1] + table + it[2], given, flags=re.S)
+        with open(f"{ROOT}/{page}", "w", encoding="utf-8") as it:
+            it.write(given)
 
 
 def confusion_faults(cases, readers):
@@ -177,7 +181,7 @@ def confusion_faults(cases, readers):
                 yield f"{text!r} of {topic}.jsonl breaks {broken(text)}"
 
 
-# ---- the document
+# ---- the pages
 
 def cell(text):
     """A text in a table, as code: a tab and bytes that aren't UTF-8 are escaped."""
@@ -213,12 +217,12 @@ def confusion_table():
 
 
 def group_table():
-    """Each group with the programs that represent it: how often each takes the group's host, and where it takes another one."""
+    """Each group with the programs that represent it, and how often each takes the group's host."""
     named = {}
     for it in lines("groups"):
         programs = named.setdefault((it["group"], it["words"].rstrip(".")), [])
-        programs.append(" ".join([f"{it['program']}: {it['takes']:,} of {it['differs']:,}.", *it["shapes"]]))
-    rows = [f"| `{group}` | {words} | {'<br>'.join(programs)} |\n" for (group, words), programs in named.items()]
+        programs.append(f"{it['program']}: {it['takes']:,} of {it['differs']:,}")
+    rows = [f"| `{group}` | {words} | {'; '.join(programs)} |\n" for (group, words), programs in named.items()]
     return "".join(["| Group | The host that it finds | Programs |\n", "|---|---|---|\n", *rows])
 
 
@@ -231,13 +235,13 @@ def tables():
     return {"readers": reader_table(), "confusions": confusion_table(), "conditions": condition_table(), "groups": group_table()}
 
 
-def read_document():
-    with open(DOCUMENT, encoding="utf-8") as it:
+def read_page(page):
+    with open(f"{ROOT}/{page}", encoding="utf-8") as it:
         return it.read()
 
 
-def document_faults():
-    given = read_document()
+def page_faults():
+    given = "".join(map(read_page, PAGES))
     for mark, table in tables().items():
         if f"<!-- {mark} -->\n{table}<!-- end -->" not in given:
-            yield f"docs/READERS.md has another table of {mark} than vectors/readers/"
+            yield f"{' and '.join(PAGES)} have another table of {mark} than vectors/readers/"
