@@ -1,5 +1,5 @@
 """The tables of `vectors/readers/`: the findings of `scripts/readers_witness`, and the pages that show them: `docs/READERS.md`, and
-`conditions.md` beside them.
+`conditions.md` and `confusions.md` beside them.
 
 `conditions.jsonl` has a line for each condition of the class: its name and words, an example, the host that Git connects to in
 it, and the readers that find another host or read another part; and the readers that read another host, or another part, or
@@ -21,7 +21,9 @@ from second_reading.unambiguous import CONDITIONS, broken
 
 FOLDER = f"{ROOT}/vectors/readers"
 # The pages that have a table between marks.
-PAGES = ("docs/READERS.md", "vectors/readers/conditions.md")
+PAGES = ("docs/READERS.md", "vectors/readers/conditions.md", "vectors/readers/confusions.md")
+# The host of a stranger in the texts that docs/READERS.md shows.
+STRANGER = "evil.com"
 OWN = {"Git": "git", "Git credential": "git", "libcurl": "git", "OpenSSH": "openssh-client"}
 GROUPS = {
     "Git": ("Git", "Git credential", "libcurl", "OpenSSH"), "Git libraries": ("libgit2", "dulwich", "JGit", "go-git"),
@@ -205,14 +207,28 @@ def named(readers):
     return ", ".join(readers) if len(readers) <= MANY else f"{len(readers)} readers"
 
 
+def attack_table():
+    """The texts that name the host of a stranger, to which either Git or others connect."""
+    out = ["| Text | Git connects to | Others read |\n", "|---|---|---|\n"]
+    for it in lines("confusions"):
+        others = "; ".join(f"{cell(host) if host else 'no host'}: {named(them)}" for host, them in it["hosts"].items())
+        if STRANGER in it["text"] and others:
+            out.append(f"| {cell(it['text'])} | {git_place(it)} | {others} |\n")
+    return "".join(out)
+
+
+def git_place(line):
+    """The place that Git connects to, in a table."""
+    return "nothing" if line["git"] is None else line["git"] if line["git"] == "a local path" else cell(line["git"])
+
+
 def confusion_table():
     out = ["| Text | Condition | Git connects to | Others read |\n", "|---|---|---|---|\n"]
     for it in lines("confusions"):
         others = [f"{cell(host) if host else 'no host'}: {named(them)}" for host, them in it["hosts"].items()]
         parts = [f"{cell(place)}: {named(them)}" for place, them in it["parts"].items()]
-        git = "nothing" if it["git"] is None else it["git"] if it["git"] == "a local path" else cell(it["git"])
         conditions = ", ".join(f"`{name}`" for name in it["conditions"])
-        out.append(f"| {cell(it['text'])} | {conditions} | {git} | {'; '.join([*others, *parts])} |\n")
+        out.append(f"| {cell(it['text'])} | {conditions} | {git_place(it)} | {'; '.join([*others, *parts])} |\n")
     return "".join(out)
 
 
@@ -232,7 +248,7 @@ def reader_table():
 
 
 def tables():
-    return {"readers": reader_table(), "confusions": confusion_table(), "conditions": condition_table(), "groups": group_table()}
+    return {"readers": reader_table(), "attacks": attack_table(), "confusions": confusion_table(), "conditions": condition_table(), "groups": group_table()}
 
 
 def read_page(page):

@@ -1,6 +1,6 @@
-"""The tables of texts that surprise, in docs/GRAMMAR.md, and of reasons and hints, in docs/EXPLAIN.md, compared with the second reading.
+"""The tables of texts that surprise, in docs/GRAMMAR.md, and of reasons, in docs/EXPLAIN.md, compared with the second reading.
 
-The sentences of the hints (`hint_sentences.py`) are compared with the code.
+The hints of `hint_sentences.py` are compared with the code.
 """
 import itertools
 import os
@@ -9,12 +9,11 @@ import re
 from rt_api import ROOT
 from second_reading import errors, fault_places, grammar, hidden
 from second_reading.explain import told
-from second_reading.hint_sentences import SENTENCES
+from second_reading.hint_sentences import EXAMPLES, SENTENCES
 from second_reading.hints import HINTS, hints
 
 HEAD = "| Text | Read as | Written | Settled | Why |"
 REASONS_HEAD = "| Reason | Example | `at` | `len` |"
-HINTS_HEAD = "| Hint | Example |"
 CODE = f"{ROOT}/crates/explain_report/src/advice/hint/words.rt"
 NAMES = {"remote_helper": "remote helper", "url": "URL", "scp": "scp form", "local": "local path"}
 DOCS = f"{ROOT}/docs"
@@ -54,11 +53,6 @@ def reason_faults():
             yield f"{text}: the table has {name}, {at} and {size}, and not {found}"
 
 
-def hint_rows():
-    """The rows of the hints: name, and an example in backquotes or in words."""
-    return [[row[0].strip("`"), *row[1:]] for row in rows_below("EXPLAIN.md", HINTS_HEAD)]
-
-
 def sentences():
     """The sentences of the hints by their names, as the code has them."""
     with open(CODE, encoding="utf-8") as file:
@@ -68,16 +62,14 @@ def sentences():
 
 
 def hint_faults():
-    """The rows of the hints that differ from the code, or have an example to which the second reading applies no such hint."""
-    found = hint_rows()
-    if not [name for name, _ in found] == [*HINTS] == [*SENTENCES]:
-        yield "the hints of docs/EXPLAIN.md are others than those of the second reading, or in another order"
+    """The hints that differ from the code, or have an example to which the second reading applies no such hint."""
+    if [*HINTS] != [*SENTENCES]:
+        yield "the hints have other names than those of the second reading, or another order"
     if SENTENCES != sentences():
         yield f"the sentences of the hints in the second reading and in {os.path.relpath(CODE, ROOT)} differ"
-    for name, example in found:
-        line = example.strip("`").encode()
-        if example.startswith("`") and name not in hints(line, grammar.spells(line), bool(hidden.places(line))):
-            yield f"{example} has not the hint {name}"
+    for name, line in EXAMPLES.items():
+        if name not in hints(line, grammar.spells(line), bool(hidden.places(line))):
+            yield f"{line} has not the hint {name}"
 
 
 def cells(line):
