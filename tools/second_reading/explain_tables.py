@@ -12,7 +12,7 @@ from second_reading.explain import told
 from second_reading.hint_sentences import EXAMPLES, SENTENCES
 from second_reading.hints import HINTS, hints
 
-HEAD = "| Text | Read as | Written | Settled | Why |"
+HEAD = "| Text | Read as | Written | Why |"
 REASONS_HEAD = "| Reason | Example | `at` | `len` |"
 CODE = f"{ROOT}/crates/explain_report/src/advice/hint/words.rt"
 NAMES = {"remote_helper": "remote helper", "url": "URL", "scp": "scp form", "local": "local path"}
@@ -28,7 +28,7 @@ def rows_below(document, head):
 
 
 def table():
-    """The rows of the texts that surprise: text, three computed cells, and a reason."""
+    """The rows of the texts that surprise: text, two computed cells, and a reason."""
     return rows_below("GRAMMAR.md", HEAD)
 
 
@@ -73,15 +73,16 @@ def hint_faults():
 
 
 def cells(line):
-    """The cells of the table for a text: its reading, the text that is written for it, and whether it is settled."""
+    """The cells of the table for a text: its reading, and the text that is written for it if that is another one, or not settled."""
     v = grammar.spells(line)
     if v is None:
         name, _, fault = errors.refusal(line)
-        return ["refused: `" + (name if fault is None else f"{name} {fault}") + "`", "", ""]
+        return ["refused: `" + (name if fault is None else f"{name} {fault}") + "`", ""]
     it = told(v)
-    parts = ["scheme", "user", "password", "host", "port", "path"]
+    parts = ["user", "password", "host", "port", "path"] if it["form"] in ("scp", "local") else ["scheme", "user", "password", "host", "port", "path"]
     there = [f"{name} `{it[name]}`" for name in parts if it[name] is not None]
-    return [", ".join([NAMES[it["form"]], *there]), f"`{it['text']}`", "yes" if it["settled"] else "no"]
+    written = [] if it["text"].encode() == line else [f"`{it['text']}`"]
+    return [", ".join([NAMES[it["form"]], *there]), ", ".join(written if it["settled"] else [*written, "not settled"])]
 
 
 def table_faults():
@@ -91,5 +92,5 @@ def table_faults():
         yield f"the table has {len(rows)} rows"
     for row in rows:
         wanted = cells(row[0].strip("`").encode())
-        if row[1:4] != wanted:
-            yield f"{row[0]}: the table has {row[1:4]}, and not {wanted}"
+        if row[1:3] != wanted:
+            yield f"{row[0]}: the table has {row[1:3]}, and not {wanted}"
