@@ -17,6 +17,7 @@ Its modules, each of which uses only those above it:
   row_outcomes                         the outcomes of rows in `vectors/`
   shown_text                           how bytes are shown on a terminal
   explain_lines, explain, readers, hints, explain_tables, stored_run    the stored run of `explain`, and the tables of the documents
+  hint_sentences, reason_examples      the words and an example of each hint, an example of each reason
   text_answers                         what `explain` prints of a line as text
 
 `scripts/grammar` calls it.

@@ -1,56 +1,38 @@
-"""The tables of texts that surprise, in docs/GRAMMAR.md, and of reasons, in docs/EXPLAIN.md, compared with the second reading.
+"""The table of texts that surprise, in docs/GRAMMAR.md, and the examples of reasons and hints, compared with the second reading.
 
-The hints of `hint_sentences.py` are compared with the code.
+The sentences of hints (`hint_sentences.py`) are compared with the code.
 """
 import itertools
 import os
 import re
 
 from rt_api import ROOT
-from second_reading import errors, fault_places, grammar, hidden
+from second_reading import errors, fault_places, grammar, hidden, reason_examples
 from second_reading.explain import told
 from second_reading.hint_sentences import EXAMPLES, SENTENCES
 from second_reading.hints import HINTS, hints
 
 HEAD = "| Text | Read as | Written | Why |"
-REASONS_HEAD = "| Reason | Example | `at` | `len` |"
 CODE = f"{ROOT}/crates/explain_report/src/advice/hint/words.rt"
 NAMES = {"remote_helper": "remote helper", "url": "URL", "scp": "scp form", "local": "local path"}
-DOCS = f"{ROOT}/docs"
-
-
-def rows_below(document, head):
-    """The rows of the table with this head, each as its cells."""
-    with open(os.path.join(DOCS, document), encoding="utf-8") as file:
-        lines = file.read().split(head + "\n", 1)[1].splitlines()[1:]
-    rows = itertools.takewhile(lambda line: line.startswith("|"), lines)
-    return [[cell.strip() for cell in line[1:-1].split(" | ")] for line in rows]
 
 
 def table():
     """The rows of the texts that surprise: text, two computed cells, and a reason."""
-    return rows_below("GRAMMAR.md", HEAD)
-
-
-def reasons():
-    """The rows of the reasons: name, an example in backquotes or in words, and its place."""
-    return rows_below("EXPLAIN.md", REASONS_HEAD)
-
-
-def reason_examples():
-    """The examples of the reasons that are shown literally, each with its row."""
-    return {row[1].strip("`").encode(): row for row in reasons() if row[1].startswith("`")}
+    with open(f"{ROOT}/docs/GRAMMAR.md", encoding="utf-8") as file:
+        lines = file.read().split(HEAD + "\n", 1)[1].splitlines()[1:]
+    rows = itertools.takewhile(lambda line: line.startswith("|"), lines)
+    return [[cell.strip() for cell in line[1:-1].split(" | ")] for line in rows]
 
 
 def reason_faults():
-    """The rows of the reasons that differ from the second reading."""
-    said = [row[0].strip("`") for row in reasons()]
-    if said != [*fault_places.SENTENCES]:
-        yield f"the reasons of docs/EXPLAIN.md are {said}, and not {[*fault_places.SENTENCES]}"
-    for text, (name, _, at, size) in reason_examples().items():
+    """The examples of the reasons that differ from the second reading."""
+    if [*reason_examples.EXAMPLES] != [*fault_places.SENTENCES]:
+        yield "the examples of reasons are for others than those of the second reading, or in another order"
+    for text, wanted in reason_examples.TEXTS.items():
         found = fault_places.place(text)
-        if [f"`{found.reason}`", str(found.at), str(found.len)] != [name, at, size]:
-            yield f"{text}: the table has {name}, {at} and {size}, and not {found}"
+        if (found.reason, found.at, found.len) != wanted:
+            yield f"{text}: the example has {wanted}, and not {found}"
 
 
 def sentences():

@@ -1,5 +1,5 @@
-"""The stored run of the crate `explain`: its lines and its answers. The texts of the tables in docs/GRAMMAR.md and
-docs/EXPLAIN.md are among the lines, and the last line lacks its end.
+"""The stored run of the crate `explain`: its lines and its answers. The texts of the table in docs/GRAMMAR.md and the
+examples of reasons are among the lines, and the last line lacks its end.
 """
 import json
 
@@ -8,9 +8,10 @@ from second_reading.dangers import dangers
 from second_reading.explain import WITHHELD, refusal_of_line, shown_line, told
 from second_reading.explain_lines import (
     CURL, FILES, GIT, HELPERS, IN_REFUSED, LOCALS, MISREAD, PLACED, READ, REFUSED, REWRITTEN, SCPS, SECRETS, SLIPS, URLS, WEB)
-from second_reading.explain_tables import reason_examples, table
+from second_reading.explain_tables import table
 from second_reading.hints import hints
 from second_reading.readers import readers
+from second_reading.reason_examples import TEXTS
 from second_reading.seen import seen
 
 
@@ -44,7 +45,7 @@ def hints_of(line, other):
 
 def stored_run():
     """The files of the stored run. The texts of the tables are among its lines."""
-    texts = [*(row[0].strip("`").encode() for row in table()), *reason_examples(), *PLACED]
+    texts = [*(row[0].strip("`").encode() for row in table()), *TEXTS, *PLACED]
     lines = list(dict.fromkeys([*HELPERS, *URLS, *FILES, *SCPS, *LOCALS, *REFUSED, *GIT, *READ, *WEB, *CURL, *SLIPS, *IN_REFUSED, *MISREAD, *REWRITTEN, *SECRETS, *texts]))
     lines.append(b"/the/last")
     answers = "".join(answer(number, line) + "\n" for number, line in enumerate(lines, 1))
