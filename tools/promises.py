@@ -1,4 +1,4 @@
-"""The calls and clauses that the tables of docs/PROOFS.md name and that aren't there, and their links to other items."""
+"""The calls and clauses that docs/PROOFS.md names and that aren't there, and its links to other items."""
 import glob
 import re
 
@@ -23,15 +23,15 @@ def fields():
 
 
 def promises():
-    """What the tables of proofs name: of each group of calls the clauses behind its colon."""
-    rows = re.findall(r"(?m)^\| .* \| (`.*) \|$", LINK.sub(r"\1", read(PROOFS)))
+    """What the promises name in their parentheses: of each group of calls the clauses behind its colon."""
+    rows = re.findall(r"(?m)^- .* \((`.*)\)$", LINK.sub(r"\1", read(PROOFS)))
     for group in (part for row in rows for part in row.split("; ")):
         calls, _, clauses = group.partition("`: ")
         yield re.findall(r"`?(\w+::\w+)`?", calls), re.findall(r"`([a-z]\w*)`", clauses)
 
 
 def faults():
-    """Which calls of the tables aren't public, which clauses none of them has, and which links lead to another item."""
+    """Which calls of the promises aren't public, which clauses none of them has, and which links lead to another item."""
     known, parts = contracts(), fields()
     yield from (f"{PROOFS}: the link of {name} leads to {place}" for _, name, place in LINK.findall(read(PROOFS))
                 if not re.search(rf"[#/-]{name.rpartition('::')[2].lower()}(\.md)?$", place))
