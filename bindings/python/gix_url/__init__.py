@@ -58,7 +58,7 @@ class Argument(Named):
 
 class Condition(Named):
     """A condition under which all readers find the same parts in a location's text, in the order in which they are
-    tested. docs/READERS.md and man 3 gix_url describe each."""
+    tested. man 3 gix_url describes each."""
 
     GIT, ESCAPES, HOST, USER, PASSWORD, PORT, PATH_BYTES, PATH_START, DOT_SEGMENT, SCP_HOST, SCP_PATH = range(1, 12)
 

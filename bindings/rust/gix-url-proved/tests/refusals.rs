@@ -1,5 +1,5 @@
-//! The reason and the position of parse errors: an example of each reason, as `docs/EXPLAIN.md` of the repository has
-//! them, and texts with several flaws.
+//! The reason and the position of parse errors: an example of each reason, as `tools/second_reading/reason_examples.py` of the
+//! repository has them, and texts with several flaws.
 
 use gix_url_proved::parse::{Error, UrlFault, UrlKind, WriteFault};
 use gix_url_proved::{parse, Reason, Refusal};
