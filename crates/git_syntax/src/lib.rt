@@ -11,6 +11,7 @@
 pub mod address_law;
 pub mod bytes;
 pub mod classify;
+mod common;
 pub mod debug;
 mod error_text;
 pub mod escape;
@@ -21,6 +22,8 @@ pub mod host;
 pub mod ipv6;
 pub mod length;
 mod look;
+pub mod mask_law;
+mod masks;
 pub mod refusal;
 mod refusal_law;
 pub mod rules;

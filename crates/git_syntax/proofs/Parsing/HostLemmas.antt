@@ -616,7 +616,7 @@ simple_utf8 : (t : List ℕ) → list_all is_simple_byte t ≡ true → IsUtf8 t
 simple_utf8 t h = utf8_class is_http_host_byte http_byte_ascii t (simple_http t h)
 
 -- so it stands for itself in every syntax
-simple_text : (syntax : HostSyntax) (t : List ℕ) → list_all is_simple_byte t ≡ true → HostText syntax t t
+pub simple_text : (syntax : HostSyntax) (t : List ℕ) → list_all is_simple_byte t ≡ true → HostText syntax t t
 simple_text http_hosts t h = (simple_http t h, sym (simple_normal t h))
 simple_text git_hosts t h = (subst IsUtf8 (sym (simple_decoded t h)) (simple_utf8 t h), sym (ap normal_host (simple_decoded t h) ∙ simple_normal t h))
 simple_text other_hosts t h = (subst IsUtf8 (sym (simple_decoded t h)) (simple_utf8 t h), sym (ap normal_host (simple_decoded t h) ∙ simple_normal t h))
