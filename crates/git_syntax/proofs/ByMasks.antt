@@ -3,3 +3,4 @@ pub mod BitLemmas
 pub mod JoinLemmas
 pub mod LaneLemmas
 pub mod CommonLemmas
+pub mod SimpleLemmas

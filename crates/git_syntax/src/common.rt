@@ -209,10 +209,11 @@ fn simple_host(text: Marked<'_>) -> Option<HostPiece<'_>>
     ensures simple { IfSome result (λ host. IsSimpleHost text.entry.text.now) }
     ensures host { IfSome result (λ host. meant_host host ≡ text.entry.text.now) }
 {
-    if text.text.is_empty() || !text.are_simple_bytes() {
-        return None;
+    if text.is_simple_host() {
+        Some(HostPiece::Simple(text.text))
+    } else {
+        None
     }
-    Some(HostPiece::Simple(text.text))
 }
 
 /// The slices of a local path, or of the scp form, by the texts before and after the first colon.
@@ -247,7 +248,7 @@ fn find_scp<'a>(input: &'a [u8], front: Marked<'a>, path: &'a [u8]) -> Option<Fo
         return None;
     }
     let (user, host) = cut_user(front);
-    if host.text.is_empty() || !host.are_simple_bytes() {
+    if !host.is_simple_host() {
         return None;
     }
     Some(Found::Scp {

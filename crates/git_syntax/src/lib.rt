@@ -29,6 +29,7 @@ mod refusal_law;
 pub mod rules;
 pub mod scheme;
 pub mod scp;
+pub mod simple;
 pub mod ssh_host;
 pub mod text;
 pub mod url;

@@ -6,7 +6,7 @@ ghost use Rattle.std.specs.Prelude.{◌≡◌, ◌↔◌, ◌≤◌, ◌++◌, �
 ghost use Rattle.std.specs.List.{list_all};
 ghost use Rattle.git_syntax.specs.Bytes.{FreeOf, at_sign, begins_with, colon, slash};
 ghost use Rattle.git_syntax.specs.Internal.Cuts.{CutsAt, CutsAtLast};
-ghost use Rattle.git_syntax.specs.Internal.HostPieces.{is_simple_byte};
+ghost use Rattle.git_syntax.specs.Internal.HostPieces.{IsSimpleHost, is_simple_byte};
 ghost use Rattle.git_syntax.specs.Internal.Masks.{IsMarked, is_common, texts_of};
 
 use super::{Masks, cuts, masks_of};
@@ -118,6 +118,15 @@ impl<'a> Marked<'a> {
         ensures { IsTrue result ↔ (list_all is_simple_byte self.now.text.now ≡ true) }
     {
         cuts::are_simple_bytes(self.text, &self.masks)
+    }
+
+    /// Whether the text is a simple host.
+    #[inline(always)]
+    pub(crate) fn is_simple_host(&self) -> bool
+        requires { IsMarked self.now }
+        ensures { IsTrue result → IsSimpleHost self.now.text.now }
+    {
+        !self.text.is_empty() && self.are_simple_bytes()
     }
 
     /// A front of the text, with its masks.

@@ -3,7 +3,8 @@ use Rattle.std.proofs.Common.{refl, arith}
 use Rattle.std.proofs.lemmas.Bool.{false≢true}
 use Rattle.git_syntax.specs.Grammar.Spells.{local_path}
 use Rattle.git_syntax.proofs.ByMasks.CommonLemmas.{around_colon, neither_by_colon, not_addressed}
-use Rattle.git_syntax.proofs.Parsing.ClassifierLemmas.{colon_nonempty, local_form, no_scp_cut, plain_scp}
+use Rattle.git_syntax.proofs.Parsing.ClassifierLemmas.{plain_scp}
+use Rattle.git_syntax.proofs.ByMasks.SimpleLemmas.{slashed_local}
 use Rattle.git_syntax.proofs.common.find_path.Goals as goal
 
 pub find_scp-requires-clause-form : goal.find_scp-requires-clause-form
@@ -16,14 +17,5 @@ find_scp-requires-clause-form c =
 
 pub returns-else-lacks_slashes : goal.returns-else-lacks_slashes
 returns-else-lacks_slashes c =
-    let b = c.args.input.now in
-    let front = c.args.front.text.now in
-    let rest = c.args.rest.text.now in
-    let neither = neither_by_colon b front rest c.requires.cut c.requires.no_mark (c.if-not-lacks_colons.ensures.0 refl) in
-    let no_scp = no_scp_cut b front rest (around_colon b front rest c.requires.common c.requires.cut) (λ free. false≢true (c.if-lacks_slashes.ensures.1 free)) in
-    let form = local_form b (colon_nonempty b front rest c.requires.cut) neither (not_addressed b c.requires.common) no_scp in
-    record {
-      spelled = local_path (record { nonempty = form.nonempty; neither = form.neither; no_scp = form.no_scp; value = refl });
-      ready = tt;
-      room = omega arith;
-    }
+    let local = slashed_local c.args.input.now c.args.front.text.now c.args.rest.text.now c.requires.common c.requires.cut c.requires.no_mark (c.if-not-lacks_colons.ensures.0 refl) (λ free. false≢true (c.if-lacks_slashes.ensures.1 free)) in
+    record { spelled = local_path local; ready = tt; room = omega arith }

@@ -13,7 +13,7 @@ returns c =
     let host = c.cut_user.result.1.text.now in
     let user = option_copied c.cut_user.result.0 in
     let split = c.cut_user.ensures.cut.split in
-    let simple = simple_scp_host host (record { nonempty = some_tested host c.if-is_empty-2.ensures; bytes = c.if-not-are_simple_bytes.ensures.0 refl }) in
+    let simple = simple_scp_host host (c.if-not-is_simple_host.ensures refl) in
     record {
       spelled = scp_form (inl (record {
         front = c.args.front.text.now;
