@@ -4,3 +4,4 @@ pub mod JoinLemmas
 pub mod LaneLemmas
 pub mod CommonLemmas
 pub mod SimpleLemmas
+pub mod SimpleTextLemmas

@@ -20,12 +20,12 @@ abbrev pub before_host : Option (List ℕ) → List ℕ
 before_host None = []
 before_host (Some user) = user ++ at_sign ∷ []
 
--- the user and the host consist of lower-case letters, digits, `-` and `.`, and the path of common bytes; none is
--- empty
-pub record HasSimpleParts (user : Option (List ℕ)) (host path : List ℕ) : Type 0 where
+-- each byte of the text is common, the user and the host consist of lower-case letters, digits, `-` and `.`, and
+-- neither they nor the path are empty
+pub record HasSimpleParts (b : List ℕ) (user : Option (List ℕ)) (host path : List ℕ) : Type 0 where
+  pub common : is_common b ≡ true
   pub simple_user : IfSome user IsSimpleHost
   pub simple_host : IsSimpleHost host
-  pub common : is_common path ≡ true
   pub pathed : 0 < length path
 
 -- the authority is a simple host, perhaps after a simple user
@@ -43,11 +43,11 @@ pub data IsSimpleText (b : List ℕ) (v : Location) : Type 0 where
   file_text : (path : List ℕ) → IsUtf8 b → begins_with slash path ≡ true → b ≡ codes "file://" ++ path
       → v ≡ path_alone file false path → IsSimpleText b v
   -- the scp form; its path has neither a colon nor two slashes at the front
-  scp_text : (user : Option (List ℕ)) (host path : List ℕ) → HasSimpleParts user host path → FreeOf colon path
+  scp_text : (user : Option (List ℕ)) (host path : List ℕ) → HasSimpleParts b user host path → FreeOf colon path
       → ((rest : List ℕ) → ¬ (path ≡ slash ∷ (slash ∷ rest))) → b ≡ before_host user ++ (host ++ colon ∷ path)
       → v ≡ record (path_alone ssh true path) { user = user; host = Some host } → IsSimpleText b v
   -- a URL without a port
   url_text : (scheme : Scheme) (user : Option (List ℕ)) (host path : List ℕ) → IsRemoteScheme scheme
-      → HasSimpleParts user host path → begins_with slash path ≡ true → length b ≤ 64
+      → HasSimpleParts b user host path → begins_with slash path ≡ true → length b ≤ 64
       → b ≡ scheme_text scheme ++ (codes "://" ++ (before_host user ++ (host ++ path)))
       → v ≡ record (path_alone scheme false path) { user = user; host = Some host } → IsSimpleText b v

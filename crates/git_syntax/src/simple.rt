@@ -3,6 +3,7 @@
 ghost use Rattle.std.specs.Prelude.{◌≡◌, ◌≤◌, ◌∷◌, IsTrue, List, length, true, ℕ};
 ghost use Rattle.git_syntax.specs.Bytes.{slash};
 ghost use Rattle.git_syntax.specs.Flaws.{UrlForm};
+ghost use Rattle.git_syntax.specs.Grammar.{Spells};
 ghost use Rattle.git_syntax.specs.Internal.Forms.{ColonCut};
 ghost use Rattle.git_syntax.specs.Internal.Masks.{IsMarked, is_common};
 ghost use Rattle.git_syntax.specs.Location.{Location, Scheme};
@@ -128,3 +129,8 @@ fn is_simple_path(input: &[u8], front: Marked<'_>, rest: Marked<'_>) -> bool
     }
     has_simple_host(front)
 }
+
+/// A simple text spells the location that its definition names.
+pub fn law_simple_texts()
+    ensures spelled { (b : List ℕ) (v : Location) → IsSimpleText b v → Spells b v }
+{}

@@ -10,6 +10,7 @@ use Rattle.git_syntax.specs.declared.host.HostPort.{HostPort}
 use Rattle.git_syntax.specs.declared.rules.Rules.{Rules}
 use Rattle.git_syntax.specs.declared.url_syntax.AuthoritySlices.{AuthoritySlices}
 use Rattle.git_syntax.specs.declared.url_syntax.ParsedUrl.{ParsedUrl}
+use Rattle.git_syntax.specs.Authority.{Fits}
 use Rattle.git_syntax.specs.Bytes.{FreeOf, Lacks, StartsPath, at_sign, backslash, begins_with, begins_by, colon, is_path_start, is_scheme_text, left_bracket, slash}
 use Rattle.git_syntax.specs.Escapes.{has_percent, is_plain, is_plain_byte}
 use Rattle.git_syntax.specs.Flaws.{IsNoPort, OtherUrlForm}
@@ -17,7 +18,7 @@ use Rattle.git_syntax.specs.Grammar.{HasUrlSyntax, IsNeither, ScpUser}
 use Rattle.git_syntax.specs.Grammar.ScpFront.{plain}
 use Rattle.git_syntax.specs.Grammar.ScpUser.{host_alone, with_user}
 use Rattle.git_syntax.specs.Hosts.{HostSyntax, SpellsHostPort}
-use Rattle.git_syntax.specs.Schemes.{host_syntax_of, requires_host}
+use Rattle.git_syntax.specs.Schemes.{host_syntax_of, is_web_scheme, requires_host}
 use Rattle.git_syntax.specs.Internal.Forms.{ColonCut, FrontCut, HasAddressedCut}
 use Rattle.git_syntax.specs.Internal.HostPieces.{Follows, IsSimpleHost, host_syntax, is_simple_byte, named_text}
 use Rattle.git_syntax.specs.Internal.Masks.{is_common, is_common_byte}
@@ -135,14 +136,28 @@ starts_path web [] (inr begins) = inl refl
 starts_path web (b ∷ path) (inr begins) = inr (or_left (b == slash) _ begins)
 
 -- a short URL fits
-short_fits : (b scheme rest : List ℕ) → OtherUrlForm b scheme rest → length b ≤ 64 → (length scheme ≤ 1024) × (length rest ≤ 1024)
-short_fits b scheme rest form short =
-    let whole = ap length form.form.joined in
+pub short_fits : (b scheme rest : List ℕ) → b ≡ scheme ++ (codes "://" ++ rest) → length b ≤ 64 → Fits scheme rest
+short_fits b scheme rest joined short =
+    let whole = ap length joined in
     let first = length-append scheme (codes "://" ++ rest) in
     let second = length-append (codes "://") rest in
-    (omega (arith, whole, first, second), omega (arith, whole, first, second))
+    (fits_tested scheme rest (omega (arith, whole, first, second))).0 (or_left _ _ (le-leb (length rest) 1024 (omega (arith, whole, first, second))))
 
--- the fields of a URL of common bytes
+-- a text of common bytes is a URL with these fields
+pub url_of_common : (b scheme rest authority path : List ℕ) (user password host : Option (List ℕ)) (port : Option ℕ) (web : Bool)
+    → OtherUrlForm b scheme rest → web ≡ is_web_scheme scheme → is_common b ≡ true → length b ≤ 64 → true ≡ is_scheme_text scheme
+    → rest ≡ authority ++ path → FreeOf slash authority → (path ≡ []) ⊎ (begins_with slash path ≡ true)
+    → HoldsHosted (host_syntax_of scheme) (requires_host scheme) authority user password host port
+    → HasUrlSyntax b (record { scheme = scheme; user = user; password = password; host = host; port = port; path = path })
+url_of_common b scheme rest authority path user password host port web form ruled common short named joined free starts held =
+    let pieces = common_behind b scheme rest authority path form common joined in
+    let cut = url_cut form named (rest_cut ruled joined (lacks_starts web authority pieces.0 free) (starts_path web path starts)) in
+    let fits = short_fits b scheme rest form.form.joined short in
+    let plain_text = common_plain b common in
+    let no_backslash = free_of_all is_common_byte backslash authority pieces.0 refl in
+    spelled cut (plain_utf8 b plain_text) (plain_white_space b plain_text) (sym (plain_sound b plain_text)) no_backslash (rw joined at fits) held (common_means_utf8 path pieces.1)
+
+-- the fields that are read of it
 pub common_fields : (b scheme rest authority path : List ℕ) (rules : Rules) (parts : AuthoritySlices) (url : ParsedUrl)
     → OtherUrlForm b scheme rest → AreRulesOf scheme rules → is_common b ≡ true → length b ≤ 64 → true ≡ is_scheme_text scheme
     → rest ≡ authority ++ path → FreeOf slash authority → (path ≡ []) ⊎ (begins_with slash path ≡ true)
@@ -150,13 +165,7 @@ pub common_fields : (b scheme rest authority path : List ℕ) (rules : Rules) (p
     → url.scheme.now ≡ scheme → url.user ≡ parts.credentials.user → url.password ≡ parts.credentials.password → url.host ≡ parts.host → url.path.now ≡ path
     → HasUrlSyntax b (syntax_of url)
 common_fields b scheme rest authority path rules parts url form ruled common short named joined free starts held e f g h k =
-    let pieces = common_behind b scheme rest authority path form common joined in
-    let lengths = short_fits b scheme rest form short in
-    let cut = url_cut form named (rest_cut ruled.web joined (lacks_starts rules.web authority pieces.0 free) (starts_path rules.web path starts)) in
-    let fits = (fits_tested scheme rest lengths.0).0 (or_left _ _ (le-leb (length rest) 1024 lengths.1)) in
-    let plain_text = common_plain b common in
-    let no_backslash = free_of_all is_common_byte backslash authority pieces.0 refl in
-    rw (e, f, g, h, k) (spelled cut (plain_utf8 b plain_text) (plain_white_space b plain_text) (sym (plain_sound b plain_text)) no_backslash (rw joined at fits) (rw ruled.syntax at held) (common_means_utf8 path pieces.1))
+    rw (e, f, g, h, k) (url_of_common b scheme rest authority path _ _ _ _ rules.web form ruled.web common short named joined free starts (rw ruled.syntax at held))
 
 -- ---- the buffer for the scp form
 

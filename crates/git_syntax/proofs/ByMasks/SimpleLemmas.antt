@@ -45,7 +45,7 @@ simple_helper b front rest cut begins named =
 pub simple_scp : (b front rest : List ℕ) → is_common b ≡ true → ColonCut b front rest → ((behind : List ℕ) → ¬ (rest ≡ slash ∷ (slash ∷ behind)))
     → FreeOf colon rest → 0 < length rest → HasSimpleHost front → (v : Location) × IsSimpleText b v
 simple_scp b front rest common cut no_mark free some (user, host, simple_user, simple_host, joined) =
-    let parts : HasSimpleParts user host rest = record { simple_user = simple_user; simple_host = simple_host; common = (common_around b front rest colon common cut.joined).1; pathed = some } in (
+    let parts : HasSimpleParts b user host rest = record { common = common; simple_user = simple_user; simple_host = simple_host; pathed = some } in (
       record (path_alone ssh true rest) { user = user; host = Some host },
       scp_text user host rest parts free no_mark (cut.joined ∙ ap (λ f. f ++ colon ∷ rest) joined ∙ append_assoc (before_host user) host (colon ∷ rest)) refl,
     )
@@ -54,10 +54,7 @@ simple_scp b front rest common cut no_mark free some (user, host, simple_user, s
 pub simple_url : (b scheme rest authority path : List ℕ) → UrlForm b scheme rest → is_common b ≡ true → length b ≤ 64 → rest ≡ authority ++ path
     → 0 < length path → begins_with slash path ≡ true → (p : Scheme) × IsRemoteScheme p × (scheme ≡ scheme_text p) → HasSimpleHost authority → (v : Location) × IsSimpleText b v
 simple_url b scheme rest authority path form common short cut some begins (p, remote, named) (user, host, simple_user, simple_host, joined) =
-    let behind = (common_parts scheme (codes "://" ++ rest) (subst (λ s. is_common s ≡ true) form.joined common)).1 in
-    let after_mark = (common_parts (codes "://") rest behind).1 in
-    let path_common = (common_parts authority path (subst (λ s. is_common s ≡ true) cut after_mark)).1 in
-    let parts : HasSimpleParts user host path = record { simple_user = simple_user; simple_host = simple_host; common = path_common; pathed = some } in
+    let parts : HasSimpleParts b user host path = record { common = common; simple_user = simple_user; simple_host = simple_host; pathed = some } in
     let whole = cut ∙ ap (λ a. a ++ path) joined ∙ append_assoc (before_host user) host path in (
       record (path_alone p false path) { user = user; host = Some host },
       url_text p user host path remote parts begins short (form.joined ∙ ap (λ s. s ++ (codes "://" ++ rest)) named ∙ ap (λ r. scheme_text p ++ (codes "://" ++ r)) whole) refl,
