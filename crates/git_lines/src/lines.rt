@@ -310,7 +310,7 @@ fn put_settled(out: &mut Vec<u8>, text: &[u8]) -> Result<(), RunError>
 {
     out.extend_from_slice(b"settled\t")?;
     out.extend_from_slice(text)?;
-    out.push(b'\n')?;
+    out.extend_from_slice(b"\n")?;
     Ok(())
 }
 

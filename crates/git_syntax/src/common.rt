@@ -5,8 +5,8 @@
 //! [`find_common`] returns `None` for any text that needs another test. A text spells at most one location, so the
 //! slices are those that the general search finds.
 
-ghost use Rattle.std.specs.Prelude.{◌≡◌, ◌≤◌, ◌<◌, ◌∷◌, ℕ, Bool, IfSome, List, Some, codes, length, true};
-ghost use Rattle.git_syntax.specs.Bytes.{slash};
+ghost use Rattle.std.specs.Prelude.{◌≡◌, ◌≤◌, ◌<◌, ◌∷◌, ℕ, Bool, IfSome, List, Some, bytes_eq, codes, false, length, true};
+ghost use Rattle.git_syntax.specs.Bytes.{is_scheme_text, slash};
 ghost use Rattle.git_syntax.specs.Escapes.{has_percent};
 ghost use Rattle.git_syntax.specs.Flaws.{OtherUrlForm, UrlForm};
 ghost use Rattle.git_syntax.specs.Grammar.{HasUrlSyntax};
@@ -19,19 +19,20 @@ ghost use Rattle.git_syntax.specs.Internal.SchemeRules.{AreRulesOf};
 ghost use Rattle.git_syntax.specs.Internal.ScpPieces.{CutsUser};
 ghost use Rattle.git_syntax.specs.Internal.UrlPieces.{HoldsAuthority, HoldsCredentials, syntax_of};
 
-use crate::bytes::is_scheme_text;
 use crate::found::{Found, ScpHost};
 use crate::host::port::with_port;
 use crate::host::{HostPiece, HostPort, HostSyntax, alone};
 use crate::masks::marked::{Marked, mark};
-use crate::rules::{Rules, rules_of};
-use crate::url::{found_of_url, is_file};
+use crate::rules::{Rules, transport, web};
+use crate::scheme::{KnownScheme, is_named};
+use crate::url::found_of_url;
 use crate::url_syntax::{
     AuthoritySlices, CredentialSlices, ParsedUrl, join_parts, unless_empty, user_beside,
 };
 
 /// The slices of the one location that the bytes spell, if they are such a text.
-pub(crate) fn find_common(bytes: &[u8]) -> Option<Found<'_>>
+#[inline(always)]
+pub fn find_common(bytes: &[u8]) -> Option<Found<'_>>
     ensures found { IfSome result (λ found. FindsIn bytes.now found) }
     ensures some { IfSome result (λ found. 16 ≤ length bytes.now) }
 {
@@ -69,12 +70,36 @@ fn find_url<'a>(input: &'a [u8], scheme: &'a [u8], rest: Marked<'a>) -> Option<F
     requires common { is_common input.now ≡ true }
     ensures { IfSome result (λ found. FindsIn input.now found) }
 {
-    let rules = rules_of(scheme);
-    if is_file(rules.known) {
+    if let Some(rules) = remote_rules(scheme) {
+        return find_remote(input, rules, scheme, rest);
+    }
+    if is_named(scheme, "file") {
         find_file(input, rest)
     } else {
-        find_other(input, rules, scheme, rest)
+        None
     }
+}
+
+/// The rules of a scheme of HTTP, Secure Shell or Git's own protocol.
+#[inline(always)]
+fn remote_rules(scheme: &[u8]) -> Option<Rules>
+    ensures rules { IfSome result (λ rules. AreRulesOf scheme.now rules) }
+    ensures text { IfSome result (λ rules. is_scheme_text scheme.now ≡ true) }
+    ensures other { IfSome result (λ rules. bytes_eq scheme.now (codes "file") ≡ false) }
+{
+    if is_named(scheme, "https") {
+        return Some(web(KnownScheme::Https));
+    }
+    if is_named(scheme, "ssh") {
+        return Some(transport(KnownScheme::Ssh, true));
+    }
+    if is_named(scheme, "http") {
+        return Some(web(KnownScheme::Http));
+    }
+    if is_named(scheme, "git") {
+        return Some(transport(KnownScheme::Git, true));
+    }
+    None
 }
 
 /// The slices of a file URL.
@@ -95,9 +120,9 @@ fn find_file<'a>(input: &'a [u8], rest: Marked<'a>) -> Option<Found<'a>>
     })
 }
 
-/// The slices of any other URL.
+/// The slices of a URL of such a scheme.
 #[inline(always)]
-fn find_other<'a>(
+fn find_remote<'a>(
     input: &'a [u8],
     rules: Rules,
     scheme: &'a [u8],
@@ -105,6 +130,7 @@ fn find_other<'a>(
 ) -> Option<Found<'a>>
     requires form { OtherUrlForm input.now scheme.now rest.text.now }
     requires rules { AreRulesOf scheme.now rules }
+    requires text { is_scheme_text scheme.now ≡ true }
     requires marked { IsMarked rest }
     requires short { length input.now ≤ 64 }
     requires common { is_common input.now ≡ true }
@@ -127,6 +153,7 @@ fn read_url<'a>(
 ) -> Option<ParsedUrl<'a>>
     requires form { OtherUrlForm input.now scheme.now rest.text.now }
     requires rules { AreRulesOf scheme.now rules }
+    requires text { is_scheme_text scheme.now ≡ true }
     requires marked { IsMarked rest }
     requires short { length input.now ≤ 64 }
     requires common { is_common input.now ≡ true }
@@ -134,9 +161,6 @@ fn read_url<'a>(
     ensures same_scheme { IfSome result (λ url. url.scheme.now ≡ scheme.now) }
     ensures escaped { IfSome result (λ url. url.escaped ≡ has_percent url.path.now) }
 {
-    if !is_scheme_text(scheme) {
-        return None;
-    }
     let (authority, path) = rest.cut_at_slash();
     let parts = read_authority(rules.syntax, authority)?;
     Some(join_parts(scheme, parts, path.text, false))

@@ -31,9 +31,9 @@ pub fn find(bytes: &[u8]) -> Result<Found<'_>, Refusal>
     }
 }
 
-/// The slices of the one location that any bytes spell, by the form of the text.
+/// The slices of the one location that the bytes spell, like [`find`], by the form of the text.
 #[inline(never)]
-fn find_any(bytes: &[u8]) -> Result<Found<'_>, Refusal>
+pub fn find_any(bytes: &[u8]) -> Result<Found<'_>, Refusal>
     ensures found { IfOk result (λ found. Spells bytes.now (meant found)) }
     ensures ready { IfOk result (λ found. IsReady found) }
     ensures room { IfOk result (λ found. room_for found ≤ length bytes.now) }

@@ -11,7 +11,7 @@
 pub mod address_law;
 pub mod bytes;
 pub mod classify;
-mod common;
+pub mod common;
 pub mod debug;
 mod error_text;
 pub mod escape;

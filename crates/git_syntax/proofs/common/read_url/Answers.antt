@@ -11,7 +11,7 @@ read_authority-requires-clause-common c =
 pub returns-clause-read : goal.returns-clause-read
 returns-clause-read c =
     common_fields c.args.input.now c.args.scheme.now c.args.rest.text.now c.cut_at_slash.result.0.text.now c.cut_at_slash.result.1.text.now c.args.rules c.in_ok-parts.parts c.join_parts.result
-    c.requires.form c.requires.rules c.requires.common c.requires.short c.if-not-is_scheme_text.ensures c.cut_at_slash.ensures.joined c.cut_at_slash.ensures.front c.cut_at_slash.ensures.rest
+    c.requires.form c.requires.rules c.requires.common c.requires.short (sym c.requires.text) c.cut_at_slash.ensures.joined c.cut_at_slash.ensures.front c.cut_at_slash.ensures.rest
     (c.in_ok-parts.ensures (requires_host c.args.scheme.now)) c.join_parts.ensures.scheme c.join_parts.ensures.user c.join_parts.ensures.password c.join_parts.ensures.host c.join_parts.ensures.path
 
 pub returns-clause-escaped : goal.returns-clause-escaped
