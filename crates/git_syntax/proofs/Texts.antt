@@ -6,3 +6,4 @@ pub mod PlainLemmas
 pub mod AsciiLemmas
 pub mod DecodingLemmas
 pub mod LookLemmas
+pub mod WhiteSpaceLemmas

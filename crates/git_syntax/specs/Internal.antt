@@ -9,3 +9,4 @@ pub mod SchemeRules
 pub mod FoundPieces
 pub mod ScpPieces
 pub mod Forms
+pub mod WhiteSpace

@@ -3,9 +3,8 @@
 //! Each test is the definition of the same name in `specs/Escapes.antt` or `specs/Bytes.antt`. `decode` and
 //! `decoded_text` allocate once, and not at all if the text is empty. A text without `%` is copied unchanged.
 
-ghost use Rattle.std.specs.Prelude.{◌≡◌, ◌∷◌, ◌<◌, ◌+◌, ◌≤◌, ◌↔◌, IsTrue, IfOk, IsUtf8, length, take, true, drop, chars, string_bytes};
-ghost use Rattle.std.specs.Char.{is_digit, is_whitespace};
-ghost use Rattle.std.specs.List.{list_any};
+ghost use Rattle.std.specs.Prelude.{◌≡◌, ◌∷◌, ◌<◌, ◌+◌, ◌≤◌, ◌↔◌, IsTrue, IfOk, IsUtf8, length, take, true, drop, string_bytes};
+ghost use Rattle.std.specs.Char.{is_digit};
 ghost use Rattle.percent_encoding.specs.Percent as percent;
 ghost use Rattle.git_syntax.specs.Escapes as spec;
 ghost use Rattle.git_syntax.specs.Safeguards.{PasswordSet, PathSet, UserSet};
@@ -14,8 +13,9 @@ ghost use Rattle.git_syntax.specs.Internal.Decoding.{IsDigit, PassesCharacter, S
 ghost use Rattle.git_syntax.specs.Internal.Looks.{begins_high};
 
 use crate::bytes::cut;
-use crate::text::{into_text, is_plain, is_printable};
-use bstr::{ByteSlice, decode_utf8};
+use crate::text::{into_text, is_plain, is_printable, is_utf8};
+use crate::white_space::has_white_space;
+use bstr::decode_utf8;
 use percent_encoding::{AsciiSet, CONTROLS, ascii_set, percent_decode};
 use std::alloc::{AllocError, Global};
 
@@ -110,7 +110,7 @@ pub fn decodes_to_utf8(text: &[u8]) -> bool
     if has_percent(text) {
         decoding_is_utf8(text)
     } else {
-        text.is_utf8()
+        is_utf8(text)
     }
 }
 
@@ -261,13 +261,6 @@ pub fn lacks_white_space(text: &str) -> bool
     ensures { IsTrue result ↔ LacksWhiteSpace text.now }
 {
     is_printable(text.as_bytes()) || !has_white_space(text)
-}
-
-/// Whether the text has white space.
-fn has_white_space(text: &str) -> bool
-    ensures { result ≡ list_any is_whitespace (chars text.now) }
-{
-    text.chars().any(|character| character.is_whitespace())
 }
 
 /// The bytes that the text decodes to.

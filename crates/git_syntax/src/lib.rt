@@ -30,3 +30,4 @@ pub mod ssh_host;
 pub mod text;
 pub mod url;
 pub mod url_syntax;
+mod white_space;
