@@ -7,3 +7,4 @@ pub mod AsciiLemmas
 pub mod DecodingLemmas
 pub mod LookLemmas
 pub mod WhiteSpaceLemmas
+pub mod RunLemmas

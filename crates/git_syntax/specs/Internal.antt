@@ -10,3 +10,4 @@ pub mod FoundPieces
 pub mod ScpPieces
 pub mod Forms
 pub mod WhiteSpace
+pub mod Runs

@@ -24,6 +24,7 @@ mod look;
 pub mod refusal;
 mod refusal_law;
 pub mod rules;
+mod runs;
 pub mod scheme;
 pub mod scp;
 pub mod ssh_host;

@@ -19,7 +19,7 @@ const DIGITS: [u8; 16] = *b"0123456789ABCDEF";
 
 /// Puts the text with the bytes of the set, and those that aren't ASCII, as escapes.
 #[inline(never)]
-pub fn put_escaped<T, S: Sink<T>>(place: &mut T, text: &[u8], set: AsciiSet) -> Result<(), S::Fault>
+pub(crate) fn put_escaped<T, S: Sink<T>>(place: &mut T, text: &[u8], set: AsciiSet) -> Result<(), S::Fault>
     ensures { OnOk result (S.takes place.old (percent_encode set text.now) place.new) }
 {
     let mut room = [0; 96];
