@@ -8,3 +8,4 @@ pub mod DecodingLemmas
 pub mod LookLemmas
 pub mod WhiteSpaceLemmas
 pub mod RunLemmas
+pub mod DigitLemmas

@@ -9,9 +9,10 @@ ghost use Rattle.percent_encoding.specs.Percent as percent;
 ghost use Rattle.git_syntax.specs.Escapes as spec;
 ghost use Rattle.git_syntax.specs.Safeguards.{PasswordSet, PathSet, UserSet};
 ghost use Rattle.git_syntax.specs.Bytes.{LacksWhiteSpace, percent_sign};
-ghost use Rattle.git_syntax.specs.Internal.Decoding.{IsDigit, PadsBlock, SplitsDecoded};
+ghost use Rattle.git_syntax.specs.Internal.Decoding.{PadsBlock, SplitsDecoded};
 
 use crate::bytes::cut;
+use crate::digits::digit;
 use crate::runs::past_run;
 use crate::text::{into_text, is_plain, is_printable, is_utf8};
 use crate::white_space::has_white_space;
@@ -195,19 +196,6 @@ fn split_escape(behind: &[u8]) -> (u8, &[u8])
         return (b'%', behind);
     };
     (high * 16 + low, rest)
-}
-
-/// The value of a hexadecimal digit, of either case.
-#[inline(always)]
-fn digit(byte: u8) -> Option<u8>
-    ensures { IsDigit byte result }
-{
-    match byte {
-        b'0'..=b'9' => Some(byte - b'0'),
-        b'A'..=b'F' => Some(byte - b'A' + 10),
-        b'a'..=b'f' => Some(byte - b'a' + 10),
-        _ => None,
-    }
 }
 
 /// Whether the spelling decodes to the path.

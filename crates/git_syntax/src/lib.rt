@@ -12,6 +12,7 @@ pub mod address_law;
 pub mod bytes;
 pub mod classify;
 pub mod debug;
+mod digits;
 mod error_text;
 pub mod escape;
 pub mod find;
