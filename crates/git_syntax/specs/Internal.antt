@@ -10,3 +10,5 @@ pub mod FoundPieces
 pub mod ScpPieces
 pub mod Forms
 pub mod Masks
+pub mod WhiteSpace
+pub mod Runs
