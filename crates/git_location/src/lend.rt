@@ -27,7 +27,6 @@ use git_syntax::text::as_text;
 use git_syntax::url_syntax::ParsedUrl;
 
 /// The location that found slices mean.
-#[inline(always)]
 pub fn lend<'a>(found: Found<'a>, room: &'a mut [u8]) -> UrlRef<'a>
     requires ready { IsReady found }
     requires room { room_for found ≤ length room.old }

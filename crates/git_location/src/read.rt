@@ -7,8 +7,7 @@ use crate::lend::lend;
 use crate::parse_error::ParseError;
 use crate::url_ref::UrlRef;
 use git_refusals::read::refusal;
-use git_syntax::common::find_common;
-use git_syntax::find::find_any;
+use git_syntax::find::find;
 
 impl<'a> UrlRef<'a> {
     /// Reads the one location that the bytes spell, like [`parse`]. Allocates nothing. The fields of the result
@@ -36,27 +35,14 @@ impl<'a> UrlRef<'a> {
     pub fn parse_in(text: &'a [u8], room: &'a mut [u8]) -> Result<UrlRef<'a>, ParseError>
         ensures { ReadsIn text.now (length room.old) result }
     {
-        if room.len() >= text.len() {
-            if let Some(found) = find_common(text) {
-                return Ok(lend(found, room));
+        match find(text) {
+            Err(_) => Err(ParseError::Refused(refusal(text))),
+            Ok(found) => {
+                if room.len() < text.len() {
+                    return Err(ParseError::NoRoom);
+                }
+                Ok(lend(found, room))
             }
-        }
-        parse_any_in(text, room)
-    }
-}
-
-/// Reads the location by the form of the text.
-#[inline(never)]
-fn parse_any_in<'a>(text: &'a [u8], room: &'a mut [u8]) -> Result<UrlRef<'a>, ParseError>
-    ensures { ReadsIn text.now (length room.old) result }
-{
-    match find_any(text) {
-        Err(_) => Err(ParseError::Refused(refusal(text))),
-        Ok(found) => {
-            if room.len() < text.len() {
-                return Err(ParseError::NoRoom);
-            }
-            Ok(lend(found, room))
         }
     }
 }

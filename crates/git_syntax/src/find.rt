@@ -10,7 +10,6 @@ ghost use Rattle.git_syntax.specs.Grammar.{Spells};
 ghost use Rattle.git_syntax.specs.Location.{Location};
 
 use crate::classify::{Form, classify};
-use crate::common::find_common;
 use crate::found::Found;
 use crate::refusal::Refusal;
 use crate::scp::{find_addressed, find_scp};
@@ -18,22 +17,6 @@ use crate::url::find_url;
 
 /// The slices of the one location that the bytes spell.
 pub fn find(bytes: &[u8]) -> Result<Found<'_>, Refusal>
-    ensures found { IfOk result (λ found. Spells bytes.now (meant found)) }
-    ensures ready { IfOk result (λ found. IsReady found) }
-    ensures room { IfOk result (λ found. room_for found ≤ length bytes.now) }
-    ensures refused { IfErr result (λ refusal. (v : Location) → ¬ Spells bytes.now v) }
-    ensures flaw { IfErr result (λ refusal. NamesFlaw bytes.now refusal) }
-    ensures empty { bytes.now ≡ [] → result ≡ Err Refusal.EmptyLocal }
-{
-    match find_common(bytes) {
-        Some(found) => Ok(found),
-        None => find_any(bytes),
-    }
-}
-
-/// The slices of the one location that the bytes spell, like [`find`], by the form of the text.
-#[inline(never)]
-pub fn find_any(bytes: &[u8]) -> Result<Found<'_>, Refusal>
     ensures found { IfOk result (λ found. Spells bytes.now (meant found)) }
     ensures ready { IfOk result (λ found. IsReady found) }
     ensures room { IfOk result (λ found. room_for found ≤ length bytes.now) }

@@ -12,7 +12,7 @@ ghost use Rattle.git_syntax.specs.Internal.HostPieces.{IsInner, IsSimpleHost, Re
 
 pub mod build;
 pub mod bytes;
-pub(crate) mod port;
+mod port;
 
 use crate::bytes::{after, before, cut, is_free_of};
 use crate::escape::decodes_to_utf8;
@@ -210,7 +210,7 @@ fn read_colons(syntax: HostSyntax, piece: &[u8]) -> Result<HostPort<'_>, UrlFaul
 }
 
 /// A host that nothing follows.
-pub(crate) fn alone(piece: HostPiece<'_>) -> HostPort<'_>
+fn alone(piece: HostPiece<'_>) -> HostPort<'_>
     ensures host { named_text result ≡ meant_host piece.entry }
     ensures port { result.port ≡ None }
 {

@@ -11,7 +11,6 @@
 pub mod address_law;
 pub mod bytes;
 pub mod classify;
-pub mod common;
 pub mod debug;
 mod digits;
 mod error_text;

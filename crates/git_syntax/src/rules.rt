@@ -44,7 +44,7 @@ pub fn rules_of(scheme: &[u8]) -> Rules
 }
 
 /// The rules of HTTP.
-pub(crate) fn web(known: KnownScheme) -> Rules
+fn web(known: KnownScheme) -> Rules
     ensures { result ≡ record {
       known = known;
       syntax = HostSyntax.Http;
@@ -63,7 +63,7 @@ pub(crate) fn web(known: KnownScheme) -> Rules
 }
 
 /// The rules of Git's own transports.
-pub(crate) fn transport(known: KnownScheme, needs_host: bool) -> Rules
+fn transport(known: KnownScheme, needs_host: bool) -> Rules
     ensures { result ≡ record {
       known = known;
       syntax = HostSyntax.Git;

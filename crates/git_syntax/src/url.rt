@@ -44,7 +44,7 @@ pub(crate) fn find_url<'a>(
 }
 
 /// Whether the scheme is that of file URLs.
-pub(crate) fn is_file(known: KnownScheme) -> bool
+fn is_file(known: KnownScheme) -> bool
     ensures { IsTrue result ↔ (known ≡ KnownScheme.File) }
 {
     matches!(known, KnownScheme::File)
@@ -161,11 +161,7 @@ fn find_parts<'a>(
 }
 
 /// The slices of a parsed URL. The path of a URL of the helper `ext` is its whole text.
-pub(crate) fn found_of_url<'a>(
-    input: &'a [u8],
-    rules: Rules,
-    url: ParsedUrl<'a>,
-) -> Result<Found<'a>, Refusal>
+fn found_of_url<'a>(input: &'a [u8], rules: Rules, url: ParsedUrl<'a>) -> Result<Found<'a>, Refusal>
     requires spelled { HasUrlSyntax input.now (syntax_of url) }
     requires rules { AreRulesOf url.scheme.now rules }
     requires escaped { url.escaped ≡ has_percent url.path.now }

@@ -39,20 +39,20 @@ pub struct ParsedUrl<'a> {
 
 /// The fields of an authority, as slices of it.
 #[derive(Clone, Copy)]
-pub(crate) struct AuthoritySlices<'a> {
+struct AuthoritySlices<'a> {
     /// The user and the password.
-    pub(crate) credentials: CredentialSlices<'a>,
+    credentials: CredentialSlices<'a>,
     /// The host and the port.
-    pub(crate) host: Option<HostPort<'a>>,
+    host: Option<HostPort<'a>>,
 }
 
 /// The fields of user information, as slices of it.
 #[derive(Clone, Copy)]
-pub(crate) struct CredentialSlices<'a> {
+struct CredentialSlices<'a> {
     /// The user, if there is one, with its escapes.
-    pub(crate) user: Option<&'a [u8]>,
+    user: Option<&'a [u8]>,
     /// The password, if there is one, with its escapes. It isn't empty.
-    pub(crate) password: Option<&'a [u8]>,
+    password: Option<&'a [u8]>,
 }
 
 /// Reads the URL with this scheme, the rules of the scheme, and this text after `://`. It is not a file URL and
@@ -92,7 +92,7 @@ pub(crate) fn read_url_syntax<'a>(
 }
 
 /// The fields of a URL, from those of its authority.
-pub(crate) fn join_parts<'a>(
+fn join_parts<'a>(
     scheme: &'a [u8],
     parts: AuthoritySlices<'a>,
     path: &'a [u8],
@@ -266,14 +266,14 @@ fn read_user(information: &[u8]) -> Result<CredentialSlices<'_>, UrlFault>
 }
 
 /// The text, unless it is empty.
-pub(crate) fn unless_empty(text: &[u8]) -> Option<&[u8]>
+fn unless_empty(text: &[u8]) -> Option<&[u8]>
     ensures { decoded_option result ≡ authority.unless_empty (percent_decode text.now) }
 {
     if text.is_empty() { None } else { Some(text) }
 }
 
 /// The user of a password, or without one: an empty user counts only beside a password.
-pub(crate) fn user_beside<'a>(password: Option<&'a [u8]>, user: &'a [u8]) -> Option<&'a [u8]>
+fn user_beside<'a>(password: Option<&'a [u8]>, user: &'a [u8]) -> Option<&'a [u8]>
     ensures { decoded_option result
         ≡ authority.user_beside (decoded_option password.entry) (percent_decode user.now) }
 {

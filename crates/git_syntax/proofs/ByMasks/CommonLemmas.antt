@@ -1,31 +1,21 @@
 -- Texts of common bytes: they are plain, their pieces are too, and no byte of them needs another test.
-use Rattle.std.proofs.Common.{◌≡◌, ◌∙◌, ◌<◌, ◌≤◌, ◌⊎◌, ◌++◌, ◌∷◌, ◌==◌, ◌||◌, ℕ, Bool, true, false, List, [], Option, Some, None, length, codes, refl, sym, ap, subst, inl, inr, arith, length-append}
-use Rattle.std.specs.Prelude.{IfSome, MatchOption}
+use Rattle.std.proofs.Common.{◌≡◌, ◌∙◌, ◌<◌, ◌≤◌, ◌⊎◌, ◌++◌, ◌∷◌, ◌==◌, ℕ, Bool, true, false, List, [], Option, length, codes, refl, sym, ap, subst, inl, inr, arith, length-append}
 use Rattle.std.specs.Str.{IsUtf8}
 use Rattle.std.proofs.lemmas.Bool.{and_parts, false≢true, le-leb, or_left}
 use Rattle.std.proofs.lemmas.Bool.Decides.{nat_tests}
 use Rattle.std.proofs.lemmas.List.Folds.{list_all-append}
 use Rattle.percent_encoding.specs.Percent.{percent_decode}
-use Rattle.git_syntax.specs.declared.host.HostPort.{HostPort}
-use Rattle.git_syntax.specs.declared.rules.Rules.{Rules}
-use Rattle.git_syntax.specs.declared.url_syntax.AuthoritySlices.{AuthoritySlices}
-use Rattle.git_syntax.specs.declared.url_syntax.ParsedUrl.{ParsedUrl}
 use Rattle.git_syntax.specs.Authority.{Fits}
-use Rattle.git_syntax.specs.Bytes.{FreeOf, Lacks, StartsPath, at_sign, backslash, begins_with, begins_by, colon, is_path_start, is_scheme_text, left_bracket, slash}
+use Rattle.git_syntax.specs.Bytes.{FreeOf, Lacks, StartsPath, backslash, begins_with, colon, is_path_start, is_scheme_text, left_bracket, slash}
 use Rattle.git_syntax.specs.Escapes.{has_percent, is_plain, is_plain_byte}
-use Rattle.git_syntax.specs.Flaws.{IsNoPort, OtherUrlForm}
-use Rattle.git_syntax.specs.Grammar.{HasUrlSyntax, IsNeither, ScpUser}
+use Rattle.git_syntax.specs.Flaws.{OtherUrlForm}
+use Rattle.git_syntax.specs.Grammar.{HasUrlSyntax, IsNeither}
 use Rattle.git_syntax.specs.Grammar.ScpFront.{plain}
-use Rattle.git_syntax.specs.Grammar.ScpUser.{host_alone, with_user}
-use Rattle.git_syntax.specs.Hosts.{HostSyntax, SpellsHostPort}
 use Rattle.git_syntax.specs.Schemes.{host_syntax_of, is_web_scheme, requires_host}
 use Rattle.git_syntax.specs.Internal.Forms.{ColonCut, FrontCut, HasAddressedCut}
-use Rattle.git_syntax.specs.Internal.HostPieces.{Follows, IsSimpleHost, host_syntax, is_simple_byte, named_text}
 use Rattle.git_syntax.specs.Internal.Masks.{is_common, is_common_byte}
-use Rattle.git_syntax.specs.Internal.SchemeRules.{AreRulesOf}
-use Rattle.git_syntax.specs.Internal.UrlPieces.{HoldsAuthority, HoldsHosted, syntax_of}
+use Rattle.git_syntax.specs.Internal.UrlPieces.{HoldsHosted}
 use Rattle.git_syntax.proofs.Parsing.ClassifierLemmas.{no_helper_alone, no_mark_at_colon}
-use Rattle.git_syntax.proofs.Parsing.HostLemmas.{plain_name, simple_text}
 use Rattle.git_syntax.proofs.Parsing.LengthLemmas.{fits_tested}
 use Rattle.git_syntax.proofs.Parsing.UrlLemmas.{rest_cut, spelled, url_cut}
 use Rattle.git_syntax.proofs.Texts.CutLemmas.{free_begins, free_head_tail, free_of_all, free_parts, lacks-cons}
@@ -97,19 +87,6 @@ around_colon b front rest common cut =
     let front_common = (common_around b front rest colon common cut.joined).0 in
     record { joined = cut.joined; form = plain cut.no_colon (inl (free_begins left_bracket front (common_free_of_bracket front front_common))) }
 
--- ---- hosts
-
--- a simple host, a colon and a port
-pub host_before_port : (syntax : HostSyntax) (piece host digits meant : List ℕ) (result : Option HostPort) → IsSimpleHost host → piece ≡ host ++ colon ∷ digits → meant ≡ host
-    → MatchOption result (IsNoPort syntax digits) (λ named. Follows syntax meant (colon ∷ digits) (Some (named_text named)) named.port)
-    → IfSome result (λ named. SpellsHostPort syntax piece (Some (named_text named)) named.port)
-host_before_port syntax piece host digits meant None simple joined same read = tt
-host_before_port syntax piece host digits meant (Some named) simple joined same read =
-    let free = λ (c : ℕ) (other : is_simple_byte c ≡ false). free_of_all is_simple_byte c host simple.bytes other in
-    plain_name syntax piece host digits host (Some (named_text named)) named.port
-    (record { nonempty = simple.nonempty; no_colon = free colon refl; no_bracket = free_begins left_bracket host (free left_bracket refl) })
-    joined (simple_text syntax host simple.bytes) (subst (λ m. Follows syntax m (colon ∷ digits) (Some (named_text named)) named.port) same read)
-
 -- ---- URLs
 
 -- a path that isn't empty begins with a slash
@@ -156,20 +133,3 @@ url_of_common b scheme rest authority path user password host port web form rule
     let plain_text = common_plain b common in
     let no_backslash = free_of_all is_common_byte backslash authority pieces.0 refl in
     spelled cut (plain_utf8 b plain_text) (plain_white_space b plain_text) (sym (plain_sound b plain_text)) no_backslash (rw joined at fits) held (common_means_utf8 path pieces.1)
-
--- the fields that are read of it
-pub common_fields : (b scheme rest authority path : List ℕ) (rules : Rules) (parts : AuthoritySlices) (url : ParsedUrl)
-    → OtherUrlForm b scheme rest → AreRulesOf scheme rules → is_common b ≡ true → length b ≤ 64 → true ≡ is_scheme_text scheme
-    → rest ≡ authority ++ path → FreeOf slash authority → (path ≡ []) ⊎ (begins_with slash path ≡ true)
-    → HoldsAuthority (host_syntax rules.syntax) (requires_host scheme) authority parts
-    → url.scheme.now ≡ scheme → url.user ≡ parts.credentials.user → url.password ≡ parts.credentials.password → url.host ≡ parts.host → url.path.now ≡ path
-    → HasUrlSyntax b (syntax_of url)
-common_fields b scheme rest authority path rules parts url form ruled common short named joined free starts held e f g h k =
-    rw (e, f, g, h, k) (url_of_common b scheme rest authority path _ _ _ _ rules.web form ruled.web common short named joined free starts (rw ruled.syntax at held))
-
--- ---- the buffer for the scp form
-
--- the host of the scp form is no longer than the text
-pub scp_within : (b front path host : List ℕ) (user : Option (List ℕ)) → b ≡ front ++ colon ∷ path → ScpUser front user host → length host ≤ length b
-scp_within b front path host user joined (host_alone e none) = omega (arith, ap length joined, length-append front (colon ∷ path), ap length e)
-scp_within b front path host user joined (with_user u e some) = omega (arith, ap length joined, length-append front (colon ∷ path), ap length e, length-append u (at_sign ∷ host))

@@ -1,7 +1,5 @@
 -- Simple texts, by the pieces that masks cut.
-use Rattle.std.proofs.Common.{◌≡◌, ◌∙◌, ◌<◌, ◌≤◌, ◌++◌, ◌∷◌, ℕ, true, false, List, [], Some, length, codes, refl, sym, ap, subst, inl, inr, arith, append_assoc}
-use Rattle.std.specs.Str.{IsUtf8}
-use Rattle.std.specs.Prelude.{IfSome}
+use Rattle.std.proofs.Common.{◌≡◌, ◌∙◌, ◌<◌, ◌≤◌, ◌++◌, ◌∷◌, ℕ, true, false, List, [], Some, length, codes, refl, ap, subst, append_assoc}
 use Rattle.git_syntax.specs.Bytes.{FreeOf, begins_with, colon, is_helper_name, slash}
 use Rattle.git_syntax.specs.Flaws.{UrlForm}
 use Rattle.git_syntax.specs.Grammar.{SpellsLocal, helper_scheme}
@@ -9,10 +7,10 @@ use Rattle.git_syntax.specs.Location.{Location, Scheme, path_alone}
 use Rattle.git_syntax.specs.Location.Scheme.{file, ssh}
 use Rattle.git_syntax.specs.Schemes.{scheme_text}
 use Rattle.git_syntax.specs.SimpleTexts.{HasSimpleHost, HasSimpleParts, IsRemoteScheme, IsSimpleText, before_host}
-use Rattle.git_syntax.specs.SimpleTexts.IsSimpleText.{file_text, helper_text, local_text, scp_text, url_text}
+use Rattle.git_syntax.specs.SimpleTexts.IsSimpleText.{file_text, helper_text, scp_text, url_text}
 use Rattle.git_syntax.specs.Internal.Forms.{ColonCut}
 use Rattle.git_syntax.specs.Internal.Masks.{is_common}
-use Rattle.git_syntax.proofs.ByMasks.CommonLemmas.{around_colon, common_around, common_parts, common_utf8, neither_by_colon, not_addressed}
+use Rattle.git_syntax.proofs.ByMasks.CommonLemmas.{around_colon, common_utf8, neither_by_colon, not_addressed}
 use Rattle.git_syntax.proofs.Parsing.ClassifierLemmas.{colon_nonempty, local_form, no_helper_free, no_scp_cut}
 use Rattle.git_syntax.proofs.Parsing.FormLemmas.{not_scp}
 use Rattle.git_syntax.proofs.Texts.CutLemmas.{begins_cut, held_free, not_free}

@@ -1,16 +1,13 @@
 -- A simple text spells its location.
 use Rattle.std.proofs.Common.{◌≡◌, ◌∙◌, ◌<◌, ◌≤◌, ◌++◌, ◌∷◌, ◌==◌, ◌&&◌, ℕ, Bool, bytes_eq, true, false, List, [], Option, Some, None, length, codes, refl, sym, ap, subst, inl, inr, arith, append_assoc}
 use Rattle.std.specs.Prelude.{IfSome}
-use Rattle.std.specs.Str.{IsUtf8}
 use Rattle.std.proofs.lemmas.Bool.{and_parts, false≢true}
 use Rattle.std.proofs.lemmas.Bool.Decides.{nat_tests}
 use Rattle.percent_encoding.specs.Percent.{percent_decode}
-use Rattle.git_syntax.specs.Authority.{Authority, unless_empty}
 use Rattle.git_syntax.specs.Authority.Authority.{host_alone, with_user}
 use Rattle.git_syntax.specs.Authority.Credentials.{user_alone}
 use Rattle.git_syntax.specs.Bytes.{FreeOf, at_sign, begins_with, colon, is_scheme_text, left_bracket, slash, tilde}
-use Rattle.git_syntax.specs.Escapes.{has_percent}
-use Rattle.git_syntax.specs.Grammar.{HasUrlSyntax, HostFor, IsSshHost, MeansByScheme, ScpFront, ScpUser, Spells, SpellsUrl, UrlSyntax, from_home, or_root, path_for, retained_spelling}
+use Rattle.git_syntax.specs.Grammar.{HasUrlSyntax, HostFor, IsSshHost, MeansByScheme, ScpFront, ScpUser, Spells, UrlSyntax, from_home, or_root, path_for}
 use Rattle.git_syntax.specs.Grammar.Spells.{file_url, local_path, remote_helper, scp_form, url}
 use Rattle.git_syntax.specs.Hosts.{HostSyntax}
 use Rattle.git_syntax.specs.Location.{Location, Scheme, path_alone}
@@ -23,7 +20,7 @@ use Rattle.git_syntax.specs.Internal.HostPieces.{IsSimpleHost, is_simple_byte}
 use Rattle.git_syntax.specs.Internal.Masks.{is_common, is_common_byte}
 use Rattle.git_syntax.specs.Internal.Forms.{ColonCut}
 use Rattle.git_syntax.specs.Internal.UrlPieces.{HoldsHosted}
-use Rattle.git_syntax.proofs.ByMasks.CommonLemmas.{common_around, common_free_of_percent, common_means_utf8, common_parts, common_utf8, neither_by_colon, url_of_common}
+use Rattle.git_syntax.proofs.ByMasks.CommonLemmas.{common_around, common_free_of_percent, common_parts, common_utf8, neither_by_colon, url_of_common}
 use Rattle.git_syntax.proofs.Parsing.ClassifierLemmas.{url_has_form}
 use Rattle.git_syntax.proofs.Parsing.HostLemmas.{simple_decoded, simple_named, simple_utf8}
 use Rattle.git_syntax.proofs.Parsing.ScpLemmas.{simple_scp_host}

@@ -1,5 +1,5 @@
 -- The slices that are found in a text: the location that they mean, and the buffer that they need.
-use Rattle.std.specs.Prelude.{◌≡◌, ℕ, ◌+◌, ◌≤◌, true, false, ◌==◌, List, [], ◌∷◌, length, Option, Some, None, option_map, IfSome, IsUtf8, if◌then◌else◌}
+use Rattle.std.specs.Prelude.{◌≡◌, ℕ, ◌+◌, true, false, ◌==◌, List, [], ◌∷◌, length, Option, Some, None, option_map, IfSome, IsUtf8, if◌then◌else◌}
 use Rattle.std.specs.Option.{option_copied, unwrap_or}
 use Rattle.std.specs.List.{list_any}
 use Rattle.percent_encoding.specs.Percent.{percent_decode}
@@ -19,7 +19,7 @@ use Rattle.git_syntax.specs.Hosts.{normal_host}
 use Rattle.git_syntax.specs.Internal.HostPieces.{lowercase_address}
 use Rattle.git_syntax.specs.Internal.UrlPieces.{AreTexts, syntax_of}
 use Rattle.git_syntax.specs.Authority.{unless_empty}
-use Rattle.git_syntax.specs.Grammar.{Spells, UrlSyntax, helper_scheme, path_for, retained_spelling, scp_location}
+use Rattle.git_syntax.specs.Grammar.{UrlSyntax, helper_scheme, path_for, retained_spelling, scp_location}
 
 -- ---- the host that Secure Shell takes
 
@@ -130,9 +130,3 @@ abbrev pub room_for : Found → ℕ
 room_for (found.Url rules url) = parts_length (syntax_of url)
 room_for (found.Scp user host path) = length (scp_slice host)
 room_for _ = 0
-
--- the slices mean the location that the text spells, and a buffer as long as the text suffices for it
-pub record FindsIn (text : List ℕ) (found : Found) : Type 0 where
-  pub spelled : Spells text (meant found)
-  pub ready : IsReady found
-  pub room : room_for found ≤ length text

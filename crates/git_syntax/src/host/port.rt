@@ -38,7 +38,7 @@ pub(super) fn ends_host(rest: &[u8]) -> bool
 }
 
 /// A host that a colon and this text follow: the colon stays if the text is empty, else the text is the port.
-pub(crate) fn with_port<'a>(
+pub(super) fn with_port<'a>(
     syntax: HostSyntax,
     piece: HostPiece<'a>,
     digits: &[u8],

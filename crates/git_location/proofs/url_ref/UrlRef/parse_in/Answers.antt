@@ -1,10 +1,12 @@
--- What is found by masks is what reading into a buffer answers.
-use Rattle.std.proofs.Common.{Ok, ap, arith, sym, subst, length}
+-- What is found or refused is what reading into a buffer answers.
+use Rattle.std.proofs.Common.{Ok, Err, ap, sym, subst, length}
+use Rattle.git_location.specs.declared.parse_error.ParseError.TheVariants.{Refused}
 use Rattle.git_syntax.specs.Grammar.{Spells}
 use Rattle.git_location.proofs.Unique.AnsweredLemmas.{reads_in_by}
 use Rattle.git_location.proofs.url_ref.UrlRef.parse_in.Goals as goal
 
-pub returns-in-Some : goal.returns-in-Some
-returns-in-Some c =
-    reads_in_by c.args.text.now (length c.args.room.now) (Ok c.lend.result) (subst (Spells c.args.text.now) (sym c.lend.ensures) c.in-Some.ensures.found.spelled) tt
-    (λ e. absurd (omega (arith, ap length e, c.in-Some.ensures.some)))
+pub returns-in-Err : goal.returns-in-Err
+returns-in-Err c = reads_in_by c.args.text.now (length c.args.room.now) (Err (Refused c.refusal.result)) tt (c.in-Err.ensures.refused, c.refusal.ensures.refused) (λ e. ap (λ r. Err (Refused r)) (c.refusal.ensures.empty e))
+
+pub returns-else-room-text : goal.returns-else-room-text
+returns-else-room-text c = reads_in_by c.args.text.now (length c.args.room.now) (Ok c.lend.result) (subst (Spells c.args.text.now) (sym c.lend.ensures) c.in-Ok.ensures.found) tt (λ e. let wrong = c.in-Ok.ensures.empty e in cc)

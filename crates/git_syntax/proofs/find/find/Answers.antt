@@ -5,7 +5,7 @@ use Rattle.git_syntax.specs.Grammar.{Spells}
 use Rattle.git_syntax.specs.Location.{Location}
 use Rattle.git_syntax.proofs.Parsing.ClassifierLemmas.{helper_name_utf8}
 use Rattle.git_syntax.proofs.Errors.RefusalLemmas.{refused_unspelled}
-use Rattle.git_syntax.proofs.find.find_any.Goals as goal
+use Rattle.git_syntax.proofs.find.find.Goals as goal
 
 pub returns-in-Helper-clause-ready : goal.returns-in-Helper-clause-ready
 returns-in-Helper-clause-ready c = helper_name_utf8 c.in-Helper.name.now c.in-Helper.ensures.named
