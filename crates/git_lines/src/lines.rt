@@ -20,6 +20,7 @@ use git_refusals::reason::RefusalKind;
 use git_refusals::refusal::Refusal;
 use git_syntax::bytes;
 use git_syntax::refusal::UrlFault;
+use git_syntax::simple::is_simple_text;
 use itoa::Buffer;
 use std::alloc::{AllocError, Global};
 use std::io::{self, ErrorKind, Read, Write};
@@ -203,11 +204,16 @@ fn answers_in(alloc: Global, text: &[u8], room: &mut [u8]) -> Result<(Vec<u8>, b
     Ok((out, all & settled))
 }
 
-/// Appends the answer to a line, which is read into the buffer, and returns whether the line is settled.
+/// Appends the answer to a line, which is read into the buffer, and returns whether the line is settled. A simple text
+/// is its own answer.
 fn answer(line: &[u8], room: &mut [u8], out: &mut Vec<u8>) -> Result<bool, RunError>
     requires { length line.now ≤ length room.old }
     ensures { AppendsAnswer line.now out.old.items out.new.items result }
 {
+    if is_simple_text(line) {
+        put_settled(out, line)?;
+        return Ok(true);
+    }
     match UrlRef::parse_in(line, room) {
         Ok(url) => report(url, out),
         Err(ParseError::Refused(refusal)) => refuse(&refusal, out),
@@ -294,6 +300,16 @@ fn put_line(out: &mut Vec<u8>, word: &str, of_what: &[u8]) -> Result<(), RunErro
     out.extend_from_slice(word.as_bytes())?;
     out.extend_from_slice(b"\t")?;
     out.extend_from_slice(of_what)?;
+    out.extend_from_slice(b"\n")?;
+    Ok(())
+}
+
+/// Appends the line of a settled location with this text.
+fn put_settled(out: &mut Vec<u8>, text: &[u8]) -> Result<(), RunError>
+    ensures { Puts (reported_line (codes "settled") text.now) out.old.items out.new.items result }
+{
+    out.extend_from_slice(b"settled\t")?;
+    out.extend_from_slice(text)?;
     out.extend_from_slice(b"\n")?;
     Ok(())
 }

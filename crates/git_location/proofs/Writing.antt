@@ -4,3 +4,4 @@ pub mod PieceLemmas
 pub mod LongestLemmas
 pub mod DisplayLemmas
 pub mod WrittenAsUrlLemmas
+pub mod EscapedLemmas

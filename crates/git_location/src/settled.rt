@@ -1,10 +1,13 @@
 //! The test of the settled class. The text of a location of this class is read as the same fields and is
 //! written the same again.
 
-ghost use Rattle.std.specs.Prelude.{◌↔◌, IsTrue};
+ghost use Rattle.std.specs.Prelude.{◌≡◌, ◌↔◌, IsTrue, List, Ok, ℕ};
+ghost use Rattle.git_syntax.specs.Location.{Location};
 ghost use Rattle.git_syntax.specs.Location.Scheme.{helper};
+ghost use Rattle.git_syntax.specs.SimpleTexts.{IsSimpleText};
 ghost use Rattle.git_location.specs.Internal.Pieces.{AreOwn};
 ghost use Rattle.git_location.specs.Settled.{IsSettled, IsSettledBy, IsValue};
+ghost use Rattle.git_location.specs.Text.{text};
 
 pub(crate) mod fields;
 pub(crate) mod host;
@@ -66,3 +69,9 @@ fn is_settled_named(url: &UrlRef<'_>, name: &[u8]) -> bool
 {
     is_settled_helper(url, name) && name != b"ext".as_slice()
 }
+
+/// A simple text is settled, and is the text of its location.
+pub fn law_simple_texts()
+    ensures settled { (b : List ℕ) (v : Location) → IsSimpleText b v → IsSettled v }
+    ensures unchanged { (b : List ℕ) (v : Location) → IsSimpleText b v → text v ≡ Ok b }
+{}

@@ -2,7 +2,7 @@
 //!
 //! The text is laid out once, as pieces: slices of the location, each with the way that it is written. `form`
 //! chooses the form, `layout` the pieces, `piece` adds up their lengths and puts them into a sink, `unescaped`
-//! finds texts that need no escape, and `sink`, `fill` and `show` are the sinks.
+//! finds texts that need no escape, `escaped` writes the others, and `sink`, `fill` and `show` are the sinks.
 
 ghost use Rattle.std.specs.Prelude.{◌≡◌, [], Ok, Err, IsOk, IfOk, IfErr, length};
 ghost use Rattle.bstr.specs.BStr.{bstr_bytes};
@@ -12,6 +12,7 @@ ghost use Rattle.git_location.specs.Text.{canonical_text, in_form, original_path
 ghost use Rattle.git_location.specs.Internal.Pieces.{form_chosen, form_of, pieces_text, text_length, text_of_pieces};
 ghost use Rattle.git_location.specs.Readings.{Written};
 
+mod escaped;
 pub mod fill;
 pub mod form;
 mod layout;

@@ -2,5 +2,6 @@
 pub mod Texts
 pub mod Addresses
 pub mod Parsing
+pub mod ByMasks
 pub mod Unique
 pub mod Errors

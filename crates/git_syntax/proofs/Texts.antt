@@ -6,3 +6,6 @@ pub mod PlainLemmas
 pub mod AsciiLemmas
 pub mod DecodingLemmas
 pub mod LookLemmas
+pub mod WhiteSpaceLemmas
+pub mod RunLemmas
+pub mod DigitLemmas

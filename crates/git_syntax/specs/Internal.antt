@@ -9,3 +9,6 @@ pub mod SchemeRules
 pub mod FoundPieces
 pub mod ScpPieces
 pub mod Forms
+pub mod Masks
+pub mod WhiteSpace
+pub mod Runs

@@ -7,6 +7,7 @@ pub mod Hosts
 pub mod Schemes
 pub mod Authority
 pub mod Grammar
+pub mod SimpleTexts
 pub mod AddressTest
 pub mod Flaws
 pub mod ErrorText

@@ -128,7 +128,7 @@ fn cut_url<'a>(bytes: &'a [u8], front: &'a [u8], rest: &'a [u8]) -> Option<(&'a 
 }
 
 /// The bytes after two slashes at the front.
-fn after_slashes(text: &[u8]) -> Option<&[u8]>
+pub(crate) fn after_slashes(text: &[u8]) -> Option<&[u8]>
     ensures { MatchOption result ((behind : List ℕ) → ¬ (text.now ≡ slash ∷ (slash ∷ behind)))
         (λ behind. text.now ≡ slash ∷ (slash ∷ behind.now)) }
 {

@@ -3,21 +3,23 @@
 //! Each test is the definition of the same name in `specs/Escapes.antt` or `specs/Bytes.antt`. `decode` and
 //! `decoded_text` allocate once, and not at all if the text is empty. A text without `%` is copied unchanged.
 
-ghost use Rattle.std.specs.Prelude.{◌≡◌, ◌∷◌, ◌<◌, ◌+◌, ◌≤◌, ◌↔◌, IsTrue, IfOk, IsUtf8, length, take, true, drop, chars, string_bytes};
-ghost use Rattle.std.specs.Char.{is_digit, is_whitespace};
-ghost use Rattle.std.specs.List.{list_any};
+ghost use Rattle.std.specs.Prelude.{◌≡◌, ◌∷◌, ◌<◌, ◌+◌, ◌≤◌, ◌↔◌, IsTrue, IfOk, IsUtf8, length, take, true, string_bytes};
+ghost use Rattle.std.specs.Char.{is_digit};
 ghost use Rattle.percent_encoding.specs.Percent as percent;
 ghost use Rattle.git_syntax.specs.Escapes as spec;
 ghost use Rattle.git_syntax.specs.Safeguards.{PasswordSet, PathSet, UserSet};
 ghost use Rattle.git_syntax.specs.Bytes.{LacksWhiteSpace, percent_sign};
-ghost use Rattle.git_syntax.specs.Internal.Decoding.{IsDigit, PassesCharacter, SplitsDecoded};
-ghost use Rattle.git_syntax.specs.Internal.Looks.{begins_high};
+ghost use Rattle.git_syntax.specs.Internal.Decoding.{PadsBlock, SplitsDecoded};
 
 use crate::bytes::cut;
-use crate::text::{into_text, is_plain, is_printable};
-use bstr::{ByteSlice, decode_utf8};
+use crate::digits::digit;
+use crate::runs::past_run;
+use crate::text::{into_text, is_plain, is_printable, is_utf8};
+use crate::white_space::has_white_space;
 use percent_encoding::{AsciiSet, CONTROLS, ascii_set, percent_decode};
+use simdutf8::Checker;
 use std::alloc::{AllocError, Global};
+use std::simd::u8x64;
 
 /// The bytes that are escaped in the path of an HTTP location.
 pub const PATH: AsciiSet = ascii_set!(
@@ -68,10 +70,10 @@ pub fn is_sound(text: &[u8]) -> bool
 {
     let mut rest = text;
     while let Some((_, behind)) = cut(rest, b'%') {
-        if !begins_with_digits(behind) {
+        let Some((_, left)) = past_run(behind) else {
             return false;
-        }
-        rest = behind;
+        };
+        rest = left;
     }
     true
 }
@@ -87,7 +89,7 @@ pub fn begins_with_digits(text: &[u8]) -> bool
 }
 
 /// Whether the byte is a hexadecimal digit of either case.
-fn is_hexadecimal(byte: u8) -> bool
+pub(crate) fn is_hexadecimal(byte: u8) -> bool
     ensures { result ≡ is_digit byte 16 }
 {
     digit(byte).is_some()
@@ -110,49 +112,40 @@ pub fn decodes_to_utf8(text: &[u8]) -> bool
     if has_percent(text) {
         decoding_is_utf8(text)
     } else {
-        text.is_utf8()
+        is_utf8(text)
     }
 }
 
-/// Whether the first byte of the text is `8` or greater.
-pub(crate) fn begins_high(text: &[u8]) -> bool
-    ensures { result ≡ begins_high text.now }
-{
-    match text {
-        [] => false,
-        [first, ..] => b'8' <= *first,
-    }
-}
-
-/// Whether the decoding of the text is UTF-8. In most texts it is ASCII.
+/// Whether the decoding of the text is UTF-8. The decoded bytes are tested 64 at once.
 pub(crate) fn decoding_is_utf8(text: &[u8]) -> bool
     ensures { IsTrue result ↔ IsUtf8 (percent.percent_decode text.now) }
 {
+    let mut checker = Checker::new();
     let mut rest = text;
-    while let Some((first, behind)) = split_decoded(rest) {
-        if first < 128 {
-            rest = behind;
-        } else {
-            let Some(behind) = past_character(rest) else {
-                return false;
-            };
-            rest = behind;
-        }
+    while !rest.is_empty() {
+        let (block, behind) = decoded_block(rest);
+        checker = checker.step(u8x64::from_array(block));
+        rest = behind;
     }
-    true
+    checker.finish()
 }
 
-/// The rest of the text after the first character of its decoding, if the decoding begins with a character.
-fn past_character(text: &[u8]) -> Option<&[u8]>
-    requires { 0 < length (percent.percent_decode text.now) }
-    ensures { PassesCharacter text.now result }
+/// The next 64 bytes of a decoding, or as many as are left and zeros after them, and the rest of the text.
+fn decoded_block(text: &[u8]) -> ([u8; 64], &[u8])
+    ensures bytes { PadsBlock text.now result.0 result.1.now }
+    ensures shorter { 0 < length text.now
+        → length (percent.percent_decode result.1.now) < length (percent.percent_decode text.now) }
 {
-    let (window, count) = front(text);
-    let (found, size) = decode_utf8(&window[..count]);
-    if found.is_none() {
-        return None;
+    let mut block = [0; 64];
+    let mut rest = text;
+    for at in 0..64 {
+        let Some((byte, behind)) = split_decoded(rest) else {
+            return (block, rest);
+        };
+        block[at] = byte;
+        rest = behind;
     }
-    Some(skip(text, size))
+    (block, rest)
 }
 
 /// The next four bytes of a decoding, or as many as are left, and their number.
@@ -173,27 +166,6 @@ pub fn front(text: &[u8]) -> ([u8; 4], usize)
         rest = behind;
     }
     (window, count)
-}
-
-/// The rest of the text after the next `count` bytes of its decoding.
-fn skip(text: &[u8], count: usize) -> &[u8]
-    ensures { percent.percent_decode result.now ≡ drop count (percent.percent_decode text.now) }
-{
-    let mut rest = text;
-    for _turn in 0..count {
-        rest = behind_first(rest);
-    }
-    rest
-}
-
-/// The rest of the text after the first byte of its decoding.
-fn behind_first(text: &[u8]) -> &[u8]
-    ensures { percent.percent_decode result.now ≡ drop 1 (percent.percent_decode text.now) }
-{
-    match split_decoded(text) {
-        None => text,
-        Some((_, behind)) => behind,
-    }
 }
 
 /// The first byte of the decoding of a text, and the rest of the text after it.
@@ -226,19 +198,6 @@ fn split_escape(behind: &[u8]) -> (u8, &[u8])
     (high * 16 + low, rest)
 }
 
-/// The value of a hexadecimal digit, of either case.
-#[inline(always)]
-fn digit(byte: u8) -> Option<u8>
-    ensures { IsDigit byte result }
-{
-    match byte {
-        b'0'..=b'9' => Some(byte - b'0'),
-        b'A'..=b'F' => Some(byte - b'A' + 10),
-        b'a'..=b'f' => Some(byte - b'a' + 10),
-        _ => None,
-    }
-}
-
 /// Whether the spelling decodes to the path.
 pub fn decodes_to(spelling: &[u8], path: &[u8]) -> bool
     ensures { IsTrue result ↔ (percent.percent_decode spelling.now ≡ path.now) }
@@ -261,13 +220,6 @@ pub fn lacks_white_space(text: &str) -> bool
     ensures { IsTrue result ↔ LacksWhiteSpace text.now }
 {
     is_printable(text.as_bytes()) || !has_white_space(text)
-}
-
-/// Whether the text has white space.
-fn has_white_space(text: &str) -> bool
-    ensures { result ≡ list_any is_whitespace (chars text.now) }
-{
-    text.chars().any(|character| character.is_whitespace())
 }
 
 /// The bytes that the text decodes to.

@@ -5,7 +5,7 @@ ghost use Rattle.git_syntax.specs.Escapes.{is_printable};
 ghost use Rattle.git_syntax.specs.Internal.Looks.{Looks, knows_ascii, knows_plain, knows_printable};
 
 use crate::bytes::cut;
-use crate::escape::{begins_high, begins_with_digits};
+use crate::runs::past_run;
 use crate::text::{is_plain, is_printable};
 
 /// A fact about the bytes of a text.
@@ -80,11 +80,11 @@ fn look_at_escapes(text: &[u8]) -> Look
     let mut ascii = true;
     let mut rest = text;
     while let Some((_, behind)) = cut(rest, b'%') {
-        if !begins_with_digits(behind) {
+        let Some((low, left)) = past_run(behind) else {
             return Look::Other;
-        }
-        ascii &= !begins_high(behind);
-        rest = behind;
+        };
+        ascii &= low;
+        rest = left;
     }
     if ascii { Look::Ascii } else { Look::Escaped }
 }

@@ -19,7 +19,7 @@ use crate::host::bytes::are_zone_bytes;
 use crate::host::is_simple_host;
 use crate::ipv6::is_address;
 use crate::refusal::{Refusal, UrlFault, UrlKind};
-use crate::text::{as_text, is_plain, is_text};
+use crate::text::{self, as_text, is_plain, is_text};
 
 /// Finds the slices of the scp form: a user if there is one, a host, a colon and a path.
 pub(crate) fn find_scp<'a>(
@@ -55,7 +55,7 @@ fn is_utf8(plain: bool, text: &[u8]) -> bool
     requires { plain ≡ true → spec.is_plain text.now ≡ true }
     ensures { IsTrue result ↔ IsUtf8 text.now }
 {
-    plain || str::from_utf8(text).is_ok()
+    plain || text::is_utf8(text)
 }
 
 /// Finds the slices of the scp form with an IPv6 text in brackets after the user.

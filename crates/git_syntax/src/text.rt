@@ -48,7 +48,14 @@ fn is_printable_byte(byte: u8) -> bool
 pub fn is_text(bytes: &[u8]) -> bool
     ensures { IsTrue result ↔ IsUtf8 bytes.now }
 {
-    is_plain(bytes) || str::from_utf8(bytes).is_ok()
+    is_plain(bytes) || is_utf8(bytes)
+}
+
+/// Whether the bytes, of which some are probably not ASCII, are UTF-8. They are tested 64 at once.
+pub fn is_utf8(bytes: &[u8]) -> bool
+    ensures { IsTrue result ↔ IsUtf8 bytes.now }
+{
+    simdutf8::is_utf8(bytes)
 }
 
 /// The bytes as text.

@@ -20,7 +20,7 @@ use crate::look::{Look, look_at};
 use crate::refusal::{Refusal, UrlKind};
 use crate::rules::{Rules, rules_of};
 use crate::scheme::KnownScheme;
-use crate::text::{as_text, is_text};
+use crate::text::{as_text, is_text, is_utf8};
 use crate::url_syntax::{ParsedUrl, read_url_syntax};
 
 /// Finds the slices of a URL.
@@ -127,9 +127,10 @@ fn find_in_text<'a>(
     ensures room { IfOk result (λ found. room_for found ≤ length input.now) }
     ensures flaw { IfErr result (λ refusal. NamesFlaw input.now refusal) }
 {
-    match str::from_utf8(input) {
-        Ok(text) => find_parts(text, Look::Other, rules, scheme, rest),
-        Err(_) => Err(Refusal::NotUtf8 { kind: UrlKind::Url }),
+    if is_utf8(input) {
+        find_parts(as_text(input), Look::Other, rules, scheme, rest)
+    } else {
+        Err(Refusal::NotUtf8 { kind: UrlKind::Url })
     }
 }
 

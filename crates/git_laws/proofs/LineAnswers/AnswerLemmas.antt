@@ -30,7 +30,7 @@ use Rattle.git_syntax.proofs.Texts.EscapeLemmas.{encode_free, lacks_escaped_perc
 use Rattle.git_syntax.proofs.Texts.EscapeSets.{path_holds, password_holds, user_holds}
 use Rattle.git_syntax.proofs.Addresses.AddressLemmas.{address_free, address-lowercase}
 use Rattle.git_syntax.proofs.Parsing.SchemeLemmas.{scheme_cases, helper_cases, means_scheme}
-use Rattle.git_laws.proofs.Writing.KeptLemmas.{helper_unchanged, local_unchanged}
+use Rattle.git_location.proofs.SettledClass.UnchangedLemmas.{helper_unchanged, local_unchanged}
 use Rattle.git_laws.proofs.Writing.PieceTextLemmas.{port_piece}
 use Rattle.git_laws.proofs.Writing.WrittenPathLemmas.{matching_cases}
 use Rattle.git_syntax.proofs.Parsing.ScpLemmas.{scp_meant_utf8}

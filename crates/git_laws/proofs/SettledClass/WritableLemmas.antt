@@ -23,7 +23,7 @@ use Rattle.git_syntax.proofs.Texts.CutLemmas.{begins_cut}
 use Rattle.git_syntax.proofs.Parsing.UrlLemmas.{none_not_some}
 use Rattle.git_syntax.proofs.Parsing.SchemeLemmas.{scheme_cases, means_cases}
 use Rattle.git_syntax.proofs.Unique.UniqueLemmas.{meant_with}
-use Rattle.git_laws.proofs.Writing.KeptLemmas.{helper_unchanged, local_unchanged}
+use Rattle.git_location.proofs.SettledClass.UnchangedLemmas.{helper_unchanged, local_unchanged}
 use Rattle.git_laws.proofs.Records.RecordLemmas.{unmigrated}
 use Rattle.git_laws.proofs.SettledClass.WebClosedLemmas.{retained_by, sound_behind, parts_joined}
 use Rattle.git_laws.proofs.Writing.WrittenScpLemmas.{scp_written}

@@ -11,6 +11,7 @@ use Rattle.git_syntax.specs.Schemes.{scheme_of}
 use Rattle.git_syntax.specs.Grammar.{LocalForm, helper_scheme, SpellsHelper, SpellsUrl, SpellsScp, SpellsLocal, Spells}
 use Rattle.git_location.specs.Text.{text}
 use Rattle.git_location.specs.Settled.{IsFlaggedPath, IsSettledLocal, IsSettledHelper, IsSettledBy, IsSettled}
+use Rattle.git_location.proofs.SettledClass.UnchangedLemmas.{helper_unchanged, helper_written, kept, local_unchanged, local_written, path_alone_bare}
 use Rattle.git_laws.specs.Laws.{keeps_bytes, KeepsBytes, ComesBack}
 use Rattle.git_syntax.proofs.Parsing.SchemeLemmas.{helper_cases, means_cases}
 
@@ -20,53 +21,13 @@ use Rattle.git_syntax.proofs.Parsing.SchemeLemmas.{helper_cases, means_cases}
 pub value_of : (v : Location) (known : Scheme) (flag : Bool) → v.scheme ≡ known → v.flag ≡ flag → v.password ≡ None → v.port ≡ None → v ≡ record (path_alone known flag v.path) { user = v.user; host = v.host; spelling = v.spelling }
 value_of v known flag scheme flagged no_password no_port = grind arith
 
--- the value of a location that has a scheme, a path and the flag, and perhaps a spelling
-abbrev kept : Scheme → List ℕ → Option (List ℕ) → Location
-kept scheme path spelling = record (path_alone scheme true path) { spelling = spelling }
-
 -- a location without the other parts is such a value
 kept_value : (v : Location) (known : Scheme) → v.scheme ≡ known → IsFlaggedPath v → v ≡ kept known v.path v.spelling
 kept_value v known scheme h = grind arith
 
--- a value without parts of an authority
-path_alone_bare : (scheme : Scheme) (path : List ℕ) → IsFlaggedPath (path_alone scheme true path)
-path_alone_bare scheme path = (refl, (refl, refl, refl), refl)
-
--- ---- texts
-
--- a remote helper is written as its name, `::` and its path
-helper_written : (name path : List ℕ) (spelling : Option (List ℕ)) → is_helper_name name ≡ true → text (kept (helper name) path spelling) ≡ Ok (name ++ colon ∷ (colon ∷ path))
-helper_written name path spelling named = rw named refl
-
--- a local path is written as it is
-local_written : (path : List ℕ) (spelling : Option (List ℕ)) → text (kept file path spelling) ≡ Ok path
-local_written path spelling = refl
-
 -- the text of a settled local path is the path
 pub flagged_text : (v : Location) → v.scheme ≡ file → IsSettledLocal v → text v ≡ Ok v.path
 flagged_text v scheme h = grind arith
-
--- ---- a spelled location is settled, and written as it was read
-
--- a remote helper without a spelling is settled
-helper_settled : (name path : List ℕ) → is_helper_name name ≡ true → IsSettled (path_alone (helper_scheme name) true path)
-helper_settled name path named = grind arith
-
--- and written as its name, `::` and its path
-helper_text : (name path : List ℕ) → is_helper_name name ≡ true → text (path_alone (helper_scheme name) true path) ≡ Ok (name ++ colon ∷ (colon ∷ path))
-helper_text name path named = grind (arith, nat_tests, helper_written, bytes_eq-Decides, helper_cases)
-
--- what a remote helper's form spells is settled, and written as it was read
-pub helper_unchanged : (b : List ℕ) (v : Location) → SpellsHelper b v → IsSettled v × (text v ≡ Ok b)
-helper_unchanged b v h = grind (arith, nat_tests, helper_settled, helper_text)
-
--- a local path without a spelling is settled
-local_settled : (b : List ℕ) → LocalForm b → IsSettled (path_alone file true b)
-local_settled b form = inl record { bare = path_alone_bare file b; form = form }
-
--- what a local path spells is settled, and written as it was read
-pub local_unchanged : (b : List ℕ) (v : Location) → SpellsLocal b v → IsSettled v × (text v ≡ Ok b)
-local_unchanged b v h = grind arith
 
 -- ---- closure
 

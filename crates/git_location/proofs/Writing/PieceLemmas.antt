@@ -1,8 +1,8 @@
 -- Pieces of a text: what escapes and written percents make up, and how long they are.
-use Rattle.std.proofs.Common.{◌≡◌, ℕ, ◌+◌, ◌*◌, ◌<◌, Bool, cond, ◌==◌, Option, Some, None, Result, Ok, Err, List, [], ◌∷◌, ◌++◌, length, take, drop, get_or, inl, inr, refl, sym, ap, ◌∙◌, arith, append_assoc, length-append}
+use Rattle.std.proofs.Common.{◌≡◌, ℕ, ◌+◌, ◌*◌, ◌<◌, Bool, true, not, cond, ◌==◌, Option, Some, None, Result, Ok, Err, List, [], ◌∷◌, ◌++◌, length, take, drop, get_or, inl, inr, refl, sym, ap, ◌∙◌, arith, append_assoc, length-append}
 use Rattle.std.specs.Borrow.{Bor}
-use Rattle.std.specs.List.{count_by, position_or_len}
-use Rattle.std.proofs.lemmas.Bool.{both_ways, cases_Bool, eqb-true, cond-true, cond-false}
+use Rattle.std.specs.List.{count_by, list_all, position_or_len}
+use Rattle.std.proofs.lemmas.Bool.{and_parts, both_ways, cases_Bool, eqb-true, not-true, cond-true, cond-false}
 use Rattle.std.proofs.lemmas.List.Sums.{sum_by-cons, fails_before_first, passes_at_first, split_at_first}
 use Rattle.std.proofs.lemmas.Str.Pattern.{IsSplitOnceResult, split_once_first}
 use Rattle.percent_encoding.specs.declared.ascii_set.AsciiSet.{AsciiSet}
@@ -62,18 +62,11 @@ length_percents (b ∷ bs) =
     ]
 
 -- a text of which no byte has to be escaped is written as it is
-pub kept_text : (set : AsciiSet) (bs : List ℕ) → count_by (should_percent_encode set) bs ≡ 0 → percent_encode set bs ≡ bs
-kept_text set [] none = percent_encode-nil set
-kept_text set (b ∷ bs) none =
-    elim (cases_Bool (should_percent_encode set b)) [
-      | inl escaped ↦
-          let one = counted (should_percent_encode set) b bs 1 (cond-true {A = ℕ} (should_percent_encode set b) 1 0 escaped) in
-          absurd (omega (arith, one, none))
-      | inr kept ↦
-          let rest = counted (should_percent_encode set) b bs 0 (cond-false {A = ℕ} (should_percent_encode set b) 1 0 kept) in
-          let others : count_by (should_percent_encode set) bs ≡ 0 = omega (arith, rest, none) in
-          percent_encode_kept set b bs kept ∙ ap (λ x. b ∷ x) (kept_text set bs others)
-    ]
+pub kept_text : (set : AsciiSet) (bs : List ℕ) → list_all (λ b. not (should_percent_encode set b)) bs ≡ true → percent_encode set bs ≡ bs
+kept_text set [] all = percent_encode-nil set
+kept_text set (b ∷ bs) all =
+    let (first, others) = and_parts (not (should_percent_encode set b)) (list_all (λ c. not (should_percent_encode set c)) bs) all in
+    percent_encode_kept set b bs (not-true (should_percent_encode set b) first) ∙ ap (λ x. b ∷ x) (kept_text set bs others)
 
 -- ---- percents
 

@@ -16,7 +16,7 @@ use git_syntax::bytes::{is_scheme_text, starts_with_byte};
 use git_syntax::escape::{decodes_to, has_percent, is_sound, lacks_white_space};
 use git_syntax::home::begins_at_home;
 use git_syntax::scheme::{is_ftp, is_known_scheme};
-use git_syntax::text::{is_plain, is_text};
+use git_syntax::text::{as_text, is_plain, is_text};
 
 /// Whether the location is a settled URL of HTTP.
 pub(crate) fn is_settled_web(url: &UrlRef<'_>, laid: Option<&Pieces<'_>>) -> bool
@@ -176,10 +176,7 @@ fn is_raw(path: &[u8]) -> bool
     requires { IsUtf8 path.now }
     ensures { IsTrue result ↔ IsRaw path.now }
 {
-    match str::from_utf8(path) {
-        Ok(text) => !has_percent(path) && lacks_white_space(text),
-        Err(_) => false,
-    }
+    !has_percent(path) && lacks_white_space(as_text(path))
 }
 
 /// Whether the location meets the conditions that all settled URLs have in common.
@@ -243,15 +240,11 @@ fn has_fair_spelling(url: &UrlRef<'_>) -> bool
 pub(crate) fn is_fair_spelling(spelling: &[u8], path: &[u8]) -> bool
     ensures { IsTrue result ↔ IsFairSpelling spelling.now path.now }
 {
-    match str::from_utf8(spelling) {
-        Ok(text) => {
-            is_sound(spelling)
-                && has_percent(spelling)
-                && lacks_white_space(text)
-                && begin_alike(spelling, path)
-        }
-        Err(_) => false,
-    }
+    is_text(spelling)
+        && is_sound(spelling)
+        && has_percent(spelling)
+        && lacks_white_space(as_text(spelling))
+        && begin_alike(spelling, path)
 }
 
 /// Whether the texts have the same first byte, or are both empty.

@@ -2,14 +2,16 @@
 //!
 //! They are the only description of a text: `len` adds up their lengths, and `put` puts them into any sink.
 
-ghost use Rattle.std.specs.Prelude.{◌≡◌, ◌≤◌, ◌*◌, ◌^◌, ◌==◌, ◌++◌, IsTrue, OnOk, length, [], count_by};
+ghost use Rattle.std.specs.Prelude.{◌≡◌, ◌≤◌, ◌*◌, ◌^◌, ◌==◌, ◌++◌, IsTrue, OnOk, length, [], count_by, not};
+ghost use Rattle.std.specs.List.{list_all};
 ghost use Rattle.percent_encoding.specs.AsciiSet.{should_percent_encode};
 ghost use Rattle.percent_encoding.specs.Percent.{percent_encode};
 ghost use Rattle.git_syntax.specs.declared.escape.TheConstants.{PATH, PASSWORD, USER};
 ghost use Rattle.git_syntax.specs.Bytes.{percent_sign};
 ghost use Rattle.git_location.specs.Internal.Pieces.{host_text, path_end_text, piece_text, pieces_text, port_text, scheme_piece_text, user_text};
 
-use crate::writer::sink::{Sink, put_escaped, put_percents};
+use crate::writer::escaped::put_escaped;
+use crate::writer::sink::{Sink, put_percents};
 use crate::writer::unescaped::{needs_no_escape, user_needs_no_escape};
 use git_syntax::escape::{PASSWORD, PATH, USER};
 use percent_encoding::AsciiSet;
@@ -328,7 +330,14 @@ fn put_port<T, S: Sink<T>>(place: &mut T, digits: Option<&str>) -> Result<(), S:
 fn is_kept(text: &[u8], set: AsciiSet) -> bool
     ensures { IsTrue result → percent_encode set text.now ≡ text.now }
 {
-    count_escaped(text, set) == 0
+    are_kept(text, set)
+}
+
+/// Whether no byte of the text is in the set, and all are ASCII.
+fn are_kept(text: &[u8], set: AsciiSet) -> bool
+    ensures { result ≡ list_all (λ b. not (should_percent_encode set b)) text.now }
+{
+    text.iter().all(|byte| !set.should_percent_encode(*byte))
 }
 
 /// The length of the text with the bytes of the set, and those that aren't ASCII, as escapes.

@@ -7,12 +7,10 @@
 ghost use Rattle.std.specs.Prelude.{ℕ, List, [], ◌++◌, OnOk};
 ghost use Rattle.std.specs.Io.KnownBytes.{Appends};
 ghost use Rattle.std.proofs.KnownBytes.{Appends-nil, Appends-trans};
-ghost use Rattle.percent_encoding.specs.Percent.{percent_encode};
 ghost use Rattle.git_syntax.specs.Bytes.{percent_sign};
 ghost use Rattle.git_syntax.specs.Internal.Cuts.{CutsAt};
 ghost use Rattle.git_syntax.specs.Escapes.{escaped_percents};
 
-use percent_encoding::{AsciiSet, percent_encode};
 use std::io::{self, Write};
 
 /// A way to put a text into a place of type `T`: slices that are UTF-8, and an end that may be any bytes.
@@ -41,17 +39,6 @@ pub trait Sink<T> {
 
     ghost ends_joined: { (a b c : T) (x y : List ℕ) → takes a x b → ends b y c
         → ends a (x ++ y) c };
-}
-
-/// Puts the text with the bytes of the set, and those that aren't ASCII, as escapes.
-#[inline(never)]
-pub fn put_escaped<T, S: Sink<T>>(place: &mut T, text: &[u8], set: AsciiSet) -> Result<(), S::Fault>
-    ensures { OnOk result (S.takes place.old (percent_encode set text.now) place.new) }
-{
-    for slice in percent_encode(text, set) {
-        S::put(place, slice)?;
-    }
-    Ok(())
 }
 
 /// Puts the text with each `%` escaped.

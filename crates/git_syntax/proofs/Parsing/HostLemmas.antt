@@ -608,15 +608,15 @@ pub simple_normal : (t : List ℕ) → list_all is_simple_byte t ≡ true → no
 simple_normal t h = cond_both (list_all is_dns_byte t) (lowercase t) t (λ n. n ≡ t) (λ _. simple_lowercase t h) (λ _. refl)
 
 -- it decodes to itself
-simple_decoded : (t : List ℕ) → list_all is_simple_byte t ≡ true → percent_decode t ≡ t
+pub simple_decoded : (t : List ℕ) → list_all is_simple_byte t ≡ true → percent_decode t ≡ t
 simple_decoded t h = decode_kept t (free_of_all is_simple_byte percent_sign t h refl)
 
 -- it is text
-simple_utf8 : (t : List ℕ) → list_all is_simple_byte t ≡ true → IsUtf8 t
+pub simple_utf8 : (t : List ℕ) → list_all is_simple_byte t ≡ true → IsUtf8 t
 simple_utf8 t h = utf8_class is_http_host_byte http_byte_ascii t (simple_http t h)
 
 -- so it stands for itself in every syntax
-simple_text : (syntax : HostSyntax) (t : List ℕ) → list_all is_simple_byte t ≡ true → HostText syntax t t
+pub simple_text : (syntax : HostSyntax) (t : List ℕ) → list_all is_simple_byte t ≡ true → HostText syntax t t
 simple_text http_hosts t h = (simple_http t h, sym (simple_normal t h))
 simple_text git_hosts t h = (subst IsUtf8 (sym (simple_decoded t h)) (simple_utf8 t h), sym (ap normal_host (simple_decoded t h) ∙ simple_normal t h))
 simple_text other_hosts t h = (subst IsUtf8 (sym (simple_decoded t h)) (simple_utf8 t h), sym (ap normal_host (simple_decoded t h) ∙ simple_normal t h))

@@ -1,16 +1,15 @@
--- Decoding one byte or one character at a time.
-use Rattle.std.proofs.Common.{◌≡◌, ◌∙◌, ◌+◌, ◌-◌, ◌*◌, ◌<◌, ◌≤◌, ◌↔◌, ◌∷◌, ◌++◌, ℕ, true, false, List, [], length, take, drop, get_or, IsUtf8, refl, sym, ap, subst, arith}
+-- Decoding one byte or one block of bytes at a time.
+use Rattle.std.proofs.Common.{◌≡◌, ◌∙◌, ◌+◌, ◌-◌, ◌*◌, ◌<◌, ◌≤◌, ◌↔◌, ◌∷◌, ◌++◌, ℕ, true, false, List, [], length, take, drop, replicate, get_or, slice_set, IsUtf8, append_assoc, refl, sym, ap, subst, arith, take-append-drop}
 use Rattle.std.proofs.lemmas.Bool.Decides.{nat_tests}
 use Rattle.std.specs.Char.{digit_value}
-use Rattle.std.proofs.lemmas.List.{append-nil, drop-drop, length-take, take_all, take_rest}
-use Rattle.std.proofs.lemmas.Str.{IsUtf8-append, IsUtf8-from_ascii, IsUtf8-past_char, encode_ascii}
+use Rattle.std.proofs.lemmas.Grind.{take-set_at}
+use Rattle.std.proofs.lemmas.List.{append-nil, drop-drop, drop-replicate, drop-set-lt, length-append, length-take, nil_from_length, take_all, take_rest}
 use Rattle.percent_encoding.specs.Percent.{percent_decode}
-use Rattle.percent_encoding.proofs.PercentLemmas.{percent_decode-nil, percent_decode_not_percent}
+use Rattle.percent_encoding.proofs.PercentLemmas.{length-percent_decode, percent_decode-nil, percent_decode_not_percent}
+use Rattle.simdutf8.proofs.StepsLemmas.{IsUtf8-append_ascii, IsAscii-replicate}
 use Rattle.git_syntax.specs.Bytes.{is_hexadecimal, percent_sign}
-use Rattle.git_syntax.specs.Internal.Decoding.{IsPast}
-use Rattle.git_syntax.proofs.Texts.AsciiLemmas.{ascii_cons}
+use Rattle.git_syntax.specs.Internal.Decoding.{PadsBlock}
 use Rattle.git_syntax.proofs.Texts.EscapeLemmas.{decode_broken, decode_escape}
-use Rattle.std.proofs.lemmas.Str.Ascii.{IsAscii-nil}
 
 -- ---- the byte that `%` and what follows begin with
 
@@ -45,14 +44,6 @@ first_kept text behind b e other = ap percent_decode e ∙ percent_decode_not_pe
 pub nothing_decoded : (text : List ℕ) → text ≡ [] → percent_decode text ≡ []
 nothing_decoded text e = ap percent_decode e ∙ percent_decode-nil
 
--- of which nothing is left
-pub nothing_left : (text : List ℕ) → text ≡ [] → percent_decode text ≡ drop 1 (percent_decode text)
-nothing_left text e = grind (arith, nat_tests, nothing_decoded)
-
--- and which is UTF-8
-pub nothing_means_utf8 : (text : List ℕ) → text ≡ [] → IsUtf8 (percent_decode text)
-nothing_means_utf8 text e = subst IsUtf8 (sym (nothing_decoded text e)) (IsUtf8-from_ascii [] IsAscii-nil)
-
 -- where nothing is left, all is done
 pub all_decoded : (done rest text : List ℕ) → percent_decode text ≡ done ++ percent_decode rest → rest ≡ [] → done ≡ percent_decode text
 all_decoded done rest text joined e = sym (joined ∙ ap (λ left. done ++ left) (nothing_decoded rest e) ∙ append-nil done)
@@ -63,28 +54,46 @@ all_in_window window rest text count joined e small =
     let done = all_decoded (take count window) rest text joined e in
     done ∙ sym (take_all 4 (percent_decode text) (omega (arith, ap length done, length-take count window, small)))
 
--- the rest behind one byte more
-pub one_more : (whole rest left : List ℕ) (n : ℕ) → percent_decode left ≡ drop 1 (percent_decode rest) → percent_decode rest ≡ drop n (percent_decode whole) → percent_decode left ≡ drop (n + 1) (percent_decode whole)
-one_more whole rest left n step so_far = step ∙ ap (drop 1) so_far ∙ drop-drop 1 n (percent_decode whole)
+-- ---- blocks of 64 bytes
 
--- ---- one character
+-- the bytes so far and the rest are UTF-8 where they are with the block
+pub with_block : (read rest block behind : List ℕ) → PadsBlock rest block behind → IsUtf8 (read ++ percent_decode rest) ↔ IsUtf8 ((read ++ block) ++ percent_decode behind)
+with_block read rest block behind (zeros, e) =
+    let padded = IsUtf8-append_ascii (read ++ percent_decode rest) (replicate zeros 0) (IsAscii-replicate zeros 0 (omega arith)) in
+    let same : (read ++ percent_decode rest) ++ replicate zeros 0 ≡ (read ++ block) ++ percent_decode behind =
+    append_assoc read (percent_decode rest) (replicate zeros 0) ∙ ap (λ l. read ++ l) e ∙ sym (append_assoc read block (percent_decode behind)) in
+    (λ u. subst IsUtf8 same (padded.1 u), λ u. padded.0 (subst IsUtf8 (sym same) u))
 
--- a window on bytes that are there isn't empty
-pub window_some : (bs window : List ℕ) → window ≡ take 4 bs → 0 < length bs → 0 < length window
-window_some bs window e some = omega (arith, ap length e, length-take 4 bs, some)
+-- a full block
+pub full_block : (text block behind : List ℕ) (n : ℕ) → length block ≤ n → percent_decode text ≡ take n block ++ percent_decode behind → PadsBlock text block behind
+full_block text block behind n within e = (0, append-nil (percent_decode text) ∙ e ∙ ap (λ l. l ++ percent_decode behind) (take_all n block within))
 
--- a byte of ASCII is a character
-pub past_ascii : (text left : List ℕ) (b : ℕ) → b < 128 → percent_decode text ≡ b ∷ percent_decode left → IsPast text left
-past_ascii text left b low e =
-    let alone = IsUtf8-from_ascii (b ∷ []) (ascii_cons b [] low IsAscii-nil) in
-    record {
-      same = (
-        λ all. IsUtf8-past_char (percent_decode text) (percent_decode left) b all (e ∙ ap (λ front. front ++ percent_decode left) (sym (encode_ascii b low))),
-        λ rest. subst IsUtf8 (sym e) (IsUtf8-append (b ∷ []) (percent_decode left) alone rest),
-      );
-      shorter = omega (arith, ap length e);
-    }
+-- the last block
+pub last_block : (text block behind : List ℕ) (n : ℕ) → behind ≡ [] → drop n block ≡ replicate (64 - n) 0 → percent_decode text ≡ take n block ++ percent_decode behind → PadsBlock text block behind
+last_block text block behind n none zeros e =
+    let left : percent_decode behind ≡ [] = ap percent_decode none ∙ percent_decode-nil in
+    let front : percent_decode text ≡ take n block = e ∙ ap (λ l. take n block ++ l) left ∙ append-nil (take n block) in
+    (64 - n, ap (λ l. l ++ replicate (64 - n) 0) front ∙ ap (λ l. take n block ++ l) (sym zeros) ∙ take-append-drop n block ∙ sym (ap (λ l. block ++ l) left ∙ append-nil block))
 
--- what is left behind a character is left of the whole
-pub past_more : (whole rest left : List ℕ) → (IsUtf8 (percent_decode whole) ↔ IsUtf8 (percent_decode rest)) → IsPast rest left → IsUtf8 (percent_decode whole) ↔ IsUtf8 (percent_decode left)
-past_more whole rest left so_far h = (λ all. h.same.0 (so_far.0 all), λ others. so_far.1 (h.same.1 others))
+-- the zeros behind one byte more
+pub zeros_left : (block : List ℕ) (n b : ℕ) → n < 64 → drop n block ≡ replicate (64 - n) 0 → drop (n + 1) (slice_set block n b) ≡ replicate (64 - (n + 1)) 0
+zeros_left block n b within zeros =
+    let count : 64 - n - 1 ≡ 64 - (n + 1) = omega arith in
+    drop-set-lt (n + 1) block n b (omega arith) ∙ ap (λ k. drop k block) (omega arith) ∙ sym (drop-drop 1 n block) ∙ ap (drop 1) zeros ∙ drop-replicate 1 (64 - n) 0 ∙ ap (λ k. replicate k 0) count
+
+-- a byte more of the block
+pub byte_more : (text block rest behind : List ℕ) (n b : ℕ) → n < length block → percent_decode text ≡ take n block ++ percent_decode rest → percent_decode rest ≡ b ∷ percent_decode behind → percent_decode text ≡ take (n + 1) (slice_set block n b) ++ percent_decode behind
+byte_more text block rest behind n b within so_far first =
+    so_far ∙ ap (λ l. take n block ++ l) first ∙ sym (append_assoc (take n block) (b ∷ []) (percent_decode behind)) ∙ ap (λ l. l ++ percent_decode behind) (sym (take-set_at block n (n + 1) b (omega arith) within))
+
+-- a block leaves less of the decoding
+pub block_shorter : (text block behind : List ℕ) (n : ℕ) → 0 < n → n ≤ length block → percent_decode text ≡ take n block ++ percent_decode behind → length (percent_decode behind) < length (percent_decode text)
+block_shorter text block behind n some within e = omega (arith, ap length e, length-append (take n block) (percent_decode behind), length-take n block)
+
+-- the end of a text leaves nothing of it
+pub end_shorter : (text behind : List ℕ) → behind ≡ [] → 0 < length text → length (percent_decode behind) < length (percent_decode text)
+end_shorter text behind none some = omega (arith, ap length (ap percent_decode none ∙ percent_decode-nil), (length-percent_decode text).1)
+
+-- all that was read
+pub all_read : (read rest : List ℕ) → length rest ≡ 0 → read ≡ read ++ percent_decode rest
+all_read read rest none = sym (ap (λ l. read ++ l) (ap percent_decode (nil_from_length rest none) ∙ percent_decode-nil) ∙ append-nil read)

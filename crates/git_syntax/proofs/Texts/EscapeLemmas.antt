@@ -1,17 +1,14 @@
 -- Escaped texts: where they are sound, how they decode in parts, and how they are UTF-8 in parts.
-use Rattle.std.proofs.Common.{◌≡◌, ◌∙◌, ◌↔◌, ◌<◌, ◌≤◌, ◌+◌, ℕ, zero, suc, Bool, true, false, not, ◌&&◌, ◌||◌, ◌==◌, List, [], ◌∷◌, ◌++◌, Option, Some, None, length, take, drop, ◌*◌, nat_lt, All, IsAscii, get_or, arith, refl, sym, ap, subst, ⊎_elim, inl, inr}
+use Rattle.std.proofs.Common.{◌≡◌, ◌∙◌, ◌<◌, ◌≤◌, ◌+◌, ℕ, zero, suc, Bool, true, false, not, ◌&&◌, ◌||◌, ◌==◌, List, [], ◌∷◌, ◌++◌, length, take, ◌*◌, nat_lt, All, IsAscii, get_or, arith, refl, sym, ap, subst, ⊎_elim, inl, inr}
 use Rattle.std.specs.Char.{is_digit, digit_value, is_whitespace, encode_utf8}
-use Rattle.std.specs.Option.{is_some}
 use Rattle.std.specs.Str.{IsUtf8, encode_utf8_all}
-use Rattle.std.proofs.lemmas.Bool.{cases_Bool, and_parts, and_from, or_parts, or_from, false_from_ne_true, or_cases, or_left, or_right, not-true, both_ways, eqb-true, eqb-false, ltb-true, true≢false, false≢true}
+use Rattle.std.proofs.lemmas.Bool.{cases_Bool, and_parts, and_from, or_parts, or_from, false_from_ne_true, or_cases, or_left, or_right, not-true, both_ways, eqb-true, eqb-false, ltb-true, false≢true}
 use Rattle.std.proofs.lemmas.Bool.Decides.{nat_tests}
-use Rattle.std.proofs.lemmas.List.{append_cancel_left, length-take, length-drop, length-append, nil_from_length, take_at, drop_at, get_or_at}
-use Rattle.std.proofs.lemmas.Str.{IsUtf8-append, IsUtf8-past_char, IsUtf8-encode, IsUtf8-take, IsUtf8-drop, IsUtf8-from_ascii, IsCharBoundary-from_take, IsCharBoundary-before_ascii, chars-append, chars-IsAscii}
+use Rattle.std.proofs.lemmas.List.{append_cancel_left, length-append, nil_from_length, take_at, drop_at, get_or_at}
+use Rattle.std.proofs.lemmas.Str.{IsUtf8-append, IsUtf8-take, IsUtf8-drop, IsUtf8-from_ascii, IsCharBoundary-from_take, IsCharBoundary-before_ascii, chars-append, chars-IsAscii}
 use lib.Utf8.{scalar, scalars}
-use Rattle.bstr.specs.Utf8.{Decoded, decoded}
+use Rattle.bstr.specs.Utf8.{decoded}
 use Rattle.bstr.proofs.lemmas.PieceLemmas.{decoded_by-cut, piece-bounds}
-use Rattle.bstr.proofs.lemmas.SoundLemmas.{SpellsChar-decoded}
-use Rattle.bstr.proofs.lemmas.EncodeLemmas.{decoded-encode}
 use Rattle.std.proofs.lemmas.Str.Ascii.{IsAscii-from_all}
 use Rattle.std.proofs.lemmas.List.Elements.{All-cons, All-nil, All-append, All-weaker}
 use Rattle.std.specs.List.{list_any, list_all}
@@ -42,42 +39,6 @@ decoded_window (a ∷ b ∷ c ∷ d ∷ bs) =
     let all = a ∷ b ∷ c ∷ d ∷ bs in
     let bounds = piece-bounds all (omega arith) in
     decoded_by-cut 4 (length all) a b c d b c d bounds.1 (omega arith) (omega arith) (λ _. refl) (λ _. refl) (λ _. refl)
-
--- a text is UTF-8 where its first character reads and the rest is UTF-8
-pub utf8_past_first : (bs : List ℕ) (c : ℕ) → (decoded bs).char ≡ Some c → IsUtf8 bs ↔ IsUtf8 (drop (decoded bs).size bs)
-utf8_past_first bs c read =
-    let first = SpellsChar-decoded bs c read in (
-      λ all. IsUtf8-past_char bs (drop (decoded bs).size bs) c all first.bytes,
-      λ rest. subst IsUtf8 (sym first.bytes) (IsUtf8-append _ _ (IsUtf8-encode c first.scalar) rest),
-    )
-
-not_utf8 : (cs window : List ℕ) (found : Option ℕ) (bs : List ℕ) → window ≡ take 4 bs → 0 < length window → found ≡ (decoded window).char → is_some found ≡ false → scalars cs ≡ true → encode_utf8_all cs ≡ bs → ⊥
-not_utf8 [] window found bs whole some char read scalar is =
-    omega (arith, ap length whole, ap length is, length-take 4 bs)
-not_utf8 (c ∷ cs) window found bs whole some char read scalar is =
-    let first = decoded-encode c (encode_utf8_all cs) (and_parts _ _ scalar).0 in
-    let same = ap decoded whole ∙ decoded_window bs ∙ ap decoded (sym is) ∙ first in
-    let reads = char ∙ ap (λ (d : Decoded). d.char) same in
-    true≢false (sym (ap is_some reads) ∙ read)
-
--- the same read in a window of four bytes
-pub utf8_past_window : (bs window rest : List ℕ) (found : Option ℕ) (size : ℕ) → window ≡ take 4 bs → found ≡ (decoded window).char → size ≡ (decoded window).size → rest ≡ drop size bs → is_some found ≡ true → IsUtf8 bs ↔ IsUtf8 rest
-utf8_past_window bs window rest None size whole char width left read = absurd (cc)
-utf8_past_window bs window rest (Some c) size whole char width left read =
-    let same = ap decoded whole ∙ decoded_window bs in
-    let gone : rest ≡ drop (decoded bs).size bs = left ∙ ap (λ n. drop n bs) (width ∙ ap (λ (d : Decoded). d.size) same) in
-    let advance = utf8_past_first bs c (sym (char ∙ ap (λ (d : Decoded). d.char) same)) in
-    (λ all. subst IsUtf8 (sym gone) (advance.0 all), λ others. advance.1 (subst IsUtf8 gone others))
-
--- what is read from a window that is not empty leaves less
-pub shorter_past_window : (bs window rest : List ℕ) (size : ℕ) → window ≡ take 4 bs → 0 < length window → size ≡ (decoded window).size → rest ≡ drop size bs → length rest < length bs
-shorter_past_window bs window rest size whole some width left =
-    let bounds = piece-bounds window some in
-    omega (arith, ap length whole, ap length left, length-take 4 bs, length-drop size bs)
-
--- a text whose first bytes read as no character is not UTF-8
-pub not_utf8_at_window : (bs window : List ℕ) (found : Option ℕ) → window ≡ take 4 bs → 0 < length window → found ≡ (decoded window).char → is_some found ≡ false → ¬ IsUtf8 bs
-not_utf8_at_window bs window found whole some char read all = not_utf8 all.0 window found bs whole some char read all.1.0 all.1.1
 
 -- ---- soundness
 

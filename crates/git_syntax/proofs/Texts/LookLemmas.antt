@@ -1,5 +1,5 @@
 -- Looks at texts: escapes that stand for ASCII, and what is known of the path of a text that was looked at.
-use Rattle.std.proofs.Common.{◌≡◌, ◌∙◌, ◌++◌, ◌∷◌, ◌&&◌, ◌||◌, ◌==◌, ℕ, Bool, true, false, not, List, [], IsAscii, append_assoc, codes, refl, sym, ap, subst, inl, inr, arith}
+use Rattle.std.proofs.Common.{◌≡◌, ◌∙◌, ◌++◌, ◌∷◌, ◌&&◌, ◌||◌, ◌==◌, ℕ, Bool, true, false, List, [], IsAscii, append_assoc, codes, refl, sym, ap, subst, inl, inr, arith}
 use Rattle.std.specs.Char.{is_digit}
 use Rattle.std.specs.Str.{IsUtf8}
 use Rattle.std.proofs.lemmas.Bool.{and_parts, cases_Bool, eqb-true, false≢true, or_parts}
@@ -18,7 +18,7 @@ use Rattle.git_syntax.proofs.Texts.PlainLemmas.{plain_free, plain_means_utf8, pl
 -- ---- high escapes
 
 -- a byte that isn't `%` begins none
-high_kept : (b : ℕ) (bs : List ℕ) → (b == percent_sign) ≡ false → has_high_escape (b ∷ bs) ≡ has_high_escape bs
+pub high_kept : (b : ℕ) (bs : List ℕ) → (b == percent_sign) ≡ false → has_high_escape (b ∷ bs) ≡ has_high_escape bs
 high_kept b bs other = rw other refl
 
 -- a text without `%` has none
@@ -36,19 +36,6 @@ high_at_cut (b ∷ front) behind free =
 high_behind : (front behind : List ℕ) → has_high_escape (front ++ behind) ≡ false → has_high_escape behind ≡ false
 high_behind [] behind low = low
 high_behind (b ∷ front) behind low = high_behind front behind (or_parts _ _ low).1
-
--- ---- one `%` after the other
-
--- where the first escape is low, the text behind it decides whether all are
-pub low_past : (ascii high : Bool) (text rest front behind : List ℕ) → rest ≡ front ++ percent_sign ∷ behind → FreeOf percent_sign front → high ≡ begins_high behind
-    → (ascii ≡ true → has_high_escape rest ≡ has_high_escape text) → (ascii && not high) ≡ true → has_high_escape behind ≡ has_high_escape text
-low_past ascii high text rest front behind e free is same both =
-    let (first, low) = and_parts ascii (not high) both in
-    sym (ap has_high_escape e ∙ high_at_cut front behind free ∙ ap (λ b. b || has_high_escape behind) (sym is ∙ not_not high low)) ∙ same first
-  where
-    not_not : (b : Bool) → not b ≡ true → b ≡ false
-    not_not true h = absurd (cc)
-    not_not false h = refl
 
 -- ---- decoding
 

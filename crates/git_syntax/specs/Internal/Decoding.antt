@@ -1,5 +1,5 @@
--- Decoding one byte or one character at a time.
-use Rattle.std.specs.Prelude.{◌≡◌, ◌<◌, ◌↔◌, ℕ, true, false, List, [], ◌∷◌, length, Option, MatchOption, IsUtf8}
+-- Decoding one byte or one block of bytes at a time.
+use Rattle.std.specs.Prelude.{◌≡◌, ℕ, true, false, List, [], ◌∷◌, ◌++◌, replicate, Option, MatchOption}
 use Rattle.std.specs.Borrow.{Bor}
 use Rattle.std.specs.Char.{digit_value}
 use Rattle.percent_encoding.specs.Percent.{percent_decode}
@@ -15,12 +15,7 @@ abbrev pub SplitsDecoded : List ℕ → Option (ℕ × Bor (List ℕ)) → Type 
 SplitsDecoded text result = MatchOption result (text ≡ [])
     (λ parts. percent_decode text ≡ parts.0 ∷ percent_decode parts.1.now)
 
--- the rest of a text after a character of its decoding: both decode to UTF-8, or neither does
-pub record IsPast (text left : List ℕ) : Type 0 where
-  pub same : IsUtf8 (percent_decode text) ↔ IsUtf8 (percent_decode left)
-  pub shorter : length (percent_decode left) < length (percent_decode text)
-
--- the rest of a text after the first character of its decoding; `None` only if the decoding isn't UTF-8
-abbrev pub PassesCharacter : List ℕ → Option (Bor (List ℕ)) → Type 0
-PassesCharacter text result = MatchOption result (¬ IsUtf8 (percent_decode text))
-    (λ left. IsPast text left.now)
+-- the block is the front of the decoding, or all of it and zeros. The other text decodes to the rest
+abbrev pub PadsBlock : List ℕ → List ℕ → List ℕ → Type 0
+PadsBlock text block behind = (zeros : ℕ)
+    × (percent_decode text ++ replicate zeros 0 ≡ block ++ percent_decode behind)

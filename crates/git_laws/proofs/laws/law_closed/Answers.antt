@@ -3,7 +3,8 @@ use Rattle.std.proofs.Common.{inl, inr}
 use Rattle.git_laws.specs.Laws.{Unchanged}
 use Rattle.git_laws.proofs.SettledClass.ClosedLemmas.{closed, exact}
 use Rattle.git_laws.proofs.Errors.ExceptionLemmas.{apart}
-use Rattle.git_laws.proofs.Writing.KeptLemmas.{helper_unchanged, local_unchanged, kept_exact}
+use Rattle.git_laws.proofs.Writing.KeptLemmas.{kept_exact}
+use Rattle.git_location.proofs.SettledClass.UnchangedLemmas.{helper_unchanged, local_unchanged}
 use Rattle.git_laws.proofs.SettledClass.WritableLemmas.{writable}
 use Rattle.git_laws.proofs.laws.law_closed.Goals as goal
 

@@ -1,19 +1,16 @@
--- The first `%` and what follows decide.
-use Rattle.std.proofs.Common.{◌&&◌, sym, ap, ◌∙◌}
-use Rattle.git_syntax.specs.Escapes.{is_sound}
-use Rattle.git_syntax.proofs.Texts.AsciiLemmas.{sound_at_cut}
+-- The first `%` and the run behind it decide.
+use Rattle.std.proofs.Common.{◌∙◌, sym}
 use Rattle.git_syntax.proofs.Texts.EscapeLemmas.{sound_free}
+use Rattle.git_syntax.proofs.Texts.RunLemmas.{broken_at_cut, sound_past_run}
 use Rattle.git_syntax.proofs.escape.is_sound.Goals as goal
 
-pub returns-then-not-begins_with_digits : goal.returns-then-not-begins_with_digits
-returns-then-not-begins_with_digits c =
-    let cut = sound_at_cut c.in-Some.field-0-0.now c.in-Some.behind.now c.in-Some.ensures.0 in
-    sym (ap is_sound c.in-Some.ensures.1 ∙ cut ∙ ap (λ b. b && is_sound c.in-Some.behind.now) (sym c.if-not-begins_with_digits.ensures)) ∙ c.loop-behind.invariant
+pub returns-in_default-past_run : goal.returns-in_default-past_run
+returns-in_default-past_run c =
+    sym (broken_at_cut c.loop-behind.rest.now c.in-Some.field-0-0.now c.in-Some.behind.now c.in-Some.ensures.1 c.in-Some.ensures.0 c.in_default-past_run.ensures) ∙ c.loop-behind.invariant
 
 pub loop-behind-preserved : goal.loop-behind-preserved
 loop-behind-preserved c =
-    let cut = sound_at_cut c.in-Some.field-0-0.now c.in-Some.behind.now c.in-Some.ensures.0 in
-    sym (ap is_sound c.in-Some.ensures.1 ∙ cut ∙ ap (λ b. b && is_sound c.in-Some.behind.now) (sym c.if-not-begins_with_digits.ensures)) ∙ c.loop-behind.invariant
+    sound_past_run c.in-Some-past_run.field-0-0 c.loop-behind.rest.now c.in-Some.field-0-0.now c.in-Some.behind.now c.in-Some-past_run.left.now c.in-Some.ensures.1 c.in-Some.ensures.0 c.in-Some-past_run.ensures ∙ c.loop-behind.invariant
 
 pub returns : goal.returns
 returns c = sym (sound_free c.loop-behind.rest.now c.in_default.ensures) ∙ c.loop-behind.invariant

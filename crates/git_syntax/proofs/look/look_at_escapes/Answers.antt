@@ -1,16 +1,20 @@
--- The first `%` and what follows decide.
-use Rattle.std.proofs.Common.{◌&&◌, ◌∙◌, ap, sym}
-use Rattle.git_syntax.specs.Escapes.{is_sound}
-use Rattle.git_syntax.proofs.Texts.AsciiLemmas.{sound_at_cut}
+-- The first `%` and the run behind it decide.
+use Rattle.std.proofs.Common.{◌∙◌, sym}
 use Rattle.git_syntax.proofs.Texts.EscapeLemmas.{sound_free}
-use Rattle.git_syntax.proofs.Texts.LookLemmas.{high_free, low_past}
+use Rattle.git_syntax.proofs.Texts.LookLemmas.{high_free}
+use Rattle.git_syntax.proofs.Texts.RunLemmas.{low_past_run, sound_past_run}
 use Rattle.git_syntax.proofs.look.look_at_escapes.Goals as goal
 
 pub loop-behind-preserved : goal.loop-behind-preserved
 loop-behind-preserved c =
-    let cut = sound_at_cut c.in-Some.field-0-0.now c.in-Some.behind.now c.in-Some.ensures.0 in record {
-      sound = sym (ap is_sound c.in-Some.ensures.1 ∙ cut ∙ ap (λ b. b && is_sound c.in-Some.behind.now) (sym c.if-not-begins_with_digits.ensures)) ∙ c.loop-behind.invariant.sound;
-      high = low_past c.loop-behind.ascii c.begins_high.result c.args.text.now c.loop-behind.rest.now c.in-Some.field-0-0.now c.in-Some.behind.now c.in-Some.ensures.1 c.in-Some.ensures.0 c.begins_high.ensures c.loop-behind.invariant.high;
+    let rest = c.loop-behind.rest.now in
+    let front = c.in-Some.field-0-0.now in
+    let behind = c.in-Some.behind.now in
+    let left = c.in-Some-past_run.left.now in
+    let low = c.in-Some-past_run.low in
+    let run = c.in-Some-past_run.ensures in record {
+      sound = sound_past_run low rest front behind left c.in-Some.ensures.1 c.in-Some.ensures.0 run ∙ c.loop-behind.invariant.sound;
+      high = low_past_run c.loop-behind.ascii low c.args.text.now rest front behind left c.in-Some.ensures.1 c.in-Some.ensures.0 run c.loop-behind.invariant.high;
     }
 
 pub returns-then-ascii : goal.returns-then-ascii

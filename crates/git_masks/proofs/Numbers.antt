@@ -1,4 +1,0 @@
--- Masks of texts.
-pub mod BitLemmas
-pub mod JoinLemmas
-pub mod MarkLemmas

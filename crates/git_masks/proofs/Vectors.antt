@@ -1,2 +1,0 @@
--- Operations on vectors.
-pub mod LaneLemmas

@@ -1,8 +1,0 @@
--- The bits before the place.
-use Rattle.std.proofs.Common.{◌-◌, ◌%◌, ◌*◌, ◌^◌, bit_and, ap, ◌∙◌, arith}
-use Rattle.git_masks.proofs.Numbers.JoinLemmas.{front_bits}
-use Rattle.git_masks.proofs.bits.U128Bits.front.Goals as goal
-
-pub returns-then-place-lt128 : goal.returns-then-place-lt128
-returns-then-place-lt128 c test text short is =
-    ap (λ m. bit_and m (1 * 2 ^ c.args.place % 2 ^ 128 - 1)) is ∙ front_bits 128 test text c.args.place (omega arith)

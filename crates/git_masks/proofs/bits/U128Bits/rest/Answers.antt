@@ -1,7 +1,0 @@
--- The bits from the place on.
-use Rattle.std.proofs.Common.{◌/◌, ◌^◌, ap, sym, ◌∙◌}
-use Rattle.git_masks.proofs.Numbers.JoinLemmas.{mask-drop}
-use Rattle.git_masks.proofs.bits.U128Bits.rest.Goals as goal
-
-pub returns-then-place-lt128 : goal.returns-then-place-lt128
-returns-then-place-lt128 c test text short is = ap (λ m. m / 2 ^ c.args.place) is ∙ sym (mask-drop test c.args.place text)

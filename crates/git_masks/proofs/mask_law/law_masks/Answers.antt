@@ -1,5 +1,0 @@
-use Rattle.git_masks.proofs.Numbers.BitLemmas.{has_bit}
-use Rattle.git_masks.proofs.mask_law.law_masks.Goals as goal
-
-pub returns : goal.returns
-returns c = record { bits = has_bit }

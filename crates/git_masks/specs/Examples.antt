@@ -1,2 +1,0 @@
--- Examples of the definitions: each row is proved.
-pub mod MaskRows

@@ -1,0 +1,67 @@
+-- Simple texts, by the pieces that masks cut.
+use Rattle.std.proofs.Common.{◌≡◌, ◌∙◌, ◌<◌, ◌≤◌, ◌++◌, ◌∷◌, ℕ, true, false, List, [], Some, length, codes, refl, ap, subst, append_assoc}
+use Rattle.git_syntax.specs.Bytes.{FreeOf, begins_with, colon, is_helper_name, slash}
+use Rattle.git_syntax.specs.Flaws.{UrlForm}
+use Rattle.git_syntax.specs.Grammar.{SpellsLocal, helper_scheme}
+use Rattle.git_syntax.specs.Location.{Location, Scheme, path_alone}
+use Rattle.git_syntax.specs.Location.Scheme.{file, ssh}
+use Rattle.git_syntax.specs.Schemes.{scheme_text}
+use Rattle.git_syntax.specs.SimpleTexts.{HasSimpleHost, HasSimpleParts, IsRemoteScheme, IsSimpleText, before_host}
+use Rattle.git_syntax.specs.SimpleTexts.IsSimpleText.{file_text, helper_text, scp_text, url_text}
+use Rattle.git_syntax.specs.Internal.Forms.{ColonCut}
+use Rattle.git_syntax.specs.Internal.Masks.{is_common}
+use Rattle.git_syntax.proofs.ByMasks.CommonLemmas.{around_colon, common_utf8, neither_by_colon, not_addressed}
+use Rattle.git_syntax.proofs.Parsing.ClassifierLemmas.{colon_nonempty, local_form, no_helper_free, no_scp_cut}
+use Rattle.git_syntax.proofs.Parsing.FormLemmas.{not_scp}
+use Rattle.git_syntax.proofs.Texts.CutLemmas.{begins_cut, held_free, not_free}
+
+-- a text without a colon is a local path
+pub free_local : (b : List ℕ) → 0 < length b → FreeOf colon b → SpellsLocal b (path_alone file true b)
+free_local b some free = record {
+  nonempty = some;
+  neither = record { no_helper = no_helper_free b free; no_mark = held_free b free };
+  no_scp = not_scp b (λ front path form. not_free colon front path (subst (λ t. FreeOf colon t) form.joined free));
+  value = refl;
+}
+
+-- so is one with a slash before its only colon
+pub slashed_local : (b front rest : List ℕ) → is_common b ≡ true → ColonCut b front rest → ((behind : List ℕ) → ¬ (rest ≡ slash ∷ (slash ∷ behind)))
+    → FreeOf colon rest → ¬ FreeOf slash front → SpellsLocal b (path_alone file true b)
+slashed_local b front rest common cut no_mark free slashed =
+    let neither = neither_by_colon b front rest cut no_mark free in
+    let no_scp = no_scp_cut b front rest (around_colon b front rest common cut) slashed in
+    let form = local_form b (colon_nonempty b front rest cut) neither (not_addressed b common) no_scp in
+    record { nonempty = form.nonempty; neither = form.neither; no_scp = form.no_scp; value = refl }
+
+-- a name before two colons makes a remote helper
+pub simple_helper : (b front rest : List ℕ) → ColonCut b front rest → begins_with colon rest ≡ true → is_helper_name front ≡ true → (v : Location) × IsSimpleText b v
+simple_helper b front rest cut begins named =
+    let (address, same) = begins_cut colon rest begins in
+    (path_alone (helper_scheme front) true address, helper_text (record { name = front; address = address; parts = record { named = named; joined = cut.joined ∙ ap (λ r. front ++ colon ∷ r) same }; value = refl }))
+
+-- a simple host before the only colon makes the scp form
+pub simple_scp : (b front rest : List ℕ) → is_common b ≡ true → ColonCut b front rest → ((behind : List ℕ) → ¬ (rest ≡ slash ∷ (slash ∷ behind)))
+    → FreeOf colon rest → 0 < length rest → HasSimpleHost front → (v : Location) × IsSimpleText b v
+simple_scp b front rest common cut no_mark free some (user, host, simple_user, simple_host, joined) =
+    let parts : HasSimpleParts b user host rest = record { common = common; simple_user = simple_user; simple_host = simple_host; pathed = some } in (
+      record (path_alone ssh true rest) { user = user; host = Some host },
+      scp_text user host rest parts free no_mark (cut.joined ∙ ap (λ f. f ++ colon ∷ rest) joined ∙ append_assoc (before_host user) host (colon ∷ rest)) refl,
+    )
+
+-- a remote scheme and a simple host make a URL
+pub simple_url : (b scheme rest authority path : List ℕ) → UrlForm b scheme rest → is_common b ≡ true → length b ≤ 64 → rest ≡ authority ++ path
+    → 0 < length path → begins_with slash path ≡ true → (p : Scheme) × IsRemoteScheme p × (scheme ≡ scheme_text p) → HasSimpleHost authority → (v : Location) × IsSimpleText b v
+simple_url b scheme rest authority path form common short cut some begins (p, remote, named) (user, host, simple_user, simple_host, joined) =
+    let parts : HasSimpleParts b user host path = record { common = common; simple_user = simple_user; simple_host = simple_host; pathed = some } in
+    let whole = cut ∙ ap (λ a. a ++ path) joined ∙ append_assoc (before_host user) host path in (
+      record (path_alone p false path) { user = user; host = Some host },
+      url_text p user host path remote parts begins short (form.joined ∙ ap (λ s. s ++ (codes "://" ++ rest)) named ∙ ap (λ r. scheme_text p ++ (codes "://" ++ r)) whole) refl,
+    )
+
+-- `file://` and a path make a file URL without a host
+pub simple_file : (b scheme rest authority path : List ℕ) → UrlForm b scheme rest → is_common b ≡ true → scheme ≡ codes "file" → rest ≡ authority ++ path → authority ≡ []
+    → begins_with slash path ≡ true → (v : Location) × IsSimpleText b v
+simple_file b scheme rest authority path form common named cut none begins = (
+  path_alone file false path,
+  file_text path (common_utf8 b common) begins (form.joined ∙ ap (λ s. s ++ (codes "://" ++ rest)) named ∙ ap (λ r. codes "file://" ++ r) (cut ∙ ap (λ a. a ++ path) none)) refl,
+)

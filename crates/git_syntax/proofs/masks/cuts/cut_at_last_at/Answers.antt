@@ -1,0 +1,16 @@
+-- The pieces around the place of the last byte.
+use Rattle.memchr.specs.Find.{is_byte}
+use Rattle.git_syntax.specs.Bytes.{at_sign}
+use Rattle.git_syntax.proofs.Texts.CutLemmas.{last_found, none_last}
+use Rattle.git_syntax.proofs.masks.cuts.cut_at_last_at.Goals as goal
+
+pub returns-in_err-at : goal.returns-in_err-at
+returns-in_err-at c =
+    let text = c.args.text.now in
+    rw c.from_residual.ensures (none_last at_sign text (c.in_err-at.ensures (is_byte at_sign) text c.requires.short c.requires.at))
+
+pub returns : goal.returns
+returns c =
+    let text = c.args.text.now in
+    let found = last_found at_sign text c.in_ok-at.at (c.in_ok-at.ensures (is_byte at_sign) text c.requires.short c.requires.at) in
+    rw (c.split_at.ensures.front, c.split_at-2.ensures.back) found

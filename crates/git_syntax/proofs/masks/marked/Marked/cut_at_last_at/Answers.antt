@@ -1,0 +1,10 @@
+-- What is before the rest: the front and the mark.
+use Rattle.std.proofs.Common.{[], ◌∷◌, ◌++◌, sym, ◌∙◌, append_assoc}
+use Rattle.git_syntax.specs.Bytes.{at_sign}
+use Rattle.git_syntax.proofs.masks.marked.Marked.cut_at_last_at.Goals as goal
+
+pub rest-requires-clause-rest : goal.rest-requires-clause-rest
+rest-requires-clause-rest c =
+    let front = c.in_ok-front.front.now in
+    let mark = at_sign ∷ [] in
+    (front ++ mark, c.in_ok-front.ensures.1 ∙ sym (append_assoc front mark c.in_ok-front.rest.now))

@@ -1,0 +1,53 @@
+-- Simple texts: most remotes. The text of such a location is the text that it was read from.
+use Rattle.std.specs.Prelude.{◌≡◌, ℕ, ◌<◌, ◌≤◌, true, false, List, [], ◌∷◌, ◌++◌, length, codes, Option, Some, None, IfSome, IsUtf8}
+use Rattle.git_syntax.specs.Location.{Scheme, Location, path_alone}
+use Rattle.git_syntax.specs.Location.Scheme.{file, git, ssh, http, https}
+use Rattle.git_syntax.specs.Bytes.{slash, colon, at_sign, FreeOf, begins_with}
+use Rattle.git_syntax.specs.Schemes.{scheme_text}
+use Rattle.git_syntax.specs.Grammar.{SpellsHelper, SpellsLocal}
+use Rattle.git_syntax.specs.Internal.HostPieces.{IsSimpleHost}
+use Rattle.git_syntax.specs.Internal.Masks.{is_common}
+
+-- a scheme of HTTP, Secure Shell or Git's own protocol
+pub data IsRemoteScheme : Scheme → Type 0 where
+  of_git : IsRemoteScheme git
+  of_ssh : IsRemoteScheme ssh
+  of_http : IsRemoteScheme http
+  of_https : IsRemoteScheme https
+
+-- the user and `@`, if there is a user
+abbrev pub before_host : Option (List ℕ) → List ℕ
+before_host None = []
+before_host (Some user) = user ++ at_sign ∷ []
+
+-- each byte of the text is common, the user and the host consist of lower-case letters, digits, `-` and `.`, and
+-- neither they nor the path are empty
+pub record HasSimpleParts (b : List ℕ) (user : Option (List ℕ)) (host path : List ℕ) : Type 0 where
+  pub common : is_common b ≡ true
+  pub simple_user : IfSome user IsSimpleHost
+  pub simple_host : IsSimpleHost host
+  pub pathed : 0 < length path
+
+-- the authority is a simple host, perhaps after a simple user
+abbrev pub HasSimpleHost : List ℕ → Type 0
+HasSimpleHost authority = (user : Option (List ℕ)) × (host : List ℕ) × IfSome user IsSimpleHost × IsSimpleHost host
+    × (authority ≡ before_host user ++ host)
+
+-- the text is a simple one, and spells this location
+pub data IsSimpleText (b : List ℕ) (v : Location) : Type 0 where
+  -- a remote helper
+  helper_text : SpellsHelper b v → IsSimpleText b v
+  -- a local path
+  local_text : SpellsLocal b v → IsSimpleText b v
+  -- a file URL without a host
+  file_text : (path : List ℕ) → IsUtf8 b → begins_with slash path ≡ true → b ≡ codes "file://" ++ path
+      → v ≡ path_alone file false path → IsSimpleText b v
+  -- the scp form; its path has neither a colon nor two slashes at the front
+  scp_text : (user : Option (List ℕ)) (host path : List ℕ) → HasSimpleParts b user host path → FreeOf colon path
+      → ((rest : List ℕ) → ¬ (path ≡ slash ∷ (slash ∷ rest))) → b ≡ before_host user ++ (host ++ colon ∷ path)
+      → v ≡ record (path_alone ssh true path) { user = user; host = Some host } → IsSimpleText b v
+  -- a URL without a port
+  url_text : (scheme : Scheme) (user : Option (List ℕ)) (host path : List ℕ) → IsRemoteScheme scheme
+      → HasSimpleParts b user host path → begins_with slash path ≡ true → length b ≤ 64
+      → b ≡ scheme_text scheme ++ (codes "://" ++ (before_host user ++ (host ++ path)))
+      → v ≡ record (path_alone scheme false path) { user = user; host = Some host } → IsSimpleText b v

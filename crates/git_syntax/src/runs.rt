@@ -1,0 +1,52 @@
+//! Runs of escapes, as they spell texts beyond ASCII. They are passed without a search for each `%`.
+
+ghost use Rattle.std.specs.Prelude.{◌≡◌, nat_le};
+ghost use Rattle.git_syntax.specs.Internal.Runs.{PassesDigits, StripsDigits, StripsEscape};
+
+use crate::escape::is_hexadecimal;
+
+/// Whether an escape with this first digit stands for a byte that isn't ASCII.
+fn is_high(digit: u8) -> bool
+    ensures { result ≡ nat_le 56 digit }
+{
+    b'8' <= digit
+}
+
+/// The text after two hexadecimal digits and the escapes that follow them, and whether all of them, behind a `%`,
+/// stand for ASCII. `None` if the text doesn't begin with two digits.
+pub(crate) fn past_run(text: &[u8]) -> Option<(bool, &[u8])>
+    ensures { PassesDigits text.now result }
+{
+    let (high, behind) = after_digits(text)?;
+    let mut low = !is_high(high);
+    let mut rest = behind;
+    while let Some((high, behind)) = after_escape(rest) {
+        low &= !is_high(high);
+        rest = behind;
+    }
+    Some((low, rest))
+}
+
+/// The first of the two hexadecimal digits that the text begins with, and the text after them.
+#[inline(always)]
+fn after_digits(text: &[u8]) -> Option<(u8, &[u8])>
+    ensures { StripsDigits text.now result }
+{
+    match text {
+        [high, low, behind @ ..] if is_hexadecimal(*high) && is_hexadecimal(*low) => {
+            Some((*high, behind))
+        }
+        _ => None,
+    }
+}
+
+/// The first digit of the escape that the text begins with, and the text after the escape.
+#[inline(always)]
+fn after_escape(text: &[u8]) -> Option<(u8, &[u8])>
+    ensures { StripsEscape text.now result }
+{
+    match text {
+        [sign, behind @ ..] if *sign == b'%' => after_digits(behind),
+        _ => None,
+    }
+}
