@@ -96,14 +96,19 @@ pub record AreFlawless (name : List ℕ) (place : Option NormalPlace) (room : �
   pub enough : All (HasRoomFor (codes "http") name place room) entries
   pub values : IsListName name → (i : ℕ) (e : ConfigEntry) → IsTakenAt name place entries i e → ¬ (e.value ≡ None)
 
+-- the entry has a value, and doesn't clear those before it
+abbrev pub HasUsedValue : ConfigEntry → Type 0
+HasUsedValue e = (¬ (e.value ≡ None)) × ¬ (e.value ≡ Some [])
+
 -- the error of an entry that follows these: the buffer is too short for its URL; or Git takes it for a list, and it
--- has no value; or memory is refused for its index, because Git takes it and no other error is its
+-- has no value; or memory is refused for its index, which is needed because Git takes it and, for a list, uses its
+-- value
 abbrev pub EntryFails : List ℕ → Option NormalPlace → ℕ → List ConfigEntry → ConfigEntry → SettingsError → Type 0
 EntryFails name place room before e NoRoom = ¬ HasRoomFor (codes "http") name place room e
 EntryFails name place room before e (NoValue at) = HasRoomFor (codes "http") name place room e × IsListName name
     × IsTakenAt name place (before ++ e ∷ []) (length before) e × (e.value ≡ None) × (at ≡ e.at)
 EntryFails name place room before e Memory = HasRoomFor (codes "http") name place room e
-    × IsTakenAt name place (before ++ e ∷ []) (length before) e × (IsListName name → ¬ (e.value ≡ None))
+    × IsTakenAt name place (before ++ e ∷ []) (length before) e × (IsListName name → HasUsedValue e)
 
 -- the error is that of the first entry that has one: those before it have none
 pub record IsOfFirst (name : List ℕ) (place : Option NormalPlace) (room : ℕ) (entries : List ConfigEntry) (error : SettingsError) : Type 0 where
@@ -129,7 +134,7 @@ IsAdded (Some (b ∷ bs)) i old new = new ≡ old ++ i ∷ []
 -- an entry with a value is added, or memory is refused for it, and one without a value is refused
 abbrev pub AddsValue : ConfigEntry → ℕ → List ℕ → List ℕ → Result (Unit {0}) SettingsError → Type 0
 AddsValue e i old new (Ok done) = IsAdded e.value i old new
-AddsValue e i old new (Err Memory) = ¬ (e.value ≡ None)
+AddsValue e i old new (Err Memory) = HasUsedValue e
 AddsValue e i old new (Err NoRoom) = ⊥
 AddsValue e i old new (Err (NoValue at)) = (e.value ≡ None) × (at ≡ e.at)
 
