@@ -8,7 +8,7 @@ use Rattle.git_syntax.specs.Grammar.{HasHelperForm}
 use Rattle.git_reads.specs.declared.transport.Unread.{Unread}
 use Rattle.git_reads.specs.declared.transport.Unread.TheVariants as why
 use Rattle.git_reads.specs.Git.{GitReading, ReachesSecure, ReachesGit, ReadsGiven, from_tilde, on_this_machine}
-use Rattle.git_reads.specs.Unread.{GetsUrl, Unreads}
+use Rattle.git_reads.specs.Unread.{GetsUrl, HasHostBrackets, UnreadsGiven}
 
 -- the text begins with the mark
 abbrev pub BeginsBy : List ℕ → List ℕ → Type 0
@@ -26,12 +26,13 @@ url_text scheme spelled = scheme ++ (codes "://" ++ spelled)
 abbrev pub LacksAny : (GitReading → Type 0) → Type 0
 LacksAny reaches = (r : GitReading) → ¬ reaches r
 
--- the reason for which no reading is reached: Secure Shell receives a URL, or the place is refused
-abbrev pub FailsToReach : (GitReading → Type 0) → Type 0 → Unread → Type 0
-FailsToReach reaches gets why.Memory = Unit {0}
-FailsToReach reaches gets why.SecureShellUrl = gets
-FailsToReach reaches gets why.Refused = LacksAny reaches × ¬ gets
-FailsToReach reaches gets _ = ⊥
+-- the reason for which no reading of a place is reached: memory is refused for a host in brackets, Secure Shell
+-- receives a URL, or the place is refused
+abbrev pub FailsToReach : List ℕ → (GitReading → Type 0) → Type 0 → Unread → Type 0
+FailsToReach place reaches gets why.Memory = HasHostBrackets place
+FailsToReach place reaches gets why.SecureShellUrl = gets
+FailsToReach place reaches gets why.Refused = LacksAny reaches × ¬ gets
+FailsToReach place reaches gets _ = ⊥
 
 -- the transport reaches the reading
 abbrev pub ReachesBy : Scheme → List ℕ → List ℕ → GitReading → Type 0
@@ -69,5 +70,5 @@ IsUnreadPath path _ = ⊥
 
 -- the reason for which a text has no reading that Git receives whole and doesn't read as an option
 abbrev pub Fails : List ℕ → Unread → Type 0
-Fails t why.Refused = LacksAny (ReadsGiven t) × Unreads t why.Refused
-Fails t other = Unreads t other
+Fails t why.Refused = LacksAny (ReadsGiven t) × UnreadsGiven t why.Refused
+Fails t other = UnreadsGiven t other

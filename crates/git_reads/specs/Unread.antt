@@ -1,12 +1,12 @@
 -- The reasons for which Git reads no place in a text.
-use Rattle.std.specs.Prelude.{◌≡◌, ℕ, true, false, List, ◌∷◌, ◌++◌, codes, Option}
+use Rattle.std.specs.Prelude.{◌≡◌, ℕ, ◌<◌, true, false, List, ◌∷◌, ◌++◌, length, codes, Option}
 use Rattle.git_syntax.specs.Location.Scheme.{file, git, ssh}
 use Rattle.git_syntax.specs.Bytes.{slash, colon, tilde, FreeOf, begins_with, is_helper_name, is_option_like}
 use Rattle.git_syntax.specs.Schemes.{scheme_of}
 use Rattle.git_syntax.specs.Grammar.{HasHelperForm}
 use Rattle.git_reads.specs.declared.transport.Unread.{Unread}
 use Rattle.git_reads.specs.declared.transport.Unread.TheVariants as why
-use Rattle.git_reads.specs.Git.{GitReading, GitReads, OwnUrl, IsNoUrl, IsRemote, IsLocal, HostEnd, CutsPlace, HostAndPort, SecurePort, from_tilde}
+use Rattle.git_reads.specs.Git.{GitReading, GitReads, OwnUrl, IsNoUrl, IsRemote, IsLocal, HostEnd, InBrackets, CutsPlace, HostAndPort, SecurePort, from_tilde}
 
 -- Git reads no place in the text: it has no reading by `GitReads`
 abbrev pub LacksReading : List ℕ → Type 0
@@ -60,13 +60,36 @@ pub record GivesUrl (t : List ℕ) : Type 0 where
   pub secure : IsForSecureShell t place path
   pub gets : GetsUrl place path
 
--- the reason is true of the text. A text with the reason `Refused` is not for a remote helper, doesn't name two
--- places, and passes no URL to Secure Shell
+-- brackets are around the host of the place
+abbrev pub HasHostBrackets : List ℕ → Type 0
+HasHostBrackets place = (front : List ℕ) × (inside : List ℕ) × (behind : List ℕ) × InBrackets place front inside behind
+
+-- a reading of the text is written to a buffer
+pub data IsRewritten (t : List ℕ) : Type 0 where
+  -- a URL of Git's own transports, because it is decoded
+  url : (scheme spelled : List ℕ) → ¬ IsForeign scheme → 0 < length spelled
+      → t ≡ scheme ++ (codes "://" ++ spelled) → IsRewritten t
+  -- the scp form with brackets around its host, because the host is read without them
+  scp_form : (place path : List ℕ) → IsNoUrl t → IsRemote t → CutsPlace colon t place path
+      → HasHostBrackets place → IsRewritten t
+
+-- Git receives the text whole, and doesn't read it as an option
+pub record IsGiven (t : List ℕ) : Type 0 where
+  pub whole : FreeOf 0 t
+  pub no_option : is_option_like t ≡ false
+
+-- the reason is that of a text that Git receives whole and doesn't read as an option. These reasons exclude one
+-- another, but memory may be refused for any text that is rewritten
+abbrev pub UnreadsGiven : List ℕ → Unread → Type 0
+UnreadsGiven t why.Memory = IsRewritten t
+UnreadsGiven t why.RemoteHelper = IsForHelper t
+UnreadsGiven t why.HomeOrHere = IsOfTwoPlaces t
+UnreadsGiven t why.SecureShellUrl = GivesUrl t
+UnreadsGiven t why.Refused = (¬ IsForHelper t) × ((¬ IsOfTwoPlaces t) × ¬ GivesUrl t)
+UnreadsGiven t _ = ⊥
+
+-- the reason is that of the text: byte 0 comes before `-` at the front, and that before all others
 abbrev pub Unreads : List ℕ → Unread → Type 0
-Unreads t why.Memory = Unit {0}
 Unreads t why.ByteZero = ¬ FreeOf 0 t
-Unreads t why.Option = is_option_like t ≡ true
-Unreads t why.RemoteHelper = IsForHelper t
-Unreads t why.HomeOrHere = IsOfTwoPlaces t
-Unreads t why.SecureShellUrl = GivesUrl t
-Unreads t why.Refused = (¬ IsForHelper t) × ((¬ IsOfTwoPlaces t) × ¬ GivesUrl t)
+Unreads t why.Option = FreeOf 0 t × (is_option_like t ≡ true)
+Unreads t other = IsGiven t × UnreadsGiven t other

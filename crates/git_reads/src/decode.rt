@@ -1,6 +1,6 @@
 //! Decoding as Git does it: the escape of byte 0 stays.
 
-ghost use Rattle.std.specs.Prelude.{◌≡◌, ◌++◌, ℕ, IfOk};
+ghost use Rattle.std.specs.Prelude.{◌≡◌, ◌<◌, ◌++◌, ℕ, IfErr, IfOk, length};
 ghost use Rattle.git_syntax.specs.Internal.Decoding.{IsDigit};
 ghost use Rattle.git_reads.specs.Git.{git_decode};
 ghost use Rattle.git_reads.specs.Internal.{ReadsEscape};
@@ -10,7 +10,8 @@ use std::alloc::AllocError;
 
 /// Appends the text with each escape replaced by its byte, but not the escape of byte 0.
 pub fn append_decoded(out: &mut Vec<u8>, text: &[u8]) -> Result<(), AllocError>
-    ensures { IfOk result (λ _. out.new.items ≡ out.old.items ++ git_decode text.now) }
+    ensures value { IfOk result (λ _. out.new.items ≡ out.old.items ++ git_decode text.now) }
+    ensures memory { IfErr result (λ _. 0 < length text.now) }
 {
     let mut rest = text;
     while let Some((first, tail)) = rest.split_first() {

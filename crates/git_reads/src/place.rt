@@ -1,9 +1,10 @@
 //! The host and the port that Git finds in a text: the end of a host in brackets, and the digits that are a
 //! port.
 
-ghost use Rattle.std.specs.Prelude.{◌≡◌, ◌++◌, ◌∷◌, ℕ, IfOk, List, MatchOption};
+ghost use Rattle.std.specs.Prelude.{◌≡◌, ◌++◌, ◌∷◌, ℕ, IfErr, IfOk, List, MatchOption};
 ghost use Rattle.git_reads.specs.Git.{CutsPlace, HostAndPort, HostEnd, InBrackets, LacksHostBrackets, OpensHost};
 ghost use Rattle.git_reads.specs.Internal.{CutsPlaceAt, LacksOpened};
+ghost use Rattle.git_reads.specs.Unread.{HasHostBrackets};
 
 use crate::port::before_port;
 use bstr::ByteSlice;
@@ -24,7 +25,8 @@ pub(crate) fn host_and_port<'a>(
     place: &'a [u8],
     named: &'a mut Vec<u8>,
 ) -> Result<(&'a [u8], Option<u16>), AllocError>
-    ensures { IfOk result (λ it. HostAndPort place.now it.0.now it.1) }
+    ensures found { IfOk result (λ it. HostAndPort place.now it.0.now it.1) }
+    ensures memory { IfErr result (λ _. HasHostBrackets place.now) }
 {
     let Some(found) = in_brackets(place) else {
         return Ok(before_port(place));

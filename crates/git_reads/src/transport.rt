@@ -96,7 +96,7 @@ impl Buffers {
 /// What Git reads in the text. The fields are borrowed from the text and from the buffers, whose former content
 /// is lost. Allocates if a URL is decoded or a host has brackets, at most as many bytes as the text has for
 /// each; if that fails, [`Unread::Memory`] is returned. Every other error says why Git reads no place in the
-/// text.
+/// text: byte 0 is returned before any other reason, and then `-` at the front.
 ///
 /// ```
 /// /// The host that Git connects to.
@@ -252,7 +252,7 @@ fn reach<'a>(
     named: &'a mut Vec<u8>,
 ) -> Result<GitPlace<'a>, Unread>
     ensures read { IfOk result (λ it. ReachesBy (scheme_of_protocol protocol) place.now path.now (git_reading it)) }
-    ensures why { IfErr result (FailsToReach (ReachesBy (scheme_of_protocol protocol) place.now path.now)
+    ensures why { IfErr result (FailsToReach place.now (ReachesBy (scheme_of_protocol protocol) place.now path.now)
         (GetsUrlBy (scheme_of_protocol protocol) place.now path.now)) }
 {
     match protocol {
@@ -269,7 +269,7 @@ fn secure<'a>(
     named: &'a mut Vec<u8>,
 ) -> Result<GitPlace<'a>, Unread>
     ensures read { IfOk result (λ it. ReachesSecure place.now path.now (git_reading it)) }
-    ensures why { IfErr result (FailsToReach (ReachesSecure place.now path.now) (GetsUrl place.now path.now)) }
+    ensures why { IfErr result (FailsToReach place.now (ReachesSecure place.now path.now) (GetsUrl place.now path.now)) }
 {
     let (host, found) = host_and_port(place, named)?;
     let (word, port) = secure_port(host, found);
@@ -298,7 +298,7 @@ fn secure<'a>(
 /// feed.
 fn own<'a>(place: &'a [u8], path: &'a [u8], named: &'a mut Vec<u8>) -> Result<GitPlace<'a>, Unread>
     ensures read { IfOk result (λ it. ReachesGit place.now path.now (git_reading it)) }
-    ensures why { IfErr result (FailsToReach (ReachesGit place.now path.now) ⊥) }
+    ensures why { IfErr result (FailsToReach place.now (ReachesGit place.now path.now) ⊥) }
 {
     if !is_free_of(place, b'\n') {
         return Err(Unread::Refused);

@@ -1,6 +1,6 @@
 -- The entries of a configuration that apply to a place, such as `http.<url>.proxy`, and the best of them. Without a
 -- place only those for all places apply.
-use Rattle.std.specs.Prelude.{◌≡◌, ℕ, true, List, ◌+◌, ◌*◌, ◌<◌, ◌≤◌, length, All, Option, Some, None, IfSome, Result, Ok, Err}
+use Rattle.std.specs.Prelude.{◌≡◌, ℕ, true, List, ◌∷◌, ◌++◌, ◌+◌, ◌*◌, ◌<◌, ◌≤◌, length, All, Option, Some, None, IfSome, Result, Ok, Err}
 use Rattle.git_rules.specs.declared.normal.NormalError.{NormalError}
 use Rattle.git_rules.specs.declared.normal.NormalError.TheVariants.{NoRoom}
 use Rattle.git_rules.specs.declared.pattern.Rank.{Rank}
@@ -45,6 +45,15 @@ abbrev pub IsBestIn : List ℕ → List ℕ → Option NormalPlace → ℕ → L
 IsBestIn section name place room entries (Ok best) = IsBest (RanksEntry section name place) entries best
 IsBestIn section name place room entries (Err error) = (error ≡ NoRoom)
     × ¬ All (HasRoomFor section name place room) entries
+
+-- the buffer is too short for an entry, and suffices for those before it
+pub record LacksRoomFirst (section name : List ℕ) (place : Option NormalPlace) (room : ℕ) (entries : List ConfigEntry) : Type 0 where
+  pub before : List ConfigEntry
+  pub entry : ConfigEntry
+  pub others : List ConfigEntry
+  pub joined : entries ≡ before ++ entry ∷ others
+  pub enough : All (HasRoomFor section name place room) before
+  pub short : ¬ HasRoomFor section name place room entry
 
 -- the rank of a URL for a place, or an error if the buffer is too short for it
 abbrev pub RanksUrlIn : NormalPlace → ℕ → List ℕ → Result (Option Rank) NormalError → Type 0

@@ -91,6 +91,34 @@ RefusesSettings name place room entries NoRoom = ¬ All (HasRoomFor (codes "http
 RefusesSettings name place room entries (NoValue at) = IsListName name
     × FirstTakenLacks name place entries at
 
+-- the buffer suffices for the URL of each of these entries, and each entry of a list that Git takes has a value
+pub record AreFlawless (name : List ℕ) (place : Option NormalPlace) (room : ℕ) (entries : List ConfigEntry) : Type 0 where
+  pub enough : All (HasRoomFor (codes "http") name place room) entries
+  pub values : IsListName name → (i : ℕ) (e : ConfigEntry) → IsTakenAt name place entries i e → ¬ (e.value ≡ None)
+
+-- the entry has a value, and doesn't clear those before it
+abbrev pub HasUsedValue : ConfigEntry → Type 0
+HasUsedValue e = (¬ (e.value ≡ None)) × ¬ (e.value ≡ Some [])
+
+-- the error of an entry that follows these: the buffer is too short for its URL; or Git takes it for a list, and it
+-- has no value; or memory is refused for its index, which is needed because Git takes it and, for a list, uses its
+-- value
+abbrev pub EntryFails : List ℕ → Option NormalPlace → ℕ → List ConfigEntry → ConfigEntry → SettingsError → Type 0
+EntryFails name place room before e NoRoom = ¬ HasRoomFor (codes "http") name place room e
+EntryFails name place room before e (NoValue at) = HasRoomFor (codes "http") name place room e × IsListName name
+    × IsTakenAt name place (before ++ e ∷ []) (length before) e × (e.value ≡ None) × (at ≡ e.at)
+EntryFails name place room before e Memory = HasRoomFor (codes "http") name place room e
+    × IsTakenAt name place (before ++ e ∷ []) (length before) e × (IsListName name → HasUsedValue e)
+
+-- the error is that of the first entry that has one: those before it have none
+pub record IsOfFirst (name : List ℕ) (place : Option NormalPlace) (room : ℕ) (entries : List ConfigEntry) (error : SettingsError) : Type 0 where
+  pub before : List ConfigEntry
+  pub entry : ConfigEntry
+  pub others : List ConfigEntry
+  pub joined : entries ≡ before ++ entry ∷ others
+  pub flawless : AreFlawless name place room before
+  pub fails : EntryFails name place room before entry error
+
 -- ---- one entry more
 
 -- the entry at this index is the best so far
@@ -103,10 +131,10 @@ IsAdded None i old new = ⊥
 IsAdded (Some []) i old new = new ≡ []
 IsAdded (Some (b ∷ bs)) i old new = new ≡ old ++ i ∷ []
 
--- an entry with a value is added, and one without a value is refused
+-- an entry with a value is added, or memory is refused for it, and one without a value is refused
 abbrev pub AddsValue : ConfigEntry → ℕ → List ℕ → List ℕ → Result (Unit {0}) SettingsError → Type 0
 AddsValue e i old new (Ok done) = IsAdded e.value i old new
-AddsValue e i old new (Err Memory) = Unit {0}
+AddsValue e i old new (Err Memory) = HasUsedValue e
 AddsValue e i old new (Err NoRoom) = ⊥
 AddsValue e i old new (Err (NoValue at)) = (e.value ≡ None) × (at ≡ e.at)
 

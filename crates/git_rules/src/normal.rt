@@ -89,7 +89,9 @@ impl<'a> NormalUrl<'a> {
     ///
     /// [`NormalError::NoRoom`] if the buffer is too short. Every other error is the reason why the text has no
     /// normal form; Git then uses only the settings for all places
-    /// ([`settings_without_place`](crate::pattern::settings::settings_without_place)).
+    /// ([`settings_without_place`](crate::pattern::settings::settings_without_place)). If there are several
+    /// reasons, it is the first of these: no URL, a malformed escape in the user information, a byte that no host
+    /// has, no host, a bad port, a malformed escape after the authority, and a segment `..` above the root.
     ///
     /// ```
     /// /// The host whose settings apply to a text.

@@ -1,9 +1,9 @@
 -- Which texts have no reading, and why. The forms of a text exclude one another, and its cuts are unique.
-use Rattle.std.proofs.Common.{◌≡◌, ◌∙◌, ℕ, true, inl, inr, List, [], ◌∷◌, codes, refl, sym, ap, subst}
+use Rattle.std.proofs.Common.{◌≡◌, ◌∙◌, ℕ, ◌<◌, true, inl, inr, List, [], ◌∷◌, length, codes, refl, sym, ap, subst}
 use Rattle.std.proofs.lemmas.Bool.{both_ways, false≢true}
 use Rattle.git_syntax.specs.Location.{Scheme}
 use Rattle.git_syntax.specs.Location.Scheme.{file, git, ssh, http, https, ext, helper, helper_url}
-use Rattle.git_syntax.specs.Bytes.{slash, colon, tilde, FreeOf, Holds, begins_with, is_helper_name, is_option_like}
+use Rattle.git_syntax.specs.Bytes.{slash, colon, tilde, FreeOf, Holds, begins_with, is_helper_name}
 use Rattle.git_syntax.specs.Internal.Cuts.{url_mark}
 use Rattle.git_syntax.specs.Schemes.{scheme_of}
 use Rattle.git_reads.specs.declared.transport.Protocol.{Protocol}
@@ -11,13 +11,14 @@ use Rattle.git_reads.specs.declared.transport.Protocol.TheVariants as protocol
 use Rattle.git_reads.specs.declared.transport.Unread.{Unread}
 use Rattle.git_reads.specs.declared.transport.Unread.TheVariants as why
 use Rattle.git_reads.specs.Git.{GitReading, on_this_machine, from_tilde, git_decode, HostEnd, CutsPlace, ReachesSecure, OwnUrl, IsNoUrl, IsRemote, IsLocal, ReadsGiven}
-use Rattle.git_reads.specs.Unread.{IsForeign, IsForHelper, IsOfTwoPlaces, IsForSecureShell, GetsUrl, GivesUrl, LacksReading, Unreads}
+use Rattle.git_reads.specs.Unread.{IsForeign, IsForHelper, IsOfTwoPlaces, IsForSecureShell, GetsUrl, GivesUrl, IsRewritten, IsGiven, LacksReading, Unreads}
 use Rattle.git_reads.specs.Views.{scheme_of_protocol}
 use Rattle.git_reads.specs.Transports.{BeginsBy, NamesHelper, url_text, LacksAny, FailsToReach, ReachesBy, GetsUrlBy, IsForeignFor, IsReadPath, IsUnreadPath, Fails}
 use Rattle.git_syntax.proofs.Texts.CutLemmas.{cut_unique, different_bytes, helper_name_free, held_free, mark_cut_unique}
 use Rattle.git_syntax.proofs.Parsing.FormLemmas.{mark_no_helper}
 use Rattle.git_reads.proofs.Reading.UniqueLemmas.{is_own, own_free, own_no_other, own_unique, place_unique, remote_not_local}
-use Rattle.git_reads.proofs.Texts.PlaceLemmas.{host_end_unique}
+use Rattle.git_reads.proofs.Texts.DecodeLemmas.{decoded_some}
+use Rattle.git_reads.proofs.Texts.PlaceLemmas.{cut_some, host_end_unique}
 use Rattle.git_reads.proofs.Reading.TransportLemmas.{url_lacks}
 
 -- ---- URLs of Git's own transports
@@ -40,6 +41,16 @@ own_not_foreign https scheme own h e = false≢true own
 own_not_foreign ext scheme own h e = false≢true own
 own_not_foreign (helper n) scheme own h e = false≢true own
 own_not_foreign (helper_url n) scheme own h e = false≢true own
+
+-- a URL of Git's own transports is rewritten where a text is behind its mark
+pub own_rewritten : (scheme spelled : List ℕ) (p : Scheme) → is_own p ≡ true → scheme_of scheme ≡ p → 0 < length spelled → IsRewritten (url_text scheme spelled)
+own_rewritten scheme spelled p own is some = IsRewritten.url scheme spelled (λ foreign. own_not_foreign p scheme own foreign is) some refl
+
+-- and where its decoding is cut
+own_cut_rewritten : (p : Scheme) (t rest place path : List ℕ) → is_own p ≡ true → OwnUrl p t rest → CutsPlace slash rest place path → IsRewritten t
+own_cut_rewritten p t rest place path own u c =
+    let some = decoded_some u.spelled (subst (λ s. 0 < length s) u.decoded (cut_some slash rest place path c)) in
+    IsRewritten.url u.scheme u.spelled (λ foreign. own_not_foreign p u.scheme own foreign u.own) some u.joined
 
 -- a transport's URL is for no helper
 own_no_helper : (p : Scheme) (t rest : List ℕ) → is_own p ≡ true → OwnUrl p t rest → ¬ IsForHelper t
@@ -128,8 +139,8 @@ own_gives (helper n) t rest place path u c h = absurd h
 own_gives (helper_url n) t rest place path u c h = absurd h
 
 -- what the transport doesn't reach isn't read
-pub own_fails : (p : Scheme) (t rest place path : List ℕ) (w : Unread) → is_own p ≡ true → OwnUrl p t rest → CutsPlace slash rest place path → FailsToReach (ReachesBy p place (slash ∷ path)) (GetsUrlBy p place (slash ∷ path)) w → Fails t w
-own_fails p t rest place path why.Memory own u c h = tt
+pub own_fails : (p : Scheme) (t rest place path : List ℕ) (w : Unread) → is_own p ≡ true → OwnUrl p t rest → CutsPlace slash rest place path → FailsToReach place (ReachesBy p place (slash ∷ path)) (GetsUrlBy p place (slash ∷ path)) w → Fails t w
+own_fails p t rest place path why.Memory own u c h = own_cut_rewritten p t rest place path own u c
 own_fails p t rest place path why.ByteZero own u c h = absurd h
 own_fails p t rest place path why.Option own u c h = absurd h
 own_fails p t rest place path why.RemoteHelper own u c h = absurd h
@@ -175,7 +186,7 @@ foreign_helper scheme spelled none unnamed h (IsForHelper.by_scheme other more f
 
 -- a URL of none of Git's own transports isn't read
 pub foreign_fails : (scheme spelled : List ℕ) (w : Unread) → ¬ Holds url_mark scheme → ¬ NamesHelper (url_text scheme spelled) → IsForeign scheme → IsForeignFor scheme w → Fails (url_text scheme spelled) w
-foreign_fails scheme spelled why.Memory none unnamed foreign h = tt
+foreign_fails scheme spelled why.Memory none unnamed foreign h = absurd h
 foreign_fails scheme spelled why.ByteZero none unnamed foreign h = absurd h
 foreign_fails scheme spelled why.Option none unnamed foreign h = absurd h
 foreign_fails scheme spelled why.RemoteHelper none unnamed foreign h = IsForHelper.by_scheme scheme spelled foreign h.0 h.1 refl
@@ -246,8 +257,8 @@ pub scp_uncut : (t : List ℕ) → ¬ Holds url_mark t → ¬ NamesHelper t → 
 scp_uncut t none unnamed remote uncut = scp_refused t none unnamed remote (λ place path r c h. uncut place path c) (λ place path c h. uncut place path c)
 
 -- what Secure Shell doesn't reach of the scp form isn't read
-pub scp_fails : (t place path : List ℕ) (w : Unread) → ¬ Holds url_mark t → ¬ NamesHelper t → ¬ BeginsBy (codes "rsync:") t → IsRemote t → CutsPlace colon t place path → FailsToReach (ReachesSecure place (from_tilde path)) (GetsUrl place (from_tilde path)) w → Fails t w
-scp_fails t place path why.Memory none unnamed other remote c h = tt
+pub scp_fails : (t place path : List ℕ) (w : Unread) → ¬ Holds url_mark t → ¬ NamesHelper t → ¬ BeginsBy (codes "rsync:") t → IsRemote t → CutsPlace colon t place path → FailsToReach place (ReachesSecure place (from_tilde path)) (GetsUrl place (from_tilde path)) w → Fails t w
+scp_fails t place path why.Memory none unnamed other remote c h = IsRewritten.scp_form place path (is_no_url t none unnamed other) remote c h
 scp_fails t place path why.ByteZero none unnamed other remote c h = absurd h
 scp_fails t place path why.Option none unnamed other remote c h = absurd h
 scp_fails t place path why.RemoteHelper none unnamed other remote c h = absurd h
@@ -271,7 +282,7 @@ scp_fails t place path why.Refused none unnamed other remote c h =
 
 -- a local path isn't read where its path isn't
 pub local_fails : (t passed path : List ℕ) (w : Unread) → ¬ Holds url_mark t → ¬ NamesHelper t → ¬ BeginsBy (codes "rsync:") t → IsLocal t → HostEnd t passed path → IsUnreadPath path w → Fails t w
-local_fails t passed path why.Memory none unnamed other place e h = tt
+local_fails t passed path why.Memory none unnamed other place e h = absurd h
 local_fails t passed path why.ByteZero none unnamed other place e h = absurd h
 local_fails t passed path why.Option none unnamed other place e h = absurd h
 local_fails t passed path why.RemoteHelper none unnamed other place e h = absurd h
@@ -322,22 +333,22 @@ gives_lacks t place path r (IsForSecureShell.scp_form behind n m c is) h k =
 -- a text that isn't read has no reading, unless memory was refused
 pub fails_lacks : (t : List ℕ) (w : Unread) → Fails t w → ¬ (w ≡ why.Memory) → LacksReading t
 fails_lacks t why.Memory h other r k = other refl
-fails_lacks t why.ByteZero h other r k = h k.whole
-fails_lacks t why.Option h other r k = both_ways (is_option_like t) k.no_option h
+fails_lacks t why.ByteZero h other r k = h
+fails_lacks t why.Option h other r k = h
 fails_lacks t why.RemoteHelper h other r k = helper_lacks t r h k.reads
 fails_lacks t why.HomeOrHere h other r k = places_lacks t r h k.reads
 fails_lacks t why.SecureShellUrl h other r k = gives_lacks t h.place h.path r h.secure h.gets k.reads
 fails_lacks t why.Refused h other r k = h.0 r k.reads
 
--- the reason why a text isn't read is true of it
-pub fails_why : (t : List ℕ) (w : Unread) → Fails t w → Unreads t w
-fails_why t why.Memory h = tt
-fails_why t why.ByteZero h = h
-fails_why t why.Option h = h
-fails_why t why.RemoteHelper h = h
-fails_why t why.HomeOrHere h = h
-fails_why t why.SecureShellUrl h = h
-fails_why t why.Refused h = h.1
+-- the reason why a given text isn't read is that of the text
+pub fails_why : (t : List ℕ) (w : Unread) → IsGiven t → Fails t w → Unreads t w
+fails_why t why.Memory given h = (given, h)
+fails_why t why.ByteZero given h = absurd h
+fails_why t why.Option given h = absurd h
+fails_why t why.RemoteHelper given h = (given, h)
+fails_why t why.HomeOrHere given h = (given, h)
+fails_why t why.SecureShellUrl given h = (given, h)
+fails_why t why.Refused given h = (given, h.1)
 
 -- a text that names a helper is for a helper
 pub named_for : (t : List ℕ) → NamesHelper t → IsForHelper t

@@ -1,6 +1,6 @@
 -- Brackets that Git finds around a host: which bracket opens them, which closes them, and that a text has one
 -- pair at most.
-use Rattle.std.proofs.Common.{◌≡◌, ◌∙◌, ℕ, ◌+◌, false, Some, None, List, [], ◌∷◌, ◌++◌, length, take, drop, refl, sym, ap, subst, arith, append_assoc}
+use Rattle.std.proofs.Common.{◌≡◌, ◌∙◌, ℕ, ◌+◌, ◌<◌, false, Some, None, List, [], ◌∷◌, ◌++◌, length, take, drop, refl, sym, ap, subst, arith, append_assoc}
 use Rattle.std.proofs.lemmas.Bool.{both_ways}
 use Rattle.std.proofs.lemmas.List.{drop_at, length-append, length-take-le, take_at}
 use Rattle.bstr.specs.Find.{FindsNeedle}
@@ -100,7 +100,19 @@ host_end_unique t passed rest other more (HostEnd.brackets f i b h p r) (HostEnd
 host_end_unique t passed rest other more (HostEnd.none lacks p r) (HostEnd.brackets f i b h p' r') = absurd (brackets_not_lacked t f i b h lacks)
 host_end_unique t passed rest other more (HostEnd.none lacks p r) (HostEnd.none lacks' p' r') = (p ∙ sym p', r ∙ sym r')
 
+-- a text is what is passed over and the rest
+end_joined : (t passed rest : List ℕ) → HostEnd t passed rest → t ≡ passed ++ rest
+end_joined t passed rest (HostEnd.brackets f i b h p r) =
+    brackets_joined t f i b h ∙ ap (λ x. x ++ right_bracket ∷ b) (sym p) ∙ ap (λ x. passed ++ x) (sym r)
+end_joined t passed rest (HostEnd.none lacks p r) = sym r ∙ ap (λ x. x ++ rest) (sym p)
+
 -- ---- cuts behind brackets
+
+-- a text that is cut isn't empty
+pub cut_some : (c : ℕ) (t place rest : List ℕ) → CutsPlace c t place rest → 0 < length t
+cut_some c t place rest h =
+    let whole = ap length (end_joined t h.passed (h.between ++ c ∷ rest) h.end) in
+    omega (arith, whole, length-append h.passed (h.between ++ c ∷ rest), length-append h.between (c ∷ rest))
 
 -- a text without the byte behind the brackets isn't cut at it
 pub uncut : (c : ℕ) (t passed rest : List ℕ) → HostEnd t passed rest → FreeOf c rest → (place more : List ℕ) → ¬ CutsPlace c t place more

@@ -1,5 +1,7 @@
 -- The rank of an entry, by that of its URL.
-use Rattle.std.proofs.Common.{◌≡◌, ℕ, ◌+◌, ◌*◌, ◌<◌, ◌≤◌, List, length, refl, sym, subst, arith, Bool, true, Option, Some, None, IfSome, Result, Ok, Err}
+use Rattle.std.proofs.Common.{◌≡◌, ◌∙◌, ◌∷◌, ◌++◌, ap, All, take, drop, get_or, suc, ℕ, ◌+◌, ◌*◌, ◌<◌, ◌≤◌, List, length, refl, sym, subst, arith, Bool, true, false, Option, Some, None, IfSome, Result, Ok, Err, OnOk}
+use Rattle.std.proofs.lemmas.Bool.{both_ways}
+use Rattle.std.proofs.lemmas.List.{take_all}
 use Rattle.git_rules.specs.declared.normal.NormalError.{NormalError}
 use Rattle.git_rules.specs.declared.normal.NormalError.TheVariants.{NoRoom, NoUrl, BrokenEscape, NoHost, BadHost, BadPort, AboveRoot}
 use Rattle.git_rules.specs.declared.pattern.Rank.{Rank}
@@ -7,8 +9,9 @@ use Rattle.git_rules.specs.Config.{ConfigEntry, sets}
 use Rattle.git_rules.specs.Normal.{NormalPlace, IsNormalOf}
 use Rattle.git_rules.specs.NormalFlaws.{NormalizesIn}
 use Rattle.git_rules.specs.Patterns.{HasRank, RanksFor}
-use Rattle.git_rules.specs.PatternEntries.{RanksIn, RanksSubsection, RanksUrlIn}
+use Rattle.git_rules.specs.PatternEntries.{HasRoomFor, LacksRoomFirst, RanksIn, RanksSubsection, RanksUrlIn}
 use Rattle.git_rules.proofs.NormalForms.NormalUnique.{normal_unique}
+use Rattle.git_rules.proofs.Rules.RankLemmas.{cut_here}
 
 -- the rank of a URL is that of its one normal form
 pub url_ranked : (place pattern : NormalPlace) (url : List ℕ) (r : Option Rank) → IsNormalOf true url pattern → HasRank (RanksFor place) pattern r → HasRank (RanksSubsection (Some place)) (Some url) r
@@ -33,6 +36,38 @@ no_form globs text room AboveRoot other h = h.2
 pub too_short : (text : List ℕ) (room : ℕ) (e : NormalError) → e ≡ NoRoom → NormalizesIn true text room (Err e) → room < 3 * length text + 1
 too_short text room e same h = subst (λ x. NormalizesIn true text room (Err x)) same h
 
+-- otherwise the buffer suffices
+pub long_enough : (globs : Bool) (text : List ℕ) (room : ℕ) (e : NormalError) → ¬ (e ≡ NoRoom) → NormalizesIn globs text room (Err e) → 3 * length text + 1 ≤ room
+long_enough globs text room NoRoom other h = absurd (other refl)
+long_enough globs text room NoUrl other h = h.0
+long_enough globs text room BrokenEscape other h = h.0
+long_enough globs text room NoHost other h = h.0
+long_enough globs text room BadHost other h = h.0
+long_enough globs text room BadPort other h = h.0
+long_enough globs text room AboveRoot other h = h.0
+
+-- an entry that doesn't set the variable needs no buffer
+pub unset_fits : (section name : List ℕ) (place : Option NormalPlace) (room : ℕ) (e : ConfigEntry) → sets section name e ≡ false → HasRoomFor section name place room e
+unset_fits section name None room e other = tt
+unset_fits section name (Some place) room e other = λ of. absurd (both_ways _ other of)
+
+-- nor does one for all places
+pub everywhere_fits : (section name : List ℕ) (place : Option NormalPlace) (room : ℕ) (e : ConfigEntry) → e.subsection ≡ None → HasRoomFor section name place room e
+everywhere_fits section name None room e whole = tt
+everywhere_fits section name (Some place) room e whole =
+    λ of. subst (λ s. IfSome s (λ url. 3 * length url + 1 ≤ room)) (sym whole) tt
+
+-- nor does any without a place
+pub placeless_fits : (section name : List ℕ) (place : Option NormalPlace) (room : ℕ) (e : ConfigEntry) → place ≡ None → HasRoomFor section name place room e
+placeless_fits section name None room e none = tt
+placeless_fits section name (Some place) room e none = cc
+
+-- an entry needs the buffer that its URL needs
+pub entry_fits : (section name url : List ℕ) (place : NormalPlace) (room : ℕ) (e : ConfigEntry) (r : Result (Option Rank) NormalError) → e.subsection ≡ Some url → OnOk r (3 * length url + 1 ≤ room) → OnOk r (HasRoomFor section name (Some place) room e)
+entry_fits section name url place room e (Ok rank) same enough =
+    λ of. subst (λ s. IfSome s (λ u. 3 * length u + 1 ≤ room)) (sym same) enough
+entry_fits section name url place room e (Err error) same enough = tt
+
 -- an entry of the variable has the rank of its URL
 pub entry_ranked : (section name url : List ℕ) (place : NormalPlace) (room : ℕ) (e : ConfigEntry) (r : Result (Option Rank) NormalError) → sets section name e ≡ true → e.subsection ≡ Some url → RanksUrlIn place room url r → RanksIn section name (Some place) room e r
 entry_ranked section name url place room e (Ok None) of same none =
@@ -47,3 +82,20 @@ entry_ranked section name url place room e (Err error) of same h = (
       let need : 3 * length url + 1 ≤ room = subst (λ s. IfSome s (λ u. 3 * length u + 1 ≤ room)) same (fits of) in
       omega (arith, need, h.1),
 )
+
+-- ---- entries for which the buffer suffices
+
+-- all of a front that is the whole list
+pub all_of : {T : Type 0} (P : T → Type 0) (items : List T) (n : ℕ) → length items ≤ n → All P (take n items) → All P items
+all_of P items n whole h = subst (All P) (take_all n items whole) h
+
+-- the entry after a front for which the buffer sufficed
+pub first_short : (section name : List ℕ) (place : Option NormalPlace) (room : ℕ) (entries : List ConfigEntry) (i : ℕ) (e : ConfigEntry) → i < length entries → e ≡ get_or entries i e → All (HasRoomFor section name place room) (take i entries) → ¬ HasRoomFor section name place room e → LacksRoomFirst section name place room entries
+first_short section name place room entries i e within is enough short = record {
+  before = take i entries;
+  entry = e;
+  others = drop (suc i) entries;
+  joined = cut_here entries i e within ∙ ap (λ x. take i entries ++ x ∷ drop (suc i) entries) (sym is);
+  enough = enough;
+  short = short;
+}

@@ -1,5 +1,5 @@
 -- A text has at most one normal form, and none where it has a flaw.
-use Rattle.std.proofs.Common.{◌≡◌, ◌∙◌, ◌+◌, ◌*◌, ◌≤◌, ◌++◌, ℕ, Bool, true, false, List, [], length, refl, sym, ap, subst, arith, ◌⊎◌, inl, inr, ⊎_elim, Option, Some, None, Result, Ok, Err, MatchResult, codes}
+use Rattle.std.proofs.Common.{◌≡◌, ◌∙◌, ◌+◌, ◌*◌, ◌≤◌, ◌++◌, ℕ, Bool, true, false, List, [], length, refl, sym, ap, subst, arith, inl, inr, ⊎_elim, Option, Some, None, Result, Ok, Err, MatchResult, codes}
 use Rattle.std.specs.Prelude.{if◌then◌else◌, option_map}
 use Rattle.std.specs.List.{list_all}
 use Rattle.std.specs.Option.{is_some}
@@ -16,7 +16,7 @@ use Rattle.git_rules.specs.declared.normal.NormalError.{NormalError}
 use Rattle.git_rules.specs.declared.normal.NormalError.TheVariants.{NoRoom, NoUrl, BrokenEscape, NoHost, BadHost, BadPort, AboveRoot}
 use Rattle.git_rules.specs.Normal.{NormalPlace, CutsPort, HostFor, PortFor, HostPort, IsUserOf, NormalAuthority, NormalPath, UrlCut, IsNormalOf, is_own_port, is_host_byte, is_rest_start, lacks_host, normal_text, normal_segments, put_segments, stacked_path}
 use Rattle.git_rules.specs.NormalPieces.{HoldsParts, ReadsAuthority}
-use Rattle.git_rules.specs.NormalFlaws.{IsNoPort, IsBroken, HostFlaw, AuthorityFlaw, PathFlaw, NormalizesIn}
+use Rattle.git_rules.specs.NormalFlaws.{IsBadPort, IsBroken, HostFlaw, AuthorityFlaw, PartFlaw, PathFlaw, NormalizesIn}
 
 -- ---- hosts and ports
 
@@ -121,11 +121,11 @@ no_host_refused scheme text name port host lacks other (HostFor.named l e) = fal
 no_host_refused scheme text name port host lacks other (HostFor.missing m f n d) = other f
 
 -- a text that isn't a port has none
-port_refused : (scheme text name port digits host : List ℕ) (p : Option ℕ) → port ≡ digits → IsNoPort port ⊎ ((lacks_host text ≡ true) × ¬ (port ≡ [])) → HostFor scheme text name digits host → PortFor scheme digits p → ⊥
-port_refused scheme text name port digits host p same (inl none) h (inl empty) = none.0 (same ∙ empty.0)
-port_refused scheme text name port digits host p same (inl none) h (inr number) = none.1 number.0 (subst (λ z. Number http_hosts z number.0) (sym same) number.1)
+port_refused : (scheme text name port digits host : List ℕ) (p : Option ℕ) → port ≡ digits → IsBadPort scheme text port → HostFor scheme text name digits host → PortFor scheme digits p → ⊥
+port_refused scheme text name port digits host p same (inl bad) h (inl empty) = bad.1.0 (same ∙ empty.0)
+port_refused scheme text name port digits host p same (inl bad) h (inr number) = bad.1.1 number.0 (subst (λ z. Number http_hosts z number.0) (sym same) number.1)
 port_refused scheme text name port digits host p same (inr some) (HostFor.named l e) k = false≢true (sym l ∙ some.0)
-port_refused scheme text name port digits host p same (inr some) (HostFor.missing m f n d) k = some.1 (same ∙ n)
+port_refused scheme text name port digits host p same (inr some) (HostFor.missing m f n d) k = some.2 (same ∙ n)
 
 -- a host with a flaw has no normal form
 host_refused : (globs : Bool) (scheme text host : List ℕ) (port : Option ℕ) (e : NormalError) → HostFlaw globs scheme text e → HostPort globs scheme text host port → ⊥
@@ -133,13 +133,13 @@ host_refused globs scheme text host port NoRoom flaw h = flaw
 host_refused globs scheme text host port NoUrl flaw h = flaw
 host_refused globs scheme text host port BrokenEscape flaw h = flaw
 host_refused globs scheme text host port AboveRoot flaw h = flaw
-host_refused globs scheme text host port NoHost flaw h = no_host_refused scheme text h.name h.digits host flaw.0 flaw.1 h.host_form
+host_refused globs scheme text host port NoHost flaw h = no_host_refused scheme text h.name h.digits host flaw.1 flaw.2 h.host_form
 host_refused globs scheme text host port BadHost flaw h =
     let same = (port_cut_unique text flaw.0 h.name flaw.1 h.digits flaw.2 h.cut).0 in
     false≢true (sym flaw.3 ∙ ap (list_all (is_host_byte globs)) same ∙ h.bytes)
 host_refused globs scheme text host port BadPort flaw h =
     let same = (port_cut_unique text flaw.0 h.name flaw.1 h.digits flaw.2 h.cut).1 in
-    port_refused scheme text h.name flaw.1 h.digits host port same flaw.3 h.host_form h.port_form
+    port_refused scheme text h.name flaw.1 h.digits host port same flaw.4 h.host_form h.port_form
 
 -- user information with a broken escape is not sound
 broken_unsound : (info : List ℕ) (e : NormalError) → IsBroken info e → is_sound info ≡ false
@@ -160,7 +160,7 @@ authority_refused globs scheme text user host port e (inr flaw) (NormalAuthority
     let pieces = cut_unique at_sign flaw.0 i flaw.1 r flaw.2 g (sym flaw.3 ∙ j) in
     ⊎_elim
     (λ broken. false≢true (sym (broken_unsound flaw.0 e broken) ∙ ap is_sound pieces.0 ∙ s))
-    (λ k. host_refused globs scheme r host port e (subst (λ z. HostFlaw globs scheme z e) pieces.1 k) m)
+    (λ k. host_refused globs scheme r host port e (subst (λ z. HostFlaw globs scheme z e) pieces.1 k.1) m)
     flaw.4
 
 -- there is no outcome where there is none
@@ -180,28 +180,28 @@ path_refused behind path AboveRoot flaw h =
     no_outcome (put_segments (normal_segments h.segments) []) h.stack (ap (λ z. put_segments (normal_segments z) []) (sym pieces.0) ∙ flaw.3) h.put
 
 -- a URL whose authority or path has a flaw has no normal form
-cut_refused : (globs : Bool) (text scheme authority behind : List ℕ) (e : NormalError) → UrlCut text scheme authority behind → AuthorityFlaw globs (lowercase scheme) authority e ⊎ PathFlaw behind e → (n : NormalPlace) → IsNormalOf globs text n → ⊥
+cut_refused : (globs : Bool) (text scheme authority behind : List ℕ) (e : NormalError) → UrlCut text scheme authority behind → PartFlaw globs (lowercase scheme) authority behind e → (n : NormalPlace) → IsNormalOf globs text n → ⊥
 cut_refused globs text scheme authority behind e cut (inl flaw) n h =
     let same = url_cut_unique text scheme h.scheme authority h.authority behind h.behind cut h.cut in
     let moved = subst (λ z. AuthorityFlaw globs (lowercase z) authority e) same.0 flaw in
     authority_refused globs (lowercase h.scheme) h.authority n.user n.host n.port e (subst (λ z. AuthorityFlaw globs (lowercase h.scheme) z e) same.1 moved) h.authority_form
 cut_refused globs text scheme authority behind e cut (inr flaw) n h =
     let same = url_cut_unique text scheme h.scheme authority h.authority behind h.behind cut h.cut in
-    path_refused h.behind n.path e (subst (λ z. PathFlaw z e) same.2 flaw) h.path_form
+    path_refused h.behind n.path e (subst (λ z. PathFlaw z e) same.2 flaw.1) h.path_form
 
 -- a flaw of a part is neither that of the buffer nor that of the text
-room_no_flaw : (globs : Bool) (scheme text behind : List ℕ) → AuthorityFlaw globs scheme text NoRoom ⊎ PathFlaw behind NoRoom → ⊥
+room_no_flaw : (globs : Bool) (scheme text behind : List ℕ) → PartFlaw globs scheme text behind NoRoom → ⊥
 room_no_flaw globs scheme text behind (inl (inl flaw)) = flaw.1
-room_no_flaw globs scheme text behind (inl (inr flaw)) = ⊎_elim (λ b. b) (λ b. b) flaw.4
-room_no_flaw globs scheme text behind (inr flaw) = flaw
+room_no_flaw globs scheme text behind (inl (inr flaw)) = ⊎_elim (λ b. b) (λ b. b.1) flaw.4
+room_no_flaw globs scheme text behind (inr flaw) = flaw.1
 
-url_no_flaw : (globs : Bool) (scheme text behind : List ℕ) → AuthorityFlaw globs scheme text NoUrl ⊎ PathFlaw behind NoUrl → ⊥
+url_no_flaw : (globs : Bool) (scheme text behind : List ℕ) → PartFlaw globs scheme text behind NoUrl → ⊥
 url_no_flaw globs scheme text behind (inl (inl flaw)) = flaw.1
-url_no_flaw globs scheme text behind (inl (inr flaw)) = ⊎_elim (λ b. b) (λ b. b) flaw.4
-url_no_flaw globs scheme text behind (inr flaw) = flaw
+url_no_flaw globs scheme text behind (inl (inr flaw)) = ⊎_elim (λ b. b) (λ b. b.1) flaw.4
+url_no_flaw globs scheme text behind (inr flaw) = flaw.1
 
 -- a text whose authority or path has a flaw is refused for that
-pub part_flawed : (globs : Bool) (text scheme authority behind : List ℕ) (room : ℕ) (e : NormalError) → 3 * length text + 1 ≤ room → UrlCut text scheme authority behind → AuthorityFlaw globs (lowercase scheme) authority e ⊎ PathFlaw behind e → NormalizesIn globs text room (Err e)
+pub part_flawed : (globs : Bool) (text scheme authority behind : List ℕ) (room : ℕ) (e : NormalError) → 3 * length text + 1 ≤ room → UrlCut text scheme authority behind → PartFlaw globs (lowercase scheme) authority behind e → NormalizesIn globs text room (Err e)
 part_flawed globs text s a b room NoRoom enough cut flaw = absurd (room_no_flaw globs (lowercase s) a b flaw)
 part_flawed globs text s a b room NoUrl enough cut flaw = absurd (url_no_flaw globs (lowercase s) a b flaw)
 part_flawed globs text s a b room BrokenEscape enough cut flaw = (enough, (s, a, b, cut, flaw), cut_refused globs text s a b BrokenEscape cut flaw)
@@ -220,4 +220,6 @@ parts_normalize globs text scheme lowered authority behind user host port room (
     let three = subst (λ z. NormalAuthority globs (lowercase scheme) authority n.user z port) (sym holds.host_is) two in
     let four = subst (λ z. NormalAuthority globs (lowercase scheme) authority n.user n.host z) (sym holds.port_is) three in
     (enough, record { scheme = scheme; authority = authority; behind = behind; cut = cut; scheme_form = holds.scheme_is ∙ low; authority_form = four; path_form = holds.path_is })
-parts_normalize globs text scheme lowered authority behind user host port room (Err e) enough cut low read flaw = part_flawed globs text scheme authority behind room e enough cut (inr flaw)
+parts_normalize globs text scheme lowered authority behind user host port room (Err e) enough cut low read flaw =
+    let form = subst (λ z. NormalAuthority globs z authority (option_map normal_text user) (lowercase host) port) low read.form in
+    part_flawed globs text scheme authority behind room e enough cut (inr ((option_map normal_text user, lowercase host, port, form), flaw))

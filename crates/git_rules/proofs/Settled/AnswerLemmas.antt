@@ -1,19 +1,21 @@
 -- The answers on settings: what was found, why nothing was, and that the answer is one.
-use Rattle.std.proofs.Common.{◌≡◌, ℕ, suc, ◌+◌, ◌<◌, inl, inr, List, [], ◌∷◌, ◌++◌, length, take, drop, get_or, refl, sym, ap, subst, ◌∙◌, arith, append_assoc, add-one, Option, None, option_to_list, Ok, Err}
-use Rattle.std.proofs.Math.Seq.{take-suc}
+use Rattle.std.proofs.Common.{◌≡◌, ℕ, suc, ◌+◌, ◌<◌, inl, inr, List, [], ◌∷◌, ◌++◌, length, take, drop, get_or, refl, sym, ap, subst, ◌∙◌, arith, append_assoc, add-one, Option, None, option_to_list, Ok, Err, All, codes}
+use Rattle.std.proofs.Math.Seq.{take-append_seam, take-suc}
 use Rattle.std.proofs.lemmas.List.{length-take-le}
+use Rattle.std.proofs.lemmas.List.Elements.{All-contains, All-take}
 use Rattle.std.proofs.lemmas.List.Kept.{AllPairs-from_increasing}
 use Rattle.git_rules.specs.declared.pattern.Rank.{Rank}
 use Rattle.git_rules.specs.declared.pattern.settings.SettingsError.{SettingsError}
 use Rattle.git_rules.specs.declared.pattern.settings.SettingsError.TheVariants.{Memory, NoRoom, NoValue}
 use Rattle.git_rules.specs.Config.{ConfigEntry}
 use Rattle.git_rules.specs.Normal.{NormalPlace}
-use Rattle.git_rules.specs.Patterns.{HasRank, IsBetter}
-use Rattle.git_rules.specs.Settings.{AddsBest, AddsValue, AreSettings, AreUsed, FirstTakenLacks, IsListName, IsTakenAt, RanksSetting, RefusesSettings}
+use Rattle.git_rules.specs.PatternEntries.{HasRoomFor, LacksRoomFirst}
+use Rattle.git_rules.specs.Patterns.{HasRank, IsBestAt, IsBetter}
+use Rattle.git_rules.specs.Settings.{AddsBest, AddsValue, AreFlawless, AreSettings, AreUsed, EntryFails, FirstTakenLacks, IsListName, IsOfFirst, IsTakenAt, RanksSetting, RefusesSettings}
 use Rattle.git_rules.proofs.Matched.RankLemmas.{step}
 use Rattle.git_rules.proofs.Rules.RankLemmas.{cut_here}
 use Rattle.git_rules.proofs.Settled.ListLemmas.{same_ascending}
-use Rattle.git_rules.proofs.Settled.TakenLemmas.{grow, same_best, shrink}
+use Rattle.git_rules.proofs.Settled.TakenLemmas.{at_cut, grow, same_best, shrink}
 use Rattle.git_rules.proofs.Settled.UsedLemmas.{ListedSoFar, here_by_index, listed_more}
 
 -- ---- a front of the entries
@@ -58,6 +60,79 @@ refused_at name place room entries i e best r rank old new error list within is 
     let size : length done ≡ i = length-take-le i entries (omega arith) in
     let whole : entries ≡ done ++ e ∷ drop (suc i) entries = cut_here entries i e within ∙ ap (λ x. done ++ x ∷ drop (suc i) entries) (sym is) in
     subst (λ es. RefusesSettings name place room es error) (sym whole) (refused_by name place room done (drop (suc i) entries) e best r rank old new error list h ranked (subst (λ n. IsBetter best n rank r) (sym size) better) (subst (λ n. AddsBest r e n old new (Err error)) (sym size) add))
+
+-- ---- the first error
+
+-- the entries so far have no error
+flawless_so_far : (name : List ℕ) (place : Option NormalPlace) (room : ℕ) (done : List ConfigEntry) (found : List ℕ) → AreUsed name place done found → All (HasRoomFor (codes "http") name place room) done → AreFlawless name place room done
+flawless_so_far name place room done found h enough = record { enough = enough; values = λ list i e taken. h.values i e taken }
+
+-- the error of an entry that is taken
+fails_here : (name : List ℕ) (place : Option NormalPlace) (room : ℕ) (done : List ConfigEntry) (e : ConfigEntry) (found new : List ℕ) (error : SettingsError) → IsListName name → HasRoomFor (codes "http") name place room e → IsTakenAt name place (done ++ e ∷ []) (length done) e → AddsValue e (length done) found new (Err error) → EntryFails name place room done e error
+fails_here name place room done e found new Memory list fits here add = (fits, here, λ _. add)
+fails_here name place room done e found new NoRoom list fits here add = absurd add
+fails_here name place room done e found new (NoValue at) list fits here add = (fits, list, here, add.0, add.1)
+
+-- the error of an entry, by the best of those up to it
+fails_by : (name : List ℕ) (place : Option NormalPlace) (room : ℕ) (done : List ConfigEntry) (e : ConfigEntry) (best r : Option (ℕ × Rank)) (rank : Option Rank) (found new : List ℕ) (error : SettingsError) → IsListName name → HasRoomFor (codes "http") name place room e → ListedSoFar name place done best found → HasRank (RanksSetting name place) e rank → IsBetter best (length done) rank r → AddsBest r e (length done) found new (Err error) → EntryFails name place room done e error
+fails_by name place room done e best r rank found new error list fits h ranked better (inl (index, add)) =
+    let next = step (RanksSetting name place) done e (length done) best r rank h.so_far refl ranked better in
+    fails_here name place room done e found new error list fits (here_by_index name place done e r next index) add
+fails_by name place room done e best r rank found new error list fits h ranked better (inr (other, same, is)) = absurd cc
+
+-- the first error is that of the entry at an index of the list
+first_here : (name : List ℕ) (place : Option NormalPlace) (room : ℕ) (entries : List ConfigEntry) (i : ℕ) (e : ConfigEntry) (found : List ℕ) (error : SettingsError) → i < length entries → e ≡ get_or entries i e → AreUsed name place (take i entries) found → All (HasRoomFor (codes "http") name place room) (take i entries) → EntryFails name place room (take i entries) e error → IsOfFirst name place room entries error
+first_here name place room entries i e found error within is h enough fails = record {
+  before = take i entries;
+  entry = e;
+  others = drop (suc i) entries;
+  joined = cut_here entries i e within ∙ ap (λ x. take i entries ++ x ∷ drop (suc i) entries) (sym is);
+  flawless = flawless_so_far name place room (take i entries) found h enough;
+  fails = fails;
+}
+
+-- so it is for an entry for which the buffer is too short
+pub first_unfit : (name : List ℕ) (place : Option NormalPlace) (room : ℕ) (entries : List ConfigEntry) (i : ℕ) (e : ConfigEntry) (best : Option (ℕ × Rank)) (found : List ℕ) → i < length entries → e ≡ get_or entries i e → ListedSoFar name place (take i entries) best found → All (HasRoomFor (codes "http") name place room) (take i entries) → ¬ HasRoomFor (codes "http") name place room e → IsOfFirst name place room entries NoRoom
+first_unfit name place room entries i e best found within is h enough short = first_here name place room entries i e found NoRoom within is h.used enough short
+
+-- and for an entry that is refused
+pub first_refused : (name : List ℕ) (place : Option NormalPlace) (room : ℕ) (entries : List ConfigEntry) (i : ℕ) (e : ConfigEntry) (best r : Option (ℕ × Rank)) (rank : Option Rank) (old new : List ℕ) (error : SettingsError) → IsListName name → i < length entries → e ≡ get_or entries i e → ListedSoFar name place (take i entries) best old → All (HasRoomFor (codes "http") name place room) (take i entries) → HasRoomFor (codes "http") name place room e → HasRank (RanksSetting name place) e rank → IsBetter best i rank r → AddsBest r e i old new (Err error) → IsOfFirst name place room entries error
+first_refused name place room entries i e best r rank old new error list within is h enough fits ranked better add =
+    let size : length (take i entries) ≡ i = length-take-le i entries (omega arith) in
+    let fails = fails_by name place room (take i entries) e best r rank old new error list fits h ranked (subst (λ n. IsBetter best n rank r) (sym size) better) (subst (λ n. AddsBest r e n old new (Err error)) (sym size) add) in
+    first_here name place room entries i e old error within is h.used enough fails
+
+-- the first error of a name that isn't a list is that of the buffer
+pub first_of_room : (name : List ℕ) (place : Option NormalPlace) (room : ℕ) (entries : List ConfigEntry) → ¬ IsListName name → LacksRoomFirst (codes "http") name place room entries → IsOfFirst name place room entries NoRoom
+first_of_room name place room entries single h = record {
+  before = h.before;
+  entry = h.entry;
+  others = h.others;
+  joined = h.joined;
+  flawless = record { enough = h.enough; values = λ list i e taken. absurd (single list) };
+  fails = h.short;
+}
+
+-- or memory is refused for the best entry, where the buffer suffices
+pub first_of_memory : (name : List ℕ) (place : Option NormalPlace) (room : ℕ) (entries : List ConfigEntry) (i : ℕ) → ¬ IsListName name → All (HasRoomFor (codes "http") name place room) entries → IsBestAt (RanksSetting name place) entries i → IsOfFirst name place room entries Memory
+first_of_memory name place room entries i single enough best =
+    let Fits = HasRoomFor (codes "http") name place room in
+    let all : All Fits (best.before ++ best.best ∷ best.behind) = subst (All Fits) best.joined enough in
+    record {
+      before = best.before;
+      entry = best.best;
+      others = best.behind;
+      joined = best.joined;
+      flawless = record {
+        enough = subst (All Fits) (take-append_seam best.before (best.best ∷ best.behind)) (All-take Fits (length best.before) (best.before ++ best.best ∷ best.behind) all);
+        values = λ list i e taken. absurd (single list);
+      };
+      fails = (
+        All-contains Fits (best.before ++ best.best ∷ best.behind) best.best all (at_cut best.before best.best best.behind),
+        record { before = best.before; others = []; rank = best.rank; joined = refl; index = refl; ranks = best.ranks.0; not_higher = best.not_higher },
+        λ list. absurd (single list),
+      );
+    }
 
 -- ---- one answer
 

@@ -83,7 +83,7 @@ untaken_none name place done t e none h =
     none h.rank (subst (λ z. RanksSetting name place z h.rank) seam.1 h.ranks)
 
 -- the element where a list is cut is one of the list
-at_cut : {T : Type 0} (before : List T) (x : T) (others : List T) → Contains (before ++ x ∷ others) x
+pub at_cut : {T : Type 0} (before : List T) (x : T) (others : List T) → Contains (before ++ x ∷ others) x
 at_cut before x others = Contains-append_right before (x ∷ others) x (0, omega arith, refl)
 
 -- an entry with a lower rank isn't taken

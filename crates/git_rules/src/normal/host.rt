@@ -16,7 +16,7 @@ use crate::normal::NormalError;
 use git_syntax::bytes::{is_free_of, last_cut};
 use git_syntax::text::as_text;
 
-/// The host at the start of a text, not yet in lower case, and the port.
+/// The host at the start of a text, not yet in lower case, and the port. A byte that no host has is refused first.
 pub(super) fn read_host<'a>(
     globs: bool,
     scheme: &[u8],

@@ -2,8 +2,8 @@
 //!
 //! The caller supplies one buffer, into which each URL is read in turn.
 
-ghost use Rattle.std.specs.Prelude.{◌≡◌, ◌↔◌, IsTrue, Some, length, option_copied};
-ghost use Rattle.git_rules.specs.PatternEntries.{IsBestIn, RanksIn, RanksUrlIn};
+ghost use Rattle.std.specs.Prelude.{◌≡◌, ◌≤◌, ◌+◌, ◌*◌, ◌↔◌, All, IsTrue, OnErr, OnOk, Some, length, option_copied};
+ghost use Rattle.git_rules.specs.PatternEntries.{HasRoomFor, IsBestIn, LacksRoomFirst, RanksIn, RanksUrlIn};
 
 use crate::config::Entry;
 use crate::normal::{NormalError, NormalUrl};
@@ -72,8 +72,10 @@ pub(crate) fn rank_in(
     place: Option<&NormalUrl<'_>>,
     room: &mut [u8],
 ) -> Result<Option<Rank>, NormalError>
-    ensures { RanksIn section.now name.now (option_copied place.entry) (length room.old) entry.now
+    ensures rank { RanksIn section.now name.now (option_copied place.entry) (length room.old) entry.now
         result }
+    ensures room { OnOk result
+        (HasRoomFor section.now name.now (option_copied place.entry) (length room.old) entry.now) }
 {
     if !entry.sets(section, name) {
         return Ok(None);
@@ -89,7 +91,8 @@ pub(crate) fn rank_in(
 
 /// The rank of a URL, if it matches the place.
 fn url_rank(url: &[u8], place: &NormalUrl<'_>, room: &mut [u8]) -> Result<Option<Rank>, NormalError>
-    ensures { RanksUrlIn place.now (length room.old) url.now result }
+    ensures rank { RanksUrlIn place.now (length room.old) url.now result }
+    ensures room { OnOk result (3 * length url.now + 1 ≤ length room.old) }
 {
     match UrlPattern::parse_in(url, room) {
         Ok(pattern) => Ok(pattern.rank_for(place)),
@@ -158,8 +161,12 @@ pub(crate) fn best_in(
     place: Option<&NormalUrl<'_>>,
     room: &mut [u8],
 ) -> Result<Option<usize>, NormalError>
-    ensures { IsBestIn section.now name.now (option_copied place.entry) (length room.old) entries.now
+    ensures best { IsBestIn section.now name.now (option_copied place.entry) (length room.old) entries.now
         result }
+    ensures room { OnOk result
+        (All (HasRoomFor section.now name.now (option_copied place.entry) (length room.old)) entries.now) }
+    ensures first { OnErr result
+        (LacksRoomFirst section.now name.now (option_copied place.entry) (length room.old) entries.now) }
 {
     let mut best = None;
     for (i, entry) in entries.iter().enumerate() {

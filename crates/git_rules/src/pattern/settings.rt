@@ -2,7 +2,7 @@
 //! most names, several for a list.
 
 ghost use Rattle.std.specs.Prelude.{◌≡◌, ◌↔◌, ◌++◌, ◌∷◌, [], IfErr, IfOk, IsTrue, None, OnOk, Some, length, option_copied};
-ghost use Rattle.git_rules.specs.Settings.{AddsBest, AddsValue, AreSettings, HasKind, IsBestIndex, IsListName, RefusesSettings};
+ghost use Rattle.git_rules.specs.Settings.{AddsBest, AddsValue, AreSettings, HasKind, IsBestIndex, IsListName, IsOfFirst, RefusesSettings};
 
 pub mod law;
 
@@ -129,6 +129,8 @@ pub fn settings_for(
         (λ found. AreSettings name.now (Some place.now) entries.now found.items) }
     ensures refused { IfErr result
         (λ error. RefusesSettings name.now (Some place.now) (length room.old) entries.now error) }
+    ensures first { IfErr result
+        (λ error. IsOfFirst name.now (Some place.now) (length room.old) entries.now error) }
 {
     settings_in(alloc, entries, name, Some(place), room)
 }
@@ -175,6 +177,7 @@ pub fn settings_without_place(
 ) -> Result<Vec<usize>, SettingsError>
     ensures found { IfOk result (λ found. AreSettings name.now None entries.now found.items) }
     ensures refused { IfErr result (λ error. RefusesSettings name.now None 0 entries.now error) }
+    ensures first { IfErr result (λ error. IsOfFirst name.now None 0 entries.now error) }
     ensures no_room { IfErr result (λ error. ¬ (error ≡ SettingsError.NoRoom)) }
 {
     settings_in(alloc, entries, name, None, &mut [])
@@ -193,6 +196,8 @@ fn settings_in(
     ensures refused { IfErr result
         (λ error. RefusesSettings name.now (option_copied place.entry) (length room.old) entries.now
         error) }
+    ensures first { IfErr result
+        (λ error. IsOfFirst name.now (option_copied place.entry) (length room.old) entries.now error) }
 {
     match kind_of(name.as_bytes()) {
         Kind::Single => best_alone(alloc, entries, name, place, room),
@@ -214,6 +219,8 @@ fn best_alone(
     ensures refused { IfErr result
         (λ error. RefusesSettings name.now (option_copied place.entry) (length room.old) entries.now
         error) }
+    ensures first { IfErr result
+        (λ error. IsOfFirst name.now (option_copied place.entry) (length room.old) entries.now error) }
 {
     match best_in(entries, "http", name, place, room) {
         Err(_) => Err(SettingsError::NoRoom),
@@ -240,6 +247,8 @@ fn all_used(
     ensures refused { IfErr result
         (λ error. RefusesSettings name.now (option_copied place.entry) (length room.old) entries.now
         error) }
+    ensures first { IfErr result
+        (λ error. IsOfFirst name.now (option_copied place.entry) (length room.old) entries.now error) }
 {
     let mut found = Vec::new(alloc);
     let mut best = None;

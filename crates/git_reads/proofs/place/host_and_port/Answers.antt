@@ -3,11 +3,11 @@ use Rattle.std.proofs.Common.{◌∙◌, ◌++◌, ap}
 use Rattle.git_reads.specs.Git.{HostAndPort}
 use Rattle.git_reads.proofs.place.host_and_port.Goals as goal
 
-pub returns-in_default : goal.returns-in_default
-returns-in_default c = HostAndPort.none c.in_default.ensures c.before_port.ensures
+pub returns-in_default-clause-found : goal.returns-in_default-clause-found
+returns-in_default-clause-found c = HostAndPort.none c.in_default.ensures c.before_port.ensures
 
-pub returns : goal.returns
-returns c =
+pub returns-clause-found : goal.returns-clause-found
+returns-clause-found c =
     let found = c.in-Some.found in
     let written =
     c.as_slice.ensures.value ∙ c.in_ok-extend_from_slice-2.ensures.items ∙ ap (λ x. x ++ found.inside.now) (c.in_ok-extend_from_slice.ensures.items ∙ ap (λ x. x ++ found.front.now) c.clear.ensures.items) in

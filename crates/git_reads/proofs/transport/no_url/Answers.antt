@@ -30,7 +30,7 @@ pub returns-in-Some-clause-why : goal.returns-in-Some-clause-why
 returns-in-Some-clause-why c =
     let (behind, is, cut) = c.in-Some.ensures in
     let path = c.from_tilde.ensures ∙ ap from_tilde (c.split_at.ensures.back ∙ ap (drop 1) is) in
-    IfErr-weaker c.secure.result (FailsToReach (ReachesSecure c.in-Some.place.now c.from_tilde.result.now) (GetsUrl c.in-Some.place.now c.from_tilde.result.now)) (Fails c.args.text.now) (λ w h. scp_fails c.args.text.now c.in-Some.place.now behind w c.requires.no_mark c.requires.no_helper (λ k. false≢true (c.if-begins_by.ensures.1 k)) (c.if-not-is_remote.ensures.0 refl) cut (subst (λ p. FailsToReach (ReachesSecure c.in-Some.place.now p) (GetsUrl c.in-Some.place.now p) w) path h)) c.secure.ensures.why
+    IfErr-weaker c.secure.result (FailsToReach c.in-Some.place.now (ReachesSecure c.in-Some.place.now c.from_tilde.result.now) (GetsUrl c.in-Some.place.now c.from_tilde.result.now)) (Fails c.args.text.now) (λ w h. scp_fails c.args.text.now c.in-Some.place.now behind w c.requires.no_mark c.requires.no_helper (λ k. false≢true (c.if-begins_by.ensures.1 k)) (c.if-not-is_remote.ensures.0 refl) cut (subst (λ p. FailsToReach c.in-Some.place.now (ReachesSecure c.in-Some.place.now p) (GetsUrl c.in-Some.place.now p) w) path h)) c.secure.ensures.why
 
 pub returns-in-None-clause-why : goal.returns-in-None-clause-why
 returns-in-None-clause-why c = scp_uncut c.args.text.now c.requires.no_mark c.requires.no_helper (c.if-not-is_remote.ensures.0 refl) c.in-None.ensures

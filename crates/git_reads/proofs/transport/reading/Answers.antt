@@ -13,7 +13,10 @@ pub returns-then-names_helper-clause-none : goal.returns-then-names_helper-claus
 returns-then-names_helper-clause-none c = fails_lacks c.args.text.now why.RemoteHelper (named_for c.args.text.now (c.if-names_helper.ensures.0 refl))
 
 pub returns-then-names_helper-clause-why : goal.returns-then-names_helper-clause-why
-returns-then-names_helper-clause-why c = named_for c.args.text.now (c.if-names_helper.ensures.0 refl)
+returns-then-names_helper-clause-why c = (
+  record { whole = c.if-not-is_free_of.ensures.0 refl; no_option = sym c.if-starts_with_byte.ensures },
+  named_for c.args.text.now (c.if-names_helper.ensures.0 refl),
+)
 
 pub returns-in-Some-clause-read : goal.returns-in-Some-clause-read
 returns-in-Some-clause-read c =
@@ -25,7 +28,7 @@ returns-in-Some-clause-none c =
 
 pub returns-in-Some-clause-why : goal.returns-in-Some-clause-why
 returns-in-Some-clause-why c =
-    IfErr-weaker c.url.result (Fails (url_text c.in-Some.scheme.now c.in-Some.spelled.now)) (Unreads c.args.text.now) (λ w h. fails_why c.args.text.now w (subst (λ t. Fails t w) (sym c.in-Some.ensures.1) h)) c.url.ensures.why
+    IfErr-weaker c.url.result (Fails (url_text c.in-Some.scheme.now c.in-Some.spelled.now)) (Unreads c.args.text.now) (λ w h. fails_why c.args.text.now w record { whole = c.if-not-is_free_of.ensures.0 refl; no_option = sym c.if-starts_with_byte.ensures } (subst (λ t. Fails t w) (sym c.in-Some.ensures.1) h)) c.url.ensures.why
 
 pub returns-in-None-clause-read : goal.returns-in-None-clause-read
 returns-in-None-clause-read c =
@@ -36,4 +39,4 @@ returns-in-None-clause-none c =
     IfErr-weaker c.no_url.result (Fails c.args.text.now) (λ w. ¬ (w ≡ why.Memory) → LacksReading c.args.text.now) (λ w h. fails_lacks c.args.text.now w h) c.no_url.ensures.why
 
 pub returns-in-None-clause-why : goal.returns-in-None-clause-why
-returns-in-None-clause-why c = IfErr-weaker c.no_url.result (Fails c.args.text.now) (Unreads c.args.text.now) (λ w h. fails_why c.args.text.now w h) c.no_url.ensures.why
+returns-in-None-clause-why c = IfErr-weaker c.no_url.result (Fails c.args.text.now) (Unreads c.args.text.now) (λ w h. fails_why c.args.text.now w record { whole = c.if-not-is_free_of.ensures.0 refl; no_option = sym c.if-starts_with_byte.ensures } h) c.no_url.ensures.why

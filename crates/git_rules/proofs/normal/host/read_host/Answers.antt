@@ -9,6 +9,13 @@ use Rattle.git_rules.proofs.normal.host.read_host.Goals as goal
 pub returns-then-not-are_host_bytes : goal.returns-then-not-are_host_bytes
 returns-then-not-are_host_bytes c = (c.cut_port.result.0.now, c.cut_port.result.1.now, c.cut_port.ensures, sym c.if-not-are_host_bytes.ensures)
 
+pub returns-then-ne : goal.returns-then-ne
+returns-then-ne c = (
+  (c.cut_port.result.0.now, c.cut_port.result.1.now, c.cut_port.ensures, sym c.if-not-are_host_bytes.ensures),
+  sym c.if-lacks_host.ensures,
+  search rules,
+)
+
 pub returns-then-lacks_host : goal.returns-then-lacks_host
 returns-then-lacks_host c =
     let file : c.args.scheme.now ≡ codes "file" = search rules in
