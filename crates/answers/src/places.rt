@@ -7,7 +7,7 @@ use crate::order::{Order, unknown};
 use crate::report::{Out, report_lent, report_owned};
 use bstr::{BStr, ByteSlice};
 use git_rules::config::Entry;
-use git_rules::normal::{NormalError, NormalUrl, room_for};
+use git_rules::normal::{NormalError, NormalUrl, needed_buffer_len};
 use git_rules::pattern::entries::{best_entry, entry_rank};
 use git_rules::pattern::place::place_in;
 use git_rules::pattern::settings::{settings_for, settings_without_place};
@@ -20,7 +20,7 @@ use std::alloc::Global;
 fn room_of(alloc: Global, order: Order<'_>, len: usize) -> Result<Vec<u8>, Halt> {
     let size = match order.number("room") {
         Some(size) => usize::try_from(size).unwrap_or(0),
-        None => room_for(len),
+        None => needed_buffer_len(len),
     };
     Ok(vec![in alloc; b'#'; size]?)
 }
@@ -29,7 +29,7 @@ fn room_of(alloc: Global, order: Order<'_>, len: usize) -> Result<Vec<u8>, Halt>
 pub fn over_len(order: Order<'_>, len: u64, out: &mut Out) -> Result<(), Halt> {
     let len = usize::try_from(len).unwrap_or(0);
     match order.call() {
-        "normal::room_for" => report_lent(out, &room_for(len)),
+        "normal::needed_buffer_len" => report_lent(out, &needed_buffer_len(len)),
         call => unknown(call),
     }
 }

@@ -6,7 +6,7 @@ use Rattle.git_rules.specs.RewriteEntries.{rules_of}
 use Rattle.git_rules.specs.Rewrites.{IsRewritten, Outcome, Rules, outcome_text}
 use Rattle.gix_url.specs.Components.{Components, ComponentsOf}
 use Rattle.gix_url.specs.Display.{display}
-use Rattle.gix_url.specs.FromParts.{MadeOf}
+use Rattle.gix_url.specs.FromParts.{BuiltFrom}
 use Rattle.gix_url.specs.Grammar.{Spells}
 use Rattle.gix_url.specs.Homes.{HomeUser, SplitsHome, Expands}
 use Rattle.gix_url.specs.Records.{migrated}
@@ -54,8 +54,8 @@ IsRereadLength v n = (again : Location) × ((t : List ℕ) → text v ≡ Ok t �
 
 -- the length of the path of what its parts make
 abbrev pub IsMadeLength : Location → ℕ → Type 0
-IsMadeLength v n = (made : Location) × MadeOf (record v { spelling = None }) (Ok made)
-    × (length made.path ≡ n)
+IsMadeLength v n = (built : Location) × BuiltFrom (record v { spelling = None }) (Ok built)
+    × (length built.path ≡ n)
 
 -- JSON without white space between its tokens
 abbrev pub IsCompact : List ℕ → Type 0

@@ -211,7 +211,7 @@ pub fn reread(alloc: Global, url: &Url) -> usize
 pub fn from_parts(alloc: Global, url: Url) -> usize
     ensures { 0 < result → IsMadeLength url result }
 {
-    let made = Url::from_parts(
+    let built = Url::from_parts(
         alloc,
         url.scheme,
         url.user,
@@ -221,8 +221,8 @@ pub fn from_parts(alloc: Global, url: Url) -> usize
         url.path,
         url.serialize_alternative_form,
     );
-    match made {
-        Ok(made) => made.path.as_bytes().len(),
+    match built {
+        Ok(built) => built.path.as_bytes().len(),
         Err(_) => 0,
     }
 }

@@ -276,10 +276,10 @@ pub extern "C" fn call_bench_from_parts(alloc: Global, bytes: &[u8]) -> usize
 
 /// Whether the bytes are refused, without allocation, because their scheme or their authority is too long.
 #[unsafe(no_mangle)]
-pub extern "C" fn call_bench_refuse_in(bytes: &[u8], room: &mut [u8]) -> bool
+pub extern "C" fn call_bench_refuse_in(bytes: &[u8], buffer: &mut [u8]) -> bool
     ensures { IsTrue result → (v : Location) → ¬ Spells bytes.now v }
 {
-    match UrlRef::parse_in(bytes, room) {
+    match UrlRef::parse_in(bytes, buffer) {
         Err(ParseError::Refused(refusal)) => refusal.reason.kind() == RefusalKind::TooLong,
         Err(ParseError::NoRoom) | Ok(_) => false,
     }

@@ -75,12 +75,12 @@ fn log_line(alloc: Global, url: &UrlRef<'_>) -> Result<String, AllocError> {
 }
 
 /// The text of a location in room that is at hand, if it fits.
-fn in_room<'a>(url: &UrlRef<'_>, room: &'a mut [u8]) -> Result<Option<&'a [u8]>, WriteFault> {
-    let length = url.write_into(room)?;
+fn in_room<'a>(url: &UrlRef<'_>, buffer: &'a mut [u8]) -> Result<Option<&'a [u8]>, WriteFault> {
+    let length = url.write_into(buffer)?;
     Ok(
         usize::try_from(length)
             .ok()
-            .and_then(|length| room.get(..length)),
+            .and_then(|length| buffer.get(..length)),
     )
 }
 
@@ -89,8 +89,8 @@ fn append(out: &mut Vec<u8>, url: &UrlRef<'_>) -> Result<(), WriteError> {
 }
 
 /// Whether the text fits into a field of so many bytes.
-fn fits(url: &UrlRef<'_>, room: u128) -> bool {
-    url.text_len().is_ok_and(|length| length <= room)
+fn fits(url: &UrlRef<'_>, capacity: u128) -> bool {
+    url.text_len().is_ok_and(|length| length <= capacity)
 }
 
 /// The text of a location without its password, which stays as it is.

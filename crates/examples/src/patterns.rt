@@ -12,8 +12,8 @@ use gix_url::UrlRef;
 use std::alloc::Global;
 
 /// Whether a pattern stands for a place, each in a room of its own.
-fn stands_for(pattern: &[u8], room: &mut [u8], place: &NormalUrl<'_>) -> bool {
-    match UrlPattern::parse_in(pattern, room) {
+fn stands_for(pattern: &[u8], buffer: &mut [u8], place: &NormalUrl<'_>) -> bool {
+    match UrlPattern::parse_in(pattern, buffer) {
         Ok(pattern) => pattern.matches(place), // `https://*.example.com` for `https://git.example.com/a`
         Err(_) => false,
     }
@@ -42,9 +42,9 @@ fn may_be_sent(url: &UrlRef<'_>, kept_for: &UrlPattern<'_>, place: &NormalUrl<'_
 fn helper<'a>(
     entry: &Entry<'a>,
     place: &NormalUrl<'_>,
-    room: &mut [u8],
+    buffer: &mut [u8],
 ) -> Result<Option<&'a [u8]>, NormalError> {
-    match entry_rank(entry, "credential", "helper", place, room)? {
+    match entry_rank(entry, "credential", "helper", place, buffer)? {
         None => Ok(None),
         Some(_) => Ok(entry.value),
     }
@@ -54,17 +54,17 @@ fn helper<'a>(
 fn proxy<'a>(
     entries: &[Entry<'a>],
     place: &NormalUrl<'_>,
-    room: &mut [u8],
+    buffer: &mut [u8],
 ) -> Result<Option<&'a [u8]>, NormalError> {
-    match best_entry(entries, "http", "proxy", place, room)? {
+    match best_entry(entries, "http", "proxy", place, buffer)? {
         None => Ok(None),
         Some(i) => Ok(entries.get(i).and_then(|entry| entry.value)),
     }
 }
 
 /// Whether a pattern stands for a location.
-fn is_for(pattern: &UrlPattern<'_>, url: &UrlRef<'_>, room: &mut [u8]) -> bool {
-    match place_in(url, room) {
+fn is_for(pattern: &UrlPattern<'_>, url: &UrlRef<'_>, buffer: &mut [u8]) -> bool {
+    match place_in(url, buffer) {
         Ok(place) => pattern.matches(&place),
         Err(_) => false,
     }
@@ -80,10 +80,10 @@ fn header_lines(
     alloc: Global,
     entries: &[Entry<'_>],
     place: &NormalUrl<'_>,
-    room: &mut [u8],
+    buffer: &mut [u8],
 ) -> Result<Vec<u8>, SettingsError> {
     let mut lines = Vec::new(alloc);
-    for i in &settings_for(alloc, entries, "extraHeader", place, room)? {
+    for i in &settings_for(alloc, entries, "extraHeader", place, buffer)? {
         if let Some(header) = entries.get(*i).and_then(|entry| entry.value) {
             lines.extend_from_slice(header)?; // `X-A: 1`, and `X-B: 2` of `http.https://h.extraHeader`
             lines.extend_from_slice(b"\n")?;
@@ -98,10 +98,10 @@ fn proxy_of<'a>(
     entries: &[Entry<'a>],
     text: &[u8],
     own: &mut [u8],
-    room: &mut [u8],
+    buffer: &mut [u8],
 ) -> Result<Option<&'a [u8]>, SettingsError> {
     let found = match NormalUrl::parse_in(text, own) {
-        Ok(place) => settings_for(alloc, entries, "proxy", &place, room)?,
+        Ok(place) => settings_for(alloc, entries, "proxy", &place, buffer)?,
         Err(NormalError::NoRoom) => return Err(SettingsError::NoRoom),
         Err(_) => settings_without_place(alloc, entries, "proxy")?, // of `https://h:0/`, a port that no host has
     };

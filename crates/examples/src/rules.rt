@@ -4,7 +4,7 @@
 use bstr::BString;
 use git_rules::boolean::read_boolean;
 use git_rules::config::{self, Entry, EntryError, Reader, is_listing};
-use git_rules::normal::{NormalUrl, room_for};
+use git_rules::normal::{NormalUrl, needed_buffer_len};
 use git_rules::number::{INT_MAX, read_number};
 use git_rules::protocols::text::{NoTransport, transport_of};
 use git_rules::protocols::{Permission, Protocols, Reason, transport};
@@ -94,16 +94,16 @@ fn refusal_place(protocols: &Protocols<'_>, name: &str) -> Option<usize> {
 
 /// The host whose settings apply to a text, in a room that is made for it.
 fn host_text(alloc: Global, text: &[u8]) -> Result<Option<BString>, AllocError> {
-    let mut room = vec![in alloc; 0u8; room_for(text.len())]?;
-    match NormalUrl::parse_in(text, &mut room) {
+    let mut buffer = vec![in alloc; 0u8; needed_buffer_len(text.len())]?;
+    match NormalUrl::parse_in(text, &mut buffer) {
         Ok(place) => Ok(Some(BString::from_slice(alloc, place.host)?)),
         Err(_) => Ok(None),
     }
 }
 
 /// The host whose settings apply to a text.
-fn host_of<'a>(text: &'a [u8], room: &'a mut [u8]) -> Option<&'a [u8]> {
-    match NormalUrl::parse_in(text, room) {
+fn host_of<'a>(text: &'a [u8], buffer: &'a mut [u8]) -> Option<&'a [u8]> {
+    match NormalUrl::parse_in(text, buffer) {
         Ok(place) => Some(place.host), // `example.com` of `https://me@Example.com:443/a/../b`
         Err(_) => None,
     }

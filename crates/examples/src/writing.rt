@@ -12,8 +12,8 @@ fn append(out: &mut Vec<u8>, url: &Url) -> Result<(), WriteError> {
 }
 
 /// Whether the text fits into a field of so many bytes.
-fn fits(url: &Url, room: u128) -> bool {
-    url.text_len().is_ok_and(|length| length <= room)
+fn fits(url: &Url, capacity: u128) -> bool {
+    url.text_len().is_ok_and(|length| length <= capacity)
 }
 
 /// A text in the form that this library writes.

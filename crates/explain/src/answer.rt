@@ -221,7 +221,7 @@ impl Line<'_, '_> {
     /// What Git does with the line by the configuration that is given. The line is parsed as this location, or is
     /// refused.
     fn rules(self, alloc: Global, url: Option<&Url>) -> Result<Option<Rules>, AllocError> {
-        Rules::of_given(alloc, self.style.config, self.bytes, url)
+        Rules::of_input(alloc, self.style.config, self.bytes, url)
     }
 
     /// The report about a line that isn't a location, and the findings in it. The error may be that memory was refused.

@@ -174,7 +174,7 @@ impl Summary {
         config: Option<&Config<'_>>,
     ) -> Result<Findings, AllocError> {
         let found = dangers(self.alloc, line, &url.as_ref())?;
-        let (found, rules) = both(found, Rules::of_given(self.alloc, config, line, Some(url)))?;
+        let (found, rules) = both(found, Rules::of_input(self.alloc, config, line, Some(url)))?;
         let own = Findings::of_location(url, found.as_slice());
         let findings = own.union(found_by(rules.as_ref()));
         drop(rules);
@@ -209,7 +209,7 @@ impl Summary {
         line: &[u8],
         config: Option<&Config<'_>>,
     ) -> Result<Findings, AllocError> {
-        let rules = Rules::of_given(self.alloc, config, line, None)?;
+        let rules = Rules::of_input(self.alloc, config, line, None)?;
         let findings = Findings::of_refused().union(found_by(rules.as_ref()));
         drop(rules);
         bump(&mut self.verdicts.refused);

@@ -46,9 +46,9 @@ impl Curl {
         let Some(pieces) = cut(text) else {
             return Ok(None);
         };
-        let mut room = Vec::new(alloc);
-        let found = read(alloc, pieces, &mut room);
-        drop(room);
+        let mut buffer = Vec::new(alloc);
+        let found = read(alloc, pieces, &mut buffer);
+        drop(buffer);
         found
     }
 
@@ -134,11 +134,15 @@ fn has_control(part: &[u8]) -> bool {
 }
 
 /// Reads the pieces of a text.
-fn read(alloc: Global, pieces: Pieces<'_>, room: &mut Vec<u8>) -> Result<Option<Curl>, AllocError> {
-    let Some(host) = host_of(alloc, pieces.host, room)? else {
+fn read(
+    alloc: Global,
+    pieces: Pieces<'_>,
+    buffer: &mut Vec<u8>,
+) -> Result<Option<Curl>, AllocError> {
+    let Some(host) = host_of(alloc, pieces.host, buffer)? else {
         return Ok(None);
     };
-    let (host, path) = both(host, target(alloc, pieces, room))?;
+    let (host, path) = both(host, target(alloc, pieces, buffer))?;
     Ok(Some(Curl {
         host,
         port: pieces.port,
@@ -149,7 +153,7 @@ fn read(alloc: Global, pieces: Pieces<'_>, room: &mut Vec<u8>) -> Result<Option<
 // ---- hosts
 
 /// The host that curl connects to, or `None` if curl refuses it.
-fn host_of(alloc: Global, host: &[u8], room: &mut Vec<u8>) -> Result<Option<String>, AllocError> {
+fn host_of(alloc: Global, host: &[u8], buffer: &mut Vec<u8>) -> Result<Option<String>, AllocError> {
     if has_control(host) {
         return Ok(None);
     }
@@ -158,19 +162,19 @@ fn host_of(alloc: Global, host: &[u8], room: &mut Vec<u8>) -> Result<Option<Stri
     }
     match ipv4(host) {
         Some(address) => Ok(Some(address.to_string(alloc)?)),
-        None => name(alloc, host, room),
+        None => name(alloc, host, buffer),
     }
 }
 
 /// A decoded name. Each `%` that remains is escaped again, because curl formats the whole URL before a transfer.
-fn name(alloc: Global, host: &[u8], room: &mut Vec<u8>) -> Result<Option<String>, AllocError> {
-    room.clear();
-    append_decoded(room, host)?;
-    let is_name = !room.is_empty() && room.iter().all(|byte| is_in_names(*byte));
+fn name(alloc: Global, host: &[u8], buffer: &mut Vec<u8>) -> Result<Option<String>, AllocError> {
+    buffer.clear();
+    append_decoded(buffer, host)?;
+    let is_name = !buffer.is_empty() && buffer.iter().all(|byte| is_in_names(*byte));
     if !is_name || host.contains_str(b"%00") {
         return Ok(None);
     }
-    let decoded = room.as_slice().replace(alloc, b"%", b"%25")?;
+    let decoded = buffer.as_slice().replace(alloc, b"%", b"%25")?;
     let name = decoded.as_slice().as_bstr().to_string(alloc);
     drop(decoded);
     Ok(Some(name?))
@@ -291,11 +295,11 @@ fn decodes_to(text: &[u8], decoded: &[u8]) -> bool {
 }
 
 /// The path and the query that curl requests.
-fn target(alloc: Global, pieces: Pieces<'_>, room: &mut Vec<u8>) -> Result<String, AllocError> {
-    room.clear();
-    without_dots(room, pieces.path)?;
+fn target(alloc: Global, pieces: Pieces<'_>, buffer: &mut Vec<u8>) -> Result<String, AllocError> {
+    buffer.clear();
+    without_dots(buffer, pieces.path)?;
     let mut text = String::new(alloc);
-    let written = write_target(&mut text, room.as_slice(), pieces.query);
+    let written = write_target(&mut text, buffer.as_slice(), pieces.query);
     let (text, ()) = both(text, written)?;
     Ok(text)
 }

@@ -73,7 +73,7 @@ pub struct Route {
 impl Rules {
     /// Returns how Git uses a line by the configuration, if one is given. `url` is the location of the line, unless the
     /// line is refused.
-    pub fn of_given(
+    pub fn of_input(
         alloc: Global,
         config: Option<&Config<'_>>,
         line: &[u8],

@@ -5,13 +5,13 @@ use Rattle.git_syntax.specs.Bytes.{newline, FreeOf}
 use Rattle.git_lines.specs.Answers.{SplitsLines, IsAnswer, Answers}
 
 -- the bytes are one line and its end
-abbrev pub IsOneLine : List ℕ → Type 0
-IsOneLine b = (line : List ℕ) × FreeOf newline line × (b ≡ line ++ newline ∷ [])
+abbrev pub IsEndedLine : List ℕ → Type 0
+IsEndedLine b = (line : List ℕ) × FreeOf newline line × (b ≡ line ++ newline ∷ [])
 
 -- the answer to a line is one line and its end
 abbrev pub OneLine : Type 0
 OneLine = (line answer : List ℕ) (good : Bool) → FreeOf newline line → IsAnswer line answer good
-    → IsOneLine answer
+    → IsEndedLine answer
 
 -- the lists have the same length, and each text of the second list, with its line end, is the answer to the
 -- line at the same index
@@ -23,8 +23,8 @@ AreAnswered (line ∷ lines) (reported ∷ others) =
     ((good : Bool) × IsAnswer line (reported ++ newline ∷ []) good) × AreAnswered lines others
 
 -- a text has at most one split into lines
-abbrev pub OneSplit : Type 0
-OneSplit = (b : List ℕ) (lines more : List (List ℕ)) → SplitsLines b lines → SplitsLines b more
+abbrev pub OneLineSplit : Type 0
+OneLineSplit = (b : List ℕ) (lines more : List (List ℕ)) → SplitsLines b lines → SplitsLines b more
     → lines ≡ more
 
 -- the answers to a text are as many lines as the text, each the answer to the line at the same index

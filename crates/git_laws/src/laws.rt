@@ -5,7 +5,7 @@
 //! contracts of `parse`, of the writer, of the settled test and of `lines`, which name the same definitions.
 
 ghost use Rattle.std.specs.Cmp.{IsTotalOrder};
-ghost use Rattle.git_laws.specs.AnswerLaws.{LineForLine, OneLine, OneSplit};
+ghost use Rattle.git_laws.specs.AnswerLaws.{LineForLine, OneLine, OneLineSplit};
 ghost use Rattle.git_laws.specs.ComponentLaws.{EqualComponents, OneComponents};
 ghost use Rattle.git_reads.specs.Git.{OneGitReading};
 ghost use Rattle.git_laws.specs.GitClass.{ReadAlike};
@@ -145,7 +145,7 @@ pub fn law_scheme_order()
 pub fn law_lines()
     ensures one_line { OneLine }
     ensures line_for_line { LineForLine }
-    ensures one_split { OneSplit }
+    ensures one_split { OneLineSplit }
 {}
 
 /// The components of a location's path are determined by the location, and equality distinguishes them.

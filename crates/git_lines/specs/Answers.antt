@@ -129,20 +129,20 @@ AppendsAnswer line old new (Err fault) = fault ≡ run.Memory
 
 -- the call appended the report on the location and returned whether the location is settled, or an allocation
 -- failed
-abbrev pub Reports : Location → List ℕ → List ℕ → Result Bool RunError → Type 0
-Reports v old new (Ok good) = (answer : List ℕ) × IsReported v answer good × (new ≡ old ++ answer)
-Reports v old new (Err fault) = fault ≡ run.Memory
+abbrev pub AppendsReport : Location → List ℕ → List ℕ → Result Bool RunError → Type 0
+AppendsReport v old new (Ok good) = (answer : List ℕ) × IsReported v answer good × (new ≡ old ++ answer)
+AppendsReport v old new (Err fault) = fault ≡ run.Memory
 
 -- the call appended the answer to a line with this refusal, or an allocation failed
-abbrev pub ReportsRefusal : Refusal → List ℕ → List ℕ → Result Bool RunError → Type 0
-ReportsRefusal r old new (Ok good) = (good ≡ false)
+abbrev pub AppendsRefusal : Refusal → List ℕ → List ℕ → Result Bool RunError → Type 0
+AppendsRefusal r old new (Ok good) = (good ≡ false)
     × (new ≡ old ++ reported_line (codes "refused") (refusal_name r))
-ReportsRefusal r old new (Err fault) = fault ≡ run.Memory
+AppendsRefusal r old new (Err fault) = fault ≡ run.Memory
 
 -- the call appended these bytes, or an allocation failed
-abbrev pub Puts : List ℕ → List ℕ → List ℕ → Result (Unit {0}) RunError → Type 0
-Puts bytes old new (Ok u) = new ≡ old ++ bytes
-Puts bytes old new (Err fault) = fault ≡ run.Memory
+abbrev pub AppendsBytes : List ℕ → List ℕ → List ℕ → Result (Unit {0}) RunError → Type 0
+AppendsBytes bytes old new (Ok u) = new ≡ old ++ bytes
+AppendsBytes bytes old new (Err fault) = fault ≡ run.Memory
 
 -- the program's message for a fault
 abbrev pub fault_text : RunError → List ℕ

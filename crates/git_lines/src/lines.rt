@@ -7,7 +7,7 @@
 ghost use Rattle.std.specs.Prelude.{◌≡◌, ℕ, ◌≤◌, ◌^◌, ◌++◌, List, None, Ok, codes, length, IfErr, IfOk, IfSome, OnOk};
 ghost use Rattle.std.specs.Io.KnownBytes.{IsAtEnd};
 ghost use Rattle.git_lines.specs.Answers.{Answers, HasLinesWithin, fault_name, refusal_name, reported_line};
-ghost use Rattle.git_lines.specs.Answers.{AppendsAnswer, IsBeforeWriting, Puts, Ran, RanToEnd, Reports, ReportsRefusal, fault_text, status_of};
+ghost use Rattle.git_lines.specs.Answers.{AppendsAnswer, IsBeforeWriting, AppendsBytes, Ran, RanToEnd, AppendsReport, AppendsRefusal, fault_text, status_of};
 ghost use Rattle.git_location.specs.Internal.Pieces.{pieces_text};
 ghost use Rattle.git_syntax.specs.Schemes.{scheme_text};
 ghost use Rattle.git_location.specs.Text.{text};
@@ -165,13 +165,13 @@ fn answers(alloc: Global, text: &[u8]) -> Result<(Vec<u8>, bool), RunError>
     ensures answered { IfOk result (λ found. Answers text.now found.0.items found.1) }
     ensures memory { IfErr result (λ fault. fault ≡ RunError.Memory) }
 {
-    let mut room = vec![in alloc; 0u8; longest_line(text)]?;
-    answers_in(alloc, text, &mut room)
+    let mut line_buffer = vec![in alloc; 0u8; longest_line(text)]?;
+    answers_in(alloc, text, &mut line_buffer)
 }
 
 /// The length of the longest line of a text.
 fn longest_line(text: &[u8]) -> usize
-    ensures room { HasLinesWithin result text.now }
+    ensures line_buffer { HasLinesWithin result text.now }
     ensures least { (most : ℕ) → HasLinesWithin most text.now → result ≤ most }
 {
     let mut longest: usize = 0;
@@ -184,8 +184,12 @@ fn longest_line(text: &[u8]) -> usize
 }
 
 /// The answers to all lines of a text, each of which is read into the buffer.
-fn answers_in(alloc: Global, text: &[u8], room: &mut [u8]) -> Result<(Vec<u8>, bool), RunError>
-    requires { HasLinesWithin (length room.old) text.now }
+fn answers_in(
+    alloc: Global,
+    text: &[u8],
+    line_buffer: &mut [u8],
+) -> Result<(Vec<u8>, bool), RunError>
+    requires { HasLinesWithin (length line_buffer.old) text.now }
     ensures answered { IfOk result (λ found. Answers text.now found.0.items found.1) }
     ensures memory { IfErr result (λ fault. fault ≡ RunError.Memory) }
 {
@@ -193,28 +197,28 @@ fn answers_in(alloc: Global, text: &[u8], room: &mut [u8]) -> Result<(Vec<u8>, b
     let mut all = true;
     let mut rest = text;
     while let Some((line, behind)) = bytes::cut(rest, b'\n') {
-        let settled = answer(line, room, &mut out)?;
+        let settled = answer(line, line_buffer, &mut out)?;
         all &= settled;
         rest = behind;
     }
     if rest.is_empty() {
         return Ok((out, all));
     }
-    let settled = answer(rest, room, &mut out)?;
+    let settled = answer(rest, line_buffer, &mut out)?;
     Ok((out, all & settled))
 }
 
 /// Appends the answer to a line, which is read into the buffer, and returns whether the line is settled. A simple text
 /// is its own answer.
-fn answer(line: &[u8], room: &mut [u8], out: &mut Vec<u8>) -> Result<bool, RunError>
-    requires { length line.now ≤ length room.old }
+fn answer(line: &[u8], line_buffer: &mut [u8], out: &mut Vec<u8>) -> Result<bool, RunError>
+    requires { length line.now ≤ length line_buffer.old }
     ensures { AppendsAnswer line.now out.old.items out.new.items result }
 {
     if is_simple_text(line) {
         put_settled(out, line)?;
         return Ok(true);
     }
-    match UrlRef::parse_in(line, room) {
+    match UrlRef::parse_in(line, line_buffer) {
         Ok(url) => report(url, out),
         Err(ParseError::Refused(refusal)) => refuse(&refusal, out),
         Err(ParseError::NoRoom) => unreachable!(),
@@ -223,7 +227,7 @@ fn answer(line: &[u8], room: &mut [u8], out: &mut Vec<u8>) -> Result<bool, RunEr
 
 /// Appends the report on a location, and returns whether it is settled. Its text is laid out once.
 fn report(url: UrlRef<'_>, out: &mut Vec<u8>) -> Result<bool, RunError>
-    ensures { Reports url.entry out.old.items out.new.items result }
+    ensures { AppendsReport url.entry out.old.items out.new.items result }
 {
     let mut digits = Buffer::new();
     match url.own_pieces(&mut digits) {
@@ -242,7 +246,7 @@ fn report_written(
     out: &mut Vec<u8>,
 ) -> Result<bool, RunError>
     requires { text url.now ≡ Ok (pieces_text pieces.now) }
-    ensures { Reports url.now out.old.items out.new.items result }
+    ensures { AppendsReport url.now out.old.items out.new.items result }
 {
     if url.is_settled_as(Some(pieces)) {
         put_text(out, pieces)?;
@@ -254,7 +258,7 @@ fn report_written(
 
 /// Appends the answer to a line that is refused.
 fn refuse(refusal: &Refusal, out: &mut Vec<u8>) -> Result<bool, RunError>
-    ensures { ReportsRefusal refusal.now out.old.items out.new.items result }
+    ensures { AppendsRefusal refusal.now out.old.items out.new.items result }
 {
     put_line(out, "refused", refusal_name(refusal).as_bytes())?;
     Ok(false)
@@ -287,7 +291,7 @@ fn bad_url_name(fault: UrlFault) -> &'static str
 
 /// Appends the line of a location that isn't settled: a word and the scheme.
 fn put_scheme(out: &mut Vec<u8>, word: &str, url: &UrlRef<'_>) -> Result<(), RunError>
-    ensures { Puts (reported_line word.now (scheme_text url.now.scheme)) out.old.items out.new.items
+    ensures { AppendsBytes (reported_line word.now (scheme_text url.now.scheme)) out.old.items out.new.items
         result }
 {
     put_line(out, word, url.scheme.as_str().as_bytes())
@@ -295,7 +299,7 @@ fn put_scheme(out: &mut Vec<u8>, word: &str, url: &UrlRef<'_>) -> Result<(), Run
 
 /// Appends a line: a word, a tab and a text.
 fn put_line(out: &mut Vec<u8>, word: &str, of_what: &[u8]) -> Result<(), RunError>
-    ensures { Puts (reported_line word.now of_what.now) out.old.items out.new.items result }
+    ensures { AppendsBytes (reported_line word.now of_what.now) out.old.items out.new.items result }
 {
     out.extend_from_slice(word.as_bytes())?;
     out.extend_from_slice(b"\t")?;
@@ -306,7 +310,7 @@ fn put_line(out: &mut Vec<u8>, word: &str, of_what: &[u8]) -> Result<(), RunErro
 
 /// Appends the line of a settled location with this text.
 fn put_settled(out: &mut Vec<u8>, text: &[u8]) -> Result<(), RunError>
-    ensures { Puts (reported_line (codes "settled") text.now) out.old.items out.new.items result }
+    ensures { AppendsBytes (reported_line (codes "settled") text.now) out.old.items out.new.items result }
 {
     out.extend_from_slice(b"settled\t")?;
     out.extend_from_slice(text)?;
@@ -316,7 +320,7 @@ fn put_settled(out: &mut Vec<u8>, text: &[u8]) -> Result<(), RunError>
 
 /// Appends the line of a settled location: the text that its pieces make up.
 fn put_text(out: &mut Vec<u8>, pieces: &Pieces<'_>) -> Result<(), RunError>
-    ensures { Puts (reported_line (codes "settled") (pieces_text pieces.now)) out.old.items
+    ensures { AppendsBytes (reported_line (codes "settled") (pieces_text pieces.now)) out.old.items
         out.new.items result }
 {
     out.extend_from_slice(b"settled\t")?;

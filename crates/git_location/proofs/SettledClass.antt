@@ -2,6 +2,6 @@
 -- kinds only settled ones come back; the class by its parts, and its conditions in order.
 pub mod SettledLemmas
 pub mod UnchangedLemmas
-pub mod SimpleTextLemmas
 pub mod WebClassLemmas
+pub mod SimpleTextLemmas
 pub mod ConditionLemmas

@@ -26,14 +26,14 @@ abbrev pub IsBracketedOfGit : Location → List ℕ → Type 0
 IsBracketedOfGit v host = (v.scheme ≡ git) × (begins_with left_bracket host ≡ true)
 
 -- a plain host, or one of `git://` with brackets of its own
-abbrev pub IsPlainHost : Location → List ℕ → Type 0
-IsPlainHost v host = IsPlainPart v.flag password_set host ⊎ IsBracketedOfGit v host
+abbrev pub IsHostOfGit : Location → List ℕ → Type 0
+IsHostOfGit v host = IsPlainPart v.flag password_set host ⊎ IsBracketedOfGit v host
 
 -- Git cuts the location's own fields out of its text and decodes the path of a URL like this library. The
 -- brackets that are written around an address are not part of the host, and Git removes them
 pub record HasPlainParts (v : Location) : Type 0 where
   pub user : IfSome v.user (IsPlainPart v.flag user_set)
-  pub host : IfSome v.host (IsPlainHost v)
+  pub host : IfSome v.host (IsHostOfGit v)
   pub path : Lacks is_contested v.path
 
 -- neither user nor host nor path begins with `-`

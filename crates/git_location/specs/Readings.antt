@@ -16,19 +16,19 @@ use Rattle.git_refusals.specs.Reasons.{Refused}
 -- the bytes spell a location and the buffer is shorter than they are; or they spell none, and this is their
 -- refusal
 abbrev pub RefusesIn : List ℕ → ℕ → ParseError → Type 0
-RefusesIn b room unread.NoRoom = ((v : Location) × Spells b v) × (room < length b)
-RefusesIn b room (unread.Refused why) = ((v : Location) → ¬ Spells b v) × Refused b why
+RefusesIn b buffer_len unread.NoRoom = ((v : Location) × Spells b v) × (buffer_len < length b)
+RefusesIn b buffer_len (unread.Refused why) = ((v : Location) → ¬ Spells b v) × Refused b why
 
 -- the result of reading the bytes with a buffer of this length
-pub record ReadsIn (b : List ℕ) (room : ℕ) (result : Result Location ParseError) : Type 0 where
+pub record ReadsIn (b : List ℕ) (buffer_len : ℕ) (result : Result Location ParseError) : Type 0 where
   -- a location that is returned is one that the bytes spell
   pub found : IfOk result (Spells b)
   -- an error is returned only if the bytes spell none, or the buffer is shorter than the bytes
-  pub refused : IfErr result (RefusesIn b room)
+  pub refused : IfErr result (RefusesIn b buffer_len)
   -- the empty text is refused as such
   pub empty : b ≡ [] → result ≡ Err (unread.Refused empty_refusal)
   -- if the buffer is at least as long as the bytes, a location is returned exactly if the bytes spell it
-  pub exact : length b ≤ room → (v : Location) → (result ≡ Ok v) ↔ Spells b v
+  pub exact : length b ≤ buffer_len → (v : Location) → (result ≡ Ok v) ↔ Spells b v
 
 -- `again` has the public fields and the text of `v`, and is settled
 pub record IsAgain (v again : Location) : Type 0 where

@@ -2,12 +2,12 @@
 use Rattle.std.specs.Prelude.{option_map}
 use Rattle.git_location.specs.declared.url_ref.UrlRef.TheInside.{Inside}
 use Rattle.git_syntax.specs.Location.{Location}
-use Rattle.git_syntax.specs.Views.{lent_scheme}
+use Rattle.git_syntax.specs.Views.{borrowed_scheme}
 
 -- the eight fields of a `UrlRef`, as plain values
-abbrev pub lent_location : Inside → Location
-lent_location u = record {
-  scheme = lent_scheme u.scheme;
+abbrev pub borrowed_location : Inside → Location
+borrowed_location u = record {
+  scheme = borrowed_scheme u.scheme;
   user = option_map (λ t. t.now) u.user;
   password = option_map (λ t. t.now) u.password;
   host = option_map (λ t. t.now) u.host;

@@ -3,7 +3,7 @@ use Rattle.git_location.specs.declared.argument.ArgumentSafety.{ArgumentSafety}
 use Rattle.git_location.specs.declared.argument.ArgumentSafety.TheVariants.{Absent, Usable, Dangerous}
 use Rattle.git_location.specs.Arguments.{Judgement}
 use Rattle.git_location.specs.Arguments.Judgement.{absent, usable, dangerous}
-pub use Rattle.git_syntax.specs.Views.{lent_scheme}
+pub use Rattle.git_syntax.specs.Views.{borrowed_scheme}
 
 -- the judgement that a value of the code represents
 abbrev pub judgement : ArgumentSafety → Judgement

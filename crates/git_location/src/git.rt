@@ -8,7 +8,7 @@ ghost use Rattle.std.specs.Prelude.{◌≡◌, ◌↔◌, IsTrue, IfSome, None, 
 ghost use Rattle.std.specs.List.{list_any};
 ghost use Rattle.percent_encoding.specs.AsciiSet.{should_percent_encode};
 ghost use Rattle.git_syntax.specs.Bytes.{FreeOf, begins_with, is_option_like, percent_sign, tilde};
-ghost use Rattle.git_location.specs.GitClass.{AgreesByTransport, AgreesWithGit, HasNoOption, HasPlainParts, IsBracketedOfGit, IsPlainHost, IsPlainPart, IsRsync, SuitsTransport, is_contested, is_tilde_second};
+ghost use Rattle.git_location.specs.GitClass.{AgreesByTransport, AgreesWithGit, HasNoOption, HasPlainParts, IsBracketedOfGit, IsHostOfGit, IsPlainPart, IsRsync, SuitsTransport, is_contested, is_tilde_second};
 
 pub mod conditions;
 mod web;
@@ -160,7 +160,7 @@ fn is_plain_part(part: Option<&str>, is_no_url: bool, escaped: AsciiSet) -> bool
 
 /// Whether the host is missing, is such a text, or has brackets of its own, as only hosts of `git://` have.
 fn has_plain_host(url: &UrlRef<'_>) -> bool
-    ensures { IsTrue result ↔ IfSome url.now.host (IsPlainHost url.now) }
+    ensures { IsTrue result ↔ IfSome url.now.host (IsHostOfGit url.now) }
 {
     match url.host {
         None => true,

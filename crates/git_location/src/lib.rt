@@ -7,14 +7,14 @@
 
 mod accessors;
 pub mod argument;
+mod buffer;
 pub mod display;
 mod error_text;
 pub mod git;
-mod lend;
 pub mod parse_error;
 mod read;
-mod room;
 mod settled;
+mod to_url_ref;
 pub mod url_ref;
 pub mod value;
 pub mod write_error;

@@ -3,15 +3,15 @@
 ghost use Rattle.std.specs.Prelude.{length};
 ghost use Rattle.git_location.specs.Readings.{ReadsIn};
 
-use crate::lend::lend;
 use crate::parse_error::ParseError;
+use crate::to_url_ref::to_url_ref;
 use crate::url_ref::UrlRef;
 use git_refusals::read::refusal;
 use git_syntax::find::find;
 
 impl<'a> UrlRef<'a> {
     /// Reads the one location that the bytes spell, like [`parse`]. Allocates nothing. The fields of the result
-    /// are slices of the text or of the buffer `room`; no clause says which. The code copies a field to the buffer
+    /// are slices of the text or of `buffer`; no clause says which. The code copies a field to the buffer
     /// only if its bytes differ from the text, as with an escape or with a capital letter in a host.
     ///
     /// A buffer as long as the text always suffices; with a shorter one every text that spells a location gives
@@ -25,23 +25,23 @@ impl<'a> UrlRef<'a> {
     ///
     /// ```
     /// /// The host that a line names, in a room that is used for line after line.
-    /// fn host_in<'a>(line: &'a [u8], room: &'a mut [u8]) -> Option<&'a str> {
-    ///     match UrlRef::parse_in(line, room) {
+    /// fn host_in<'a>(line: &'a [u8], buffer: &'a mut [u8]) -> Option<&'a str> {
+    ///     match UrlRef::parse_in(line, buffer) {
     ///         Ok(url) => url.host, // `example.com` of `ssh://git@Example.com/repo`
     ///         Err(_) => None,
     ///     }
     /// }
     /// ```
-    pub fn parse_in(text: &'a [u8], room: &'a mut [u8]) -> Result<UrlRef<'a>, ParseError>
-        ensures { ReadsIn text.now (length room.old) result }
+    pub fn parse_in(text: &'a [u8], buffer: &'a mut [u8]) -> Result<UrlRef<'a>, ParseError>
+        ensures { ReadsIn text.now (length buffer.old) result }
     {
         match find(text) {
             Err(_) => Err(ParseError::Refused(refusal(text))),
             Ok(found) => {
-                if room.len() < text.len() {
+                if buffer.len() < text.len() {
                     return Err(ParseError::NoRoom);
                 }
-                Ok(lend(found, room))
+                Ok(to_url_ref(found, buffer))
             }
         }
     }

@@ -17,7 +17,7 @@ mod scp;
 pub(crate) mod url;
 
 use crate::url_ref::UrlRef;
-use crate::value::law_lent_value;
+use crate::value::law_borrowed_value;
 use crate::writer::piece::Pieces;
 use git_syntax::scheme::SchemeRef;
 use local::{is_settled_file, is_settled_helper, is_settled_local};
@@ -41,7 +41,7 @@ impl UrlRef<'_> {
         ensures decided { IsTrue result ↔ IsSettled self.now }
         ensures value { IsValue self.now }
     {
-        law_lent_value(self);
+        law_borrowed_value(self);
         self.is_settled_as(None)
     }
 

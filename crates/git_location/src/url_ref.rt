@@ -54,9 +54,9 @@ impl<'a> Model for UrlRef<'a> {
 
     ghost Value = { Location };
 
-    ghost use Rattle.git_location.specs.UrlRef.{lent_location};
+    ghost use Rattle.git_location.specs.UrlRef.{borrowed_location};
 
-    ghost view = { lent_location };
+    ghost view = { borrowed_location };
 }
 
 impl UrlRef<'_> {

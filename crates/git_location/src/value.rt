@@ -9,7 +9,7 @@ ghost use Rattle.git_location.specs.Settled.{IsValue};
 use crate::url_ref::UrlRef;
 
 /// Every borrowed location is a value in the sense of the laws.
-pub fn law_lent_value(url: &UrlRef<'_>)
+pub fn law_borrowed_value(url: &UrlRef<'_>)
     ensures value { IsValue url.now }
 {
     law_text(url.user);

@@ -61,8 +61,8 @@ impl<'a> UrlRef<'a> {
     ///
     /// ```
     /// /// Whether the text fits into a field of so many bytes.
-    /// fn fits(url: &UrlRef<'_>, room: u128) -> bool {
-    ///     url.text_len().is_ok_and(|length| length <= room)
+    /// fn fits(url: &UrlRef<'_>, capacity: u128) -> bool {
+    ///     url.text_len().is_ok_and(|length| length <= capacity)
     /// }
     /// ```
     ///
@@ -83,21 +83,21 @@ impl<'a> UrlRef<'a> {
     ///
     /// ```
     /// /// The text of a location in room that is at hand, if it fits.
-    /// fn in_room<'a>(url: &UrlRef<'_>, room: &'a mut [u8]) -> Result<Option<&'a [u8]>, WriteFault> {
-    ///     let length = url.write_into(room)?;
-    ///     Ok(usize::try_from(length).ok().and_then(|length| room.get(..length)))
+    /// fn in_room<'a>(url: &UrlRef<'_>, buffer: &'a mut [u8]) -> Result<Option<&'a [u8]>, WriteFault> {
+    ///     let length = url.write_into(buffer)?;
+    ///     Ok(usize::try_from(length).ok().and_then(|length| buffer.get(..length)))
     /// }
     /// ```
     ///
     /// # Errors
     ///
     /// The fault, exactly if the location has no text.
-    pub fn write_into(&self, room: &mut [u8]) -> Result<u128, WriteFault>
+    pub fn write_into(&self, buffer: &mut [u8]) -> Result<u128, WriteFault>
         ensures length { result ≡ text_length (text self.now) }
-        ensures placed { Placed (text self.now) room.old room.new }
+        ensures placed { Placed (text self.now) buffer.old buffer.new }
     {
         match self.own_form() {
-            Ok(form) => Ok(self.place_in(form, room)),
+            Ok(form) => Ok(self.place_in(form, buffer)),
             Err(fault) => Err(fault),
         }
     }
@@ -128,26 +128,26 @@ impl<'a> UrlRef<'a> {
 
     /// Writes the text in this form to the buffer, if it fits, and returns its length. A URL is written by
     /// another function.
-    fn place_in(&self, form: Form, room: &mut [u8]) -> u128
+    fn place_in(&self, form: Form, buffer: &mut [u8]) -> u128
         ensures length { result ≡ length (text_in (form_of form) self.now) }
-        ensures placed { Placed (Ok (text_in (form_of form) self.now)) room.old room.new }
+        ensures placed { Placed (Ok (text_in (form_of form) self.now)) buffer.old buffer.new }
     {
         match form {
-            Form::Helper => place(&self.helper_pieces(), room),
-            Form::Path => place(&self.path_pieces(), room),
-            Form::Scp => place(&self.scp_pieces(), room),
-            Form::Canonical => self.place_canonical(room),
+            Form::Helper => place(&self.helper_pieces(), buffer),
+            Form::Path => place(&self.path_pieces(), buffer),
+            Form::Scp => place(&self.scp_pieces(), buffer),
+            Form::Canonical => self.place_canonical(buffer),
         }
     }
 
     /// Writes the text as a URL to the buffer, if it fits, and returns its length.
     #[inline(never)]
-    fn place_canonical(&self, room: &mut [u8]) -> u128
+    fn place_canonical(&self, buffer: &mut [u8]) -> u128
         ensures length { result ≡ length (canonical_text self.now) }
-        ensures placed { Placed (Ok (canonical_text self.now)) room.old room.new }
+        ensures placed { Placed (Ok (canonical_text self.now)) buffer.old buffer.new }
     {
         let mut digits = Buffer::new();
-        place(&self.canonical_pieces(self.password, &mut digits), room)
+        place(&self.canonical_pieces(self.password, &mut digits), buffer)
     }
 
     /// The pieces of the text, or the fault if the location has none. `digits` is the buffer for the digits of the
@@ -161,13 +161,13 @@ impl<'a> UrlRef<'a> {
 
 /// Writes the text of the pieces to the front of the buffer, if it fits, and returns its length.
 #[inline(always)]
-fn place(pieces: &Pieces<'_>, room: &mut [u8]) -> u128
+fn place(pieces: &Pieces<'_>, buffer: &mut [u8]) -> u128
     ensures length { result ≡ length (pieces_text pieces.now) }
-    ensures placed { Placed (Ok (pieces_text pieces.now)) room.old room.new }
+    ensures placed { Placed (Ok (pieces_text pieces.now)) buffer.old buffer.new }
 {
     let len = pieces.len();
-    if len <= room.len() as u128 {
-        fill(room, pieces);
+    if len <= buffer.len() as u128 {
+        fill(buffer, pieces);
     }
     len
 }

@@ -31,8 +31,8 @@ refusal_of text w = record { flaw = w.flaw; rest = left_at text w.at; is_late = 
 
 -- the bytes that were written to the front of a buffer, and the text from the offset that was reached
 abbrev pub read_as : List ℕ → List ℕ → Result (ℕ × ℕ) Wrong → Read
-read_as text room (Ok p) = Ok (take p.0 room, left_at text p.1)
-read_as text room (Err w) = Err (refusal_of text w)
+read_as text buffer (Ok p) = Ok (take p.0 buffer, left_at text p.1)
+read_as text buffer (Err w) = Err (refusal_of text w)
 
 -- the offset that was reached is within the text, and at most as many bytes were written as were read since the
 -- offset `at`

@@ -11,11 +11,11 @@ use Rattle.git_modules.specs.ConfigFileValues.{part_of, value_text, value_end, s
 
 -- the written bytes end in spaces that only count if another byte follows them
 abbrev pub HasTail : List ℕ → Written → Type 0
-HasTail room w = (w.kept ≤ w.end) × (take w.end room ≡ take w.kept room ++ spaces (w.end - w.kept))
+HasTail buffer w = (w.kept ≤ w.end) × (take w.end buffer ≡ take w.kept buffer ++ spaces (w.end - w.kept))
 
 -- the value of the written bytes and of the rest of the text
 abbrev pub value_on : List ℕ → Written → List ℕ → Read
-value_on room w left = behind (take w.kept room) (value_text w.mode (nat_lt 0 w.end) (w.end - w.kept) left)
+value_on buffer w left = behind (take w.kept buffer) (value_text w.mode (nat_lt 0 w.end) (w.end - w.kept) left)
 
 -- the part of the next byte is written: the value stays the same, and at most one more byte is written
 abbrev pub Goes : Part → List ℕ → Written → List ℕ → Written → Type 0

@@ -83,15 +83,15 @@ pub fn entries<'a>(
     }
     let mut found = Vec::new(alloc);
     let mut at = read_mark(text)?;
-    let mut room = buffer;
+    let mut unused_buffer = buffer;
     let mut owner = owner_of(b"");
     let before = lines_between(text, 0, at);
     let mut line = 1 + before;
     while at < text.len() {
-        let (step, rest, next) = read_item(text, at, line, room)?;
+        let (step, rest, next) = read_item(text, at, line, unused_buffer)?;
         owner = keep(&mut found, owner, step, at, line)?;
         line += lines_between(text, at, next);
-        room = rest;
+        unused_buffer = rest;
         at = next;
     }
     Ok(found)
@@ -112,11 +112,11 @@ fn read_item<'a>(
     text: &[u8],
     at: usize,
     line: usize,
-    room: &'a mut [u8],
+    unused_buffer: &'a mut [u8],
 ) -> Result<(Step<'a>, &'a mut [u8], usize), FileError>
     requires start { at < length text.now }
     requires line { line ≡ file.line_at text.now at }
-    requires room { length text.now ≤ at + length room.old }
+    requires unused_buffer { length text.now ≤ at + length unused_buffer.old }
     ensures item { IfOk result (λ p. item.item_of (spec.left_at text.now at)
         ≡ Ok (shown.item_in p.0, spec.left_at text.now p.2)) }
     ensures next { IfOk result (λ p. at < p.2) }
@@ -124,7 +124,7 @@ fn read_item<'a>(
     ensures left { IfOk result (λ p. length text.now ≤ p.2 + length p.1.now) }
     ensures errors { IfErr result (λ e. file.IsErrorAt text.now (item.item_of (spec.left_at text.now at)) e) }
 {
-    match read_step(text, at, room) {
+    match read_step(text, at, unused_buffer) {
         Ok(read) => Ok(read),
         Err(wrong) => Err(error_at(text, at, line, wrong)),
     }

@@ -11,7 +11,7 @@ use Rattle.git_syntax.proofs.Texts.EscapeLemmas.{decode_kept}
 use Rattle.git_laws.proofs.GitReadings.GitCutLemmas.{git_decode_kept}
 use Rattle.git_readers.specs.KnownReaders.{KeepsHosts, KeepsPaths, begins_query, git_credentials, git_transports, rfc3986, slashed_byte, whatwg}
 use Rattle.git_readers.specs.Readers.{LeavesPlain}
-use Rattle.git_readers.specs.Unambiguous.{IsPlainHost, is_label_byte, is_path_byte, is_unreserved}
+use Rattle.git_readers.specs.Unambiguous.{IsCommonHost, is_label_byte, is_path_byte, is_unreserved}
 use Rattle.git_readers.proofs.PlainBytes.{host_pass, host_plain, plain_path}
 
 -- no byte of a path begins a query
@@ -53,7 +53,7 @@ lowercase_kept (b ∷ bs) all =
     ap (λ x. x ∷ lowercase bs) (lower_kept b parts.0) ∙ ap (λ x. b ∷ x) (lowercase_kept bs parts.1)
 
 -- plain hosts have no capital letter
-host_lower : (host : List ℕ) → IsPlainHost host → lowercase host ≡ host
+host_lower : (host : List ℕ) → IsCommonHost host → lowercase host ≡ host
 host_lower host plain = lowercase_kept host (host_pass is_lower record { label = lower_label; dot = refl } host plain)
 
 -- ---- the readers

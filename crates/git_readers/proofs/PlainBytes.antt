@@ -20,7 +20,7 @@ use Rattle.git_syntax.proofs.Texts.EscapeLemmas.{utf8_class}
 use Rattle.git_syntax.proofs.Texts.CutLemmas.{all_weaker, lacks_of_all}
 use Rattle.git_readers.proofs.PartLemmas.{no_cons}
 use Rattle.git_readers.specs.declared.classes.TheConstants.{CLASS}
-use Rattle.git_readers.specs.Unambiguous.{AreLabels, IsPlainHost, is_label_byte, is_odd_local, is_path_byte, is_scp_byte, is_unreserved}
+use Rattle.git_readers.specs.Unambiguous.{AreLabels, IsCommonHost, is_label_byte, is_odd_local, is_path_byte, is_scp_byte, is_unreserved}
 
 -- ---- tests
 
@@ -116,17 +116,17 @@ octet_before : (test : ℕ → Bool) → PassesHosts test → (t rest : List ℕ
 octet_before test passes t rest octet plain = all-append test t (dot ∷ rest) (octet_pass test passes t octet) (and_from _ _ passes.dot plain)
 
 -- so does a plain host
-pub host_pass : (test : ℕ → Bool) → PassesHosts test → (host : List ℕ) → IsPlainHost host → list_all test host ≡ true
+pub host_pass : (test : ℕ → Bool) → PassesHosts test → (host : List ℕ) → IsCommonHost host → list_all test host ≡ true
 host_pass test passes host (inl name) = labels_pass test passes host name.labels
 host_pass test passes host (inr a) =
     subst (λ h. list_all test h ≡ true) (sym a.joined) (octet_before test passes a.first _ a.octets.0 (octet_before test passes a.second _ a.octets.1 (octet_before test passes a.third _ a.octets.2 (octet_pass test passes a.fourth a.octets.3))))
 
 -- a plain host is of unreserved bytes
-pub host_plain : (host : List ℕ) → IsPlainHost host → list_all is_unreserved host ≡ true
+pub host_plain : (host : List ℕ) → IsCommonHost host → list_all is_unreserved host ≡ true
 host_plain host plain = host_pass is_unreserved record { label = label_unreserved; dot = refl } host plain
 
 -- it isn't empty: a label begins with a byte, and a dot follows an octet
-pub no_empty_host : ¬ IsPlainHost []
+pub no_empty_host : ¬ IsCommonHost []
 no_empty_host (inl name) = no_empty_labels name.labels
 no_empty_host (inr a) = some_behind a.first dot _ (sym a.joined)
 

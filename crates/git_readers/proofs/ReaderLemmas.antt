@@ -22,7 +22,7 @@ use Rattle.git_readers.specs.Conditions.{HasScpSlash, IsUnambiguous, form_of}
 use Rattle.git_readers.specs.Readers.{LeavesPlain, Parts, Reader, ScpTest, UrlReader, UrlTest, at_colon, at_user, begins_mark, begins_port, cut, cut_first, ends_authority, from, front_of, front_or, has_port, has_slash, is_colon, is_no_digit, is_scp_cut, is_url, local_parts, own_parts, parts_of, path_in_text, reads, reads_prepared, reads_scp, reads_url, rest_or, scp_front, scp_host, scp_rest, scp_user, until}
 use Rattle.git_readers.specs.Readers.UrlTest.{anywhere, behind_scheme}
 use Rattle.git_readers.specs.Readers.ScpTest.{any_colon, before_slash, slash_behind}
-use Rattle.git_readers.specs.Unambiguous.{BeginsWithPort, HasDots, HasInnerSlash, IsPlainHost, IsPlainWord, is_odd_local, is_path_byte, is_scp_byte, is_unreserved}
+use Rattle.git_readers.specs.Unambiguous.{BeginsWithPort, HasDots, HasInnerSlash, IsCommonHost, IsPlainWord, is_odd_local, is_path_byte, is_scp_byte, is_unreserved}
 use Rattle.git_readers.proofs.PlainBytes.{all-append, host_plain, plain_path, port_plain, scp_path}
 use Rattle.git_readers.proofs.ReaderCuts.{cut_at, cut_first_at, cut_first_none, cut_none, from_cut, from_whole, mark_held, no_mark, no_mark_at, slashes_mark, until_cut, until_from}
 use Rattle.git_readers.proofs.ReaderTexts.{IsPlainUrl, path_meets, url_of, url_path, url_text, users_plain}
@@ -36,7 +36,7 @@ information_all (Some u) None plain hidden = all-append is_path_byte u (at_sign 
 information_all (Some u) (Some p) plain hidden =
     all-append is_path_byte (u ++ colon ∷ p) (at_sign ∷ []) (all-append is_path_byte u (colon ∷ p) (plain_path u plain.bytes) (plain_path p hidden.bytes)) refl
 
-place_all : (host : Option (List ℕ)) (port : Option ℕ) → IfSome host IsPlainHost → IfSome port (λ p. p < 65536) → list_all is_path_byte (place_text host port) ≡ true
+place_all : (host : Option (List ℕ)) (port : Option ℕ) → IfSome host IsCommonHost → IfSome port (λ p. p < 65536) → list_all is_path_byte (place_text host port) ≡ true
 place_all None None plain small = refl
 place_all None (Some n) plain small = plain_path (decimal n) (port_plain n small)
 place_all (Some h) None plain small = all-append is_path_byte h [] (plain_path h (host_plain h plain)) refl
@@ -54,7 +54,7 @@ information_free (Some u) None plain hidden = free-append slash u (at_sign ∷ [
 information_free (Some u) (Some p) plain hidden =
     free-append slash (u ++ colon ∷ p) (at_sign ∷ []) (free-append slash u (colon ∷ p) (word_free u plain.bytes) (word_free p hidden.bytes)) refl
 
-place_free : (host : Option (List ℕ)) (port : Option ℕ) → IfSome host IsPlainHost → IfSome port (λ p. p < 65536) → FreeOf slash (place_text host port)
+place_free : (host : Option (List ℕ)) (port : Option ℕ) → IfSome host IsCommonHost → IfSome port (λ p. p < 65536) → FreeOf slash (place_text host port)
 place_free None None plain small = refl
 place_free None (Some n) plain small = word_free (decimal n) (port_plain n small)
 place_free (Some h) None plain small = free-append slash h [] (word_free h (host_plain h plain)) refl
@@ -169,7 +169,7 @@ no_port path free none = elim (cases_Bool (begins_port path)) [
 -- a text of the scp form: a word or none with its `@`, a plain host, and a path
 pub record IsScpText (user : Option (List ℕ)) (host path : List ℕ) : Type 0 where
   pub named : IfSome user IsPlainWord
-  pub place : IsPlainHost host
+  pub place : IsCommonHost host
   pub bytes : list_all is_scp_byte path ≡ true
   pub no_port : ¬ BeginsWithPort path
   pub inner : HasInnerSlash path
@@ -181,13 +181,13 @@ abbrev pub scp_of : Option (List ℕ) → List ℕ → List ℕ → List ℕ
 scp_of user host path = word_of user host ++ colon ∷ path
 
 -- what of it is free of a byte
-host_lacks : (c : ℕ) → is_unreserved c ≡ false → (host : List ℕ) → IsPlainHost host → FreeOf c host
+host_lacks : (c : ℕ) → is_unreserved c ≡ false → (host : List ℕ) → IsCommonHost host → FreeOf c host
 host_lacks c other host plain = free_of_all is_unreserved c host (host_plain host plain) other
 
 path_lacks : (c : ℕ) → is_scp_byte c ≡ false → (path : List ℕ) → list_all is_scp_byte path ≡ true → FreeOf c path
 path_lacks c other path plain = free_of_all is_scp_byte c path plain other
 
-front_lacks : (c : ℕ) → is_unreserved c ≡ false → (at_sign == c) ≡ false → (user : Option (List ℕ)) (host : List ℕ) → IfSome user IsPlainWord → IsPlainHost host → FreeOf c (word_of user host)
+front_lacks : (c : ℕ) → is_unreserved c ≡ false → (at_sign == c) ≡ false → (user : Option (List ℕ)) (host : List ℕ) → IfSome user IsPlainWord → IsCommonHost host → FreeOf c (word_of user host)
 front_lacks c other no_at None host named plain = host_lacks c other host plain
 front_lacks c other no_at (Some u) host named plain =
     free-append c (u ++ at_sign ∷ []) host (free-append c u (at_sign ∷ []) (free_of_all is_unreserved c u named.bytes other) (free-cons c at_sign [] no_at refl)) (host_lacks c other host plain)
@@ -321,7 +321,7 @@ scp_text_of : (v : Location) (host : List ℕ) → v.scheme ≡ ssh → v.flag �
 scp_text_of v host e flagged clear there s =
     let path = path_meets v clear ssh true e flagged in record {
       named = users_plain v.user (clear condition.User);
-      place = subst (λ o. IfSome o IsPlainHost) there (clear condition.Host);
+      place = subst (λ o. IfSome o IsCommonHost) there (clear condition.Host);
       bytes = path.bytes;
       no_port = path.start;
       inner = subst (λ p. HasScpSlash (form_of p true) v.path) e (subst (λ f. HasScpSlash (form_of v.scheme f) v.path) flagged (clear condition.ScpPath));
@@ -330,7 +330,7 @@ scp_text_of v host e flagged clear there s =
     }
 
 -- its text
-scp_text_written : (v : Location) (host : List ℕ) → v.scheme ≡ ssh → IsSettledScp v → v.host ≡ Some host → IsPlainHost host → text v ≡ Ok (scp_of v.user host v.path)
+scp_text_written : (v : Location) (host : List ℕ) → v.scheme ≡ ssh → IsSettledScp v → v.host ≡ Some host → IsCommonHost host → text v ≡ Ok (scp_of v.user host v.path)
 scp_text_written v host e s there plain =
     let raw = ap (λ x. raw_user v.user ++ (x ++ colon ∷ v.path)) (scp_host_raw host (host_lacks colon refl host plain)) in
     ap (λ l. text l) (scp_value_of v host e s there) ∙ scp_written v.user host v.path v.spelling ∙ ap Ok (raw ∙ sym (append_assoc (raw_user v.user) host (colon ∷ v.path)))

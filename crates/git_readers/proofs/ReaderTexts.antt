@@ -25,7 +25,7 @@ use Rattle.git_readers.specs.Conditions.{BeginsPlainly, HasPlainBytes, IsUnambig
 use Rattle.git_readers.specs.declared.unambiguous.Form.{Form}
 use Rattle.git_readers.specs.declared.unambiguous.Form.TheVariants as form
 use Rattle.git_readers.specs.Readers.{path_in_text}
-use Rattle.git_readers.specs.Unambiguous.{HasDots, IsPlainHost, IsPlainUser, IsPlainWord, is_path_byte, is_unreserved}
+use Rattle.git_readers.specs.Unambiguous.{HasDots, IsCommonHost, IsPlainUser, IsPlainWord, is_path_byte, is_unreserved}
 use Rattle.git_readers.proofs.PartLemmas.{dots_cut, no_empty_dots}
 use Rattle.git_readers.proofs.PlainBytes.{host_plain, password_kept, path_kept, user_kept}
 use Rattle.git_readers.proofs.ReaderUrls.{ArePlain, IsPlainPath, authority_of, plain_information, with_at}
@@ -45,7 +45,7 @@ either_way true address h plain = refl
 either_way false true h plain = password_kept h plain
 either_way false false h plain = user_kept h plain
 
-host_written : (v : Location) (host : Option (List ℕ)) → IfSome host IsPlainHost → host_part v host ≡ unwrap_or host []
+host_written : (v : Location) (host : Option (List ℕ)) → IfSome host IsCommonHost → host_part v host ≡ unwrap_or host []
 host_written v None plain = refl
 host_written v (Some h) plain =
     let bytes = host_plain h plain in

@@ -5,7 +5,7 @@ use Rattle.std.proofs.lemmas.Bool.{false≢true}
 use Rattle.git_syntax.specs.Bytes.{colon, at_sign, FreeOf}
 use Rattle.git_syntax.specs.Authority.{unless_empty}
 use Rattle.git_syntax.proofs.Texts.CutLemmas.{free-append, free-cons, free_of_all, lacks_of_all}
-use Rattle.git_readers.specs.Unambiguous.{HasDots, IsPlainHost, IsPlainWord, is_path_byte, is_unreserved}
+use Rattle.git_readers.specs.Unambiguous.{HasDots, IsCommonHost, IsPlainWord, is_path_byte, is_unreserved}
 use Rattle.git_readers.specs.Readers.{LeavesPlain, Parts, UrlReader, cut, front_of, front_or, information, named, parts_of, password_in, rest_of, rest_or, until, user_in}
 use Rattle.git_readers.proofs.ReaderCuts.{cut_at, cut_none, until_whole}
 use Rattle.git_readers.proofs.PlainBytes.{host_plain, no_empty_host, port_plain}
@@ -36,7 +36,7 @@ place_text host port = unwrap_or host [] ++ port_text port
 pub record ArePlain (u w h : Option (List ℕ)) (n : Option ℕ) : Type 0 where
   pub user : IfSome u IsPlainWord
   pub password : IfSome w IsPlainWord
-  pub host : IfSome h IsPlainHost
+  pub host : IfSome h IsCommonHost
   pub port : IfSome n (λ p. p < 65536)
   pub with_user : IsSome w → IsSome u
   pub port_hosted : IsSome n → IsSome h
@@ -46,7 +46,7 @@ pub record ArePlain (u w h : Option (List ℕ)) (n : Option ℕ) : Type 0 where
 word_free : (c : ℕ) → is_unreserved c ≡ false → (t : List ℕ) → IsPlainWord t → FreeOf c t
 word_free c other t plain = free_of_all is_unreserved c t plain.bytes other
 
-host_free : (c : ℕ) → is_unreserved c ≡ false → (host : Option (List ℕ)) → IfSome host IsPlainHost → FreeOf c (unwrap_or host [])
+host_free : (c : ℕ) → is_unreserved c ≡ false → (host : Option (List ℕ)) → IfSome host IsCommonHost → FreeOf c (unwrap_or host [])
 host_free c other None plain = refl
 host_free c other (Some h) plain = free_of_all is_unreserved c h (host_plain h plain) other
 
@@ -54,7 +54,7 @@ port_free : (c : ℕ) → is_unreserved c ≡ false → (colon == c) ≡ false �
 port_free c other no_colon None small = refl
 port_free c other no_colon (Some n) small = free-cons c colon (decimal n) no_colon (free_of_all is_unreserved c (decimal n) (port_plain n small) other)
 
-place_free : (c : ℕ) → is_unreserved c ≡ false → (colon == c) ≡ false → (host : Option (List ℕ)) (port : Option ℕ) → IfSome host IsPlainHost → IfSome port (λ p. p < 65536) → FreeOf c (place_text host port)
+place_free : (c : ℕ) → is_unreserved c ≡ false → (colon == c) ≡ false → (host : Option (List ℕ)) (port : Option ℕ) → IfSome host IsCommonHost → IfSome port (λ p. p < 65536) → FreeOf c (place_text host port)
 place_free c other no_colon host port plain small = free-append c (unwrap_or host []) (port_text port) (host_free c other host plain) (port_free c other no_colon port small)
 
 -- the `@` of plain user information is its end
@@ -95,11 +95,11 @@ password_found r leaves (Some u) (Some p) plain hidden with_user =
 -- ---- host and port
 
 -- a plain host isn't empty
-host_there : (h : List ℕ) → IsPlainHost h → unless_empty h ≡ Some h
+host_there : (h : List ℕ) → IsCommonHost h → unless_empty h ≡ Some h
 host_there [] plain = absurd (no_empty_host plain)
 host_there (b ∷ h) plain = refl
 
-host_found : (r : UrlReader) → LeavesPlain r → (host : Option (List ℕ)) (port : Option ℕ) → IfSome host IsPlainHost → IfSome port (λ p. p < 65536) → (IsSome port → IsSome host) → option_map r.host (unless_empty (front_or (place_text host port) (cut r.port_cut colon (place_text host port)))) ≡ host
+host_found : (r : UrlReader) → LeavesPlain r → (host : Option (List ℕ)) (port : Option ℕ) → IfSome host IsCommonHost → IfSome port (λ p. p < 65536) → (IsSome port → IsSome host) → option_map r.host (unless_empty (front_or (place_text host port) (cut r.port_cut colon (place_text host port)))) ≡ host
 host_found r leaves None None plain small hosted = ap (λ x. option_map r.host (unless_empty (front_or [] x))) (cut_none r.port_cut colon [] refl)
 host_found r leaves None (Some n) plain small hosted = absurd (false≢true (hosted refl))
 host_found r leaves (Some h) None plain small hosted =
@@ -108,7 +108,7 @@ host_found r leaves (Some h) None plain small hosted =
 host_found r leaves (Some h) (Some n) plain small hosted =
     ap (λ x. option_map r.host (unless_empty (front_or (h ++ colon ∷ decimal n) x))) (cut_at r.port_cut colon h (decimal n) (host_free colon refl (Some h) plain) (free_of_all is_unreserved colon (decimal n) (port_plain n small) refl)) ∙ ap (λ x. option_map r.host x) (host_there h plain) ∙ ap Some (leaves.host h plain)
 
-port_found : (r : UrlReader) (host : Option (List ℕ)) (port : Option ℕ) → IfSome host IsPlainHost → IfSome port (λ p. p < 65536) → rest_of (cut r.port_cut colon (place_text host port)) ≡ option_map decimal port
+port_found : (r : UrlReader) (host : Option (List ℕ)) (port : Option ℕ) → IfSome host IsCommonHost → IfSome port (λ p. p < 65536) → rest_of (cut r.port_cut colon (place_text host port)) ≡ option_map decimal port
 port_found r host None plain small =
     let whole : place_text host None ≡ unwrap_or host [] = append-nil (unwrap_or host []) in
     ap (λ t. rest_of (cut r.port_cut colon t)) whole ∙ ap (λ x. rest_of x) (cut_none r.port_cut colon (unwrap_or host []) (host_free colon refl host plain))

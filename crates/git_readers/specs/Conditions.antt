@@ -11,7 +11,7 @@ use Rattle.git_readers.specs.declared.unambiguous.Condition.{Condition}
 use Rattle.git_readers.specs.declared.unambiguous.Form.{Form}
 use Rattle.git_readers.specs.declared.unambiguous.Form.TheVariants.{Web, Transport, Scp, Local}
 use Rattle.git_readers.specs.declared.unambiguous.Condition.TheVariants as condition
-use Rattle.git_readers.specs.Unambiguous.{BeginsWithPort, HasInnerSlash, HasDots, IsPlainHost, IsPlainLocal, IsPlainScpHost, IsPlainUser, IsPlainWord, behind_slash, is_odd_local, is_odd_start, is_path_byte, is_scp_byte}
+use Rattle.git_readers.specs.Unambiguous.{BeginsWithPort, HasInnerSlash, HasDots, IsCommonHost, IsPlainLocal, IsPlainScpHost, IsPlainUser, IsPlainWord, behind_slash, is_odd_local, is_odd_start, is_path_byte, is_scp_byte}
 
 -- the form of a location, by its scheme and the flag of the alternative form
 abbrev pub form_of : Scheme → Bool → Form
@@ -58,7 +58,7 @@ HasScpSlash _ path = Unit {0}
 abbrev pub Meets : Condition → Location → Type 0
 Meets condition.Git v = AgreesWithGit v
 Meets condition.Escapes v = matches v.spelling v.path ≡ false
-Meets condition.Host v = IfSome v.host IsPlainHost
+Meets condition.Host v = IfSome v.host IsCommonHost
 Meets condition.User v = IfSome v.user IsPlainUser
 Meets condition.Password v = IfSome v.password IsPlainWord
 Meets condition.Port v = ¬ (v.port ≡ Some 0)

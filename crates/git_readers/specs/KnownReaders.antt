@@ -4,7 +4,7 @@ use Rattle.std.specs.List.{list_all}
 use Rattle.percent_encoding.specs.Percent.{percent_decode}
 use Rattle.git_syntax.specs.Bytes.{slash, number_sign, question_mark, backslash, lowercase}
 use Rattle.git_reads.specs.Git.{git_decode}
-use Rattle.git_readers.specs.Unambiguous.{HasDots, IsPlainHost, is_path_byte}
+use Rattle.git_readers.specs.Unambiguous.{HasDots, IsCommonHost, is_path_byte}
 use Rattle.git_readers.specs.Readers.{LeavesPlain, UrlReader}
 use Rattle.git_readers.specs.Readers.Which.{first, last}
 
@@ -83,7 +83,7 @@ git_credentials = record {
 
 -- the normalizer doesn't change plain hosts
 abbrev pub KeepsHosts : (List ℕ → List ℕ) → Type 0
-KeepsHosts normal = (host : List ℕ) → IsPlainHost host → normal host ≡ host
+KeepsHosts normal = (host : List ℕ) → IsCommonHost host → normal host ≡ host
 
 -- the normalizer doesn't change plain paths without segments of dots
 abbrev pub KeepsPaths : (List ℕ → List ℕ) → Type 0

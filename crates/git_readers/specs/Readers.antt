@@ -7,7 +7,7 @@ use Rattle.git_syntax.specs.Location.{Location}
 use Rattle.git_syntax.specs.Bytes.{slash, colon, at_sign, tilde, begins_by, begins_with, is_scheme_text}
 use Rattle.git_syntax.specs.Authority.{unless_empty}
 use Rattle.git_syntax.specs.Schemes.{scheme_text}
-use Rattle.git_readers.specs.Unambiguous.{HasDots, IsPlainHost, is_path_byte, is_unreserved}
+use Rattle.git_readers.specs.Unambiguous.{HasDots, IsCommonHost, is_path_byte, is_unreserved}
 
 -- ---- cuts
 
@@ -129,7 +129,7 @@ pub record LeavesPlain (r : UrlReader) : Type 0 where
   pub authority : (b : ℕ) → is_path_byte b ≡ true → r.ends_authority b ≡ false
   pub path_end : (b : ℕ) → is_path_byte b ≡ true → r.ends_path b ≡ false
   pub word : (t : List ℕ) → list_all is_unreserved t ≡ true → r.word t ≡ t
-  pub host : (t : List ℕ) → IsPlainHost t → r.host t ≡ t
+  pub host : (t : List ℕ) → IsCommonHost t → r.host t ≡ t
   pub path : (t : List ℕ) → list_all is_path_byte t ≡ true → ¬ HasDots t → r.path t ≡ t
 
 -- the byte is a colon

@@ -53,8 +53,8 @@ pub record IsPlainName (host : List ℕ) : Type 0 where
   pub no_numbers : ¬ BeginsWithNumbers host
 
 -- a name that every reader reads as the same name, or an IPv4 address
-abbrev pub IsPlainHost : List ℕ → Type 0
-IsPlainHost host = IsPlainName host ⊎ IsIpv4Text host
+abbrev pub IsCommonHost : List ℕ → Type 0
+IsCommonHost host = IsPlainName host ⊎ IsIpv4Text host
 
 -- ---- user information
 

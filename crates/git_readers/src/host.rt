@@ -6,7 +6,7 @@ ghost use Rattle.std.specs.Char.{is_ascii_digit, is_ascii_lowercase};
 ghost use Rattle.git_syntax.specs.Bytes.{begins_by, dot, hyphen};
 ghost use Rattle.git_readers.specs.Conditions.{Meets};
 ghost use Rattle.git_readers.specs.Unambiguous as spec;
-ghost use Rattle.git_readers.specs.Unambiguous.{AreLabels, BeginsWithNumbers, IsPlainHost, IsPlainLabel, IsPlainName, IsPlainScpHost, IsPlainWord, IsPunycode};
+ghost use Rattle.git_readers.specs.Unambiguous.{AreLabels, BeginsWithNumbers, IsCommonHost, IsPlainLabel, IsPlainName, IsPlainScpHost, IsPlainWord, IsPunycode};
 ghost use Rattle.git_readers.specs.declared.unambiguous.Condition.TheVariants as condition;
 
 use crate::classes::are_unreserved;
@@ -28,7 +28,7 @@ pub(crate) fn has_plain_host(url: &UrlRef<'_>) -> bool
 
 /// Whether the text is a plain name or an IPv4 address. Most are common names, which one pass finds.
 fn is_plain_host(host: &[u8]) -> bool
-    ensures { IsTrue result ↔ IsPlainHost host.now }
+    ensures { IsTrue result ↔ IsCommonHost host.now }
 {
     is_common_name(host) || is_dotted(host) || is_plain_name(host)
 }

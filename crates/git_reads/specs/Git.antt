@@ -64,7 +64,7 @@ pub data OpensHost (t front rest : List ℕ) : Type 0 where
   at_front : ¬ Holds host_mark t → front ≡ [] → t ≡ left_bracket ∷ rest → OpensHost t front rest
 
 -- a bracket opens a host, and the next `]` closes it
-pub record InBrackets (t front inside behind : List ℕ) : Type 0 where
+pub record BracketCut (t front inside behind : List ℕ) : Type 0 where
   pub opened : OpensHost t front (inside ++ right_bracket ∷ behind)
   pub next : FreeOf right_bracket inside
 
@@ -76,7 +76,7 @@ pub data LacksHostBrackets (t : List ℕ) : Type 0 where
 
 -- `passed` is the text before the closing `]`, which Git skips to find the host's end
 pub data HostEnd (t passed rest : List ℕ) : Type 0 where
-  brackets : (front inside behind : List ℕ) → InBrackets t front inside behind
+  brackets : (front inside behind : List ℕ) → BracketCut t front inside behind
       → passed ≡ front ++ left_bracket ∷ inside → rest ≡ right_bracket ∷ behind
       → HostEnd t passed rest
   none : LacksHostBrackets t → passed ≡ [] → rest ≡ t → HostEnd t passed rest
@@ -131,7 +131,7 @@ pub data BeforePort (t front : List ℕ) (port : Option ℕ) : Type 0 where
 
 -- the place's host without its brackets, and the port after it; any other text after a `]` is dropped
 pub data HostAndPort (place host : List ℕ) (port : Option ℕ) : Type 0 where
-  brackets : (front inside behind dropped : List ℕ) → InBrackets place front inside behind
+  brackets : (front inside behind dropped : List ℕ) → BracketCut place front inside behind
       → host ≡ front ++ inside → BeforePort behind dropped port → HostAndPort place host port
   none : LacksHostBrackets place → BeforePort place host port → HostAndPort place host port
 
@@ -234,25 +234,25 @@ IsLocal t = FreeOf colon t
 -- the reading of a text that Git receives whole and doesn't read as an option. A local path that begins with
 -- `~` has no reading: `git clone` uses it unchanged, while `git fetch`, `git push` and `git ls-remote` look
 -- below a home folder
-pub data ReadsGiven (t : List ℕ) (reading : GitReading) : Type 0 where
+pub data ReadsInput (t : List ℕ) (reading : GitReading) : Type 0 where
   secure_url : (rest place path : List ℕ) → OwnUrl ssh t rest → CutsPlace slash rest place path
-      → ReachesSecure place (from_tilde (slash ∷ path)) reading → ReadsGiven t reading
+      → ReachesSecure place (from_tilde (slash ∷ path)) reading → ReadsInput t reading
   git_url : (rest place path : List ℕ) → OwnUrl git t rest → CutsPlace slash rest place path
-      → ReachesGit place (from_tilde (slash ∷ path)) reading → ReadsGiven t reading
+      → ReachesGit place (from_tilde (slash ∷ path)) reading → ReadsInput t reading
   file_url : (rest place path : List ℕ) → OwnUrl file t rest → CutsPlace slash rest place path
-      → reading ≡ on_this_machine (slash ∷ path) → ReadsGiven t reading
+      → reading ≡ on_this_machine (slash ∷ path) → ReadsInput t reading
   scp_form : (place path : List ℕ) → IsNoUrl t → IsRemote t → CutsPlace colon t place path
-      → ReachesSecure place (from_tilde path) reading → ReadsGiven t reading
+      → ReachesSecure place (from_tilde path) reading → ReadsInput t reading
   local_path : (passed path : List ℕ) → IsNoUrl t → IsLocal t → HostEnd t passed path
       → 0 < length path → is_option_like path ≡ false → begins_with tilde path ≡ false
       → reading ≡ on_this_machine path
-      → ReadsGiven t reading
+      → ReadsInput t reading
 
 -- Git reads this place in the text, which has no byte 0 and doesn't begin with `-`
 pub record GitReads (t : List ℕ) (reading : GitReading) : Type 0 where
   pub whole : FreeOf 0 t
   pub no_option : is_option_like t ≡ false
-  pub reads : ReadsGiven t reading
+  pub reads : ReadsInput t reading
 
 -- a text has at most one reading by Git
 abbrev pub OneGitReading : Type 0

@@ -7,7 +7,7 @@ use Rattle.git_syntax.specs.Bytes.{tilde, begins_with, is_helper_name, is_option
 use Rattle.git_syntax.specs.Grammar.{HasHelperForm}
 use Rattle.git_reads.specs.declared.transport.Unread.{Unread}
 use Rattle.git_reads.specs.declared.transport.Unread.TheVariants as why
-use Rattle.git_reads.specs.Git.{GitReading, ReachesSecure, ReachesGit, ReadsGiven, from_tilde, on_this_machine}
+use Rattle.git_reads.specs.Git.{GitReading, ReachesSecure, ReachesGit, ReadsInput, from_tilde, on_this_machine}
 use Rattle.git_reads.specs.Unread.{GetsUrl, HasHostBrackets, UnreadsGiven}
 
 -- the text begins with the mark
@@ -70,5 +70,5 @@ IsUnreadPath path _ = ⊥
 
 -- the reason for which a text has no reading that Git receives whole and doesn't read as an option
 abbrev pub Fails : List ℕ → Unread → Type 0
-Fails t why.Refused = LacksAny (ReadsGiven t) × UnreadsGiven t why.Refused
+Fails t why.Refused = LacksAny (ReadsInput t) × UnreadsGiven t why.Refused
 Fails t other = UnreadsGiven t other

@@ -6,7 +6,7 @@ use Rattle.git_syntax.specs.Schemes.{scheme_of}
 use Rattle.git_syntax.specs.Grammar.{HasHelperForm}
 use Rattle.git_reads.specs.declared.transport.Unread.{Unread}
 use Rattle.git_reads.specs.declared.transport.Unread.TheVariants as why
-use Rattle.git_reads.specs.Git.{GitReading, GitReads, OwnUrl, IsNoUrl, IsRemote, IsLocal, HostEnd, InBrackets, CutsPlace, HostAndPort, SecurePort, from_tilde}
+use Rattle.git_reads.specs.Git.{GitReading, GitReads, OwnUrl, IsNoUrl, IsRemote, IsLocal, HostEnd, BracketCut, CutsPlace, HostAndPort, SecurePort, from_tilde}
 
 -- Git reads no place in the text: it has no reading by `GitReads`
 abbrev pub LacksReading : List ℕ → Type 0
@@ -62,7 +62,7 @@ pub record GivesUrl (t : List ℕ) : Type 0 where
 
 -- brackets are around the host of the place
 abbrev pub HasHostBrackets : List ℕ → Type 0
-HasHostBrackets place = (front : List ℕ) × (inside : List ℕ) × (behind : List ℕ) × InBrackets place front inside behind
+HasHostBrackets place = (front : List ℕ) × (inside : List ℕ) × (behind : List ℕ) × BracketCut place front inside behind
 
 -- a reading of the text is written to a buffer
 pub data IsRewritten (t : List ℕ) : Type 0 where

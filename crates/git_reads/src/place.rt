@@ -2,7 +2,7 @@
 //! port.
 
 ghost use Rattle.std.specs.Prelude.{◌≡◌, ◌++◌, ◌∷◌, ℕ, IfErr, IfOk, List, MatchOption};
-ghost use Rattle.git_reads.specs.Git.{CutsPlace, HostAndPort, HostEnd, InBrackets, LacksHostBrackets, OpensHost};
+ghost use Rattle.git_reads.specs.Git.{CutsPlace, HostAndPort, HostEnd, BracketCut, LacksHostBrackets, OpensHost};
 ghost use Rattle.git_reads.specs.Internal.{CutsPlaceAt, LacksOpened};
 ghost use Rattle.git_reads.specs.Unread.{HasHostBrackets};
 
@@ -61,7 +61,7 @@ pub(crate) fn past_brackets(text: &[u8]) -> (&[u8], &[u8])
 /// The host in brackets, which the next `]` closes.
 fn in_brackets(text: &[u8]) -> Option<Bracketed<'_>>
     ensures { MatchOption result (LacksHostBrackets text.now)
-        (λ it. InBrackets text.now it.front.now it.inside.now it.behind.now) }
+        (λ it. BracketCut text.now it.front.now it.inside.now it.behind.now) }
 {
     let (front, rest) = opened_host(text)?;
     let (inside, behind) = cut(rest, b']')?;

@@ -8,7 +8,7 @@ ghost use Rattle.git_syntax.specs.Bytes.{Holds};
 ghost use Rattle.git_syntax.specs.Internal.Cuts.{url_mark};
 ghost use Rattle.git_syntax.specs.Schemes.{scheme_of};
 ghost use Rattle.git_syntax.specs.Authority.{unless_empty};
-ghost use Rattle.git_reads.specs.Git.{GitReads, IsRemote, ReachesGit, ReachesSecure, ReadsGiven, SecurePort, UserCut, from_tilde, on_this_machine};
+ghost use Rattle.git_reads.specs.Git.{GitReads, IsRemote, ReachesGit, ReachesSecure, ReadsInput, SecurePort, UserCut, from_tilde, on_this_machine};
 ghost use Rattle.git_reads.specs.Unread.{GetsUrl, IsForeign, LacksReading, Unreads};
 ghost use Rattle.git_reads.specs.Views.{git_reading, scheme_of_protocol};
 ghost use Rattle.git_reads.specs.Transports.{BeginsBy, Fails, FailsToReach, GetsUrlBy, IsForeignFor, IsReadPath, IsUnreadPath, NamesHelper, ReachesBy, url_text};
@@ -131,7 +131,7 @@ pub fn reading<'a>(text: &'a [u8], buffers: &'a mut Buffers) -> Result<GitPlace<
 fn url<'a>(scheme: &[u8], spelled: &[u8], buffers: &'a mut Buffers) -> Result<GitPlace<'a>, Unread>
     requires no_mark { ¬ Holds url_mark scheme.now }
     requires no_helper { ¬ NamesHelper (url_text scheme.now spelled.now) }
-    ensures read { IfOk result (λ it. ReadsGiven (url_text scheme.now spelled.now) (git_reading it)) }
+    ensures read { IfOk result (λ it. ReadsInput (url_text scheme.now spelled.now) (git_reading it)) }
     ensures why { IfErr result (Fails (url_text scheme.now spelled.now)) }
 {
     let Some(protocol) = own_protocol(scheme) else {
@@ -149,7 +149,7 @@ fn url<'a>(scheme: &[u8], spelled: &[u8], buffers: &'a mut Buffers) -> Result<Gi
 fn no_url<'a>(text: &'a [u8], named: &'a mut Vec<u8>) -> Result<GitPlace<'a>, Unread>
     requires no_mark { ¬ Holds url_mark text.now }
     requires no_helper { ¬ NamesHelper text.now }
-    ensures read { IfOk result (λ it. ReadsGiven text.now (git_reading it)) }
+    ensures read { IfOk result (λ it. ReadsInput text.now (git_reading it)) }
     ensures why { IfErr result (Fails text.now) }
 {
     if begins_by(text, b"rsync:") {

@@ -2,7 +2,7 @@
 
 ghost use Rattle.std.specs.Prelude.{◌≡◌, ◌+◌, ◌≤◌, [], Err, IfErr, IfOk, length};
 ghost use Rattle.git_refusals.specs.Kinds.{empty_refusal};
-ghost use Rattle.git_syntax.specs.Internal.FoundPieces.{IsReady, meant, room_for};
+ghost use Rattle.git_syntax.specs.Internal.FoundPieces.{IsReady, denoted, buffer_length_for};
 ghost use Rattle.git_syntax.specs.Grammar.{Spells};
 ghost use Rattle.git_syntax.specs.Location.{Location};
 ghost use Rattle.git_refusals.specs.Reasons.{Refused};
@@ -16,9 +16,9 @@ use git_syntax::refusal::UrlKind;
 
 /// The slices of the one location that the bytes spell, or the one refusal of the bytes.
 pub fn read(bytes: &[u8]) -> Result<Found<'_>, Refusal>
-    ensures found { IfOk result (λ found. Spells bytes.now (meant found)) }
+    ensures found { IfOk result (λ found. Spells bytes.now (denoted found)) }
     ensures ready { IfOk result (λ found. IsReady found) }
-    ensures room { IfOk result (λ found. room_for found ≤ length bytes.now) }
+    ensures buffer { IfOk result (λ found. buffer_length_for found ≤ length bytes.now) }
     ensures unspelled { IfErr result (λ refusal. (v : Location) → ¬ Spells bytes.now v) }
     ensures refused { IfErr result (λ refusal. Refused bytes.now refusal) }
     ensures empty { bytes.now ≡ [] → result ≡ Err empty_refusal }

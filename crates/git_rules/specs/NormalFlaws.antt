@@ -76,7 +76,7 @@ HasFlaw globs text flaw = (scheme : List ℕ) × (authority : List ℕ) × (behi
 -- the result for a text and a buffer of this length: the normal form, or the buffer is too short, or an error and
 -- no normal form
 abbrev pub NormalizesIn : Bool → List ℕ → ℕ → Result NormalPlace NormalError → Type 0
-NormalizesIn globs text room (Ok n) = (3 * length text + 1 ≤ room) × IsNormalOf globs text n
-NormalizesIn globs text room (Err NoRoom) = room < 3 * length text + 1
-NormalizesIn globs text room (Err flaw) = (3 * length text + 1 ≤ room) × HasFlaw globs text flaw
+NormalizesIn globs text buffer_len (Ok n) = (3 * length text + 1 ≤ buffer_len) × IsNormalOf globs text n
+NormalizesIn globs text buffer_len (Err NoRoom) = buffer_len < 3 * length text + 1
+NormalizesIn globs text buffer_len (Err flaw) = (3 * length text + 1 ≤ buffer_len) × HasFlaw globs text flaw
     × ((n : NormalPlace) → ¬ IsNormalOf globs text n)

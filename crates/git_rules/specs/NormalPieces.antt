@@ -53,7 +53,7 @@ ShowsOutcome outcome (Some text) = (stack : List (List ℕ)) × (outcome ≡ Som
 
 -- the front of a buffer, up to an index, is the path of the resulting stack, or there is no stack
 abbrev pub ShowsFront : Option (List (List ℕ)) → List ℕ → Option ℕ → Type 0
-ShowsFront outcome room at = ShowsOutcome outcome (option_map (λ n. take n room) at)
+ShowsFront outcome buffer at = ShowsOutcome outcome (option_map (λ n. take n buffer) at)
 
 -- the value has the normal form of these slices: a scheme in lower case, a user, a host, a port, and the text after
 -- them

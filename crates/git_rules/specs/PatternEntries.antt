@@ -27,35 +27,35 @@ RanksEntry section name place e rank = (sets section name e ≡ true)
 
 -- a buffer of this length suffices for the URL of the entry, if it sets the variable; without a place no URL is
 -- read, so any buffer suffices
-abbrev pub HasRoomFor : List ℕ → List ℕ → Option NormalPlace → ℕ → ConfigEntry → Type 0
-HasRoomFor section name None room e = Unit {0}
-HasRoomFor section name (Some place) room e = (sets section name e ≡ true)
-    → IfSome e.subsection (λ url. 3 * length url + 1 ≤ room)
+abbrev pub BufferSuffices : List ℕ → List ℕ → Option NormalPlace → ℕ → ConfigEntry → Type 0
+BufferSuffices section name None buffer_len e = Unit {0}
+BufferSuffices section name (Some place) buffer_len e = (sets section name e ≡ true)
+    → IfSome e.subsection (λ url. 3 * length url + 1 ≤ buffer_len)
 
 -- the result is the rank of an entry, `None` if it has none, or an error if the buffer is too short for it
 abbrev pub RanksIn : List ℕ → List ℕ → Option NormalPlace → ℕ → ConfigEntry
     → Result (Option Rank) NormalError → Type 0
-RanksIn section name place room e (Ok rank) = HasRank (RanksEntry section name place) e rank
-RanksIn section name place room e (Err error) = (error ≡ NoRoom) × ¬ HasRoomFor section name place room e
+RanksIn section name place buffer_len e (Ok rank) = HasRank (RanksEntry section name place) e rank
+RanksIn section name place buffer_len e (Err error) = (error ≡ NoRoom) × ¬ BufferSuffices section name place buffer_len e
 
 -- the result is the index of the best entry, `None` if no entry has a rank, or an error if the buffer is too short
 -- for one of them
 abbrev pub IsBestIn : List ℕ → List ℕ → Option NormalPlace → ℕ → List ConfigEntry
     → Result (Option ℕ) NormalError → Type 0
-IsBestIn section name place room entries (Ok best) = IsBest (RanksEntry section name place) entries best
-IsBestIn section name place room entries (Err error) = (error ≡ NoRoom)
-    × ¬ All (HasRoomFor section name place room) entries
+IsBestIn section name place buffer_len entries (Ok best) = IsBest (RanksEntry section name place) entries best
+IsBestIn section name place buffer_len entries (Err error) = (error ≡ NoRoom)
+    × ¬ All (BufferSuffices section name place buffer_len) entries
 
 -- the buffer is too short for an entry, and suffices for those before it
-pub record LacksRoomFirst (section name : List ℕ) (place : Option NormalPlace) (room : ℕ) (entries : List ConfigEntry) : Type 0 where
+pub record LacksRoomFirst (section name : List ℕ) (place : Option NormalPlace) (buffer_len : ℕ) (entries : List ConfigEntry) : Type 0 where
   pub before : List ConfigEntry
   pub entry : ConfigEntry
   pub others : List ConfigEntry
   pub joined : entries ≡ before ++ entry ∷ others
-  pub enough : All (HasRoomFor section name place room) before
-  pub short : ¬ HasRoomFor section name place room entry
+  pub enough : All (BufferSuffices section name place buffer_len) before
+  pub short : ¬ BufferSuffices section name place buffer_len entry
 
 -- the rank of a URL for a place, or an error if the buffer is too short for it
 abbrev pub RanksUrlIn : NormalPlace → ℕ → List ℕ → Result (Option Rank) NormalError → Type 0
-RanksUrlIn place room url (Ok rank) = HasRank (RanksSubsection (Some place)) (Some url) rank
-RanksUrlIn place room url (Err error) = (error ≡ NoRoom) × (room < 3 * length url + 1)
+RanksUrlIn place buffer_len url (Ok rank) = HasRank (RanksSubsection (Some place)) (Some url) rank
+RanksUrlIn place buffer_len url (Err error) = (error ≡ NoRoom) × (buffer_len < 3 * length url + 1)

@@ -119,11 +119,11 @@ tried_urls remote entries = if is_its_own_url remote entries || has_none remote 
 -- these are the push URLs: those of its entries, rewritten by the rules for fetching, and then the URLs to which a
 -- rule for pushing applies, rewritten by the rules for pushing
 pub record HasPushUrls (rules : Rules) (remote : List ℕ) (entries : List ConfigEntry) (found : List Outcome) : Type 0 where
-  pub given : List Outcome
+  pub configured : List Outcome
   pub ruled : List Outcome
-  pub rewritten : AreRewritten rules.fetching (values_of remote pushurl_key entries) given
+  pub rewritten : AreRewritten rules.fetching (values_of remote pushurl_key entries) configured
   pub tried : AreRuled rules.pushing (tried_urls remote entries) ruled
-  pub joined : found ≡ given ++ ruled
+  pub joined : found ≡ configured ++ ruled
 
 -- these are the URLs that Git pushes to: the push URLs, or if there are none all URLs that it would fetch from
 abbrev pub ArePushUrls : Rules → List ℕ → List ConfigEntry → List Outcome → Type 0

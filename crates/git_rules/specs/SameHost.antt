@@ -18,7 +18,7 @@ HaveSameHost v w = option_map host_name v.host ≡ option_map host_name w.host
 -- both texts are parsed, and the result is whether they name the same host; or it is the error of the first text,
 -- or, if that one is parsed, the error of the second
 abbrev pub ComparesHosts : List ℕ → ℕ → List ℕ → ℕ → Result Bool ParseError → Type 0
-ComparesHosts a room b other (Ok same) = (v : Location) × (w : Location) × Spells a v × Spells b w
+ComparesHosts a buffer_len b other (Ok same) = (v : Location) × (w : Location) × Spells a v × Spells b w
     × (IsTrue same ↔ HaveSameHost v w)
-ComparesHosts a room b other (Err e) = ReadsIn a room (Err e)
-    ⊎ (((v : Location) × ReadsIn a room (Ok v)) × ReadsIn b other (Err e))
+ComparesHosts a buffer_len b other (Err e) = ReadsIn a buffer_len (Err e)
+    ⊎ (((v : Location) × ReadsIn a buffer_len (Ok v)) × ReadsIn b other (Err e))

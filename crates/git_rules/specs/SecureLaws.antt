@@ -11,12 +11,12 @@ use Rattle.git_rules.specs.SecureShell.{Request, destination, request_refusal, s
 
 -- for the text, Git passes this word for user and host, this port and this path to Secure Shell, and so reaches the
 -- place that it reads there
-pub record GivesSecure (t given : List ℕ) (number : Option ℕ) (path : List ℕ) : Type 0 where
+pub record GivesSecure (t passed : List ℕ) (number : Option ℕ) (path : List ℕ) : Type 0 where
   pub reading : GitReading
   pub reads : GitReads t reading
   pub place : List ℕ
   pub reaches : ReachesSecure place path reading
-  pub word : reaches.word ≡ given
+  pub word : reaches.word ≡ passed
   pub port : reaches.port ≡ number
 
 -- there is a command for the location, unless the variant `simple` lacks an option for it or the program is
@@ -24,7 +24,7 @@ pub record GivesSecure (t given : List ℕ) (number : Option ℕ) (path : List �
 pub record HasOwnWords (v : Location) : Type 0 where
   pub host : List ℕ
   pub there : v.host ≡ Some host
-  pub made : (r : Request) → request_refusal r v.port ≡ None → ssh_refusal r v ≡ None
+  pub built : (r : Request) → request_refusal r v.port ≡ None → ssh_refusal r v ≡ None
   pub words : (t : List ℕ) → text v ≡ Ok t → GivesSecure t (destination v.user host) v.port v.path
 
 -- for each Secure Shell location that `AgreesWithGit` there is a command, unless the request is refused, and its

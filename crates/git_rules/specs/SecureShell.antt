@@ -283,7 +283,7 @@ pub record IsSafeCommand (c : Command) : Type 0 where
 -- location's, and `IsSafeCommand` holds of it
 pub record AreWordsFor (v : Location) (r : Request) (said : List (List ℕ)) : Type 0 where
   pub command : Command
-  pub made : ssh_refusal r v ≡ None
+  pub built : ssh_refusal r v ≡ None
   pub own : IsOwn v command
   pub asked : command.request ≡ r
   pub safe : IsSafeCommand command

@@ -11,7 +11,7 @@ use Rattle.git_rules.specs.Config.{ConfigEntry}
 use Rattle.git_rules.specs.Normal.{NormalPlace}
 use Rattle.git_rules.specs.Patterns.{IsBest, RanksNoHigher}
 use Rattle.git_rules.specs.Words.{is_word}
-use Rattle.git_rules.specs.PatternEntries.{HasRoomFor, RanksEntry}
+use Rattle.git_rules.specs.PatternEntries.{BufferSuffices, RanksEntry}
 
 -- ---- names
 
@@ -86,14 +86,14 @@ pub record FirstTakenLacks (name : List ℕ) (place : Option NormalPlace) (entri
 -- the buffer is too short for the URL of an entry, or an entry of a list has no value; `Memory` says nothing about
 -- the entries
 abbrev pub RefusesSettings : List ℕ → Option NormalPlace → ℕ → List ConfigEntry → SettingsError → Type 0
-RefusesSettings name place room entries Memory = Unit {0}
-RefusesSettings name place room entries NoRoom = ¬ All (HasRoomFor (codes "http") name place room) entries
-RefusesSettings name place room entries (NoValue at) = IsListName name
+RefusesSettings name place buffer_len entries Memory = Unit {0}
+RefusesSettings name place buffer_len entries NoRoom = ¬ All (BufferSuffices (codes "http") name place buffer_len) entries
+RefusesSettings name place buffer_len entries (NoValue at) = IsListName name
     × FirstTakenLacks name place entries at
 
 -- the buffer suffices for the URL of each of these entries, and each entry of a list that Git takes has a value
-pub record AreFlawless (name : List ℕ) (place : Option NormalPlace) (room : ℕ) (entries : List ConfigEntry) : Type 0 where
-  pub enough : All (HasRoomFor (codes "http") name place room) entries
+pub record AreFlawless (name : List ℕ) (place : Option NormalPlace) (buffer_len : ℕ) (entries : List ConfigEntry) : Type 0 where
+  pub enough : All (BufferSuffices (codes "http") name place buffer_len) entries
   pub values : IsListName name → (i : ℕ) (e : ConfigEntry) → IsTakenAt name place entries i e → ¬ (e.value ≡ None)
 
 -- the entry has a value, and doesn't clear those before it
@@ -104,20 +104,20 @@ HasUsedValue e = (¬ (e.value ≡ None)) × ¬ (e.value ≡ Some [])
 -- has no value; or memory is refused for its index, which is needed because Git takes it and, for a list, uses its
 -- value
 abbrev pub EntryFails : List ℕ → Option NormalPlace → ℕ → List ConfigEntry → ConfigEntry → SettingsError → Type 0
-EntryFails name place room before e NoRoom = ¬ HasRoomFor (codes "http") name place room e
-EntryFails name place room before e (NoValue at) = HasRoomFor (codes "http") name place room e × IsListName name
+EntryFails name place buffer_len before e NoRoom = ¬ BufferSuffices (codes "http") name place buffer_len e
+EntryFails name place buffer_len before e (NoValue at) = BufferSuffices (codes "http") name place buffer_len e × IsListName name
     × IsTakenAt name place (before ++ e ∷ []) (length before) e × (e.value ≡ None) × (at ≡ e.at)
-EntryFails name place room before e Memory = HasRoomFor (codes "http") name place room e
+EntryFails name place buffer_len before e Memory = BufferSuffices (codes "http") name place buffer_len e
     × IsTakenAt name place (before ++ e ∷ []) (length before) e × (IsListName name → HasUsedValue e)
 
 -- the error is that of the first entry that has one: those before it have none
-pub record IsOfFirst (name : List ℕ) (place : Option NormalPlace) (room : ℕ) (entries : List ConfigEntry) (error : SettingsError) : Type 0 where
+pub record IsOfFirst (name : List ℕ) (place : Option NormalPlace) (buffer_len : ℕ) (entries : List ConfigEntry) (error : SettingsError) : Type 0 where
   pub before : List ConfigEntry
   pub entry : ConfigEntry
   pub others : List ConfigEntry
   pub joined : entries ≡ before ++ entry ∷ others
-  pub flawless : AreFlawless name place room before
-  pub fails : EntryFails name place room before entry error
+  pub flawless : AreFlawless name place buffer_len before
+  pub fails : EntryFails name place buffer_len before entry error
 
 -- ---- one entry more
 

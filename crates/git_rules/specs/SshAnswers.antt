@@ -6,6 +6,6 @@ use Rattle.git_rules.specs.declared.ssh.SshError.TheVariants.{Memory, Refused}
 use Rattle.git_rules.specs.SecureShell.{Request, ssh_refusal}
 
 -- an allocation failed although there is a command for the location; or there is no command, for this reason
-abbrev pub IsUnmade : Request → Location → SshError → Type 0
-IsUnmade r v Memory = ssh_refusal r v ≡ None
-IsUnmade r v (Refused refusal) = ssh_refusal r v ≡ Some refusal
+abbrev pub IsNotBuilt : Request → Location → SshError → Type 0
+IsNotBuilt r v Memory = ssh_refusal r v ≡ None
+IsNotBuilt r v (Refused refusal) = ssh_refusal r v ≡ Some refusal

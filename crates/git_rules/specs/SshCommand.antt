@@ -4,8 +4,8 @@ use Rattle.git_rules.specs.declared.ssh.command.SshCommand.TheInside.{Inside}
 use Rattle.git_rules.specs.SecureShell.{Command}
 
 -- the view of an `SshCommand`: the request, and the parts of the location
-abbrev pub lent_command : Inside → Command
-lent_command c = record {
+abbrev pub borrowed_command : Inside → Command
+borrowed_command c = record {
   request = record {
     service = c.service;
     program = option_map (λ t. t.now) c.program;

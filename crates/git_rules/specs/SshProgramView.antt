@@ -1,12 +1,12 @@
 -- The plain values of an `SshSettings` and of an `SshProgram`.
 use Rattle.std.specs.Prelude.{option_map}
-use Rattle.git_rules.specs.declared.ssh.program.SshSettings.TheInside as given
+use Rattle.git_rules.specs.declared.ssh.program.SshSettings.TheInside as settings
 use Rattle.git_rules.specs.declared.ssh.program.SshProgram.TheInside as found
 use Rattle.git_rules.specs.SshPrograms.{Program, Settings}
 
 -- the view of an `SshSettings`
-abbrev pub lent_settings : given.Inside → Settings
-lent_settings s = record {
+abbrev pub borrowed_settings : settings.Inside → Settings
+borrowed_settings s = record {
   entries = s.entries.now;
   git_ssh_command = option_map (λ t. t.now) s.git_ssh_command;
   git_ssh = option_map (λ t. t.now) s.git_ssh;
@@ -14,5 +14,5 @@ lent_settings s = record {
 }
 
 -- the view of an `SshProgram`
-abbrev pub lent_program : found.Inside → Program
-lent_program p = record { text = p.text.now; is_command_line = p.is_command_line; variant = p.variant }
+abbrev pub borrowed_program : found.Inside → Program
+borrowed_program p = record { text = p.text.now; is_command_line = p.is_command_line; variant = p.variant }

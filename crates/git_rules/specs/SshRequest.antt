@@ -4,8 +4,8 @@ use Rattle.git_rules.specs.declared.ssh.request.SshRequest.TheInside.{Inside}
 use Rattle.git_rules.specs.SecureShell.{Request}
 
 -- the view of an `SshRequest`
-abbrev pub lent_request : Inside → Request
-lent_request r = record {
+abbrev pub borrowed_request : Inside → Request
+borrowed_request r = record {
   service = r.service;
   program = option_map (λ t. t.now) r.program;
   variant = r.variant;

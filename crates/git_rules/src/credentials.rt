@@ -17,8 +17,8 @@ use crate::boolean::read_boolean;
 use crate::config::Entry;
 use crate::credentials::entry::applies;
 use crate::credentials::url::credential_url;
-use crate::normal::{NormalUrl, room_for};
-use crate::pattern::entries::is_of_room;
+use crate::normal::{NormalUrl, needed_buffer_len};
+use crate::pattern::entries::is_short_buffer;
 use git_reads::credential::Request;
 use std::alloc::{AllocError, Global};
 use std::marker::Model;
@@ -132,11 +132,11 @@ pub fn credentials_for<'a>(
         (λ error. RefusesCredentials (credential_reading request.now) entries.now error) }
 {
     let url = credential_url(alloc, request)?;
-    let mut room = vec![in alloc; 0u8; room_for(url.len())]?;
-    match NormalUrl::parse_in(&url, &mut room) {
+    let mut buffer = vec![in alloc; 0u8; needed_buffer_len(url.len())]?;
+    match NormalUrl::parse_in(&url, &mut buffer) {
         Ok(place) => all_used(alloc, entries, request, Some(&place)),
         Err(error) => {
-            if is_of_room(error) {
+            if is_short_buffer(error) {
                 Err(CredentialsError::Memory)
             } else {
                 all_used(alloc, entries, request, None)

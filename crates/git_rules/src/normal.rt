@@ -78,8 +78,8 @@ impl<'a> NormalUrl<'a> {
     /// `credential.<url>.*`.
     ///
     /// The host contains no `*`; [`UrlPattern::parse_in`](crate::pattern::UrlPattern::parse_in) reads a pattern,
-    /// which may contain it. The buffer `room` needs three bytes for each byte of the text, and one more
-    /// ([`room_for`]). Allocates nothing.
+    /// which may contain it. `buffer` needs three bytes for each byte of the text, and one more
+    /// ([`needed_buffer_len`]). Allocates nothing.
     ///
     /// After [`NormalError::NoRoom`] and [`NormalError::NoUrl`] the buffer is unchanged. After an error in the
     /// authority it may begin with the scheme in lower case. After an error in the path it may hold the scheme, the
@@ -95,36 +95,36 @@ impl<'a> NormalUrl<'a> {
     ///
     /// ```
     /// /// The host whose settings apply to a text.
-    /// fn host_of<'a>(text: &'a [u8], room: &'a mut [u8]) -> Option<&'a [u8]> {
-    ///     match NormalUrl::parse_in(text, room) {
+    /// fn host_of<'a>(text: &'a [u8], buffer: &'a mut [u8]) -> Option<&'a [u8]> {
+    ///     match NormalUrl::parse_in(text, buffer) {
     ///         Ok(place) => Some(place.host), // `example.com` of `https://me@Example.com:443/a/../b`
     ///         Err(_) => None,
     ///     }
     /// }
     /// ```
-    pub fn parse_in(text: &'a [u8], room: &'a mut [u8]) -> Result<NormalUrl<'a>, NormalError>
-        ensures { NormalizesIn false text.now (length room.old) result }
+    pub fn parse_in(text: &'a [u8], buffer: &'a mut [u8]) -> Result<NormalUrl<'a>, NormalError>
+        ensures { NormalizesIn false text.now (length buffer.old) result }
     {
-        NormalUrl::read_in(text, false, room)
+        NormalUrl::read_in(text, false, buffer)
     }
 
     /// Returns the normal form of a text; `globs` allows `*` in its host.
     pub(crate) fn read_in(
         text: &'a [u8],
         globs: bool,
-        room: &'a mut [u8],
+        buffer: &'a mut [u8],
     ) -> Result<NormalUrl<'a>, NormalError>
-        ensures { NormalizesIn globs text.now (length room.old) result }
+        ensures { NormalizesIn globs text.now (length buffer.old) result }
     {
-        if !is_enough(text.len(), room.len()) {
+        if !is_enough(text.len(), buffer.len()) {
             return Err(NormalError::NoRoom);
         }
         let Some((scheme, authority, behind)) = cut_url(text) else {
             return Err(NormalError::NoUrl);
         };
-        let (scheme, room) = lowered_in(scheme, room);
+        let (scheme, buffer) = lowered_in(scheme, buffer);
         let authority = read_authority(globs, scheme, authority)?;
-        write_parts(scheme, authority, behind, room)
+        write_parts(scheme, authority, behind, buffer)
     }
 }
 
@@ -136,25 +136,25 @@ impl<'a> NormalUrl<'a> {
 /// ```
 /// /// The host whose settings apply to a text, in a room that is made for it.
 /// fn host_text(alloc: Global, text: &[u8]) -> Result<Option<BString>, AllocError> {
-///     let mut room = vec![in alloc; 0u8; room_for(text.len())]?;
-///     match NormalUrl::parse_in(text, &mut room) {
+///     let mut buffer = vec![in alloc; 0u8; needed_buffer_len(text.len())]?;
+///     match NormalUrl::parse_in(text, &mut buffer) {
 ///         Ok(place) => Ok(Some(BString::from_slice(alloc, place.host)?)),
 ///         Err(_) => Ok(None),
 ///     }
 /// }
 /// ```
-pub fn room_for(len: usize) -> usize
-    ensures room { result ≡ min (3 * len + 1) (2 ^ 64 - 1) }
+pub fn needed_buffer_len(len: usize) -> usize
+    ensures buffer { result ≡ min (3 * len + 1) (2 ^ 64 - 1) }
     ensures enough { len < 2 ^ 62 → result ≡ 3 * len + 1 }
 {
     len.saturating_mul(3).saturating_add(1)
 }
 
 /// Whether a buffer of this length suffices for a text of this length.
-fn is_enough(text: usize, room: usize) -> bool
-    ensures { IsTrue result ↔ (3 * text + 1 ≤ room) }
+fn is_enough(text: usize, buffer_len: usize) -> bool
+    ensures { IsTrue result ↔ (3 * text + 1 ≤ buffer_len) }
 {
-    0 < room && text <= (room - 1) / 3
+    0 < buffer_len && text <= (buffer_len - 1) / 3
 }
 
 /// A text has at most one normal form. If all readers agree on the text of an HTTP location

@@ -47,7 +47,7 @@ impl<'a> Model for UrlPattern<'a> {
 impl<'a> UrlPattern<'a> {
     /// Returns the pattern that the text spells, as [`NormalUrl::parse_in`] reads it, with `*` allowed in the host.
     ///
-    /// The buffer `room` needs three bytes for each byte of the text, and one more. Allocates nothing. A text that
+    /// `buffer` needs three bytes for each byte of the text, and one more. Allocates nothing. A text that
     /// isn't a URL, such as `example.com`, isn't a pattern. [`NormalUrl::parse_in`] describes the contents of the
     /// buffer after an error.
     ///
@@ -58,17 +58,17 @@ impl<'a> UrlPattern<'a> {
     ///
     /// ```
     /// /// Whether a pattern stands for a place, each in a room of its own.
-    /// fn stands_for(pattern: &[u8], room: &mut [u8], place: &NormalUrl<'_>) -> bool {
-    ///     match UrlPattern::parse_in(pattern, room) {
+    /// fn stands_for(pattern: &[u8], buffer: &mut [u8], place: &NormalUrl<'_>) -> bool {
+    ///     match UrlPattern::parse_in(pattern, buffer) {
     ///         Ok(pattern) => pattern.matches(place), // `https://*.example.com` for `https://git.example.com/a`
     ///         Err(_) => false,
     ///     }
     /// }
     /// ```
-    pub fn parse_in(text: &'a [u8], room: &'a mut [u8]) -> Result<UrlPattern<'a>, NormalError>
-        ensures { NormalizesIn true text.now (length room.old) result }
+    pub fn parse_in(text: &'a [u8], buffer: &'a mut [u8]) -> Result<UrlPattern<'a>, NormalError>
+        ensures { NormalizesIn true text.now (length buffer.old) result }
     {
-        match NormalUrl::read_in(text, true, room) {
+        match NormalUrl::read_in(text, true, buffer) {
             Ok(url) => Ok(UrlPattern { url }),
             Err(error) => Err(error),
         }

@@ -141,11 +141,11 @@ impl<'a> Rewrites<'a> {
             return Ok(());
         };
         if entry.sets("url", "insteadof") {
-            self.add_fetch(base, front_of(entry)?)?;
+            self.add_fetch(base, rule_front(entry)?)?;
             return Ok(());
         }
         if entry.sets("url", "pushinsteadof") {
-            self.add_push(base, front_of(entry)?)?;
+            self.add_push(base, rule_front(entry)?)?;
         }
         Ok(())
     }
@@ -244,7 +244,7 @@ impl<'a> Rewrites<'a> {
 }
 
 /// The value of an entry, which is the front of its rule.
-fn front_of<'a>(entry: &Entry<'a>) -> Result<&'a [u8], RewriteError>
+fn rule_front<'a>(entry: &Entry<'a>) -> Result<&'a [u8], RewriteError>
     ensures { HasFront entry.now result }
 {
     match entry.value {

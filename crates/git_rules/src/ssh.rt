@@ -239,7 +239,7 @@ pub fn ssh_words(
     ensures words { IfOk result (λ words. spec.AreWordsFor url.now
         (spec.service_alone service variant version) (map bstring_bytes words.items)) }
     ensures refused { IfErr result
-        (λ e. answer.IsUnmade (spec.service_alone service variant version) url.now e) }
+        (λ e. answer.IsNotBuilt (spec.service_alone service variant version) url.now e) }
 {
     match ssh_command(url, service, variant, version) {
         Ok(command) => Ok(command.to_words(alloc)?),
@@ -269,7 +269,7 @@ pub fn ssh_command<'a>(
 ) -> Result<SshCommand<'a>, SshRefusal>
     ensures refused { IfErr result
         (λ e. spec.ssh_refusal (spec.service_alone service variant version) url.now ≡ Some e) }
-    ensures made { OnOk result
+    ensures built { OnOk result
         (spec.ssh_refusal (spec.service_alone service variant version) url.now ≡ None) }
     ensures own { IfOk result (λ c. spec.IsOwn url.now c) }
     ensures asked { IfOk result (λ c. c.request ≡ spec.service_alone service variant version) }
@@ -327,7 +327,7 @@ pub fn ssh_command_for<'a>(
     request: &SshRequest<'a>,
 ) -> Result<SshCommand<'a>, SshRefusal>
     ensures refused { IfErr result (λ e. spec.ssh_refusal request.now url.now ≡ Some e) }
-    ensures made { OnOk result (spec.ssh_refusal request.now url.now ≡ None) }
+    ensures built { OnOk result (spec.ssh_refusal request.now url.now ≡ None) }
     ensures own { IfOk result (λ c. spec.IsOwn url.now c) }
     ensures asked { IfOk result (λ c. c.request ≡ request.now) }
     ensures safe { IfOk result (λ c. spec.IsSafeCommand c) }

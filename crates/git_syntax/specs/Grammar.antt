@@ -119,7 +119,7 @@ abbrev pub retained_spelling : List ℕ → Option (List ℕ)
 retained_spelling path = if has_percent path then Some path else None
 
 -- the location that a URL with these fields denotes, by its scheme
-pub record MeansByScheme (scheme : Scheme) (parts : UrlSyntax) (v : Location) : Type 0 where
+pub record DenotesByScheme (scheme : Scheme) (parts : UrlSyntax) (v : Location) : Type 0 where
   pub host : Option (List ℕ)
   pub pathed : requires_path scheme ≡ true → 0 < length parts.path
   pub hosted : HostFor scheme parts.host host
@@ -135,21 +135,21 @@ pub record MeansByScheme (scheme : Scheme) (parts : UrlSyntax) (v : Location) : 
   }
 
 -- the location that a URL with these fields denotes: `ext` keeps the whole text as the path
-abbrev pub MeansAs : Scheme → List ℕ → UrlSyntax → Location → Type 0
-MeansAs ext b parts v = v ≡ path_alone ext true b
-MeansAs file b parts v = MeansByScheme file parts v
-MeansAs git b parts v = MeansByScheme git parts v
-MeansAs ssh b parts v = MeansByScheme ssh parts v
-MeansAs http b parts v = MeansByScheme http parts v
-MeansAs https b parts v = MeansByScheme https parts v
-MeansAs (helper name) b parts v = MeansByScheme (helper name) parts v
-MeansAs (helper_url name) b parts v = MeansByScheme (helper_url name) parts v
+abbrev pub DenotesAs : Scheme → List ℕ → UrlSyntax → Location → Type 0
+DenotesAs ext b parts v = v ≡ path_alone ext true b
+DenotesAs file b parts v = DenotesByScheme file parts v
+DenotesAs git b parts v = DenotesByScheme git parts v
+DenotesAs ssh b parts v = DenotesByScheme ssh parts v
+DenotesAs http b parts v = DenotesByScheme http parts v
+DenotesAs https b parts v = DenotesByScheme https parts v
+DenotesAs (helper name) b parts v = DenotesByScheme (helper name) parts v
+DenotesAs (helper_url name) b parts v = DenotesByScheme (helper_url name) parts v
 
 -- a URL, except for those of the scheme `file`
 pub record SpellsUrl (b : List ℕ) (v : Location) : Type 0 where
   pub parts : UrlSyntax
   pub spelled : HasUrlSyntax b parts
-  pub means : MeansAs (scheme_of parts.scheme) b parts v
+  pub means : DenotesAs (scheme_of parts.scheme) b parts v
 
 -- a file URL: host and path stay as they are
 pub record SpellsFile (b : List ℕ) (v : Location) : Type 0 where
@@ -215,13 +215,13 @@ pub data Unbrackets (host inner : List ℕ) : Type 0 where
 
 -- a host in the scp form denotes another: a `%` in it is a literal character. The host is cut out of a text
 -- that is UTF-8, so the test for white space is meaningful
-pub record ScpHost (host meant : List ℕ) : Type 0 where
+pub record ScpHost (host denoted : List ℕ) : Type 0 where
   pub named : List ℕ
   pub no_at : FreeOf at_sign host
   pub no_backslash : FreeOf backslash host
   pub no_white_space : LacksWhiteSpace host
   pub names : SpellsHostPort git_hosts (escaped_percents host) (Some named) None
-  pub unbracketed : Unbrackets named meant
+  pub unbracketed : Unbrackets named denoted
 
 -- a location of the scp form, which only Secure Shell reaches
 abbrev pub scp_location : Option (List ℕ) → List ℕ → List ℕ → Location
@@ -234,13 +234,13 @@ pub record SpellsScpBefore (b : List ℕ) (v : Location) : Type 0 where
   pub path : List ℕ
   pub user : Option (List ℕ)
   pub host : List ℕ
-  pub meant : List ℕ
+  pub denoted : List ℕ
   pub form : ScpForm b front path
   pub text : IsUtf8 b
   pub pathed : 0 < length path
   pub split : ScpUser front user host
-  pub hosted : ScpHost host meant
-  pub value : v ≡ scp_location user meant path
+  pub hosted : ScpHost host denoted
+  pub value : v ≡ scp_location user denoted path
 
 -- the form `user@[address]:path`
 pub record SpellsScpAddressed (b : List ℕ) (v : Location) : Type 0 where

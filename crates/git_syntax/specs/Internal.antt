@@ -3,7 +3,7 @@ pub mod Cuts
 pub mod LengthChecks
 pub mod HostPieces
 pub mod Decoding
-pub mod Looks
+pub mod ByteClasses
 pub mod UrlPieces
 pub mod SchemeRules
 pub mod FoundPieces

@@ -157,11 +157,11 @@ pub fn append_within(out: &mut Vec<u8>, bytes: &[u8])
 }
 
 /// Copies the bytes to the front of the buffer and returns their number.
-pub(crate) fn copy_into(room: &mut [u8], bytes: &[u8]) -> usize
-    requires { length bytes.now ≤ length room.old }
+pub(crate) fn copy_into(buffer: &mut [u8], bytes: &[u8]) -> usize
+    requires { length bytes.now ≤ length buffer.old }
     ensures size { result ≡ length bytes.now }
-    ensures bytes { take result room.new ≡ bytes.now }
+    ensures bytes { take result buffer.new ≡ bytes.now }
 {
-    room[..bytes.len()].copy_from_slice(bytes);
+    buffer[..bytes.len()].copy_from_slice(bytes);
     bytes.len()
 }

@@ -236,15 +236,15 @@ pub fn decode(alloc: Global, text: &[u8]) -> Result<Vec<u8>, AllocError>
 }
 
 /// Writes the decoding of the text to the front of the buffer and returns its length.
-pub fn decode_into(room: &mut [u8], text: &[u8]) -> usize
-    requires { length (percent.percent_decode text.now) ≤ length room.old }
+pub fn decode_into(buffer: &mut [u8], text: &[u8]) -> usize
+    requires { length (percent.percent_decode text.now) ≤ length buffer.old }
     ensures size { result ≡ length (percent.percent_decode text.now) }
-    ensures bytes { take result room.new ≡ percent.percent_decode text.now }
+    ensures bytes { take result buffer.new ≡ percent.percent_decode text.now }
 {
     let mut size = 0;
     let mut rest = text;
     while let Some((byte, behind)) = split_decoded(rest) {
-        room[size] = byte;
+        buffer[size] = byte;
         size += 1;
         rest = behind;
     }

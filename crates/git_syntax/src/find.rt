@@ -5,7 +5,7 @@
 
 ghost use Rattle.std.specs.Prelude.{◌≡◌, ◌≤◌, [], Err, IfErr, IfOk, length};
 ghost use Rattle.git_syntax.specs.Flaws.{NamesFlaw};
-ghost use Rattle.git_syntax.specs.Internal.FoundPieces.{IsReady, meant, room_for};
+ghost use Rattle.git_syntax.specs.Internal.FoundPieces.{IsReady, denoted, buffer_length_for};
 ghost use Rattle.git_syntax.specs.Grammar.{Spells};
 ghost use Rattle.git_syntax.specs.Location.{Location};
 
@@ -17,9 +17,9 @@ use crate::url::find_url;
 
 /// The slices of the one location that the bytes spell.
 pub fn find(bytes: &[u8]) -> Result<Found<'_>, Refusal>
-    ensures found { IfOk result (λ found. Spells bytes.now (meant found)) }
+    ensures found { IfOk result (λ found. Spells bytes.now (denoted found)) }
     ensures ready { IfOk result (λ found. IsReady found) }
-    ensures room { IfOk result (λ found. room_for found ≤ length bytes.now) }
+    ensures buffer { IfOk result (λ found. buffer_length_for found ≤ length bytes.now) }
     ensures refused { IfErr result (λ refusal. (v : Location) → ¬ Spells bytes.now v) }
     ensures flaw { IfErr result (λ refusal. NamesFlaw bytes.now refusal) }
     ensures empty { bytes.now ≡ [] → result ≡ Err Refusal.EmptyLocal }

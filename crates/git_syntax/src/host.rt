@@ -8,7 +8,7 @@ ghost use Rattle.git_syntax.specs.Bytes.{FreeOf, begins_with, left_bracket, righ
 ghost use Rattle.git_syntax.specs.Flaws.{IsNoHost, IsNoInner, HostPortFlaw};
 ghost use Rattle.git_syntax.specs.Hosts as spec;
 ghost use Rattle.git_syntax.specs.Hosts.{HostText, IsAddressPiece, IsLiteral, IsManyColoned, SpellsHostPort, ReadsAddress};
-ghost use Rattle.git_syntax.specs.Internal.HostPieces.{IsInner, IsSimpleHost, ReadsHostPort, host_of, in_brackets, meant_host, named_text, port_of, shown_literal, host_syntax};
+ghost use Rattle.git_syntax.specs.Internal.HostPieces.{IsInner, IsSimpleHost, ReadsHostPort, host_of, in_brackets, denoted_host, named_text, port_of, shown_literal, host_syntax};
 
 pub mod build;
 pub mod bytes;
@@ -211,7 +211,7 @@ fn read_colons(syntax: HostSyntax, piece: &[u8]) -> Result<HostPort<'_>, UrlFaul
 
 /// A host that nothing follows.
 fn alone(piece: HostPiece<'_>) -> HostPort<'_>
-    ensures host { named_text result ≡ meant_host piece.entry }
+    ensures host { named_text result ≡ denoted_host piece.entry }
     ensures port { result.port ≡ None }
 {
     HostPort {
@@ -254,7 +254,7 @@ pub fn is_address_piece(piece: &[u8]) -> bool
 /// The host that a text outside brackets denotes.
 fn read_text(syntax: HostSyntax, text: &[u8]) -> Option<HostPiece<'_>>
     ensures { MatchOption result (IsNoHost (host_syntax syntax) text.now)
-        (λ piece. HostText (host_syntax syntax) text.now (meant_host piece)) }
+        (λ piece. HostText (host_syntax syntax) text.now (denoted_host piece)) }
 {
     match syntax {
         HostSyntax::Http => {
@@ -277,7 +277,7 @@ fn read_text(syntax: HostSyntax, text: &[u8]) -> Option<HostPiece<'_>>
 /// The host that a text in brackets denotes.
 fn read_inner(syntax: HostSyntax, text: &[u8]) -> Option<HostPiece<'_>>
     ensures { MatchOption result (IsNoInner (host_syntax syntax) text.now)
-        (λ piece. IsInner (host_syntax syntax) text.now (meant_host piece)) }
+        (λ piece. IsInner (host_syntax syntax) text.now (denoted_host piece)) }
 {
     if is_literal(text) {
         return Some(literal(syntax, text));
@@ -287,7 +287,7 @@ fn read_inner(syntax: HostSyntax, text: &[u8]) -> Option<HostPiece<'_>>
 
 /// The piece of a literal, which is decoded except in HTTP.
 fn literal(syntax: HostSyntax, text: &[u8]) -> HostPiece<'_>
-    ensures { meant_host result ≡ in_brackets (shown_literal (host_syntax syntax) text.now) }
+    ensures { denoted_host result ≡ in_brackets (shown_literal (host_syntax syntax) text.now) }
 {
     match syntax {
         HostSyntax::Http => HostPiece::Literal(text),
@@ -299,7 +299,7 @@ fn literal(syntax: HostSyntax, text: &[u8]) -> HostPiece<'_>
 fn read_no_literal(syntax: HostSyntax, text: &[u8]) -> Option<HostPiece<'_>>
     requires { ¬ IsLiteral text.now }
     ensures { MatchOption result (IsNoInner (host_syntax syntax) text.now)
-        (λ piece. IsInner (host_syntax syntax) text.now (meant_host piece)) }
+        (λ piece. IsInner (host_syntax syntax) text.now (denoted_host piece)) }
 {
     match syntax {
         HostSyntax::Http => None,

@@ -9,6 +9,7 @@
 #![tactic(auto)]
 
 pub mod address_law;
+mod byte_class;
 pub mod bytes;
 pub mod classify;
 pub mod debug;
@@ -21,7 +22,6 @@ pub mod home;
 pub mod host;
 pub mod ipv6;
 pub mod length;
-mod look;
 pub mod mask_law;
 mod masks;
 pub mod refusal;

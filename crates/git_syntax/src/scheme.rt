@@ -4,7 +4,7 @@ ghost use Rattle.std.specs.Prelude.{◌≡◌, bytes_eq};
 ghost use Rattle.git_syntax.specs.Internal.SchemeRules.{scheme_named};
 ghost use Rattle.git_syntax.specs.Schemes.{scheme_of, scheme_text, default_port_of, is_known_scheme, is_ssh_scheme, is_web_scheme};
 ghost use Rattle.git_syntax.specs.Schemes.{is_ftp};
-ghost use Rattle.git_syntax.specs.Views.{lent_scheme};
+ghost use Rattle.git_syntax.specs.Views.{borrowed_scheme};
 
 /// The scheme of a borrowed location: a [`Scheme`] whose name is a slice. Copying it allocates nothing.
 ///
@@ -36,7 +36,7 @@ pub enum SchemeRef<'a> {
 impl<'a> SchemeRef<'a> {
     /// The scheme with this text, which names the known scheme `named`.
     pub fn of_known_scheme(named: KnownScheme, text: &'a str) -> SchemeRef<'a>
-        ensures { lent_scheme result ≡ scheme_named named text.now }
+        ensures { borrowed_scheme result ≡ scheme_named named text.now }
     {
         match named {
             KnownScheme::File => SchemeRef::File,
@@ -58,7 +58,7 @@ impl<'a> SchemeRef<'a> {
     /// }
     /// ```
     pub fn as_str(self) -> &'a str
-        ensures { result.now ≡ scheme_text (lent_scheme self.entry) }
+        ensures { result.now ≡ scheme_text (borrowed_scheme self.entry) }
     {
         match self {
             SchemeRef::File => "file",
@@ -82,7 +82,7 @@ impl<'a> SchemeRef<'a> {
     /// ```
     #[inline(always)]
     pub fn default_port(self) -> Option<u16>
-        ensures { result ≡ default_port_of (lent_scheme self.entry) }
+        ensures { result ≡ default_port_of (borrowed_scheme self.entry) }
     {
         match self {
             SchemeRef::Http => Some(80),

@@ -6,7 +6,7 @@ ghost use Rattle.git_syntax.specs.Addresses.{IsZone};
 ghost use Rattle.git_syntax.specs.Bytes.{FreeOf, LacksWhiteSpace, at_sign, begins_with, left_bracket};
 ghost use Rattle.git_syntax.specs.Escapes as spec;
 ghost use Rattle.git_syntax.specs.Flaws.{NamesFlaw};
-ghost use Rattle.git_syntax.specs.Internal.FoundPieces.{IsReady, meant, room_for, scp_slice};
+ghost use Rattle.git_syntax.specs.Internal.FoundPieces.{IsReady, denoted, buffer_length_for, scp_slice};
 ghost use Rattle.git_syntax.specs.Grammar.{AddressedForm, SpellsScpAddressed, SpellsScpBefore};
 ghost use Rattle.git_syntax.specs.Hosts.{IsLiteral};
 ghost use Rattle.git_syntax.specs.Internal.Forms.{PlainScp};
@@ -28,9 +28,9 @@ pub(crate) fn find_scp<'a>(
     path: &'a [u8],
 ) -> Result<Found<'a>, Refusal>
     requires { PlainScp input.now front.now path.now }
-    ensures found { IfOk result (λ found. SpellsScpBefore input.now (meant found)) }
+    ensures found { IfOk result (λ found. SpellsScpBefore input.now (denoted found)) }
     ensures ready { IfOk result (λ found. IsReady found) }
-    ensures room { IfOk result (λ found. room_for found ≤ length input.now) }
+    ensures buffer { IfOk result (λ found. buffer_length_for found ≤ length input.now) }
     ensures flaw { IfErr result (λ refusal. NamesFlaw input.now refusal) }
 {
     let plain = is_plain(input);
@@ -66,9 +66,9 @@ pub(crate) fn find_addressed<'a>(
     path: &'a [u8],
 ) -> Result<Found<'a>, Refusal>
     requires { AddressedForm input.now user.now address.now path.now }
-    ensures found { IfOk result (λ found. SpellsScpAddressed input.now (meant found)) }
+    ensures found { IfOk result (λ found. SpellsScpAddressed input.now (denoted found)) }
     ensures ready { IfOk result (λ found. IsReady found) }
-    ensures room { IfOk result (λ found. room_for found ≤ length input.now) }
+    ensures buffer { IfOk result (λ found. buffer_length_for found ≤ length input.now) }
     ensures flaw { IfErr result (λ refusal. NamesFlaw input.now refusal) }
 {
     if !is_text(input) {

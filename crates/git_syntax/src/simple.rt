@@ -17,13 +17,6 @@ use crate::scheme::is_named;
 /// Whether the text is known to be a simple one: a text of 16 to 64 bytes that are letters, digits, or one of `+`, `,`,
 /// `-`, `.`, `/`, `:`, `@` and `_`, with a simple host and no port. Such a text spells a settled location whose text
 /// it is. `false` says nothing.
-///
-/// ```
-/// /// Whether a remote is one that needs no reading to be written.
-/// fn stays(remote: &[u8]) -> bool {
-///     is_simple_text(remote) // `https://example.com/repo.git` is one, `https://example.com:8080/repo.git` is none
-/// }
-/// ```
 pub fn is_simple_text(bytes: &[u8]) -> bool
     ensures { IsTrue result → (v : Location) × IsSimpleText bytes.now v }
 {

@@ -7,16 +7,16 @@ ghost use Rattle.git_syntax.specs.Authority.{Fits};
 ghost use Rattle.git_syntax.specs.Bytes.{FreeOf, begins_with, slash};
 ghost use Rattle.git_syntax.specs.Escapes.{has_percent};
 ghost use Rattle.git_syntax.specs.Flaws.{NamesFlaw, OtherUrlForm, UrlForm};
-ghost use Rattle.git_syntax.specs.Internal.FoundPieces.{IsReady, meant, room_for};
+ghost use Rattle.git_syntax.specs.Internal.FoundPieces.{IsReady, denoted, buffer_length_for};
 ghost use Rattle.git_syntax.specs.Grammar.{Spells, SpellsFile, HasUrlSyntax, SpellsUrl};
-ghost use Rattle.git_syntax.specs.Internal.Looks.{Looks};
+ghost use Rattle.git_syntax.specs.Internal.ByteClasses.{HasByteClass};
 ghost use Rattle.git_syntax.specs.Internal.SchemeRules.{AreRulesOf};
 ghost use Rattle.git_syntax.specs.Internal.UrlPieces.{syntax_of};
 
+use crate::byte_class::{ByteClass, byte_class_of};
 use crate::bytes::{cut, starts_with_byte};
 use crate::found::Found;
 use crate::length::fits;
-use crate::look::{Look, look_at};
 use crate::refusal::{Refusal, UrlKind};
 use crate::rules::{Rules, rules_of};
 use crate::scheme::KnownScheme;
@@ -30,9 +30,9 @@ pub(crate) fn find_url<'a>(
     rest: &'a [u8],
 ) -> Result<Found<'a>, Refusal>
     requires { UrlForm input.now scheme.now rest.now }
-    ensures found { IfOk result (λ found. Spells input.now (meant found)) }
+    ensures found { IfOk result (λ found. Spells input.now (denoted found)) }
     ensures ready { IfOk result (λ found. IsReady found) }
-    ensures room { IfOk result (λ found. room_for found ≤ length input.now) }
+    ensures buffer { IfOk result (λ found. buffer_length_for found ≤ length input.now) }
     ensures flaw { IfErr result (λ refusal. NamesFlaw input.now refusal) }
 {
     let rules = rules_of(scheme);
@@ -60,9 +60,9 @@ fn is_ext(known: KnownScheme) -> bool
 /// Finds the slices of a file URL. The host ends at the first `/`, at which the path begins.
 fn find_file<'a>(input: &'a [u8], rest: &'a [u8]) -> Result<Found<'a>, Refusal>
     requires { UrlForm input.now (codes "file") rest.now }
-    ensures found { IfOk result (λ found. SpellsFile input.now (meant found)) }
+    ensures found { IfOk result (λ found. SpellsFile input.now (denoted found)) }
     ensures ready { IfOk result (λ found. IsReady found) }
-    ensures room { IfOk result (λ found. room_for found ≤ length input.now) }
+    ensures buffer { IfOk result (λ found. buffer_length_for found ≤ length input.now) }
     ensures flaw { IfErr result (λ refusal. NamesFlaw input.now refusal) }
 {
     if !is_text(input) {
@@ -97,17 +97,17 @@ fn find_other<'a>(
 ) -> Result<Found<'a>, Refusal>
     requires form { OtherUrlForm input.now scheme.now rest.now }
     requires rules { AreRulesOf scheme.now rules }
-    ensures found { IfOk result (λ found. SpellsUrl input.now (meant found)) }
+    ensures found { IfOk result (λ found. SpellsUrl input.now (denoted found)) }
     ensures ready { IfOk result (λ found. IsReady found) }
-    ensures room { IfOk result (λ found. room_for found ≤ length input.now) }
+    ensures buffer { IfOk result (λ found. buffer_length_for found ≤ length input.now) }
     ensures flaw { IfErr result (λ refusal. NamesFlaw input.now refusal) }
 {
     if !fits(rules.web, scheme, rest) {
         return Err(Refusal::TooLong);
     }
-    let look = look_at(input);
-    if look.is_printable() {
-        return find_parts(as_text(input), look, rules, scheme, rest);
+    let byte_class = byte_class_of(input);
+    if byte_class.is_printable() {
+        return find_parts(as_text(input), byte_class, rules, scheme, rest);
     }
     find_in_text(input, rules, scheme, rest)
 }
@@ -122,36 +122,36 @@ fn find_in_text<'a>(
     requires form { OtherUrlForm input.now scheme.now rest.now }
     requires rules { AreRulesOf scheme.now rules }
     requires fits { Fits scheme.now rest.now }
-    ensures found { IfOk result (λ found. SpellsUrl input.now (meant found)) }
+    ensures found { IfOk result (λ found. SpellsUrl input.now (denoted found)) }
     ensures ready { IfOk result (λ found. IsReady found) }
-    ensures room { IfOk result (λ found. room_for found ≤ length input.now) }
+    ensures buffer { IfOk result (λ found. buffer_length_for found ≤ length input.now) }
     ensures flaw { IfErr result (λ refusal. NamesFlaw input.now refusal) }
 {
     if is_utf8(input) {
-        find_parts(as_text(input), Look::Other, rules, scheme, rest)
+        find_parts(as_text(input), ByteClass::Other, rules, scheme, rest)
     } else {
         Err(Refusal::NotUtf8 { kind: UrlKind::Url })
     }
 }
 
-/// Finds the slices of a URL that is text and isn't a file URL, with the facts `look` about its bytes.
+/// Finds the slices of a URL that is text and isn't a file URL, with the class `byte_class` of its bytes.
 fn find_parts<'a>(
     text: &'a str,
-    look: Look,
+    byte_class: ByteClass,
     rules: Rules,
     scheme: &'a [u8],
     rest: &'a [u8],
 ) -> Result<Found<'a>, Refusal>
-    requires look { Looks look text.now }
+    requires byte_class { HasByteClass byte_class text.now }
     requires form { OtherUrlForm text.now scheme.now rest.now }
     requires rules { AreRulesOf scheme.now rules }
     requires fits { Fits scheme.now rest.now }
-    ensures found { IfOk result (λ found. SpellsUrl text.now (meant found)) }
+    ensures found { IfOk result (λ found. SpellsUrl text.now (denoted found)) }
     ensures ready { IfOk result (λ found. IsReady found) }
-    ensures room { IfOk result (λ found. room_for found ≤ length text.now) }
+    ensures buffer { IfOk result (λ found. buffer_length_for found ≤ length text.now) }
     ensures flaw { IfErr result (λ refusal. NamesFlaw text.now refusal) }
 {
-    match read_url_syntax(text, look, rules, scheme, rest) {
+    match read_url_syntax(text, byte_class, rules, scheme, rest) {
         Ok(url) => found_of_url(text.as_bytes(), rules, url),
         Err(fault) => Err(Refusal::BadUrl {
             kind: UrlKind::Url,
@@ -165,9 +165,9 @@ fn found_of_url<'a>(input: &'a [u8], rules: Rules, url: ParsedUrl<'a>) -> Result
     requires spelled { HasUrlSyntax input.now (syntax_of url) }
     requires rules { AreRulesOf url.scheme.now rules }
     requires escaped { url.escaped ≡ has_percent url.path.now }
-    ensures found { IfOk result (λ found. SpellsUrl input.now (meant found)) }
+    ensures found { IfOk result (λ found. SpellsUrl input.now (denoted found)) }
     ensures ready { IfOk result (λ found. IsReady found) }
-    ensures room { IfOk result (λ found. room_for found ≤ length input.now) }
+    ensures buffer { IfOk result (λ found. buffer_length_for found ≤ length input.now) }
     ensures flaw { IfErr result (λ refusal. NamesFlaw input.now refusal) }
 {
     if is_ext(rules.known) {

@@ -8,15 +8,15 @@ ghost use Rattle.git_syntax.specs.Escapes as escape;
 ghost use Rattle.git_syntax.specs.Flaws.{AuthorityFlaw, OtherUrlForm, UrlFlaw};
 ghost use Rattle.git_syntax.specs.Grammar.{HasUrlSyntax, UrlSyntax};
 ghost use Rattle.git_syntax.specs.Internal.HostPieces.{host_syntax};
-ghost use Rattle.git_syntax.specs.Internal.Looks.{Looks};
+ghost use Rattle.git_syntax.specs.Internal.ByteClasses.{HasByteClass};
 ghost use Rattle.git_syntax.specs.Internal.SchemeRules.{AreRulesOf};
 ghost use Rattle.git_syntax.specs.Bytes.{FreeOf, LacksWhiteSpace, at_sign, backslash, colon};
 ghost use Rattle.git_syntax.specs.Internal.UrlPieces.{HoldsAuthority, IsNoAuthority, ReadsCredentials, decoded_option, syntax_of};
 
+use crate::byte_class::ByteClass;
 use crate::bytes::{cut, cut_before_path, is_free_of, is_scheme_text, last_cut};
 use crate::escape::{decodes_to_utf8, decoding_is_utf8, has_percent, is_sound, lacks_white_space};
 use crate::host::{HostPort, HostSyntax, read_host, simple_host};
-use crate::look::Look;
 use crate::refusal::UrlFault;
 use crate::rules::Rules;
 
@@ -59,12 +59,12 @@ struct CredentialSlices<'a> {
 /// not a remote helper. Known facts about the text aren't tested again.
 pub(crate) fn read_url_syntax<'a>(
     text: &'a str,
-    look: Look,
+    byte_class: ByteClass,
     rules: Rules,
     scheme: &'a [u8],
     rest: &'a [u8],
 ) -> Result<ParsedUrl<'a>, UrlFault>
-    requires look { Looks look text.now }
+    requires byte_class { HasByteClass byte_class text.now }
     requires form { OtherUrlForm text.now scheme.now rest.now }
     requires rules { AreRulesOf scheme.now rules }
     requires fits { Fits scheme.now rest.now }
@@ -74,21 +74,21 @@ pub(crate) fn read_url_syntax<'a>(
     ensures refused { IfErr result (λ fault. (parts : UrlSyntax) → ¬ HasUrlSyntax text.now parts) }
     ensures flaw { IfErr result (λ fault. UrlFlaw text.now fault) }
 {
-    if !has_no_white_space(look, text) {
+    if !has_no_white_space(byte_class, text) {
         return Err(UrlFault::BadCharacter);
     }
-    if !has_sound_escapes(look, text) {
+    if !has_sound_escapes(byte_class, text) {
         return Err(UrlFault::BadCharacter);
     }
     if !is_scheme_text(scheme) {
         return Err(UrlFault::NoScheme);
     }
     let (authority, path) = cut_before_path(rest, rules.web);
-    if !means_text(look, path) {
+    if !means_text(byte_class, path) {
         return Err(UrlFault::BadCharacter);
     }
     let parts = read_authority(rules.syntax, rules.needs_host, authority)?;
-    Ok(join_parts(scheme, parts, path, holds_escape(look, path)))
+    Ok(join_parts(scheme, parts, path, holds_escape(byte_class, path)))
 }
 
 /// The fields of a URL, from those of its authority.
@@ -116,41 +116,41 @@ fn join_parts<'a>(
 }
 
 /// Whether the text has no white space. A printable text never has.
-fn has_no_white_space(look: Look, text: &str) -> bool
-    requires { Looks look text.now }
+fn has_no_white_space(byte_class: ByteClass, text: &str) -> bool
+    requires { HasByteClass byte_class text.now }
     ensures { IsTrue result ↔ LacksWhiteSpace text.now }
 {
-    look.is_printable() || lacks_white_space(text)
+    byte_class.is_printable() || lacks_white_space(text)
 }
 
 /// Whether two hexadecimal digits follow every `%` of the text.
-fn has_sound_escapes(look: Look, text: &str) -> bool
-    requires { Looks look text.now }
+fn has_sound_escapes(byte_class: ByteClass, text: &str) -> bool
+    requires { HasByteClass byte_class text.now }
     ensures { result ≡ escape.is_sound text.now }
 {
-    look.is_printable() || is_sound(text.as_bytes())
+    byte_class.is_printable() || is_sound(text.as_bytes())
 }
 
 /// Whether the text decodes to UTF-8. A text that decodes to ASCII always does.
-fn means_text(look: Look, piece: &[u8]) -> bool
-    requires { Looks look piece.now }
+fn means_text(byte_class: ByteClass, piece: &[u8]) -> bool
+    requires { HasByteClass byte_class piece.now }
     ensures { IsTrue result ↔ IsUtf8 (percent_decode piece.now) }
 {
-    if look.is_ascii() {
+    if byte_class.is_ascii() {
         return true;
     }
-    if look.is_printable() {
+    if byte_class.is_printable() {
         return decoding_is_utf8(piece);
     }
     decodes_to_utf8(piece)
 }
 
 /// Whether the text has a `%`. A plain text never has.
-fn holds_escape(look: Look, piece: &[u8]) -> bool
-    requires { Looks look piece.now }
+fn holds_escape(byte_class: ByteClass, piece: &[u8]) -> bool
+    requires { HasByteClass byte_class piece.now }
     ensures { result ≡ escape.has_percent piece.now }
 {
-    if look.is_plain() {
+    if byte_class.is_plain() {
         return false;
     }
     has_percent(piece)

@@ -25,13 +25,13 @@ abbrev pub pair_bytes : QueryText × QueryText → List ℕ × List ℕ
 pair_bytes pair = (text_bytes pair.0, text_bytes pair.1)
 
 -- whether the name and whether the value is borrowed
-abbrev pub pair_lent : QueryText × QueryText → Bool × Bool
-pair_lent pair = (is_borrowed pair.0, is_borrowed pair.1)
+abbrev pub pair_borrowed : QueryText × QueryText → Bool × Bool
+pair_borrowed pair = (is_borrowed pair.0, is_borrowed pair.1)
 
 -- which names and which values of the query are borrowed, in order, if there is a query; a path and a fragment
 -- always are
-abbrev pub what_is_lent : PathComponents → Option (List (Bool × Bool))
-what_is_lent parts = option_map (λ pairs. map pair_lent pairs.items) parts.query
+abbrev pub what_is_borrowed : PathComponents → Option (List (Bool × Bool))
+what_is_borrowed parts = option_map (λ pairs. map pair_borrowed pairs.items) parts.query
 
 -- the components that a `PathComponents` represents
 abbrev pub components : PathComponents → Components
@@ -43,32 +43,32 @@ components parts = record {
 
 -- a name or a value of the query: an owned text exactly if the piece that was cut out has a raw `+`, and else
 -- borrowed, so that its bytes are in the path
-abbrev pub LentTerm : Location → List ℕ → QueryText → Type 0
-LentTerm v piece (Borrowed text) = FreeOf plus_sign piece × Holds (bstr_bytes text) v.path
-LentTerm v piece (Owned text) = ¬ FreeOf plus_sign piece
+abbrev pub BorrowedTerm : Location → List ℕ → QueryText → Type 0
+BorrowedTerm v piece (Borrowed text) = FreeOf plus_sign piece × Holds (bstr_bytes text) v.path
+BorrowedTerm v piece (Owned text) = ¬ FreeOf plus_sign piece
 
 -- the names and values of these fields, in order; empty fields have none
-abbrev pub LentPairs : Location → List (List ℕ) → List (QueryText × QueryText) → Type 0
-LentPairs v [] pairs = pairs ≡ []
-LentPairs v ([] ∷ fields) pairs = LentPairs v fields pairs
-LentPairs v ((b ∷ bs) ∷ fields) pairs =
+abbrev pub BorrowedPairs : Location → List (List ℕ) → List (QueryText × QueryText) → Type 0
+BorrowedPairs v [] pairs = pairs ≡ []
+BorrowedPairs v ([] ∷ fields) pairs = BorrowedPairs v fields pairs
+BorrowedPairs v ((b ∷ bs) ∷ fields) pairs =
     (name : List ℕ) × (value : List ℕ) × (pair : QueryText × QueryText)
     × (others : List (QueryText × QueryText))
-    × SplitsField (b ∷ bs) name value × LentTerm v name pair.0 × LentTerm v value pair.1
-    × LentPairs v fields others × (pairs ≡ pair ∷ others)
+    × SplitsField (b ∷ bs) name value × BorrowedTerm v name pair.0 × BorrowedTerm v value pair.1
+    × BorrowedPairs v fields others × (pairs ≡ pair ∷ others)
 
 -- the names and values of the query of a location's original path
-pub record LentFields (v : Location) (pairs : List (QueryText × QueryText)) : Type 0 where
+pub record BorrowedFields (v : Location) (pairs : List (QueryText × QueryText)) : Type 0 where
   pub front : List ℕ
   pub query : List ℕ
   pub fragment : Option (List ℕ)
   pub fields : List (List ℕ)
   pub cut : CutsPath (original_path v) front (Some query) fragment
   pub split : CutsFields query fields
-  pub lent : LentPairs v fields pairs
+  pub borrowed : BorrowedPairs v fields pairs
 
 -- the names and values of the query, if there is a query, are those of the location's original path; each is
 -- borrowed unless its piece has a raw `+`
-abbrev pub LentQuery : Location → Option (List (QueryText × QueryText)) → Type 0
-LentQuery v None = Unit {0}
-LentQuery v (Some pairs) = LentFields v pairs
+abbrev pub BorrowedQuery : Location → Option (List (QueryText × QueryText)) → Type 0
+BorrowedQuery v None = Unit {0}
+BorrowedQuery v (Some pairs) = BorrowedFields v pairs

@@ -41,35 +41,35 @@ given_or [] other = other
 given_or (b ∷ bs) other = b ∷ bs
 
 -- the location that was read, with the given path and no spelling of it
-abbrev pub with_given : List ℕ → Location → Location
-with_given path read = record read { path = given_or path read.path; spelling = None }
+abbrev pub with_kept_path : List ℕ → Location → Location
+with_kept_path path read = record read { path = given_or path read.path; spelling = None }
 
 -- the location that was read from the text of fields with this scheme and this path: HTTP keeps the path
 abbrev pub keeping : Scheme → List ℕ → Location → Location
-keeping http path read = with_given path read
-keeping https path read = with_given path read
+keeping http path read = with_kept_path path read
+keeping https path read = with_kept_path path read
 keeping _ path read = read
 
 -- the result of reading the text of fields, with their path if it is kept
 abbrev pub ReadsKept : Location → List ℕ → Result Location Error → Type 0
-ReadsKept given b (Ok v) = (read : Location) × Reads b (Ok read)
-    × (v ≡ keeping given.scheme given.path read)
-ReadsKept given b (Err e) = Reads b (Err e)
+ReadsKept input b (Ok v) = (read : Location) × Reads b (Ok read)
+    × (v ≡ keeping input.scheme input.path read)
+ReadsKept input b (Err e) = Reads b (Err e)
 
 -- the result for settled fields: these fields, or a failed allocation
 abbrev pub GivesBack : Location → Result Location Error → Type 0
-GivesBack given (Ok v) = v ≡ given
-GivesBack given (Err e) = e ≡ error.Memory
+GivesBack input (Ok v) = v ≡ input
+GivesBack input (Err e) = e ≡ error.Memory
 
 -- the result of making a location from fields
-pub record MadeOf (given : Location) (result : Result Location Error) : Type 0 where
+pub record BuiltFrom (input : Location) (result : Result Location Error) : Type 0 where
   -- a name of a remote helper that isn't valid is refused, and reported
-  pub helper_name : (name : List ℕ) → invalid_name given.scheme ≡ Some name
+  pub helper_name : (name : List ℕ) → invalid_name input.scheme ≡ Some name
       → (e : Error) × (result ≡ Err e) × ReportsName name e
   -- otherwise, if the fields have no text, the fault is returned
-  pub fault : invalid_name given.scheme ≡ None → (f : WriteFault) → text given ≡ Err f
+  pub fault : invalid_name input.scheme ≡ None → (f : WriteFault) → text input ≡ Err f
       → result ≡ Err (error.Unwritable f)
   -- otherwise the text of the fields is read
-  pub read : (t : List ℕ) → text given ≡ Ok t → ReadsKept given t result
+  pub read : (t : List ℕ) → text input ≡ Ok t → ReadsKept input t result
   -- settled fields come back unchanged
-  pub settled : IsSettled given → GivesBack given result
+  pub settled : IsSettled input → GivesBack input result

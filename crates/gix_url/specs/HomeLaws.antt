@@ -8,8 +8,8 @@ abbrev pub ExactlyOne : {A : Type 0} → (A → Type 0) → Type 0
 ExactlyOne {A} fits = ((x : A) × fits x) × ((x y : A) → fits x → fits y → x ≡ y)
 
 -- a path has exactly one home split: the user in whose home folder it begins, if any, and the rest
-abbrev pub OneSplit : Type 0
-OneSplit = (path : List ℕ)
+abbrev pub OneHomeSplit : Type 0
+OneHomeSplit = (path : List ℕ)
     → ExactlyOne {A = Option HomeUser × List ℕ} (λ split. SplitsHome path split.0 split.1)
 
 -- there is exactly one text as which a shell takes a path

@@ -13,24 +13,24 @@ pub use Rattle.git_laws.specs.Laws.{Unique, ComesBack, SettledAgain, ReadAgain, 
 -- location, or a refusal each; otherwise an allocation of the one failed, or the buffer of the other is shorter
 -- than the bytes
 abbrev pub AnswerAlike : List ℕ → ℕ → Result Location Error → Result Location ParseError → Type 0
-AnswerAlike b room (Ok v) (Ok w) = v ≡ w
-AnswerAlike b room (Ok v) (Err unread.NoRoom) = room < length b
-AnswerAlike b room (Ok v) (Err (unread.Refused refusal)) = ⊥
-AnswerAlike b room (Err e) (Ok w) = e ≡ error.Memory
-AnswerAlike b room (Err e) (Err unread.NoRoom) = (e ≡ error.Memory) × (room < length b)
-AnswerAlike b room (Err e) (Err (unread.Refused refusal)) = Unit {0}
+AnswerAlike b buffer_len (Ok v) (Ok w) = v ≡ w
+AnswerAlike b buffer_len (Ok v) (Err unread.NoRoom) = buffer_len < length b
+AnswerAlike b buffer_len (Ok v) (Err (unread.Refused refusal)) = ⊥
+AnswerAlike b buffer_len (Err e) (Ok w) = e ≡ error.Memory
+AnswerAlike b buffer_len (Err e) (Err unread.NoRoom) = (e ≡ error.Memory) × (buffer_len < length b)
+AnswerAlike b buffer_len (Err e) (Err (unread.Refused refusal)) = Unit {0}
 
 -- reading the same bytes with allocation and into a buffer has the same result: one location or a refusal each,
 -- unless an allocation failed or the buffer is shorter than the bytes
 abbrev pub ReadersAgree : Type 0
-ReadersAgree = (b : List ℕ) (room : ℕ) (owned : Result Location Error)
-    (lent : Result Location ParseError) → Reads b owned → ReadsIn b room lent
-    → AnswerAlike b room owned lent
+ReadersAgree = (b : List ℕ) (buffer_len : ℕ) (owned : Result Location Error)
+    (borrowed : Result Location ParseError) → Reads b owned → ReadsIn b buffer_len borrowed
+    → AnswerAlike b buffer_len owned borrowed
 
 -- if the buffer is at least as long as the bytes, reading into it returns a location exactly if reading with
 -- allocation returns it, unless an allocation failed
-abbrev pub SameWithRoom : Type 0
-SameWithRoom = (b : List ℕ) (room : ℕ) (owned : Result Location Error)
-    (lent : Result Location ParseError) → length b ≤ room → Reads b owned → ReadsIn b room lent
+abbrev pub SameWithBuffer : Type 0
+SameWithBuffer = (b : List ℕ) (buffer_len : ℕ) (owned : Result Location Error)
+    (borrowed : Result Location ParseError) → length b ≤ buffer_len → Reads b owned → ReadsIn b buffer_len borrowed
     → ¬ (owned ≡ Err error.Memory)
-    → (v : Location) → (owned ≡ Ok v) ↔ (lent ≡ Ok v)
+    → (v : Location) → (owned ≡ Ok v) ↔ (borrowed ≡ Ok v)

@@ -5,7 +5,7 @@ use Rattle.gix_url.specs.declared.scheme.Scheme.TheVariants.{File, Git, Ssh, Htt
 use Rattle.git_syntax.specs.Location.{Scheme}
 use Rattle.git_syntax.specs.Location.Scheme.{file, git, ssh, http, https, ext, helper, helper_url}
 pub use Rattle.git_location.specs.Views.{judgement}
-pub use Rattle.git_syntax.specs.Views.{lent_scheme}
+pub use Rattle.git_syntax.specs.Views.{borrowed_scheme}
 
 -- the scheme that one of the code represents
 abbrev pub owned_scheme : rust.Scheme → Scheme

@@ -3,27 +3,27 @@
 //! Pieces are cut first and decoded afterwards, whatever is escaped in them. Allocates once for the list of a
 //! query's names and values, if it isn't empty, and once for each of them that has a raw `+`. `cuts` cuts a
 //! text together with its decoding, `measure` computes lengths of decodings, `fields` iterates over the fields
-//! of a query, and `lend` returns their names and values.
+//! of a query, and `query_texts` returns their names and values.
 
 ghost use Rattle.std.specs.Prelude.{◌≡◌, ◌⊎◌, [], ◌∷◌, None, IfErr, IfOk, IfSome, IsErr, IsOk, option_map};
 ghost use Rattle.bstr.specs.BStr.{bstr_bytes};
 ghost use Rattle.git_syntax.specs.Bytes.{Holds, slash};
-ghost use Rattle.gix_url.specs.Internal.ComponentPieces.{HasQuery, LendsParts, SpellsPath};
-ghost use Rattle.gix_url.specs.ComponentViews.{LentQuery, components};
+ghost use Rattle.gix_url.specs.Internal.ComponentPieces.{HasQuery, BorrowsParts, SpellsPath};
+ghost use Rattle.gix_url.specs.ComponentViews.{BorrowedQuery, components};
 ghost use Rattle.git_laws.specs.Components.{Components, ComponentsOf};
 
 mod cuts;
 mod fields;
-mod lend;
 mod measure;
 mod near;
+mod query_texts;
 mod same;
 
 use crate::error::Error;
 use crate::location::Url;
 use bstr::{BStr, BString};
 use cuts::EscapedText;
-use fields::lend_query;
+use fields::borrow_query;
 use git_location::url_ref::UrlRef;
 use git_syntax::home::or_root;
 use git_syntax::scheme::SchemeRef;
@@ -103,7 +103,7 @@ impl Url {
         ensures parts { IfOk result (λ c. ComponentsOf self.now (components c)) }
         ensures path { IfOk result
             (λ c. Holds (bstr_bytes c.path) self.now.path ⊎ (bstr_bytes c.path ≡ slash ∷ [])) }
-        ensures query { IfOk result (λ c. LentQuery self.now (option_map (λ q. q.items) c.query)) }
+        ensures query { IfOk result (λ c. BorrowedQuery self.now (option_map (λ q. q.items) c.query)) }
         ensures fragment { IfOk result
             (λ c. IfSome c.fragment (λ f. Holds (bstr_bytes f) self.now.path)) }
         ensures memory { IfErr result (λ e. e ≡ Error.Memory) }
@@ -130,7 +130,7 @@ impl<'a> PathComponents<'a> {
         ensures parts { IfOk result (λ c. ComponentsOf url.now (components c)) }
         ensures path { IfOk result
             (λ c. Holds (bstr_bytes c.path) url.now.path ⊎ (bstr_bytes c.path ≡ slash ∷ [])) }
-        ensures query { IfOk result (λ c. LentQuery url.now (option_map (λ q. q.items) c.query)) }
+        ensures query { IfOk result (λ c. BorrowedQuery url.now (option_map (λ q. q.items) c.query)) }
         ensures fragment { IfOk result
             (λ c. IfSome c.fragment (λ f. Holds (bstr_bytes f) url.now.path)) }
         ensures memory { IfErr result (λ e. e ≡ Error.Memory) }
@@ -164,7 +164,7 @@ fn spelled_path<'a>(url: &UrlRef<'a>) -> EscapedText<'a>
 
 /// The path, the query and the fragment of a path of HTTP.
 fn web_components<'a>(alloc: Global, whole: EscapedText<'a>) -> Result<PathComponents<'a>, Error>
-    ensures lent { IfOk result (λ c. LendsParts whole.entry.escaped whole.entry.text.now c) }
+    ensures borrowed { IfOk result (λ c. BorrowsParts whole.entry.escaped whole.entry.text.now c) }
     ensures memory { IfErr result (λ e. e ≡ Error.Memory) }
     ensures query { IsErr result → HasQuery whole.entry.text.now }
 {
@@ -172,10 +172,10 @@ fn web_components<'a>(alloc: Global, whole: EscapedText<'a>) -> Result<PathCompo
     let (path, query) = front.cut_off(b'?');
     let query = match query {
         None => None,
-        Some(query) => Some(lend_query(alloc, query)?),
+        Some(query) => Some(borrow_query(alloc, query)?),
     };
     Ok(PathComponents {
-        path: BStr::new(or_root(path.meant)),
+        path: BStr::new(or_root(path.denoted)),
         query,
         fragment: meant_option(fragment),
     })
@@ -183,10 +183,10 @@ fn web_components<'a>(alloc: Global, whole: EscapedText<'a>) -> Result<PathCompo
 
 /// The decoding of the piece, if there is one.
 fn meant_option(piece: Option<EscapedText<'_>>) -> Option<BStr<'_>>
-    ensures { option_map bstr_bytes result ≡ option_map (λ p. p.meant.now) piece.entry }
+    ensures { option_map bstr_bytes result ≡ option_map (λ p. p.denoted.now) piece.entry }
 {
     match piece {
         None => None,
-        Some(piece) => Some(BStr::new(piece.meant)),
+        Some(piece) => Some(BStr::new(piece.denoted)),
     }
 }

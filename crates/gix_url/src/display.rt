@@ -28,7 +28,7 @@ impl fmt::Display for Url {
         ensures fault { display self.now ≡ None → IsErr result }
         ensures untouched { display self.now ≡ None → f.new ≡ f.old }
     {
-        let lent = self.as_ref();
-        lent.fmt(f)
+        let borrowed = self.as_ref();
+        borrowed.fmt(f)
     }
 }

@@ -2,7 +2,7 @@
 
 ghost use Rattle.std.specs.Prelude.{◌≡◌, None, Some, IfErr, IfOk, option_map, string_bytes};
 ghost use Rattle.bstr.specs.Owned.{bstring_bytes};
-ghost use Rattle.gix_url.specs.FromParts.{MadeOf, ReportsName, invalid_name, keeping, of_parts, with_given};
+ghost use Rattle.gix_url.specs.FromParts.{BuiltFrom, ReportsName, invalid_name, keeping, of_parts, with_kept_path};
 ghost use Rattle.gix_url.specs.Views.{owned_scheme};
 
 use crate::error::Error;
@@ -54,12 +54,12 @@ impl Url {
         path: BString,
         serialize_alternative_form: bool,
     ) -> Result<Url, Error>
-        ensures { let given = of_parts (owned_scheme scheme) (option_map string_bytes user)
+        ensures { let input = of_parts (owned_scheme scheme) (option_map string_bytes user)
             (option_map string_bytes password)
             (option_map string_bytes host) port (bstring_bytes path) serialize_alternative_form in
-            MadeOf given result }
+            BuiltFrom input result }
     {
-        let given = Url {
+        let input = Url {
             scheme: check_scheme(scheme)?,
             user,
             password,
@@ -69,9 +69,9 @@ impl Url {
             path,
             spelling: None,
         };
-        law_value(&given);
-        let read = given.reread(alloc)?;
-        Ok(keep_path(given, read))
+        law_value(&input);
+        let read = input.reread(alloc)?;
+        Ok(keep_path(input, read))
     }
 }
 
@@ -103,18 +103,18 @@ fn invalid(name: String) -> Error
 }
 
 /// The location that was read from the text of the given fields, with their path if it is kept.
-fn keep_path(given: Url, read: Url) -> Url
-    ensures { result ≡ keeping given.scheme given.path read }
+fn keep_path(input: Url, read: Url) -> Url
+    ensures { result ≡ keeping input.scheme input.path read }
 {
-    match given.scheme {
-        Scheme::Http | Scheme::Https => with_given(given.path, read),
+    match input.scheme {
+        Scheme::Http | Scheme::Https => with_kept_path(input.path, read),
         _ => read,
     }
 }
 
 /// The location that was read, with the given path unless that is empty, and without a spelling.
-fn with_given(path: BString, mut read: Url) -> Url
-    ensures { result ≡ with_given (bstring_bytes path) read }
+fn with_kept_path(path: BString, mut read: Url) -> Url
+    ensures { result ≡ with_kept_path (bstring_bytes path) read }
 {
     read.spelling = None;
     if !path.is_empty() {

@@ -1,7 +1,7 @@
 //! The laws of home folders and of paths as text, over their definitions alone.
 
 ghost use Rattle.std.specs.Cmp.{IsTotalOrder};
-ghost use Rattle.gix_url.specs.HomeLaws.{OneExpansion, OneFolder, OneJoined, OneParent, OneReading, OneRest, OneSplit};
+ghost use Rattle.gix_url.specs.HomeLaws.{OneExpansion, OneFolder, OneJoined, OneParent, OneReading, OneRest, OneHomeSplit};
 ghost use Rattle.gix_url.specs.HomeOrder.{fed_user, user_cmp, user_eq};
 ghost use Rattle.git_laws.specs.Laws.{EqualIsSame, FedAlike, TiedIsEqual};
 
@@ -14,7 +14,7 @@ ghost use Rattle.git_laws.specs.Laws.{EqualIsSame, FedAlike, TiedIsEqual};
 /// - `folder`: a user has one home folder, or none is known. So `NoHome` is returned only if there is none.
 /// - `expansion`: a path has one expansion. Callers may store the result of `expand_path::expand_path`.
 pub fn law_homes()
-    ensures split { OneSplit }
+    ensures split { OneHomeSplit }
     ensures shell { OneReading }
     ensures rest { OneRest }
     ensures joined { OneJoined }

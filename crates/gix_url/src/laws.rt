@@ -5,7 +5,7 @@
 //! about errors that own a text. Users combine them with the contracts of `parse`, of the writer, of the
 //! settled test and of `lines`, which name the same definitions.
 
-ghost use Rattle.gix_url.specs.Laws.{ReadersAgree, SameWithRoom};
+ghost use Rattle.gix_url.specs.Laws.{ReadersAgree, SameWithBuffer};
 ghost use Rattle.git_syntax.specs.Refusals.{Decided, Flawless};
 ghost use Rattle.git_refusals.specs.Laws.{OneRefusal, RefusedFlaw, RefusedUnspelled, RefusedWithin};
 ghost use Rattle.gix_url.specs.Refusals.{Exclusive};
@@ -31,7 +31,7 @@ pub use git_syntax::escape::law_sets;
 ///   no allocation fails. So a program without an allocator reads every text like one that has one.
 pub fn law_readers()
     ensures agree { ReadersAgree }
-    ensures same { SameWithRoom }
+    ensures same { SameWithBuffer }
 {}
 
 /// A refused text spells no location.

@@ -7,7 +7,7 @@ ghost use Rattle.git_location.specs.Settled.{IsValue};
 use crate::scheme::Scheme;
 use bstr::BString;
 use git_location::url_ref::UrlRef;
-use git_location::value::law_lent_value;
+use git_location::value::law_borrowed_value;
 use std::marker::Model;
 
 /// A Git location: a URL, a location in the scp form, a local path or the address of a remote helper.
@@ -101,5 +101,5 @@ impl Url {
 pub fn law_value(url: &Url)
     ensures value { IsValue url.now }
 {
-    law_lent_value(&url.as_ref());
+    law_borrowed_value(&url.as_ref());
 }

@@ -3,7 +3,7 @@
 ghost use Rattle.std.specs.Prelude.{◌≡◌, IfErr, IfOk, IsOk, true};
 ghost use Rattle.git_syntax.specs.Internal.SchemeRules.{scheme_named};
 ghost use Rattle.git_syntax.specs.Schemes.{scheme_of, scheme_text, default_port_of, is_known_scheme};
-ghost use Rattle.git_syntax.specs.Views.{lent_scheme};
+ghost use Rattle.git_syntax.specs.Views.{borrowed_scheme};
 ghost use Rattle.gix_url.specs.Views.{owned_scheme};
 
 use crate::error::Error;
@@ -127,7 +127,7 @@ impl Scheme {
     /// ```
     #[inline(always)]
     pub fn as_ref(&self) -> SchemeRef<'_>
-        ensures { lent_scheme result ≡ owned_scheme self.now }
+        ensures { borrowed_scheme result ≡ owned_scheme self.now }
     {
         match self {
             Scheme::File => SchemeRef::File,

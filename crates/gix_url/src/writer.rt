@@ -15,7 +15,7 @@ use crate::error::Error;
 use crate::location::Url;
 use bstr::{BStr, BString};
 use git_location::url_ref::UrlRef;
-use git_location::value::law_lent_value;
+use git_location::value::law_borrowed_value;
 use git_location::write_error::{WriteError, WriteFault};
 use git_location::writer::fill::fill;
 use git_location::writer::form::Form;
@@ -47,8 +47,8 @@ impl Url {
     ///
     /// ```
     /// /// Whether the text fits into a field of so many bytes.
-    /// fn fits(url: &Url, room: u128) -> bool {
-    ///     url.text_len().is_ok_and(|length| length <= room)
+    /// fn fits(url: &Url, capacity: u128) -> bool {
+    ///     url.text_len().is_ok_and(|length| length <= capacity)
     /// }
     /// ```
     ///
@@ -125,7 +125,7 @@ impl Url {
         ensures empty { text url.now ≡ Ok [] → IsOk result }
         ensures settled { IsSettled url.now → WritesAgain url.now result }
     {
-        law_lent_value(url);
+        law_borrowed_value(url);
         match url.own_form() {
             Ok(form) => collect_in(alloc, url, form),
             Err(fault) => Err(Error::Unwritable(fault)),

@@ -8,7 +8,7 @@ use Rattle.git_readers.specs.declared.unambiguous.Condition.{Condition}
 use Rattle.git_readers.specs.Conditions.{IsFirstUnmet, IsUnambiguous}
 use Rattle.gix_url.specs.Location.{Location}
 use Rattle.gix_url.specs.Readings.{ReadsIn}
-use Rattle.gix_url.specs.FromParts.{MadeOf}
+use Rattle.gix_url.specs.FromParts.{BuiltFrom}
 use Rattle.gix_url.specs.Settled.{IsSettled}
 use Rattle.gix_url.specs.GitClass.{AgreesWithGit}
 use Rattle.gix_url.specs.Text.{text}
@@ -19,9 +19,9 @@ use Rattle.gix_url_c.specs.Codes.{ok, unwritable, condition_number, error_code, 
 use Rattle.gix_url_c.specs.Output.{Returns, Puts}
 
 -- a result is reported: a location is returned, or an error by its number and its problem
-abbrev pub Reports : Result Location Error → PartLengths → List ℕ → List ℕ → Problem → ℕ → Type 0
-Reports (Ok v) built old new problem code = Returns v built old new code
-Reports (Err e) built old new problem code = (code ≡ error_code e) × Tells e problem
+abbrev pub ReportsResult : Result Location Error → PartLengths → List ℕ → List ℕ → Problem → ℕ → Type 0
+ReportsResult (Ok v) built old new problem code = Returns v built old new code
+ReportsResult (Err e) built old new problem code = (code ≡ error_code e) × Tells e problem
 
 -- a reading of the bytes with a buffer that is long enough is reported: a location is returned, or the refusal
 abbrev pub ReportsAnswer : List ℕ → Result Location ParseError → PartLengths → List ℕ → List ℕ → Problem → ℕ → Type 0
@@ -37,7 +37,7 @@ ReportsRead b built old new problem code = (answer : Result Location ParseError)
 
 -- the result of building a location from parts is reported
 abbrev pub ReportsBuilt : Location → PartLengths → List ℕ → List ℕ → Problem → ℕ → Type 0
-ReportsBuilt parts built old new problem code = (answer : Result Location Error) × MadeOf parts answer × Reports answer built old new problem code
+ReportsBuilt parts built old new problem code = (answer : Result Location Error) × BuiltFrom parts answer × ReportsResult answer built old new problem code
 
 -- whether the location is settled is reported
 abbrev pub ReportsSettled : Location → Bool → ℕ → Type 0

@@ -15,7 +15,7 @@ use Rattle.gix_url_c.specs.declared.rules.config.Unlisted.{Unlisted}
 use Rattle.gix_url_c.specs.declared.rules.config.Unlisted.TheVariants as unlisted
 use Rattle.gix_url_c.specs.declared.rules.stops.Stop.{Stop}
 use Rattle.gix_url_c.specs.Output.{PutsBoth, is_there, or_nothing}
-use Rattle.gix_url_c.specs.Looks.{truth}
+use Rattle.gix_url_c.specs.SeenLocations.{truth}
 use Rattle.gix_url_c.specs.Stops.{no_configuration, no_stop}
 
 -- ---- entries

@@ -4,7 +4,7 @@ pub mod Left
 pub mod Output
 pub mod Answers
 pub mod Borrowed
-pub mod Looks
+pub mod SeenLocations
 pub mod ReasonTexts
 pub mod ComponentNumbers
 pub mod Stops

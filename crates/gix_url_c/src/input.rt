@@ -1,7 +1,7 @@
 //! The location that C passes: numbers, and the bytes of each part.
 
 ghost use Rattle.std.specs.Prelude.{◌≡◌, IfSome, None, option_map};
-ghost use Rattle.gix_url.specs.Views.{lent_scheme};
+ghost use Rattle.gix_url.specs.Views.{borrowed_scheme};
 ghost use Rattle.gix_url_c.specs.Input.{IsNoScheme, IsNoText, IsNone, location_of, present, scheme_numbered};
 
 use gix_url::{SchemeRef, UrlRef};
@@ -72,7 +72,7 @@ pub(crate) fn location_of<'a>(passed: &PartBytes<'a>) -> Option<UrlRef<'a>>
 /// The scheme with this number, and with this name if it has one.
 #[inline(always)]
 fn scheme(number: u8, name: &[u8]) -> Option<SchemeRef<'_>>
-    ensures built { IfSome result (λ scheme. lent_scheme scheme ≡ scheme_numbered number name.now) }
+    ensures built { IfSome result (λ scheme. borrowed_scheme scheme ≡ scheme_numbered number name.now) }
     ensures known { IfSome result (λ _. ¬ IsNoScheme number name.now) }
     ensures refused { result ≡ None → IsNoScheme number name.now }
 {

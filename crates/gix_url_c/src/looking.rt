@@ -7,7 +7,7 @@ ghost use Rattle.gix_url_c.specs.Codes.{UnlessNone, memory, ok};
 ghost use Rattle.gix_url_c.specs.Input.{IsNone, location_of};
 ghost use Rattle.gix_url_c.specs.Output.{or_nothing};
 ghost use Rattle.gix_url_c.specs.Left.{LeavesBuffer};
-ghost use Rattle.gix_url_c.specs.Looks.{Looks, ReportsSpelling, judgement_number};
+ghost use Rattle.gix_url_c.specs.SeenLocations.{IsSeenLocation, ReportsSpelling, judgement_number};
 
 use crate::codes::{NO_LOCATION, OK};
 use crate::input::{PartBytes, location_of};
@@ -41,7 +41,7 @@ pub struct Seen {
 #[unsafe(no_mangle)]
 pub extern "C" fn gix_url_c_look(passed: &PartBytes<'_>, seen: &mut Seen) -> u32
     ensures reported { UnlessNone result (IsNone passed.now)
-        ((result ≡ ok) × Looks (location_of passed.now) seen.new) }
+        ((result ≡ ok) × IsSeenLocation (location_of passed.now) seen.new) }
     ensures left { LeavesBuffer result seen.old seen.new }
     ensures no_memory { ¬ (result ≡ memory) }
 {
@@ -56,7 +56,7 @@ pub extern "C" fn gix_url_c_look(passed: &PartBytes<'_>, seen: &mut Seen) -> u32
 
 /// The results for the location.
 fn look(url: &UrlRef<'_>) -> Seen
-    ensures { Looks url.now result }
+    ensures { IsSeenLocation url.now result }
 {
     let port = url.port_or_default();
     Seen {

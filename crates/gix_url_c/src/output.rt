@@ -4,7 +4,7 @@
 
 ghost use Rattle.std.specs.Prelude.{◌≡◌, ◌≤◌, ◌⊎◌, ◌++◌, drop, length, option_map};
 ghost use Rattle.std.specs.Option.{option_copied};
-ghost use Rattle.gix_url.specs.Views.{lent_scheme};
+ghost use Rattle.gix_url.specs.Views.{borrowed_scheme};
 ghost use Rattle.gix_url_c.specs.Codes.{no_room, ok};
 ghost use Rattle.gix_url_c.specs.Output.{Returns, bytes_of, location_numbers, is_there, part_lengths, or_nothing, or_zero, scheme_name, scheme_number};
 ghost use Rattle.gix_url_c.specs.Left.{LeavesLengths, LeavesBuffer};
@@ -106,7 +106,7 @@ pub(crate) fn numbers(url: &UrlRef<'_>) -> LocationNumbers
 
 /// The number of a scheme.
 fn number(scheme: SchemeRef<'_>) -> u8
-    ensures { result ≡ scheme_number (lent_scheme scheme.entry) }
+    ensures { result ≡ scheme_number (borrowed_scheme scheme.entry) }
 {
     match scheme {
         SchemeRef::File => 0,
@@ -122,7 +122,7 @@ fn number(scheme: SchemeRef<'_>) -> u8
 
 /// The name that a scheme has, or an empty one.
 pub(crate) fn name(scheme: SchemeRef<'_>) -> &[u8]
-    ensures { result.now ≡ scheme_name (lent_scheme scheme.entry) }
+    ensures { result.now ≡ scheme_name (borrowed_scheme scheme.entry) }
 {
     match scheme {
         SchemeRef::Helper(name) | SchemeRef::HelperUrl(name) => name.as_bytes(),

@@ -10,7 +10,7 @@ ghost use Rattle.gix_url.specs.Bytes.{slash};
 ghost use Rattle.gix_url.specs.Schemes.{default_port_of};
 ghost use Rattle.gix_url.specs.Text.{matching_or};
 ghost use Rattle.gix_url_c.specs.Input.{present, scheme_numbered};
-ghost use Rattle.gix_url_c.specs.Looks.{judgement_number, port_number, truth};
+ghost use Rattle.gix_url_c.specs.SeenLocations.{judgement_number, port_number, truth};
 
 use gix_url::{SchemeRef, UrlRef};
 

@@ -3,10 +3,10 @@
 //! With 102 only the numbers are reported. The problem is that of the error, and all 0 if the error has none.
 
 ghost use Rattle.std.specs.Prelude.{◌≡◌, ◌≤◌, ◌⊎◌, Err, IfOk, [], length, option_map, string_bytes};
-ghost use Rattle.gix_url.specs.FromParts.{MadeOf};
+ghost use Rattle.gix_url.specs.FromParts.{BuiltFrom};
 ghost use Rattle.gix_url.specs.Location.{fields};
-ghost use Rattle.gix_url.specs.Views.{lent_scheme, owned_scheme};
-ghost use Rattle.gix_url_c.specs.Answers.{Reports, ReportsBuilt, ReportsRead};
+ghost use Rattle.gix_url.specs.Views.{borrowed_scheme, owned_scheme};
+ghost use Rattle.gix_url_c.specs.Answers.{ReportsResult, ReportsBuilt, ReportsRead};
 ghost use Rattle.gix_url_c.specs.Codes.{UnlessMemory, UnlessNone, memory, no_problem};
 ghost use Rattle.gix_url_c.specs.Input.{IsNone, location_of};
 ghost use Rattle.gix_url_c.specs.Left.{LeavesLengths, LeavesProblem, LeavesBuffer};
@@ -114,7 +114,7 @@ pub extern "C" fn gix_url_c_from_parts(
 
 /// The location that the text of these parts spells, or why there is none.
 fn of_parts(alloc: Global, parts: &UrlRef<'_>) -> Result<Url, Error>
-    ensures { (result ≡ Err Error.Memory) ⊎ MadeOf (fields parts.now) result }
+    ensures { (result ≡ Err Error.Memory) ⊎ BuiltFrom (fields parts.now) result }
 {
     Url::from_parts(
         alloc,
@@ -130,7 +130,7 @@ fn of_parts(alloc: Global, parts: &UrlRef<'_>) -> Result<Url, Error>
 
 /// A copy of the scheme.
 fn scheme(alloc: Global, scheme: SchemeRef<'_>) -> Result<Scheme, AllocError>
-    ensures { IfOk result (λ copy. owned_scheme copy ≡ lent_scheme scheme.entry) }
+    ensures { IfOk result (λ copy. owned_scheme copy ≡ borrowed_scheme scheme.entry) }
 {
     match scheme {
         SchemeRef::File => Ok(Scheme::File),
@@ -161,7 +161,7 @@ fn report(
     buffer: &mut [u8],
     reported: &mut Problem,
 ) -> u32
-    ensures reported { Reports answer built.new buffer.old buffer.new reported.new result }
+    ensures reported { ReportsResult answer built.new buffer.old buffer.new reported.new result }
     ensures buffer { LeavesBuffer result buffer.old buffer.new }
     ensures lengths { LeavesLengths result built.old built.new }
     ensures problem { LeavesProblem result no_problem reported.new }

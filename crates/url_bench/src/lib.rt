@@ -24,10 +24,10 @@ pub extern "C" fn url_bench_parse(alloc: Global, bytes: &[u8]) -> bool
 
 /// Whether the bytes are parsed as a location in this buffer, without allocation.
 #[unsafe(no_mangle)]
-pub extern "C" fn url_bench_parse_in(bytes: &[u8], room: &mut [u8]) -> bool
+pub extern "C" fn url_bench_parse_in(bytes: &[u8], buffer: &mut [u8]) -> bool
     ensures { IsTrue result → (v : Location) × Spells bytes.now v }
 {
-    matches!(UrlRef::parse_in(bytes, room), Ok(_))
+    matches!(UrlRef::parse_in(bytes, buffer), Ok(_))
 }
 
 /// The length of the text of the location that the bytes are parsed as, or 0 if there is none.

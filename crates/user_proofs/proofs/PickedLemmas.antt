@@ -10,20 +10,20 @@ use Rattle.git_rules.specs.NormalLaws.{OneNormalForm}
 use Rattle.git_rules.specs.Places.{FrontPlacesIn, PlacesIn}
 
 -- a text that has a normal form, with room for it, is not refused
-kept : (t : List ℕ) (room : ℕ) (e : PlaceError) (place : NormalPlace) → IsNormalOf false t place → 4 * length t + 1 ≤ room → FrontPlacesIn t room (Err e) → ⊥
-kept t room (Fault f) place form fits h = h
-kept t room (Normal NoRoom) place form fits h = omega (arith, h, fits)
-kept t room (Normal NoUrl) place form fits h = h.2 place form
-kept t room (Normal BrokenEscape) place form fits h = h.2 place form
-kept t room (Normal NoHost) place form fits h = h.2 place form
-kept t room (Normal BadHost) place form fits h = h.2 place form
-kept t room (Normal BadPort) place form fits h = h.2 place form
-kept t room (Normal AboveRoot) place form fits h = h.2 place form
+kept : (t : List ℕ) (buffer_len : ℕ) (e : PlaceError) (place : NormalPlace) → IsNormalOf false t place → 4 * length t + 1 ≤ buffer_len → FrontPlacesIn t buffer_len (Err e) → ⊥
+kept t buffer_len (Fault f) place form fits h = h
+kept t buffer_len (Normal NoRoom) place form fits h = omega (arith, h, fits)
+kept t buffer_len (Normal NoUrl) place form fits h = h.2 place form
+kept t buffer_len (Normal BrokenEscape) place form fits h = h.2 place form
+kept t buffer_len (Normal NoHost) place form fits h = h.2 place form
+kept t buffer_len (Normal BadHost) place form fits h = h.2 place form
+kept t buffer_len (Normal BadPort) place form fits h = h.2 place form
+kept t buffer_len (Normal AboveRoot) place form fits h = h.2 place form
 
 -- nor is a location with such a text
-pub placed : (v : Location) (t : List ℕ) (room : ℕ) (e : PlaceError) (place : NormalPlace) → text v ≡ Ok t → IsNormalOf false t place → 4 * length t + 1 ≤ room → PlacesIn (text v) room (Err e) → ⊥
-placed v t room e place has form fits h = kept t room e place form fits (subst (λ x. PlacesIn x room (Err e)) has h)
+pub placed : (v : Location) (t : List ℕ) (buffer_len : ℕ) (e : PlaceError) (place : NormalPlace) → text v ≡ Ok t → IsNormalOf false t place → 4 * length t + 1 ≤ buffer_len → PlacesIn (text v) buffer_len (Err e) → ⊥
+placed v t buffer_len e place has form fits h = kept t buffer_len e place form fits (subst (λ x. PlacesIn x buffer_len (Err e)) has h)
 
 -- its place is that normal form
-pub one_place : OneNormalForm → (v : Location) (t : List ℕ) (room : ℕ) (own place : NormalPlace) → text v ≡ Ok t → IsNormalOf false t place → PlacesIn (text v) room (Ok own) → own ≡ place
-one_place one v t room own place has form h = one false t own place (subst (λ x. PlacesIn x room (Ok own)) has h).1 form
+pub one_place : OneNormalForm → (v : Location) (t : List ℕ) (buffer_len : ℕ) (own place : NormalPlace) → text v ≡ Ok t → IsNormalOf false t place → PlacesIn (text v) buffer_len (Ok own) → own ≡ place
+one_place one v t buffer_len own place has form h = one false t own place (subst (λ x. PlacesIn x buffer_len (Ok own)) has h).1 form

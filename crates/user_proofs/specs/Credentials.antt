@@ -35,6 +35,6 @@ AreOwn v entries found = (i : ℕ) → Contains found i → IsOwnAt v entries i
 -- of a location of HTTP in whose text all read the same place, and with a buffer that is long enough for the normal form of
 -- the text, these are the indices of the entries whose headers Git sends
 abbrev pub AreSent : Location → ℕ → List ConfigEntry → List ℕ → Type 0
-AreSent v room entries found = (t : List ℕ) (place : NormalPlace) → IsWeb v → AgreesWithGit v
-    → text v ≡ Ok t → IsNormalOf false t place → 4 * length t + 1 ≤ room
+AreSent v buffer_len entries found = (t : List ℕ) (place : NormalPlace) → IsWeb v → AgreesWithGit v
+    → text v ≡ Ok t → IsNormalOf false t place → 4 * length t + 1 ≤ buffer_len
     → AreSettings (codes "extraHeader") (Some place) entries found

@@ -3,7 +3,7 @@
 
 ghost use Rattle.std.specs.Prelude.{IfErr, IfOk, map};
 ghost use Rattle.bstr.specs.Owned.{bstring_bytes};
-ghost use Rattle.git_rules.specs.SshAnswers.{IsUnmade};
+ghost use Rattle.git_rules.specs.SshAnswers.{IsNotBuilt};
 ghost use Rattle.git_rules.specs.SecureShell.{service_alone};
 ghost use Rattle.git_rules.specs.declared.ssh.ProtocolVersion.TheVariants.{V2};
 ghost use Rattle.git_rules.specs.declared.ssh.Service.TheVariants.{UploadPack};
@@ -18,7 +18,7 @@ use std::alloc::Global;
 /// The words behind `ssh` with which Git fetches from a location, or why there are none.
 pub fn words_to_fetch(alloc: Global, url: &Url) -> Result<Vec<BString>, SshError>
     ensures words { IfOk result (λ words. FetchesFrom url.now (map bstring_bytes words.items)) }
-    ensures refused { IfErr result (IsUnmade (service_alone UploadPack Ssh V2) url.now) }
+    ensures refused { IfErr result (IsNotBuilt (service_alone UploadPack Ssh V2) url.now) }
 {
     let (service, variant) = (Service::UploadPack, SshVariant::Ssh);
     ssh_words(alloc, &url.as_ref(), service, variant, ProtocolVersion::V2)

@@ -3,7 +3,7 @@
 use crate::memory::both;
 use bstr::ByteSlice;
 use git_rules::config::{Entry, EntryError, Reader, entries_of};
-use git_rules::normal::room_for;
+use git_rules::normal::needed_buffer_len;
 use git_rules::pattern::UrlPattern;
 use git_rules::protocols::Protocols;
 use git_rules::rewrite::{RewriteError, Rewrites};
@@ -24,7 +24,7 @@ pub struct Config<'a> {
     /// The entries of `http.*`, in the order in which their names first occur.
     pub http: Vec<Variable<'a>>,
     /// The buffer size in bytes that suffices for the URL of each entry.
-    pub room: usize,
+    pub buffer_len: usize,
 }
 
 /// The entries of `http.*` with one name, in their order.
@@ -56,7 +56,7 @@ impl<'a> Config<'a> {
             remotes,
             credentials,
             http,
-            room: room_for(longest),
+            buffer_len: needed_buffer_len(longest),
         })
     }
 }
@@ -132,10 +132,10 @@ pub struct Fault {
 
 /// Returns all faults of a configuration, in their order.
 pub fn faults(alloc: Global, text: &[u8]) -> Result<Vec<Fault>, AllocError> {
-    let mut room = vec![in alloc; 0u8; room_for(text.len())]?;
+    let mut buffer = vec![in alloc; 0u8; needed_buffer_len(text.len())]?;
     let mut found = Vec::new(alloc);
     for item in Reader::new(text) {
-        if let Some(fault) = fault_of(item, room.as_mut_slice()) {
+        if let Some(fault) = fault_of(item, buffer.as_mut_slice()) {
             found.push(fault)?;
         }
     }
@@ -143,7 +143,7 @@ pub fn faults(alloc: Global, text: &[u8]) -> Result<Vec<Fault>, AllocError> {
 }
 
 /// The fault of an entry, or of a text that isn't an entry.
-fn fault_of(item: Result<Entry<'_>, EntryError>, room: &mut [u8]) -> Option<Fault> {
+fn fault_of(item: Result<Entry<'_>, EntryError>, buffer: &mut [u8]) -> Option<Fault> {
     match item {
         Err(EntryError::NoKey { at }) => Some(Fault {
             at,
@@ -155,23 +155,23 @@ fn fault_of(item: Result<Entry<'_>, EntryError>, room: &mut [u8]) -> Option<Faul
         }),
         Ok(entry) => {
             let at = entry.at;
-            let words = words_of(&entry, room)?;
+            let words = words_of(&entry, buffer)?;
             Some(Fault { at, words })
         }
     }
 }
 
 /// The fault of an entry, in words.
-fn words_of(entry: &Entry<'_>, room: &mut [u8]) -> Option<&'static str> {
-    match words_of_url(entry, room) {
+fn words_of(entry: &Entry<'_>, buffer: &mut [u8]) -> Option<&'static str> {
+    match words_of_url(entry, buffer) {
         None => stop_at(entry).map(words_of_stop),
         words => words,
     }
 }
 
 /// The fault of the URL of an entry of `http.*`, in words.
-fn words_of_url(entry: &Entry<'_>, room: &mut [u8]) -> Option<&'static str> {
-    if !entry.is_section("http") || UrlPattern::parse_in(entry.subsection?, room).is_ok() {
+fn words_of_url(entry: &Entry<'_>, buffer: &mut [u8]) -> Option<&'static str> {
+    if !entry.is_section("http") || UrlPattern::parse_in(entry.subsection?, buffer).is_ok() {
         return None;
     }
     Some("has no URL that Git takes: it is for no location")

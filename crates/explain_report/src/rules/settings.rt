@@ -6,7 +6,7 @@ ghost use Rattle.explain_report.specs.Rules.{AreShown};
 use crate::rules::config::{Config, Variable};
 use crate::rules::setting::Setting;
 use git_rules::config::Entry;
-use git_rules::normal::{NormalUrl, room_for};
+use git_rules::normal::{NormalUrl, needed_buffer_len};
 use git_rules::pattern::settings::{self, SettingsError};
 use std::alloc::{AllocError, Global};
 
@@ -16,13 +16,13 @@ pub fn settings_for(
     config: &Config<'_>,
     text: &[u8],
 ) -> Result<Vec<Setting>, AllocError> {
-    let mut own = vec![in alloc; 0u8; room_for(text.len())]?;
-    let mut room = vec![in alloc; 0u8; config.room]?;
+    let mut own = vec![in alloc; 0u8; needed_buffer_len(text.len())]?;
+    let mut buffer = vec![in alloc; 0u8; config.buffer_len]?;
     let place = NormalUrl::parse_in(text, own.as_mut_slice()).ok();
     let mut found = Vec::new(alloc);
     for variable in &config.http {
         match &place {
-            Some(place) => push_used(alloc, &mut found, variable, place, room.as_mut_slice())?,
+            Some(place) => push_used(alloc, &mut found, variable, place, buffer.as_mut_slice())?,
             None => push_used_without_place(alloc, &mut found, variable)?,
         }
     }
@@ -35,10 +35,10 @@ fn push_used(
     found: &mut Vec<Setting>,
     variable: &Variable<'_>,
     place: &NormalUrl<'_>,
-    room: &mut [u8],
+    buffer: &mut [u8],
 ) -> Result<(), AllocError> {
     let entries = variable.entries.as_slice();
-    let used = used_of(alloc, entries, variable.name, place, room)?;
+    let used = used_of(alloc, entries, variable.name, place, buffer)?;
     push_entries(alloc, found, entries, used.as_slice())
 }
 
@@ -75,12 +75,12 @@ fn used_of(
     entries: &[Entry<'_>],
     name: &str,
     place: &NormalUrl<'_>,
-    room: &mut [u8],
+    buffer: &mut [u8],
 ) -> Result<Vec<usize>, AllocError>
     ensures { IfOk result
-        (λ found. AreShown name.now (Some place.now) (length room.old) entries.now found.items) }
+        (λ found. AreShown name.now (Some place.now) (length buffer.old) entries.now found.items) }
 {
-    match settings::settings_for(alloc, entries, name, place, room) {
+    match settings::settings_for(alloc, entries, name, place, buffer) {
         Ok(used) => Ok(used),
         Err(SettingsError::Memory) => Err(AllocError),
         Err(SettingsError::NoRoom | SettingsError::NoValue { at: _ }) => Ok(Vec::new(alloc)),

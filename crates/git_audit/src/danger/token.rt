@@ -3,7 +3,7 @@
 ghost use Rattle.std.specs.Prelude.{◌≡◌, option_map};
 ghost use Rattle.std.specs.List.{list_any};
 ghost use Rattle.std.specs.Option.{is_some};
-ghost use Rattle.git_syntax.specs.Views.{lent_scheme};
+ghost use Rattle.git_syntax.specs.Views.{borrowed_scheme};
 ghost use Rattle.git_audit.specs.Dangers as spec;
 
 use git_syntax::scheme::SchemeRef;
@@ -20,7 +20,7 @@ pub(super) fn has_token_user(
     user: Option<&str>,
     password: Option<&str>,
 ) -> bool
-    ensures { result ≡ spec.has_token_user (lent_scheme scheme.entry)
+    ensures { result ≡ spec.has_token_user (borrowed_scheme scheme.entry)
         (option_map (λ t. t.now) user.entry) (option_map (λ t. t.now) password.entry) }
 {
     match user {
@@ -41,21 +41,21 @@ pub(super) fn is_there(part: Option<&str>) -> bool
 
 /// Whether the user may be a token.
 fn is_token_user(scheme: SchemeRef<'_>, user: &[u8], has_password: bool) -> bool
-    ensures { result ≡ spec.is_token_user (lent_scheme scheme.entry) user.now has_password }
+    ensures { result ≡ spec.is_token_user (borrowed_scheme scheme.entry) user.now has_password }
 {
     begins_as_token(user) || is_long_user(scheme, user, has_password)
 }
 
 /// Whether this is a long user of an HTTP location without a password.
 fn is_long_user(scheme: SchemeRef<'_>, user: &[u8], has_password: bool) -> bool
-    ensures { result ≡ spec.is_long_user (lent_scheme scheme.entry) user.now has_password }
+    ensures { result ≡ spec.is_long_user (borrowed_scheme scheme.entry) user.now has_password }
 {
     is_of_http(scheme) && !has_password && user.len() >= LEAST_USER
 }
 
 /// Whether the scheme is `http` or `https`.
 pub(super) fn is_of_http(scheme: SchemeRef<'_>) -> bool
-    ensures { result ≡ spec.is_of_http (lent_scheme scheme.entry) }
+    ensures { result ≡ spec.is_of_http (borrowed_scheme scheme.entry) }
 {
     matches!(scheme, SchemeRef::Http | SchemeRef::Https)
 }

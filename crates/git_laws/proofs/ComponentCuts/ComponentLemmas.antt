@@ -279,7 +279,7 @@ record IsRewritten (f : List ℕ → List ℕ) (v w : Location) : Type 0 where
   way : IsWay f
   bytes : IsBytes (original_path v)
   original : original_path w ≡ f (original_path v)
-  meant : (x : List ℕ) → IsBytes x → stands_for w (f x) ≡ stands_for v x
+  denoted : (x : List ℕ) → IsBytes x → stands_for w (f x) ≡ stands_for v x
   term : (x : List ℕ) → IsBytes x → term_of w (f x) ≡ term_of v x
 
 -- what a field that isn't empty adds to the names and values
@@ -341,7 +341,7 @@ query_back f v w (Some t) query h small (given, pairs, cut, of, e) =
 -- a fragment stands for what its writing stands for
 fragment_written : (f : List ℕ → List ℕ) (v w : Location) (text : Option (List ℕ)) → IsRewritten f v w → IfSome text IsBytes → option_map (stands_for w) (option_map f text) ≡ option_map (stands_for v) text
 fragment_written f v w None h small = refl
-fragment_written f v w (Some t) h small = ap Some (h.meant t small)
+fragment_written f v w (Some t) h small = ap Some (h.denoted t small)
 
 -- ---- the components
 
@@ -353,7 +353,7 @@ parts_written f v w components h parts =
       query = option_map f parts.query;
       fragment = option_map f parts.fragment;
       cut = subst (λ t. CutsPath t (f parts.front) (option_map f parts.query) (option_map f parts.fragment)) (sym h.original) (cuts_written f (original_path v) parts.front parts.query parts.fragment h.way parts.cut);
-      path_meant = parts.path_meant ∙ ap or_root (sym (h.meant parts.front front));
+      path_meant = parts.path_meant ∙ ap or_root (sym (h.denoted parts.front front));
       query_meant = query_written f v w parts.query components.query h query parts.query_meant;
       fragment_meant = parts.fragment_meant ∙ sym (fragment_written f v w parts.fragment h fragment);
     }
@@ -367,7 +367,7 @@ parts_back f v w components h parts =
       query = back.second;
       fragment = back.third;
       cut = back.cut;
-      path_meant = parts.path_meant ∙ ap (λ t. or_root (stands_for w t)) back.is_front ∙ ap or_root (h.meant back.first front);
+      path_meant = parts.path_meant ∙ ap (λ t. or_root (stands_for w t)) back.is_front ∙ ap or_root (h.denoted back.first front);
       query_meant = query_back f v w back.second components.query h query (subst (λ o. QueryOf w o components.query) back.is_query parts.query_meant);
       fragment_meant = parts.fragment_meant ∙ ap (option_map (stands_for w)) back.is_fragment ∙ fragment_written f v w back.third h fragment;
     }

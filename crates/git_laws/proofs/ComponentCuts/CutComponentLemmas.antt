@@ -34,12 +34,12 @@ pub record HasPairs (v : Location) (text : List ℕ) (pairs : List (List ℕ × 
   pub field : List ℕ
   pub fields : List (List ℕ)
   pub cut : CutsFields text (field ∷ fields)
-  pub meant : PairsOf v (field ∷ fields) pairs
+  pub denoted : PairsOf v (field ∷ fields) pairs
 
 -- no field is as good as an empty one
 some_fields : (v : Location) (text : List ℕ) (fields : List (List ℕ)) (pairs : List (List ℕ × List ℕ)) → CutsFields text fields → PairsOf v fields pairs → HasPairs v text pairs
-some_fields v text [] pairs cut of = record { field = []; fields = []; cut = record { each = All-cons (FreeOf ampersand) [] [] refl (All-nil (FreeOf ampersand)); joined = cut.joined }; meant = of }
-some_fields v text (field ∷ fields) pairs cut of = record { field = field; fields = fields; cut = cut; meant = of }
+some_fields v text [] pairs cut of = record { field = []; fields = []; cut = record { each = All-cons (FreeOf ampersand) [] [] refl (All-nil (FreeOf ampersand)); joined = cut.joined }; denoted = of }
+some_fields v text (field ∷ fields) pairs cut of = record { field = field; fields = fields; cut = cut; denoted = of }
 
 -- the fields of a text are determined, where there is at least one
 fields_unique : (f g : List ℕ) (fs gs : List (List ℕ)) → All (FreeOf ampersand) (f ∷ fs) → All (FreeOf ampersand) (g ∷ gs) → join_with_byte ampersand (f ∷ fs) ≡ join_with_byte ampersand (g ∷ gs) → f ∷ fs ≡ g ∷ gs
@@ -118,7 +118,7 @@ query_unique v (Some text) p q (fields, ps, cut, of, e) (fields_2, qs, cut_2, of
     let one = some_fields v text fields ps cut of in
     let two = some_fields v text fields_2 qs cut_2 of_2 in
     let same = fields_unique one.field two.field one.fields two.fields one.cut.each two.cut.each (sym one.cut.joined ∙ two.cut.joined) in
-    e ∙ ap Some (pairs_unique v (two.field ∷ two.fields) ps qs (subst (λ fs. PairsOf v fs ps) same one.meant) two.meant) ∙ sym k
+    e ∙ ap Some (pairs_unique v (two.field ∷ two.fields) ps qs (subst (λ fs. PairsOf v fs ps) same one.denoted) two.denoted) ∙ sym k
 
 -- and each query stands for something
 query_some : (v : Location) (text : Option (List ℕ)) → (query : Option (List (List ℕ × List ℕ))) × QueryOf v text query

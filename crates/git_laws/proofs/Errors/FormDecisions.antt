@@ -44,11 +44,11 @@ helper_or_not b =
 
 -- a host of the scp form stands for one, or is flawed
 abbrev HostOrFlawed : List ℕ → Type 0
-HostOrFlawed host = ((meant : List ℕ) × ScpHost host meant) ⊎ ((named : UrlFault) × ScpHostFlaw host named)
+HostOrFlawed host = ((denoted : List ℕ) × ScpHost host denoted) ⊎ ((named : UrlFault) × ScpHostFlaw host named)
 
 -- a host is read where each `%` is its own escape, or is flawed
 abbrev PieceOrFlawed : List ℕ → Type 0
-PieceOrFlawed host = ((meant : List ℕ) × SpellsHost (escaped_percents host) meant) ⊎ ((named : UrlFault) × ScpNameFlaw host named)
+PieceOrFlawed host = ((denoted : List ℕ) × SpellsHost (escaped_percents host) denoted) ⊎ ((named : UrlFault) × ScpNameFlaw host named)
 
 -- a text between brackets
 inner_decided : (behind inner rest : List ℕ) → IsUtf8 (left_bracket ∷ behind) → FreeOf right_bracket inner → behind ≡ inner ++ right_bracket ∷ rest → true ≡ (length rest == 0) → PieceOrFlawed (left_bracket ∷ behind)
@@ -109,7 +109,7 @@ host_decided host text lone inside =
                   | inl none ↦ inr (fault.HostRequired, ScpHostFlaw.empty none)
                   | inr some ↦
                       elim (piece_decided host some text inside) [
-                        | inl (meant, n) ↦ inl (meant, scp_host_found host (escaped_percents host) meant lone free white refl n)
+                        | inl (denoted, n) ↦ inl (denoted, scp_host_found host (escaped_percents host) denoted lone free white refl n)
                         | inr (named, flaw) ↦ inr (named, ScpHostFlaw.bad_name named flaw)
                       ]
                 ]
@@ -138,8 +138,8 @@ plain_decided b front path h =
                 let (user, host, split, lone) = cut_front_user front in
                 let inside = colons_inside_host front user host split (colons_inside_front b front h.form.form) in
                 elim (host_decided host (scp_host_utf8 b front path user host h.form text split) lone inside) [
-                  | inl (meant, hosted) ↦
-                      inl (scp_location user meant path, Spells.scp_form (inl (record { front = front; path = path; user = user; host = host; meant = meant; form = h.form; text = text; pathed = some; split = split; hosted = hosted; value = refl })))
+                  | inl (denoted, hosted) ↦
+                      inl (scp_location user denoted path, Spells.scp_form (inl (record { front = front; path = path; user = user; host = host; denoted = denoted; form = h.form; text = text; pathed = some; split = split; hosted = hosted; value = refl })))
                   | inr (named, flaw) ↦
                       inr (refusal.BadUrl kind.Scp named, record { not_addressed = h.not_addressed; front = front; path = path; user = user; host = host; form = h.form; split = split; no_at = lone; flaw = flaw })
                 ]

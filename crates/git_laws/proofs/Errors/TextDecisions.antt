@@ -30,7 +30,7 @@ Decides P = P ⊎ ¬ P
 
 -- by a test
 pub by_test : {P : Type 0} (test : Bool) → (test ≡ true → P) → (P → test ≡ true) → Decides P
-by_test test meant found = elim (cases_Bool test) [ inl e ↦ inl (meant e) | inr e ↦ inr (λ p. both_ways test e (found p)) ]
+by_test test denoted found = elim (cases_Bool test) [ inl e ↦ inl (denoted e) | inr e ↦ inr (λ p. both_ways test e (found p)) ]
 
 -- a text is empty, or has a first byte
 pub nil_or_some : (t : List ℕ) → (t ≡ []) ⊎ (0 < length t)

@@ -10,7 +10,7 @@ use Rattle.git_syntax.specs.Bytes.{percent_sign, colon, at_sign, left_bracket, r
 use Rattle.git_syntax.specs.Hosts.{HoldsTwoColons}
 use Rattle.git_syntax.specs.Hosts.HostSyntax.{git_hosts}
 use Rattle.git_location.specs.Text.{raw_user, port_part}
-use Rattle.git_reads.specs.Git.{escaped_byte, is_git_escape, git_decode, host_mark, OpensHost, InBrackets, LacksHostBrackets, HostEnd, CutsPlace, is_c_space, digits_port, negative_port, signed_port, git_port, BeforePort, HostAndPort, SecurePort}
+use Rattle.git_reads.specs.Git.{escaped_byte, is_git_escape, git_decode, host_mark, OpensHost, BracketCut, LacksHostBrackets, HostEnd, CutsPlace, is_c_space, digits_port, negative_port, signed_port, git_port, BeforePort, HostAndPort, SecurePort}
 use Rattle.git_syntax.proofs.Texts.CutLemmas.{heads, tails, not_free, free_parts, free_head_tail, free_begins, free_or_cut, free-append, free-cons}
 use Rattle.git_syntax.proofs.Parsing.HostLemmas.{number_written}
 
@@ -52,9 +52,9 @@ opens_host (Some u) rest free behind =
     OpensHost.behind_at u (no_host_mark u (free_parts left_bracket u (at_sign ∷ []) free).0) refl (append_assoc u (at_sign ∷ []) (left_bracket ∷ rest))
 
 -- the next bracket closes it
-in_brackets : (user : Option (List ℕ)) (inside behind t : List ℕ) → t ≡ raw_user user ++ left_bracket ∷ (inside ++ right_bracket ∷ behind) → FreeOf left_bracket (raw_user user) → FreeOf left_bracket (inside ++ right_bracket ∷ behind) → FreeOf right_bracket inside → InBrackets t (raw_user user) inside behind
+in_brackets : (user : Option (List ℕ)) (inside behind t : List ℕ) → t ≡ raw_user user ++ left_bracket ∷ (inside ++ right_bracket ∷ behind) → FreeOf left_bracket (raw_user user) → FreeOf left_bracket (inside ++ right_bracket ∷ behind) → FreeOf right_bracket inside → BracketCut t (raw_user user) inside behind
 in_brackets user inside behind t e free left right =
-    subst (λ x. InBrackets x (raw_user user) inside behind) (sym e) record { opened = opens_host user (inside ++ right_bracket ∷ behind) free left; next = right }
+    subst (λ x. BracketCut x (raw_user user) inside behind) (sym e) record { opened = opens_host user (inside ++ right_bracket ∷ behind) free left; next = right }
 
 -- a user, a host in brackets and the text behind these
 abbrev pub bracketed_place : Option (List ℕ) → List ℕ → List ℕ → List ℕ

@@ -10,7 +10,7 @@ use Rattle.git_syntax.specs.Grammar.{ScpFront, IsNeither, HasScpForm}
 use Rattle.git_location.specs.Text.{raw_user, raw_host, canonical_text, text}
 use Rattle.git_location.specs.Settled.{IsValue, IsWeb, IsNormalAddress, IsScpName, IsSettledLocal, IsSettledFile, IsSettledScp, IsSettledBy, LooksLikeHelper}
 use Rattle.std.proofs.lemmas.Option.{IfSome_then}
-use Rattle.git_reads.specs.Git.{HostAndPort, on_this_machine, IsNoUrl, IsLocal, ReachesSecure, ReadsGiven}
+use Rattle.git_reads.specs.Git.{HostAndPort, on_this_machine, IsNoUrl, IsLocal, ReachesSecure, ReadsInput}
 use Rattle.git_location.specs.GitClass.{is_contested, HasPlainParts, is_tilde_second, IsRsync, SuitsTransport, AgreesByTransport, AgreesBy}
 use Rattle.git_location.specs.WebClass.{AgreesOverWeb}
 use Rattle.git_laws.specs.GitWeb.{ReadsOwnOverWeb}
@@ -44,9 +44,9 @@ machine_host : (v : Location) → v.scheme ≡ file → v.host ≡ None → Host
 machine_host v scheme none = subst (λ p. HostForGit p v.host None) (sym scheme) (sym none)
 
 -- only the path follows `file://`
-file_url_reads : (path rest : List ℕ) → path ≡ slash ∷ rest → FreeOf percent_sign path → FreeOf left_bracket path → ReadsGiven (codes "file://" ++ path) (on_this_machine path)
+file_url_reads : (path rest : List ℕ) → path ≡ slash ∷ rest → FreeOf percent_sign path → FreeOf left_bracket path → ReadsInput (codes "file://" ++ path) (on_this_machine path)
 file_url_reads path rest e plain left =
-    ReadsGiven.file_url path [] rest (own_url file (codes "file") path path refl (git_decode_kept path plain)) (place_cut slash path [] rest left refl e) (ap on_this_machine e)
+    ReadsInput.file_url path [] rest (own_url file (codes "file") path path refl (git_decode_kept path plain)) (place_cut slash path [] rest left refl e) (ap on_this_machine e)
 
 -- a settled file URL without a host
 file_url_alike : (v : Location) → v.scheme ≡ file → AgreesByTransport v → v.host ≡ None → FreeOf percent_sign v.path → IsSettledFile v → IsReadBy file v
@@ -85,7 +85,7 @@ local_no_url t plain neither no_scp = record {
 local_alike : (v : Location) → v.scheme ≡ file → AgreesByTransport v → begins_with tilde v.path ≡ false → IsSettledLocal v → IsReadBy file v
 local_alike v e a homeless h =
     let plain = path_free v a.plain right_bracket refl in
-    own_read v None v.path (on_this_machine v.path) (machine_host v e h.bare.2) (machine_reading v e h.bare.1.0 h.bare.1.2) (flagged_text v e h) (path_free v a.plain 0 refl) a.no_option.path (ReadsGiven.local_path [] v.path (local_no_url v.path plain h.form.neither h.form.no_scp) (local_text v.path plain h.form.neither h.form.no_scp) (nothing_passed v.path (path_free v a.plain left_bracket refl)) h.form.nonempty a.no_option.path homeless refl)
+    own_read v None v.path (on_this_machine v.path) (machine_host v e h.bare.2) (machine_reading v e h.bare.1.0 h.bare.1.2) (flagged_text v e h) (path_free v a.plain 0 refl) a.no_option.path (ReadsInput.local_path [] v.path (local_no_url v.path plain h.form.neither h.form.no_scp) (local_text v.path plain h.form.neither h.form.no_scp) (nothing_passed v.path (path_free v a.plain left_bracket refl)) h.form.nonempty a.no_option.path homeless refl)
 
 -- ---- the scp form
 
@@ -158,13 +158,13 @@ scp_no_url v host h t other = record {
 }
 
 -- Git reads in it what the location holds
-scp_reads : (v : Location) (host : List ℕ) → IsSettledScp v → (t : IsScpText v host) → AgreesByTransport v → is_tilde_second v.path ≡ false → ¬ IsRsync v → ¬ (v.user ≡ Some []) → FreeOf left_bracket (word_of v.user host ++ colon ∷ v.path) → ReadsGiven (word_of v.user host ++ colon ∷ v.path) (secure_reading v.user (Some host) None v.path)
+scp_reads : (v : Location) (host : List ℕ) → IsSettledScp v → (t : IsScpText v host) → AgreesByTransport v → is_tilde_second v.path ≡ false → ¬ IsRsync v → ¬ (v.user ≡ Some []) → FreeOf left_bracket (word_of v.user host ++ colon ∷ v.path) → ReadsInput (word_of v.user host ++ colon ∷ v.path) (secure_reading v.user (Some host) None v.path)
 scp_reads v host h t a second other named free =
     let word = word_of v.user host in
     let portless = portless_free word t.no_colon in
     let front = (free_parts left_bracket word (colon ∷ v.path) free).0 in
     let reached = secure_reached v.user host None word v.path (HostAndPort.none (lacks_brackets word front) portless.before) portless.secure t.no_slash t.name.no_at t.name.normal.unbracketed.nonempty named a.no_option.user (host_safe v host t.there a.no_option) a.no_option.path in
-    ReadsGiven.scp_form word v.path (scp_no_url v host h t other) record { front = word; rest = v.path; joined = refl; no_slash = t.no_slash } (place_cut colon (word ++ colon ∷ v.path) word v.path free t.no_colon refl) (subst (λ p. ReachesSecure word p (secure_reading v.user (Some host) None v.path)) (sym (from_tilde_kept v.path second)) reached)
+    ReadsInput.scp_form word v.path (scp_no_url v host h t other) record { front = word; rest = v.path; joined = refl; no_slash = t.no_slash } (place_cut colon (word ++ colon ∷ v.path) word v.path free t.no_colon refl) (subst (λ p. ReachesSecure word p (secure_reading v.user (Some host) None v.path)) (sym (from_tilde_kept v.path second)) reached)
 
 -- with a path behind it a word isn't an option where it isn't one itself
 word_option : (user : Option (List ℕ)) (host path : List ℕ) → 0 < length host → IfSome user (λ u. is_option_like u ≡ false) → is_option_like host ≡ false → is_option_like (word_of user host ++ colon ∷ path) ≡ false
@@ -236,14 +236,14 @@ address_nonempty host address =
     subst (λ t. 0 < length t) (sym e) (some_behind x (y ++ colon ∷ z))
 
 -- Git reads in it what the location holds
-addressed_reads : (v : Location) (host : List ℕ) → IsAddressedText v host → AgreesByTransport v → is_tilde_second v.path ≡ false → ¬ (v.user ≡ Some []) → ReadsGiven (bracketed_place v.user host [] ++ colon ∷ v.path) (secure_reading v.user (Some host) None v.path)
+addressed_reads : (v : Location) (host : List ℕ) → IsAddressedText v host → AgreesByTransport v → is_tilde_second v.path ≡ false → ¬ (v.user ≡ Some []) → ReadsInput (bracketed_place v.user host [] ++ colon ∷ v.path) (secure_reading v.user (Some host) None v.path)
 addressed_reads v host t a second named =
     let place = bracketed_place v.user host [] in
     let free : (c : ℕ) → is_address_byte c ≡ false → FreeOf c host = λ c other. address_free c host other t.address in
     let closed : (behind : List ℕ) → FreeOf left_bracket behind → FreeOf left_bracket (host ++ right_bracket ∷ behind) = λ behind plain. free-append left_bracket host (right_bracket ∷ behind) (free left_bracket refl) (free-cons left_bracket right_bracket behind refl plain) in
     let read = place_in_brackets v.user host None tt t.no_left (closed [] refl) (free right_bracket refl) (portless_coloned (raw_user v.user) host t.no_colon (address_two_colons host t.address)) in
     let reached = secure_reached v.user host None place v.path read.cut read.secure (free-append slash (raw_user v.user) host t.no_slash (free slash refl)) (free at_sign refl) (address_nonempty host t.address) named a.no_option.user (host_safe v host t.there a.no_option) a.no_option.path in
-    ReadsGiven.scp_form place v.path (addressed_no_url v host t) record { front = place; rest = v.path; joined = refl; no_slash = addressed_free v host t slash refl refl refl t.no_slash } (bracketed_cut colon v.user host [] v.path t.no_left (closed (colon ∷ v.path) (path_free v a.plain left_bracket refl)) (free right_bracket refl) refl) (subst (λ p. ReachesSecure place p (secure_reading v.user (Some host) None v.path)) (sym (from_tilde_kept v.path second)) reached)
+    ReadsInput.scp_form place v.path (addressed_no_url v host t) record { front = place; rest = v.path; joined = refl; no_slash = addressed_free v host t slash refl refl refl t.no_slash } (bracketed_cut colon v.user host [] v.path t.no_left (closed (colon ∷ v.path) (path_free v a.plain left_bracket refl)) (free right_bracket refl) refl) (subst (λ p. ReachesSecure place p (secure_reading v.user (Some host) None v.path)) (sym (from_tilde_kept v.path second)) reached)
 
 -- a bracket or a user comes first, so the text isn't an option where the user isn't
 addressed_option : (user : Option (List ℕ)) (inside path : List ℕ) → IfSome user (λ u. is_option_like u ≡ false) → is_option_like (bracketed_place user inside [] ++ colon ∷ path) ≡ false

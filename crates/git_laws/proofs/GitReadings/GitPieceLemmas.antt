@@ -106,7 +106,7 @@ port_free c (Some p) other mark small =
 pub record IsPathRaw (v : Location) : Type 0 where
   pub rest : List ℕ
   pub decoded : percent_decode (canonical_path v) ≡ slash ∷ rest
-  pub meant : from_tilde (slash ∷ rest) ≡ v.path
+  pub denoted : from_tilde (slash ∷ rest) ≡ v.path
   pub free : (c : ℕ) → (slash == c) ≡ false → FreeOf c v.path → FreeOf c (slash ∷ rest)
 
 -- a path whose second byte isn't `~` stays
@@ -143,7 +143,7 @@ path_raw_by v roots same (inl (rooted, homeless)) =
     record {
       rest = rest;
       decoded = ap (λ r. percent_decode (r ++ matching_or v.spelling v.path (plain_path v.scheme v.path))) root ∙ same ∙ e;
-      meant = from_tilde_kept (slash ∷ rest) (homeless_second rest (subst (λ p. begins_at_home p ≡ false) e homeless)) ∙ sym e;
+      denoted = from_tilde_kept (slash ∷ rest) (homeless_second rest (subst (λ p. begins_at_home p ≡ false) e homeless)) ∙ sym e;
       free = λ c other free. subst (λ p. FreeOf c p) e free;
     }
 path_raw_by v roots same (inr (home, none)) =
@@ -153,7 +153,7 @@ path_raw_by v roots same (inr (home, none)) =
     record {
       rest = v.path;
       decoded = ap (λ r. percent_decode (r ++ written)) root ∙ decode_byte slash written refl ∙ ap (λ p. slash ∷ p) same;
-      meant = ap (λ p. from_tilde (slash ∷ p)) e ∙ sym e;
+      denoted = ap (λ p. from_tilde (slash ∷ p)) e ∙ sym e;
       free = λ c other free. free-cons c slash v.path other free;
     }
 

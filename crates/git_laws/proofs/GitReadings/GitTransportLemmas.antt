@@ -17,8 +17,8 @@ use Rattle.git_syntax.specs.Authority.{unless_empty}
 use Rattle.git_syntax.specs.Grammar.{Unbrackets}
 use Rattle.git_location.specs.Text.{raw_user, keeps_host, canonical_host, port_part, canonical_path, canonical_text, text}
 use Rattle.git_location.specs.Settled.{IsValue, IsNormalName, IsBareHost, IsBracketedHost, IsTransportPath, IsSettledRaw, IsSettledSecure, IsSettledGit, IsRawPath}
-use Rattle.git_reads.specs.Git.{GitReading, git_decode, CutsPlace, HostAndPort, SecurePort, UserCut, ReachesSecure, ReachesGit, OwnUrl, ReadsGiven, GitReads}
-use Rattle.git_location.specs.GitClass.{is_contested, IsPlainPart, IsBracketedOfGit, IsPlainHost, HasNoOption, AgreesByTransport}
+use Rattle.git_reads.specs.Git.{GitReading, git_decode, CutsPlace, HostAndPort, SecurePort, UserCut, ReachesSecure, ReachesGit, OwnUrl, ReadsInput, GitReads}
+use Rattle.git_location.specs.GitClass.{is_contested, IsPlainPart, IsBracketedOfGit, IsHostOfGit, HasNoOption, AgreesByTransport}
 use Rattle.git_laws.specs.GitClass.{HostForGit, own_reading, ReadsOwnPlace, ReadsOwnBy}
 use Rattle.git_syntax.proofs.Texts.CutLemmas.{free-append, free-cons, free_begins, free_head_tail, free_of_lacked, free_parts, not_free}
 use Rattle.git_syntax.proofs.Texts.EscapeLemmas.{decode_encode_utf8, decode_kept, decodes_in_parts, encode_sound, sound_free}
@@ -37,7 +37,7 @@ abbrev pub IsReadBy : Scheme → Location → Type 0
 IsReadBy p v = (t : List ℕ) × (text v ≡ Ok t) × ReadsOwnBy p t v
 
 -- of Git's own transports, where they are what Git reads in it
-pub own_read : (v : Location) (host : Option (List ℕ)) (whole : List ℕ) (reading : GitReading) → HostForGit v.scheme v.host host → own_reading v host ≡ reading → text v ≡ Ok whole → FreeOf 0 whole → is_option_like whole ≡ false → ReadsGiven whole reading → (t : List ℕ) × (text v ≡ Ok t) × ReadsOwnPlace t v
+pub own_read : (v : Location) (host : Option (List ℕ)) (whole : List ℕ) (reading : GitReading) → HostForGit v.scheme v.host host → own_reading v host ≡ reading → text v ≡ Ok whole → FreeOf 0 whole → is_option_like whole ≡ false → ReadsInput whole reading → (t : List ℕ) × (text v ≡ Ok t) × ReadsOwnPlace t v
 own_read v host whole reading own value has zero_free safe reads = (
   whole,
   has,
@@ -147,7 +147,7 @@ host_given v host transport escapes a there url path = record {
   there = there;
   no_password = a.no_password;
   user = subst (λ f. IfSome v.user (IsPlainPart f USER)) url.common.unflagged a.plain.user;
-  plain = subst (λ f. IsPlainPart f PASSWORD host ⊎ IsBracketedOfGit v host) url.common.unflagged (subst (λ o. IfSome o (IsPlainHost v)) there a.plain.host);
+  plain = subst (λ f. IsPlainPart f PASSWORD host ⊎ IsBracketedOfGit v host) url.common.unflagged (subst (λ o. IfSome o (IsHostOfGit v)) there a.plain.host);
   plain_path = a.plain.path;
   raw = url.raw;
   path = path;
@@ -288,11 +288,11 @@ secure_place v host e is h (inl name) = name_place v host is h (secure_kept v ho
 secure_place v host e is h (inr address) = address_place_by v host v.port refl is h (secure_kept v host e h) address.address
 
 -- Git reads in the text what the location holds
-secure_url_reads : (v : Location) (host : List ℕ) → Lacks (should_percent_encode PASSWORD) host → HasHostGiven v host → (p : HasPlace v (word_of v.user host)) → (t : IsTransportText v p.place) → IsBareHost host → HasNoOption v → ¬ (v.user ≡ Some []) → ReadsGiven (codes "ssh://" ++ (authority_text v ++ canonical_path v)) (secure_reading v.user (Some host) v.port v.path)
+secure_url_reads : (v : Location) (host : List ℕ) → Lacks (should_percent_encode PASSWORD) host → HasHostGiven v host → (p : HasPlace v (word_of v.user host)) → (t : IsTransportText v p.place) → IsBareHost host → HasNoOption v → ¬ (v.user ≡ Some []) → ReadsInput (codes "ssh://" ++ (authority_text v ++ canonical_path v)) (secure_reading v.user (Some host) v.port v.path)
 secure_url_reads v host kept h p t kind safe named =
     let no_slash = free-append slash (raw_user v.user) host ((user_raw v.user h.user).free slash refl refl) (kept_free PASSWORD host kept slash refl) in
     let reached = secure_reached v.user host v.port p.place v.path p.read.cut p.read.secure no_slash (kept_free PASSWORD host kept at_sign refl) (bare_nonempty host kind) named safe.user (host_safe v host h.there safe) safe.path in
-    ReadsGiven.secure_url (p.place ++ slash ∷ t.pathed.rest) p.place t.pathed.rest (own_url ssh (codes "ssh") (authority_text v ++ canonical_path v) (p.place ++ slash ∷ t.pathed.rest) refl t.behind) (p.cut t.pathed.rest t.left) (subst (λ q. ReachesSecure p.place q (secure_reading v.user (Some host) v.port v.path)) (sym t.pathed.meant) reached)
+    ReadsInput.secure_url (p.place ++ slash ∷ t.pathed.rest) p.place t.pathed.rest (own_url ssh (codes "ssh") (authority_text v ++ canonical_path v) (p.place ++ slash ∷ t.pathed.rest) refl t.behind) (p.cut t.pathed.rest t.left) (subst (λ q. ReachesSecure p.place q (secure_reading v.user (Some host) v.port v.path)) (sym t.pathed.denoted) reached)
 
 -- a settled URL of Secure Shell
 pub secure_url_alike : (v : Location) → v.scheme ≡ ssh → IsValue v → AgreesByTransport v → ¬ (v.user ≡ Some []) → IsSettledSecure v → IsReadBy ssh v
@@ -360,7 +360,7 @@ git_host v host is h none (inr (address, normal, e)) = record {
 }
 
 -- Git reads in the text what the location holds
-git_url_reads : (v : Location) (host : List ℕ) → (p : HasPlace v (word_of v.user host)) → (t : IsTransportText v p.place) → 0 < length host → v.user ≡ None → FreeOf newline v.path → ReadsGiven (codes "git://" ++ (authority_text v ++ canonical_path v)) (git_reading None (Some host) v.port v.path)
+git_url_reads : (v : Location) (host : List ℕ) → (p : HasPlace v (word_of v.user host)) → (t : IsTransportText v p.place) → 0 < length host → v.user ≡ None → FreeOf newline v.path → ReadsInput (codes "git://" ++ (authority_text v ++ canonical_path v)) (git_reading None (Some host) v.port v.path)
 git_url_reads v host p t some none path_line =
     let reached : ReachesGit p.place v.path (git_reading None (Some host) v.port v.path) = record {
       host = host;
@@ -370,7 +370,7 @@ git_url_reads v host p t some none path_line =
       path_line = path_line;
       value = ap (λ h. git_reading None h v.port v.path) (sym (nonempty_kept host some));
     } in
-    ReadsGiven.git_url (p.place ++ slash ∷ t.pathed.rest) p.place t.pathed.rest (own_url git (codes "git") (authority_text v ++ canonical_path v) (p.place ++ slash ∷ t.pathed.rest) refl t.behind) (p.cut t.pathed.rest t.left) (subst (λ q. ReachesGit p.place q (git_reading None (Some host) v.port v.path)) (sym t.pathed.meant) reached)
+    ReadsInput.git_url (p.place ++ slash ∷ t.pathed.rest) p.place t.pathed.rest (own_url git (codes "git") (authority_text v ++ canonical_path v) (p.place ++ slash ∷ t.pathed.rest) refl t.behind) (p.cut t.pathed.rest t.left) (subst (λ q. ReachesGit p.place q (git_reading None (Some host) v.port v.path)) (sym t.pathed.denoted) reached)
 
 -- the host of Git's own protocol is the location's without its brackets
 own_git_host : (v : Location) (own host : List ℕ) → v.scheme ≡ git → v.host ≡ Some own → Unbrackets own host → HostForGit v.scheme v.host (Some host)

@@ -18,13 +18,13 @@ use Rattle.git_syntax.specs.Hosts.{HostSyntax, Number, SpellsHostPort, is_http_h
 use Rattle.git_syntax.specs.Schemes.{scheme_of, scheme_text, host_syntax_of}
 use Rattle.git_syntax.specs.Authority.{unless_empty, Authority}
 use Rattle.git_syntax.specs.Authority.Authority.{host_alone, with_user}
-use Rattle.git_syntax.specs.Grammar.{UrlSyntax, HasUrlSyntax, MeansByScheme, MeansAs, SpellsFile, SpellsScpBefore, SpellsScpAddressed, ScpUser, Spells, scp_location, from_home}
+use Rattle.git_syntax.specs.Grammar.{UrlSyntax, HasUrlSyntax, DenotesByScheme, DenotesAs, SpellsFile, SpellsScpBefore, SpellsScpAddressed, ScpUser, Spells, scp_location, from_home}
 use Rattle.git_location.specs.Text.{keeps_host, open_host, canonical_host, host_part, user_information, port_part, root_part, plain_path, matching_or, canonical_path, raw_user, raw_host, text}
 use Rattle.git_location.specs.Settled.{HasMatch, IsRawPath, IsWeb, IsWebHost, IsNormalName, IsBareHost, IsBracketedHost, IsScpName, IsNormalAddress, IsSettledUrl, IsSettledWeb, IsSettledSecure, IsSettledGit, IsSettledHelperUrl, IsSettledBy, IsSettled}
 use Rattle.git_location.specs.Settled.IsWebHost.{literal, literal_colon, named, named_colon}
 use Rattle.git_location.specs.Internal.SettledPieces.{IsWrittenAsUrl}
 use Rattle.git_lines.specs.Answers.{ended_lines, last_line, fault_name, error_name, refusal_name, reported_line, IsReported, IsAnswer, AnswersEach}
-use Rattle.git_laws.specs.AnswerLaws.{IsOneLine, OneLine, AreAnswered, LineForLine}
+use Rattle.git_laws.specs.AnswerLaws.{IsEndedLine, OneLine, AreAnswered, LineForLine}
 use Rattle.git_syntax.proofs.Texts.CutLemmas.{free-append, free-cons, free_head_tail, free_of_all, free_parts, helper_name_free, scheme_text_free}
 use Rattle.git_syntax.proofs.Texts.EscapeLemmas.{encode_free, lacks_escaped_percents, no_line}
 use Rattle.git_syntax.proofs.Texts.EscapeSets.{path_holds, password_holds, user_holds}
@@ -167,12 +167,12 @@ other_settled v t name e small h is =
 
 -- what a URL means that is settled is written without a line's end, by its scheme
 abbrev IsWrittenLine : List ℕ → UrlSyntax → Location → List ℕ → Scheme → Type 0
-IsWrittenLine b parts v t p = MeansAs p b parts v → v.scheme ≡ p → IsSettledBy p v → FreeOf newline t
+IsWrittenLine b parts v t p = DenotesAs p b parts v → v.scheme ≡ p → IsSettledBy p v → FreeOf newline t
 
 parts_line : (b : List ℕ) (parts : UrlSyntax) (v : Location) (t : List ℕ) → FreeOf newline b → HasUrlSyntax b parts → text v ≡ Ok t → IsWrittenLine b parts v t (scheme_of parts.scheme)
 parts_line b parts v t free spelled is =
     let small : IsPort parts.port = authority_port (host_syntax_of parts.scheme) spelled.authority parts.user parts.password parts.host parts.port spelled.named in
-    let port : (p : Scheme) → MeansByScheme p parts v → IsPort v.port = λ p m. subst (λ (l : Location). IsPort l.port) (sym m.value) small in
+    let port : (p : Scheme) → DenotesByScheme p parts v → IsPort v.port = λ p m. subst (λ (l : Location). IsPort l.port) (sym m.value) small in
     scheme_cases (IsWrittenLine b parts v t) parts.scheme
     (λ is_ssh m e s. elim s [ inl scp ↦ absurd (false≢true (sym (ap (λ (l : Location). l.flag) m.value) ∙ scp.flagged)) | inr h ↦ secure_settled v t e (port ssh m) h is ])
     (λ is_file m e s. absurd (both_ways _ spelled.not_file is_file))
@@ -222,9 +222,9 @@ scp_before_line : (b : List ℕ) (v : Location) (t : List ℕ) → FreeOf newlin
 scp_before_line b v t free h settled is =
     let (front, rest) = free_parts newline h.front (colon ∷ h.path) (subst (λ x. FreeOf newline x) h.form.joined free) in
     let hosted = h.hosted in
-    let utf8 : IsUtf8 h.meant = scp_meant_utf8 hosted in
-    let host = settled_host_line h.user h.meant h.path utf8 (subst (λ l. IsSettled l) h.value settled) in
-    scp_line v t h.user h.meant h.path h.value (scp_user_line h.front h.user h.host h.split front) host (free_head_tail newline colon h.path rest).1 is
+    let utf8 : IsUtf8 h.denoted = scp_meant_utf8 hosted in
+    let host = settled_host_line h.user h.denoted h.path utf8 (subst (λ l. IsSettled l) h.value settled) in
+    scp_line v t h.user h.denoted h.path h.value (scp_user_line h.front h.user h.host h.split front) host (free_head_tail newline colon h.path rest).1 is
 
 -- that shape
 scp_addressed_line : (b : List ℕ) (v : Location) (t : List ℕ) → FreeOf newline b → SpellsScpAddressed b v → text v ≡ Ok t → FreeOf newline t
@@ -277,12 +277,12 @@ refusal_line r = error_line (kind_of r.reason)
 -- ---- answers
 
 -- a word and what it is said of are one line
-said_line : (word of_what answer : List ℕ) → FreeOf newline word → FreeOf newline of_what → answer ≡ reported_line word of_what → IsOneLine answer
+said_line : (word of_what answer : List ℕ) → FreeOf newline word → FreeOf newline of_what → answer ≡ reported_line word of_what → IsEndedLine answer
 said_line word of_what answer word_free free e =
     (word ++ tab ∷ of_what, free-append newline word (tab ∷ of_what) word_free (free-cons newline tab of_what refl free), e ∙ sym (append_assoc word (tab ∷ of_what) (newline ∷ [])))
 
 -- what is printed for a location that a line spells is one line
-location_line : (line answer : List ℕ) (v : Location) (good : Bool) → FreeOf newline line → Spells line v → IsReported v answer good → IsOneLine answer
+location_line : (line answer : List ℕ) (v : Location) (good : Bool) → FreeOf newline line → Spells line v → IsReported v answer good → IsEndedLine answer
 location_line line answer v good free spelled (IsReported.settled t is settled e k) = said_line (codes "settled") t answer refl (spelled_line line v t free spelled settled is) e
 location_line line answer v good free spelled (IsReported.unsettled t is other e k) = said_line (codes "unsettled") (scheme_text v.scheme) answer refl (scheme_line line v spelled) e
 location_line line answer v good free spelled (IsReported.unwritable f is e k) = said_line (codes "unwritable") (scheme_text v.scheme) answer refl (scheme_line line v spelled) e

@@ -4,7 +4,7 @@ use Rattle.std.proofs.lemmas.Bool.Decides.{nat_tests}
 use Rattle.std.proofs.lemmas.List.Elements.{All-head, All-tail}
 use Rattle.git_syntax.specs.Bytes.{newline, FreeOf}
 use Rattle.git_lines.specs.Answers.{ended_lines}
-use Rattle.git_laws.specs.AnswerLaws.{OneSplit}
+use Rattle.git_laws.specs.AnswerLaws.{OneLineSplit}
 use Rattle.git_syntax.proofs.Texts.CutLemmas.{cut_unique, not_free}
 
 -- the first line, and the text behind its end
@@ -24,5 +24,5 @@ ended_unique (h ∷ f) (k ∷ g) x y a b free freed e =
     )
 
 -- a text is split into lines in one way
-pub one_split : OneSplit
+pub one_split : OneLineSplit
 one_split = grind (arith, nat_tests, ended_unique)

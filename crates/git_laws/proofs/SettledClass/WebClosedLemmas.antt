@@ -19,7 +19,7 @@ use Rattle.git_syntax.specs.Hosts.SpellsHostPort.{nothing, bracketed, bracketed_
 use Rattle.git_syntax.specs.Schemes.{is_web_scheme, scheme_of, host_syntax_of}
 use Rattle.git_syntax.specs.Authority.{unless_empty, user_beside, Credentials, Authority}
 use Rattle.git_syntax.specs.Authority.Authority.{host_alone, with_user}
-use Rattle.git_syntax.specs.Grammar.{UrlSyntax, HasUrlSyntax, or_root, retained_spelling, MeansAs, SpellsUrl}
+use Rattle.git_syntax.specs.Grammar.{UrlSyntax, HasUrlSyntax, or_root, retained_spelling, DenotesAs, SpellsUrl}
 use Rattle.git_location.specs.Text.{plain_path, matching_or, text}
 use Rattle.git_location.specs.Settled.{first_byte, IsFairSpelling, HasFittingText, IsWebName, IsWebHost, IsSettledWeb, IsWeb, IsHosted}
 use Rattle.git_location.specs.Settled.IsWebHost.{literal, literal_colon, named, named_colon}
@@ -45,7 +45,7 @@ normal_bytes text false other bytes = ap (list_all is_http_host_byte) (cond-fals
 
 -- what a text stands for in HTTP is made of such bytes
 pub meant_bytes : (text name : List ℕ) → HostText http_hosts text name → list_all is_http_host_byte name ≡ true
-meant_bytes text name meant = ap (list_all is_http_host_byte) meant.1 ∙ normal_bytes text (list_all is_dns_byte text) refl meant.0
+meant_bytes text name denoted = ap (list_all is_http_host_byte) denoted.1 ∙ normal_bytes text (list_all is_dns_byte text) refl denoted.0
 
 -- the normal form of a sound text is sound, and as long
 normal_facts : (text : List ℕ) (is_domain : Bool) → list_all is_dns_byte text ≡ is_domain → 0 < length text → is_sound text ≡ true → (0 < length (normal_host text)) × (is_sound (normal_host text) ≡ true)
@@ -58,10 +58,10 @@ normal_facts text false other some sound =
 
 -- what a sound text stands for in HTTP is a name that stays as it is
 web_name_of : (text name : List ℕ) → 0 < length text → is_sound text ≡ true → HostText http_hosts text name → IsWebName name
-web_name_of text name some sound meant =
+web_name_of text name some sound denoted =
     let facts = normal_facts text (list_all is_dns_byte text) refl some sound in
-    let is : name ≡ normal_host text = meant.1 in
-    record { nonempty = subst (λ t. 0 < length t) (sym is) facts.0; bytes = meant_bytes text name meant; sound = ap is_sound is ∙ facts.1; normal = ap normal_host is ∙ normal_again text ∙ sym is }
+    let is : name ≡ normal_host text = denoted.1 in
+    record { nonempty = subst (λ t. 0 < length t) (sym is) facts.0; bytes = meant_bytes text name denoted; sound = ap is_sound is ∙ facts.1; normal = ap normal_host is ∙ normal_again text ∙ sym is }
 
 -- a name of HTTP with a colon behind it has no bracket at its front
 no_bracket_before_colon : (name : List ℕ) → IsWebName name → begins_with left_bracket (name ++ colon ∷ []) ≡ false
@@ -100,17 +100,17 @@ web_host_closed piece host port sound (bracketed_colon x inner free spelled e na
 web_host_closed piece host port sound (bracketed_port x inner digits number free spelled numbered e named_as at) apart =
     (literal inner (literal_again x inner spelled) (same_Some _ _ named_as), port_not_zero port number at numbered.allowed)
 web_host_closed piece host port sound (unbracketed reads named_as at) apart = absurd (strict_not_bare reads.0)
-web_host_closed piece host port sound (plain name is_plain meant named_as at) apart =
-    (named (subst IsWebName (same_Some _ _ (sym named_as)) (web_name_of piece name is_plain.nonempty sound meant)), none_not_zero port at)
-web_host_closed piece host port sound (plain_colon text name is_plain meant e named_as at) apart =
+web_host_closed piece host port sound (plain name is_plain denoted named_as at) apart =
+    (named (subst IsWebName (same_Some _ _ (sym named_as)) (web_name_of piece name is_plain.nonempty sound denoted)), none_not_zero port at)
+web_host_closed piece host port sound (plain_colon text name is_plain denoted e named_as at) apart =
     let whole : host ≡ name ++ colon ∷ [] = same_Some _ _ named_as in
     let before = sound_parts text [] colon refl (subst (λ t. is_sound t ≡ true) e sound) in
-    let is_name = web_name_of text name is_plain.nonempty before.0 meant in
+    let is_name = web_name_of text name is_plain.nonempty before.0 denoted in
     (named_colon name is_name (name_before_colon host name is_name whole (apart name whole)) at whole, none_not_zero port at)
-web_host_closed piece host port sound (plain_port text name digits number is_plain meant numbered e named_as at) apart =
+web_host_closed piece host port sound (plain_port text name digits number is_plain denoted numbered e named_as at) apart =
     let before = sound_parts text digits colon refl (subst (λ t. is_sound t ≡ true) e sound) in
-    (named (subst IsWebName (same_Some _ _ (sym named_as)) (web_name_of text name is_plain.nonempty before.0 meant)), port_not_zero port number at numbered.allowed)
-web_host_closed piece host port sound (colons name not_strict other begins many meant named_as at) apart = absurd (not_strict refl)
+    (named (subst IsWebName (same_Some _ _ (sym named_as)) (web_name_of text name is_plain.nonempty before.0 denoted)), port_not_zero port number at numbered.allowed)
+web_host_closed piece host port sound (colons name not_strict other begins many denoted named_as at) apart = absurd (not_strict refl)
 
 -- ---- what a URL of HTTP means
 
@@ -142,7 +142,7 @@ web_meant scheme parts = record {
 pub web_read : (b : List ℕ) (v : Location) → (h : SpellsUrl b v) → IsWeb v → (is_web_scheme h.parts.scheme ≡ true) × (v ≡ web_meant (scheme_of h.parts.scheme) h.parts)
 web_read b v h web =
     let parts = h.parts in
-    scheme_cases (λ p. MeansAs p b parts v → (is_web_scheme parts.scheme ≡ true) × (v ≡ web_meant p parts)) parts.scheme
+    scheme_cases (λ p. DenotesAs p b parts v → (is_web_scheme parts.scheme ≡ true) × (v ≡ web_meant p parts)) parts.scheme
     (λ e m. not_web ssh v refl (ap (λ l. l.scheme) m.value) web)
     (λ e m. not_web file v refl (ap (λ l. l.scheme) m.value) web)
     (λ m. not_web git v refl (ap (λ l. l.scheme) m.value) web)
@@ -209,14 +209,14 @@ pub record IsWebPath (front path : List ℕ) : Type 0 where
 
 -- a path that is there
 some_path : (front rest : List ℕ) (c : ℕ) → is_path_start true c ≡ true → IsUtf8 (front ++ c ∷ rest) → is_sound (front ++ c ∷ rest) ≡ true → LacksWhiteSpace (front ++ c ∷ rest) → IsUtf8 (percent_decode (c ∷ rest)) → IsWebPath front (c ∷ rest)
-some_path front rest c start text sound space meant =
+some_path front rest c start text sound space denoted =
     let same : percent_decode (c ∷ rest) ≡ c ∷ percent_decode rest = decode_byte c rest (start_no_percent c start) in
     let rooted : or_root (percent_decode (c ∷ rest)) ≡ c ∷ percent_decode rest = ap or_root same in
     let texts = utf8_seam front rest c text (start_ascii c start) in
     let sounds = sound_parts front rest c (start_no_digit c start) sound in
     let spaces = white_space_parts front (c ∷ rest) texts.0 space in record {
       front_sound = sounds.0;
-      meant_text = subst IsUtf8 (same ∙ sym rooted) meant;
+      meant_text = subst IsUtf8 (same ∙ sym rooted) denoted;
       meant_starts = ap (begins_by (is_path_start true)) rooted ∙ start;
       fair = λ s e.
           let kept = retained_by (c ∷ rest) s (has_percent (c ∷ rest)) refl e in

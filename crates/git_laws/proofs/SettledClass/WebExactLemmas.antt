@@ -60,11 +60,11 @@ colon_named piece host front port (bracketed x inner free spelled e named_as at)
 colon_named piece host front port (bracketed_colon x inner free spelled e named_as at) ends no_bracket = absurd (both_ways _ no_bracket (ap (begins_with left_bracket) (same_Some _ _ named_as)))
 colon_named piece host front port (bracketed_port x inner digits number free spelled numbered e named_as at) ends no_bracket = absurd (both_ways _ no_bracket (ap (begins_with left_bracket) (same_Some _ _ named_as)))
 colon_named piece host front port (unbracketed reads named_as at) ends no_bracket = absurd (strict_not_bare reads.0)
-colon_named piece host front port (plain named is_plain meant named_as at) ends no_bracket = no_colon_behind host front named (meant_bytes piece named meant) (same_Some _ _ named_as) ends
-colon_named piece host front port (plain_colon text named is_plain meant e named_as at) ends no_bracket =
-    (at, lacks_before_colon host named (same_Some _ _ named_as) (lacks_of_all is_http_host_byte ends_host host_byte_inside named (meant_bytes text named meant)))
-colon_named piece host front port (plain_port text named digits number is_plain meant numbered e named_as at) ends no_bracket = no_colon_behind host front named (meant_bytes text named meant) (same_Some _ _ named_as) ends
-colon_named piece host front port (colons named not_strict other begins many meant named_as at) ends no_bracket = absurd (not_strict refl)
+colon_named piece host front port (plain named is_plain denoted named_as at) ends no_bracket = no_colon_behind host front named (meant_bytes piece named denoted) (same_Some _ _ named_as) ends
+colon_named piece host front port (plain_colon text named is_plain denoted e named_as at) ends no_bracket =
+    (at, lacks_before_colon host named (same_Some _ _ named_as) (lacks_of_all is_http_host_byte ends_host host_byte_inside named (meant_bytes text named denoted)))
+colon_named piece host front port (plain_port text named digits number is_plain denoted numbered e named_as at) ends no_bracket = no_colon_behind host front named (meant_bytes text named denoted) (same_Some _ _ named_as) ends
+colon_named piece host front port (colons named not_strict other begins many denoted named_as at) ends no_bracket = absurd (not_strict refl)
 
 -- so does such a host in an authority
 colon_held : (t : List ℕ) (user password : Option (List ℕ)) (host front : List ℕ) (port : Option ℕ) → Authority http_hosts t user password (Some host) port → host ≡ front ++ colon ∷ [] → begins_with left_bracket host ≡ false → (port ≡ None) × Lacks ends_host host

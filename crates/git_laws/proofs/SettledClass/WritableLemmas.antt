@@ -14,7 +14,7 @@ use Rattle.git_syntax.specs.Hosts.{HostSyntax}
 use Rattle.git_syntax.specs.Schemes.{is_ssh_scheme, is_web_scheme, host_syntax_of}
 use Rattle.git_syntax.specs.Authority.{unless_empty, Authority}
 use Rattle.git_syntax.specs.Authority.Authority.{host_alone, with_user}
-use Rattle.git_syntax.specs.Grammar.{HostFor, UrlSyntax, HasUrlSyntax, MeansByScheme, MeansAs, SpellsUrl, SpellsScp, Spells, from_home, or_root, path_for, retained_spelling}
+use Rattle.git_syntax.specs.Grammar.{HostFor, UrlSyntax, HasUrlSyntax, DenotesByScheme, DenotesAs, SpellsUrl, SpellsScp, Spells, from_home, or_root, path_for, retained_spelling}
 use Rattle.git_location.specs.Text.{choice, with_host, in_form, text, canonical_text}
 use Rattle.git_location.specs.Text.Form.{canonical_form}
 use Rattle.git_laws.specs.Laws.{Writable}
@@ -50,7 +50,7 @@ parts_hosted : (b : List ℕ) (parts : UrlSyntax) → HasUrlSyntax b parts → I
 parts_hosted b parts h given = user_hosted (host_syntax_of parts.scheme) h.authority parts.user parts.password parts.host parts.port h.named given
 
 -- what a URL means whose location has the host that the URL names has a text, where it is written as a URL
-named_there : (scheme : Scheme) (parts : UrlSyntax) (v : Location) → (h : MeansByScheme scheme parts v) → h.host ≡ parts.host → (IsSome parts.user → IsSome parts.host) → choice (meant_with scheme parts h.host) ≡ with_host (meant_with scheme parts h.host) canonical_form → HasText v
+named_there : (scheme : Scheme) (parts : UrlSyntax) (v : Location) → (h : DenotesByScheme scheme parts v) → h.host ≡ parts.host → (IsSome parts.user → IsSome parts.host) → choice (meant_with scheme parts h.host) ≡ with_host (meant_with scheme parts h.host) canonical_form → HasText v
 named_there scheme parts v h same hosted chosen =
     subst HasText (sym h.value) (canonical_there (meant_with scheme parts h.host) chosen (λ given. ap is_some same ∙ hosted given))
 
@@ -78,7 +78,7 @@ ssh_host_there None host h some = absurd (false≢true some)
 ssh_host_there (Some named) host h some = ap is_some h.2
 
 -- what a URL of Secure Shell means has a text
-secure_there : (b : List ℕ) (parts : UrlSyntax) (v : Location) → is_ssh_scheme parts.scheme ≡ true → HasUrlSyntax b parts → MeansByScheme ssh parts v → HasText v
+secure_there : (b : List ℕ) (parts : UrlSyntax) (v : Location) → is_ssh_scheme parts.scheme ≡ true → HasUrlSyntax b parts → DenotesByScheme ssh parts v → HasText v
 secure_there b parts v is_ssh spelled h =
     let starts = subst (λ web. StartsPath web parts.path) (ssh_not_web parts.scheme is_ssh) spelled.path_starts in
     let begins = path_begins parts.path (begins_rooted parts.path (h.pathed refl) starts) in
@@ -93,7 +93,7 @@ url_there : (b : List ℕ) (v : Location) → SpellsUrl b v → HasText v
 url_there b v h =
     let parts = h.parts in
     let hosted : IsSome parts.user → IsSome parts.host = parts_hosted b parts h.spelled in
-    scheme_cases (λ p. MeansAs p b parts v → HasText v) parts.scheme
+    scheme_cases (λ p. DenotesAs p b parts v → HasText v) parts.scheme
     (λ is_ssh m. secure_there b parts v is_ssh h.spelled m)
     (λ e m. named_there file parts v m m.hosted hosted refl)
     (λ m. named_there git parts v m m.hosted hosted refl)
@@ -108,7 +108,7 @@ file_there host path = (_, refl)
 
 -- the scp form
 scp_there : (b : List ℕ) (v : Location) → SpellsScp b v → HasText v
-scp_there b v (inl h) = (_, ap (λ l. text l) h.value ∙ scp_written h.user h.meant (from_home h.path) None)
+scp_there b v (inl h) = (_, ap (λ l. text l) h.value ∙ scp_written h.user h.denoted (from_home h.path) None)
 scp_there b v (inr h) = (_, ap (λ l. text l) h.value ∙ scp_written (Some h.user) (lowercase h.address) (from_home h.path) None)
 
 -- a spelled location has a text
@@ -175,7 +175,7 @@ path_sound b parts h =
     sound_behind (parts.scheme ++ (codes "://" ++ h.authority)) parts.path (subst (λ t. is_sound t ≡ true) (parts_joined h) h.sound)
 
 -- the spelling isn't the path in what the parts of a URL mean
-meant_other : (scheme : Scheme) (b : List ℕ) (parts : UrlSyntax) (v : Location) → HasUrlSyntax b parts → MeansByScheme scheme parts v → ¬ (v.spelling ≡ Some v.path)
+meant_other : (scheme : Scheme) (b : List ℕ) (parts : UrlSyntax) (v : Location) → HasUrlSyntax b parts → DenotesByScheme scheme parts v → ¬ (v.spelling ≡ Some v.path)
 meant_other scheme b parts v spelled h =
     subst (λ l. ¬ (l.spelling ≡ Some l.path)) (sym h.value) (retained_other scheme parts.path (path_sound b parts spelled))
 
@@ -184,7 +184,7 @@ unspelled_other : (v : Location) → v.spelling ≡ None → ¬ (v.spelling ≡ 
 unspelled_other v none e = absurd (none-some v.path (sym none ∙ e))
 
 -- a URL
-url_other : (scheme : Scheme) (b : List ℕ) (parts : UrlSyntax) (v : Location) → HasUrlSyntax b parts → MeansAs scheme b parts v → ¬ (v.spelling ≡ Some v.path)
+url_other : (scheme : Scheme) (b : List ℕ) (parts : UrlSyntax) (v : Location) → HasUrlSyntax b parts → DenotesAs scheme b parts v → ¬ (v.spelling ≡ Some v.path)
 url_other scheme b parts v spelled h =
     elim (means_cases scheme b parts v h) [
       | inl m ↦ unspelled_other v (ap (λ l. l.spelling) m.1)

@@ -11,7 +11,7 @@ use Rattle.git_syntax.specs.Schemes.{scheme_of}
 use Rattle.git_syntax.specs.Grammar.{LocalForm, helper_scheme, SpellsHelper, SpellsUrl, SpellsScp, SpellsLocal, Spells}
 use Rattle.git_location.specs.Text.{text}
 use Rattle.git_location.specs.Settled.{IsFlaggedPath, IsSettledLocal, IsSettledHelper, IsSettledBy, IsSettled}
-use Rattle.git_location.proofs.SettledClass.UnchangedLemmas.{helper_unchanged, helper_written, kept, local_unchanged, local_written, path_alone_bare}
+use Rattle.git_location.proofs.SettledClass.UnchangedLemmas.{helper_unchanged, helper_written, kept, local_unchanged, local_written}
 use Rattle.git_laws.specs.Laws.{keeps_bytes, KeepsBytes, ComesBack}
 use Rattle.git_syntax.proofs.Parsing.SchemeLemmas.{helper_cases, means_cases}
 

@@ -133,7 +133,7 @@ other_fitting name v (Some host) there e is h raw fits =
     let written = other_path_written (fields v) name e h.path (url_path v h.url.common) (λ none. raw) in
     let named = ap (λ p. is_web_scheme (scheme_text p)) e ∙ (other_scheme name h.unknown).not_web in
     let starts = subst (λ b. StartsPath b (canonical_path (fields v))) (sym named) written.0.starts in
-    let decoded : percent_decode (canonical_path v) ≡ v.path = sym (ap (λ p. path_for p (percent_decode (canonical_path v))) e) ∙ r.path.meant in
+    let decoded : percent_decode (canonical_path v) ≡ v.path = sym (ap (λ p. path_for p (percent_decode (canonical_path v))) e) ∙ r.path.denoted in
     fitting v h.url.common (written_other (fields v) name e h.scheme_text)
     (unspelled_fits v host r starts (λ empty. decode_empty (canonical_path v) (decoded ∙ path_empty v empty)))
 

@@ -109,7 +109,7 @@ record IsPlainly (web : Bool) (v : Location) : Type 0 where
   root : root_part v ≡ []
   starts : StartsPath web v.path
   text : IsUtf8 v.path
-  meant : path_for v.scheme v.path ≡ v.path
+  denoted : path_for v.scheme v.path ≡ v.path
   present : requires_path v.scheme ≡ true → 0 < length v.path
   writing : ¬ HasMatch v → IsWriting v.path (plain_path v.scheme v.path) (plain_path v.scheme v.path)
 
@@ -129,7 +129,7 @@ plainly_written web v p fair =
       starts = starts_alike web t v.path w.front p.starts;
       escaped = w.escaped;
       decoded = subst IsUtf8 (sym w.decoded) p.text;
-      meant = ap (path_for v.scheme) w.decoded ∙ p.meant;
+      denoted = ap (path_for v.scheme) w.decoded ∙ p.denoted;
       present = λ needed. some_alike t v.path w.front (p.present needed);
       again = ap (λ r. r ++ matching_or (retained_spelling t) v.path plain) p.root ∙ retained_again v.path plain t w;
       fair = retained_fair v.path plain t w;
@@ -140,13 +140,13 @@ plainly_written web v p fair =
 -- what the scheme of a location of HTTP says of its path
 record HasWebPaths (scheme : Scheme) : Type 0 where
   plain : (path : List ℕ) → plain_path scheme path ≡ percent_encode PATH path
-  meant : (path : List ℕ) → path_for scheme path ≡ or_root path
+  denoted : (path : List ℕ) → path_for scheme path ≡ or_root path
   required : requires_path scheme ≡ false
 
 -- both schemes of HTTP say the same of it
 web_paths : (v : Location) → IsWeb v → HasWebPaths v.scheme
-web_paths v (inl e) = subst HasWebPaths (sym e) record { plain = λ path. refl; meant = λ path. refl; required = refl }
-web_paths v (inr e) = subst HasWebPaths (sym e) record { plain = λ path. refl; meant = λ path. refl; required = refl }
+web_paths v (inl e) = subst HasWebPaths (sym e) record { plain = λ path. refl; denoted = λ path. refl; required = refl }
+web_paths v (inr e) = subst HasWebPaths (sym e) record { plain = λ path. refl; denoted = λ path. refl; required = refl }
 
 -- a path that begins by a byte isn't made the root
 root_kept : (test : ℕ → Bool) (path : List ℕ) → begins_by test path ≡ true → or_root path ≡ path
@@ -195,7 +195,7 @@ web_plainly v web begins url =
       root = cond-false _ _ _ (and_left _ _ facts.required);
       starts = inr begins;
       text = url.path_text;
-      meant = facts.meant v.path ∙ root_kept (is_path_start true) v.path begins;
+      denoted = facts.denoted v.path ∙ root_kept (is_path_start true) v.path begins;
       present = λ needed. absurd (both_ways _ facts.required needed);
       writing = λ none. plain_writing v web begins url.path_text;
     }
@@ -234,7 +234,7 @@ raw_again path t w none = raw_by (has_percent t) path t refl w none
 record IsRawly (v : Location) : Type 0 where
   root : root_part v ≡ []
   starts : StartsPath false v.path
-  meant : path_for v.scheme v.path ≡ v.path
+  denoted : path_for v.scheme v.path ≡ v.path
   present : requires_path v.scheme ≡ true → 0 < length v.path
   plain : plain_path v.scheme v.path ≡ v.path
 
@@ -244,7 +244,7 @@ rawly_plainly v r url raw = record {
   root = r.root;
   starts = r.starts;
   text = url.path_text;
-  meant = r.meant;
+  denoted = r.denoted;
   present = r.present;
   writing = λ none. subst (λ p. IsWriting v.path p p) (sym r.plain) (raw_writing v.path url.path_text (raw none));
 }
@@ -267,7 +267,7 @@ pub other_path_written : (v : Location) (name : List ℕ) → v.scheme ≡ helpe
 other_path_written v name e rooted url raw = rawly_written v record {
   root = cond-false _ _ _ (and_left _ _ (ap requires_path e));
   starts = other_starts v.path rooted;
-  meant = ap (λ p. path_for p v.path) e;
+  denoted = ap (λ p. path_for p v.path) e;
   present = λ needed. absurd (both_ways _ (ap requires_path e) needed);
   plain = ap (λ p. plain_path p v.path) e;
 } url raw
@@ -278,12 +278,12 @@ other_path_written v name e rooted url raw = rawly_written v record {
 record HasHomes (scheme : Scheme) : Type 0 where
   roots : requires_path scheme ≡ true
   plain : (path : List ℕ) → plain_path scheme path ≡ path
-  meant : (path : List ℕ) → path_for scheme path ≡ from_home path
+  denoted : (path : List ℕ) → path_for scheme path ≡ from_home path
 
 -- both schemes say the same of it
 homes : (v : Location) → (v.scheme ≡ ssh) ⊎ (v.scheme ≡ git) → HasHomes v.scheme
-homes v (inl e) = subst HasHomes (sym e) record { roots = refl; plain = λ path. refl; meant = λ path. refl }
-homes v (inr e) = subst HasHomes (sym e) record { roots = refl; plain = λ path. refl; meant = λ path. refl }
+homes v (inl e) = subst HasHomes (sym e) record { roots = refl; plain = λ path. refl; denoted = λ path. refl }
+homes v (inr e) = subst HasHomes (sym e) record { roots = refl; plain = λ path. refl; denoted = λ path. refl }
 
 -- a path that isn't written below a home folder stays
 pub homeless_kept : (path : List ℕ) → begins_at_home path ≡ false → from_home path ≡ path
@@ -299,7 +299,7 @@ rooted_rawly : (v : Location) → HasHomes v.scheme → begins_with slash v.path
 rooted_rawly v facts begins other = record {
   root = cond-false _ _ _ (and_right _ _ (not_from_true _ begins));
   starts = other_starts v.path (inr begins);
-  meant = facts.meant v.path ∙ homeless_kept v.path other;
+  denoted = facts.denoted v.path ∙ homeless_kept v.path other;
   present = λ needed. some_rooted v.path begins;
   plain = facts.plain v.path;
 }
@@ -351,13 +351,13 @@ home_written : (v : Location) → HasHomes v.scheme → IsRawHome v → WritesPa
 home_written v facts h =
     let whole = home_whole v facts h in
     let none = home_none v facts h in
-    let meant : percent_decode (canonical_path v) ≡ slash ∷ v.path = ap percent_decode whole ∙ decode_kept (slash ∷ v.path) h.raw.0 in
+    let denoted : percent_decode (canonical_path v) ≡ slash ∷ v.path = ap percent_decode whole ∙ decode_kept (slash ∷ v.path) h.raw.0 in
     let piece = home_piece v.path h.text h.raw in
     record {
       starts = inr (ap (begins_by (is_path_start false)) whole);
       escaped = subst IsEscapedPiece (sym whole) piece;
-      decoded = subst IsUtf8 (sym meant) piece.text;
-      meant = ap (path_for v.scheme) meant ∙ facts.meant (slash ∷ v.path) ∙ home_meant v.path h.home;
+      decoded = subst IsUtf8 (sym denoted) piece.text;
+      denoted = ap (path_for v.scheme) denoted ∙ facts.denoted (slash ∷ v.path) ∙ home_meant v.path h.home;
       present = λ needed. subst (λ t. 0 < length t) (sym whole) (omega arith);
       again = ap (λ o. root_part v ++ matching_or o v.path (plain_path v.scheme v.path)) none ∙ home_unspelled v facts h ∙ sym whole;
       fair = λ s is same. absurd (none-some s (sym none ∙ is));

@@ -49,7 +49,7 @@ pub record WritesPath (web : Bool) (v : Location) : Type 0 where
   pub starts : StartsPath web (canonical_path v)
   pub escaped : IsEscapedPiece (canonical_path v)
   pub decoded : IsUtf8 (percent_decode (canonical_path v))
-  pub meant : path_for v.scheme (percent_decode (canonical_path v)) ≡ v.path
+  pub denoted : path_for v.scheme (percent_decode (canonical_path v)) ≡ v.path
   pub present : requires_path v.scheme ≡ true → 0 < length (canonical_path v)
   pub again : canonical_path (as_read v) ≡ canonical_path v
   pub fair : HasFairSpelling (as_read v)

@@ -119,7 +119,7 @@ readable_spelled v named h = Spells.url (spelled_url (parts_spelled v named h) h
   host = v.host;
   pathed = h.path.present;
   hosted = h.hosted;
-  value = ap (λ f. record (as_read v) { flag = f }) h.unflagged ∙ ap (λ p. record (as_read v) { flag = false; path = p }) (sym h.path.meant);
+  value = ap (λ f. record (as_read v) { flag = f }) h.unflagged ∙ ap (λ p. record (as_read v) { flag = false; path = p }) (sym h.path.denoted);
 })
 
 -- the host is written the same with another spelling

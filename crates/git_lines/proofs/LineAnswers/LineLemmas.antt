@@ -9,7 +9,7 @@ use Rattle.git_lines.specs.declared.lines.RunError.{RunError}
 use Rattle.git_syntax.specs.Grammar.{Spells}
 use Rattle.git_refusals.specs.Reasons.{Refused}
 use Rattle.git_lines.specs.Answers.{ended_lines, IsAnswer, AnswersEach, Answers, HasLinesWithin}
-use Rattle.git_lines.specs.Answers.{AppendsAnswer, Reports, ReportsRefusal}
+use Rattle.git_lines.specs.Answers.{AppendsAnswer, AppendsReport, AppendsRefusal}
 use Rattle.git_lines.specs.Answers.IsAnswer.{reported, refused}
 use Rattle.std.proofs.Math.Bool.{and_comm}
 use Rattle.git_syntax.proofs.Texts.CutLemmas.{tails, different_bytes, free_head_tail}
@@ -95,12 +95,12 @@ done_last whole (b ∷ bs) out new good first done free filled (answer, one, joi
     )
 
 -- what is printed for a location is the answer to a line that spells it
-pub reported_answer : (line old new : List ℕ) (v : Location) (r : Result Bool RunError) → Spells line v → Reports v old new r → AppendsAnswer line old new r
+pub reported_answer : (line old new : List ℕ) (v : Location) (r : Result Bool RunError) → Spells line v → AppendsReport v old new r → AppendsAnswer line old new r
 reported_answer line old new v (Ok good) spelled (answer, is, joined) = (answer, reported v spelled is, joined)
 reported_answer line old new v (Err fault) spelled memory = memory
 
 -- what is printed for a refusal is the answer to a line that is refused so
-pub refused_answer : (line old new : List ℕ) (refusal : Refusal) (r : Result Bool RunError) → Refused line refusal → ReportsRefusal refusal old new r → AppendsAnswer line old new r
+pub refused_answer : (line old new : List ℕ) (refusal : Refusal) (r : Result Bool RunError) → Refused line refusal → AppendsRefusal refusal old new r → AppendsAnswer line old new r
 refused_answer line old new refusal (Ok good) flaw (bad, joined) = (_, refused refusal flaw refl bad, joined)
 refused_answer line old new refusal (Err fault) flaw memory = memory
 
@@ -144,8 +144,8 @@ line_alone most b free = (
 )
 
 -- so the lines behind a cut are within it
-pub within_next : (most room : ℕ) (b line behind : List ℕ) → HasLinesWithin most b → FreeOf newline line × (b ≡ line ++ newline ∷ behind) → room ≡ most → HasLinesWithin room behind
-within_next most room b line behind within (free, cut) same = subst (λ n. HasLinesWithin n behind) (sym same) ((lines_cut most b line behind free cut).0 within).1
+pub within_next : (most buffer_len : ℕ) (b line behind : List ℕ) → HasLinesWithin most b → FreeOf newline line × (b ≡ line ++ newline ∷ behind) → buffer_len ≡ most → HasLinesWithin buffer_len behind
+within_next most buffer_len b line behind within (free, cut) same = subst (λ n. HasLinesWithin n behind) (sym same) ((lines_cut most b line behind free cut).0 within).1
 
 -- what the lines in front of the rest say of the whole: its lines are within a length exactly where that is
 -- no shorter than the longest of those in front, and the lines of the rest are within it

@@ -1,15 +1,15 @@
 -- A simple text is that of its location, which is settled.
-use Rattle.std.proofs.Common.{◌≡◌, ◌∙◌, ◌<◌, ◌≤◌, ◌++◌, ◌∷◌, ◌==◌, ◌&&◌, not, ℕ, Bool, true, false, List, [], Option, Some, None, Ok, length, codes, refl, sym, ap, subst, inl, inr, arith}
+use Rattle.std.proofs.Common.{◌≡◌, ◌∙◌, ◌≤◌, ◌++◌, ◌∷◌, ◌==◌, ◌&&◌, not, ℕ, Bool, true, false, List, [], Option, Some, None, Ok, length, codes, refl, sym, ap, subst, inl, inr, arith}
 use Rattle.std.specs.List.{list_all}
 use Rattle.std.specs.Prelude.{IfSome}
 use Rattle.std.specs.Str.{IsUtf8}
-use Rattle.std.proofs.lemmas.Bool.{and_parts, both_ways, cases_Bool, cond_both, eqb-true, or_left}
+use Rattle.std.proofs.lemmas.Bool.{and_parts, both_ways, cases_Bool, cond_both, eqb-true}
 use Rattle.std.proofs.lemmas.Bool.Decides.{nat_tests}
 use Rattle.percent_encoding.specs.Percent.{percent_encode}
 use Rattle.git_syntax.specs.AddressTest.{is_ipv6_text}
 use Rattle.git_syntax.specs.Authority.{FitsText}
 use Rattle.git_syntax.specs.Escapes.{password_set, user_set}
-use Rattle.git_syntax.specs.Bytes.{FreeOf, at_sign, begins_by, begins_with, colon, is_path_start, left_bracket, slash, tilde}
+use Rattle.git_syntax.specs.Bytes.{FreeOf, at_sign, begins_with, colon, left_bracket, slash}
 use Rattle.git_syntax.specs.Grammar.{begins_at_home}
 use Rattle.git_syntax.specs.Location.{Location, Scheme, path_alone}
 use Rattle.git_syntax.specs.Location.Scheme.{file, git, ssh, http, https}
@@ -29,6 +29,7 @@ use Rattle.git_syntax.proofs.Texts.CutLemmas.{free_begins, held_free}
 use Rattle.git_syntax.proofs.Texts.EscapeLemmas.{utf8_behind}
 use Rattle.git_syntax.proofs.Texts.PlainLemmas.{plain_utf8}
 use Rattle.git_location.proofs.SettledClass.SettledLemmas.{plain_raw_path, simple_normal_name, simple_scp_name, simple_web_host}
+use Rattle.git_location.proofs.SettledClass.WebClassLemmas.{rooted_starts}
 use Rattle.git_location.proofs.SettledClass.UnchangedLemmas.{helper_unchanged, local_unchanged}
 use Rattle.git_location.proofs.Texts.UnescapedLemmas.{ready_password, ready_path, ready_user}
 use Rattle.git_location.proofs.Writing.WrittenAsUrlLemmas.{written_git, written_secure, written_web}
@@ -132,10 +133,6 @@ url_common b p user host path remote simple_user common is fits =
 homeless : (path : List ℕ) → is_common path ≡ true → begins_with slash path ≡ true → IsHomeless path
 homeless path common begins = (begins, common_homeless path common)
 
-starts : (path : List ℕ) → begins_with slash path ≡ true → begins_by (is_path_start true) path ≡ true
-starts [] begins = absurd (both_ways false refl begins)
-starts (b ∷ path) begins = or_left (b == slash) _ begins
-
 -- a URL of simple parts is settled, and its text is as it was read
 url_unchanged : (b : List ℕ) (p : Scheme) (user : Option (List ℕ)) (host path : List ℕ) → IsRemoteScheme p → HasSimpleParts b user host path → begins_with slash path ≡ true → length b ≤ 64
     → b ≡ simple_url p user host path → IsSettled (simple_value p false user host path) × (text (simple_value p false user host path) ≡ Ok b)
@@ -165,12 +162,12 @@ url_unchanged b p user host path remote parts begins short joined = by_scheme p 
         let v = simple_value http false user host path in
         let common = path_common (codes "http") e in
         let is = (written_web v (inl refl)).canonical refl (λ _. refl, λ _. refl) ∙ ap Ok (simple_canonical http user host path of_http parts.simple_user parts.simple_host common begins ∙ sym e) in
-        (record { common = (url_common b http user host path of_http parts.simple_user common is (fits (codes "http") refl e)).common; host = (host, refl, simple_web_host None host parts.simple_host); port = λ e. let wrong : None ≡ Some 0 = e in cc; path = starts path begins }, is)
+        (record { common = (url_common b http user host path of_http parts.simple_user common is (fits (codes "http") refl e)).common; host = (host, refl, simple_web_host None host parts.simple_host); port = λ e. let wrong : None ≡ Some 0 = e in cc; path = rooted_starts path begins }, is)
     by_scheme p of_https e =
         let v = simple_value https false user host path in
         let common = path_common (codes "https") e in
         let is = (written_web v (inr refl)).canonical refl (λ _. refl, λ _. refl) ∙ ap Ok (simple_canonical https user host path of_https parts.simple_user parts.simple_host common begins ∙ sym e) in
-        (record { common = (url_common b https user host path of_https parts.simple_user common is (fits (codes "https") refl e)).common; host = (host, refl, simple_web_host None host parts.simple_host); port = λ e. let wrong : None ≡ Some 0 = e in cc; path = starts path begins }, is)
+        (record { common = (url_common b https user host path of_https parts.simple_user common is (fits (codes "https") refl e)).common; host = (host, refl, simple_web_host None host parts.simple_host); port = λ e. let wrong : None ≡ Some 0 = e in cc; path = rooted_starts path begins }, is)
 
 -- ---- the scp form
 

@@ -1,22 +1,18 @@
 -- Remote helpers and local paths that are read are settled, and are written as they were read.
-use Rattle.std.proofs.Common.{◌≡◌, ℕ, true, inl, List, ◌∷◌, ◌++◌, Option, None, Ok, refl, codes, arith}
+use Rattle.std.proofs.Common.{◌≡◌, ℕ, true, List, ◌∷◌, ◌++◌, Option, Ok, refl, arith}
 use Rattle.std.proofs.lemmas.Bool.Decides.{nat_tests}
 use Rattle.std.proofs.lemmas.Slice.Eq.{bytes_eq-Decides}
 use Rattle.git_syntax.specs.Location.{Scheme, Location, path_alone}
 use Rattle.git_syntax.specs.Location.Scheme.{file, helper}
 use Rattle.git_syntax.specs.Bytes.{colon, is_helper_name}
-use Rattle.git_syntax.specs.Grammar.{LocalForm, helper_scheme, SpellsHelper, SpellsLocal}
+use Rattle.git_syntax.specs.Grammar.{helper_scheme, SpellsHelper, SpellsLocal}
 use Rattle.git_location.specs.Text.{text}
-use Rattle.git_location.specs.Settled.{IsFlaggedPath, IsSettled}
+use Rattle.git_location.specs.Settled.{IsSettled}
 use Rattle.git_syntax.proofs.Parsing.SchemeLemmas.{helper_cases}
 
 -- the value of a location that has a scheme, a path and the flag, and perhaps a spelling
 abbrev pub kept : Scheme → List ℕ → Option (List ℕ) → Location
 kept scheme path spelling = record (path_alone scheme true path) { spelling = spelling }
-
--- a value without parts of an authority
-pub path_alone_bare : (scheme : Scheme) (path : List ℕ) → IsFlaggedPath (path_alone scheme true path)
-path_alone_bare scheme path = (refl, (refl, refl, refl), refl)
 
 -- ---- texts
 
@@ -39,10 +35,6 @@ helper_text name path named = grind (arith, nat_tests, helper_written, bytes_eq-
 -- what a remote helper's form spells is settled, and written as it was read
 pub helper_unchanged : (b : List ℕ) (v : Location) → SpellsHelper b v → IsSettled v × (text v ≡ Ok b)
 helper_unchanged b v h = grind (arith, nat_tests, helper_settled, helper_text)
-
--- a local path without a spelling is settled
-local_settled : (b : List ℕ) → LocalForm b → IsSettled (path_alone file true b)
-local_settled b form = inl record { bare = path_alone_bare file b; form = form }
 
 -- what a local path spells is settled, and written as it was read
 pub local_unchanged : (b : List ℕ) (v : Location) → SpellsLocal b v → IsSettled v × (text v ≡ Ok b)

@@ -32,7 +32,7 @@ use Rattle.git_location.specs.Settled.IsWebHost.{literal, named}
 use Rattle.git_location.specs.Internal.SettledPieces.{IsSettledBesidePath}
 use Rattle.git_location.specs.Text.{canonical_path, matching_or, plain_path}
 use Rattle.git_location.specs.WebClass.{AgreesOverWeb, HasDotSegment, HasUnambiguousHost, HasUnambiguousPath, IsDecodedWhole, IsLastLabel, IsPlainName, IsUnambiguousHost, IsUnambiguousPassword, IsUnambiguousUser, is_control, is_plain_host_byte, is_segment_end, is_uri_byte}
-use Rattle.git_location.specs.Internal.WebPieces.{EndsSecondDot, IsDotSegment, IsUriPath, ends_segment, is_simple_byte, is_stray}
+use Rattle.git_location.specs.Internal.WebPieces.{EndsSecondDot, IsDotSegment, IsUriPath, ends_segment, is_common_path_byte, is_stray}
 use Rattle.git_location.proofs.SettledClass.SettledLemmas.{settled_as_web, url_by_parts, web_settled}
 use Rattle.git_location.proofs.Writing.PieceLemmas.{counted}
 
@@ -287,17 +287,17 @@ bytes_by_strays t control fragment = elim (cases_Bool (list_any is_stray t)) [
   | inr none ↦ ap not none ∙ sym (all_written is_uri_byte PATH t escape_in_uri ∙ all_written_from t none)
 ]
 
-simple_no_stray : (b : ℕ) → is_simple_byte b ≡ true → is_stray b ≡ false
+simple_no_stray : (b : ℕ) → is_common_path_byte b ≡ true → is_stray b ≡ false
 simple_no_stray b simple = grind (arith, nat_tests)
 
 -- a simple path is such a path
-pub simple_uri_path : (t : List ℕ) → list_all is_simple_byte t ≡ true → IsUriPath t (percent_encode PATH t)
+pub simple_uri_path : (t : List ℕ) → list_all is_common_path_byte t ≡ true → IsUriPath t (percent_encode PATH t)
 simple_uri_path t all =
-    (uri_path_by_bytes t).0 (lacks_of_all is_simple_byte is_stray simple_no_stray t all, inl ((colon_written PATH t refl).0 (free_of_all is_simple_byte colon t all refl)))
+    (uri_path_by_bytes t).0 (lacks_of_all is_common_path_byte is_stray simple_no_stray t all, inl ((colon_written PATH t refl).0 (free_of_all is_common_path_byte colon t all refl)))
 
 -- and text
-pub simple_path_text : (t : List ℕ) → list_all is_simple_byte t ≡ true → IsUtf8 t
-simple_path_text t all = utf8_class is_simple_byte (λ b simple. grind (arith, nat_tests)) t all
+pub simple_path_text : (t : List ℕ) → list_all is_common_path_byte t ≡ true → IsUtf8 t
+simple_path_text t all = utf8_class is_common_path_byte (λ b simple. grind (arith, nat_tests)) t all
 
 -- ---- spellings
 
@@ -358,7 +358,7 @@ unspelled_bytes v path web same is control fragment =
 -- ---- the class
 
 -- a path that begins with `/` begins as one of HTTP
-rooted_starts : (path : List ℕ) → begins_with slash path ≡ true → begins_by (is_path_start true) path ≡ true
+pub rooted_starts : (path : List ℕ) → begins_with slash path ≡ true → begins_by (is_path_start true) path ≡ true
 rooted_starts [] rooted = rooted
 rooted_starts (b ∷ bs) rooted = or_left _ _ rooted
 

@@ -17,13 +17,13 @@ pub answer_spelled : {E : Type 0} (b : List ℕ) (r : Result Location E) → IfO
 answer_spelled {E} b r found v e = let Found : Result Location E → Type 0 = λ answer. IfOk answer (Spells b) in subst Found e found
 
 -- a spelled location is answered where there is room for as many bytes
-spelled_answered : (b : List ℕ) (room : ℕ) (r : Result Location ParseError) → IfOk r (Spells b) → IfErr r (RefusesIn b room) → length b ≤ room → (v : Location) → Spells b v → r ≡ Ok v
-spelled_answered b room (Ok w) found refused enough v spelled = ap Ok (spells_unique b w v found spelled)
-spelled_answered b room (Err unread.NoRoom) found (some, short) enough v spelled = absurd (omega (arith, short, enough))
-spelled_answered b room (Err (unread.Refused why)) found (none, flaw) enough v spelled = absurd (none v spelled)
+spelled_answered : (b : List ℕ) (buffer_len : ℕ) (r : Result Location ParseError) → IfOk r (Spells b) → IfErr r (RefusesIn b buffer_len) → length b ≤ buffer_len → (v : Location) → Spells b v → r ≡ Ok v
+spelled_answered b buffer_len (Ok w) found refused enough v spelled = ap Ok (spells_unique b w v found spelled)
+spelled_answered b buffer_len (Err unread.NoRoom) found (some, short) enough v spelled = absurd (omega (arith, short, enough))
+spelled_answered b buffer_len (Err (unread.Refused why)) found (none, flaw) enough v spelled = absurd (none v spelled)
 
 -- so such an answer is that of reading into a buffer
-pub reads_in_by : (b : List ℕ) (room : ℕ) (r : Result Location ParseError) → IfOk r (Spells b) → IfErr r (RefusesIn b room) → (b ≡ [] → r ≡ Err (unread.Refused empty_refusal)) → ReadsIn b room r
-reads_in_by b room r found refused empty = record { found = found; refused = refused; empty = empty; exact = λ enough v. (answer_spelled b r found v, spelled_answered b room r found refused enough v) }
+pub reads_in_by : (b : List ℕ) (buffer_len : ℕ) (r : Result Location ParseError) → IfOk r (Spells b) → IfErr r (RefusesIn b buffer_len) → (b ≡ [] → r ≡ Err (unread.Refused empty_refusal)) → ReadsIn b buffer_len r
+reads_in_by b buffer_len r found refused empty = record { found = found; refused = refused; empty = empty; exact = λ enough v. (answer_spelled b r found v, spelled_answered b buffer_len r found refused enough v) }
 
 -- ---- both readers

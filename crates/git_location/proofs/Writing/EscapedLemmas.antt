@@ -10,14 +10,14 @@ use Rattle.percent_encoding.specs.Percent.{encode_byte, percent_encode, percent_
 use Rattle.percent_encoding.proofs.PercentLemmas.{percent_encode-append, percent_encode-nil}
 
 -- three bytes written at the end of the front of a buffer
-pub three_more : (room : List ℕ) (at x y z : ℕ) → at + 3 ≤ length room → take (at + 3) (slice_set (slice_set (slice_set room at x) (at + 1) y) (at + 2) z) ≡ take at room ++ x ∷ y ∷ z ∷ []
-three_more room at x y z fits =
-    let one = slice_set room at x in
+pub three_more : (buffer : List ℕ) (at x y z : ℕ) → at + 3 ≤ length buffer → take (at + 3) (slice_set (slice_set (slice_set buffer at x) (at + 1) y) (at + 2) z) ≡ take at buffer ++ x ∷ y ∷ z ∷ []
+three_more buffer at x y z fits =
+    let one = slice_set buffer at x in
     let two = slice_set one (at + 1) y in
-    let first = take-set_at room at (at + 1) x (omega arith) (omega arith) in
-    let second = take-set_at one (at + 1) (at + 2) y (omega arith) (omega (arith, length-set room at x)) in
-    let third = take-set_at two (at + 2) (at + 3) z (omega arith) (omega (arith, length-set room at x, length-set one (at + 1) y)) in
-    third ∙ ap (λ l. l ++ z ∷ []) (second ∙ ap (λ l. l ++ y ∷ []) first) ∙ ap (λ l. l ++ z ∷ []) (append_assoc (take at room) (x ∷ []) (y ∷ [])) ∙ append_assoc (take at room) (x ∷ y ∷ []) (z ∷ [])
+    let first = take-set_at buffer at (at + 1) x (omega arith) (omega arith) in
+    let second = take-set_at one (at + 1) (at + 2) y (omega arith) (omega (arith, length-set buffer at x)) in
+    let third = take-set_at two (at + 2) (at + 3) z (omega arith) (omega (arith, length-set buffer at x, length-set one (at + 1) y)) in
+    third ∙ ap (λ l. l ++ z ∷ []) (second ∙ ap (λ l. l ++ y ∷ []) first) ∙ ap (λ l. l ++ z ∷ []) (append_assoc (take at buffer) (x ∷ []) (y ∷ [])) ∙ append_assoc (take at buffer) (x ∷ y ∷ []) (z ∷ [])
 
 -- a byte that is escaped
 pub escape_of : (set : AsciiSet) (b x y : ℕ) → b < 256 → should_percent_encode set b ≡ true → x ≡ digit_glyph true (b / 16) → y ≡ digit_glyph true (b % 16) → 37 ∷ x ∷ y ∷ [] ≡ encode_byte set b

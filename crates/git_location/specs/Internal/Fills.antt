@@ -16,9 +16,9 @@ Placed (Err fault) old new = new ≡ old
 -- the text was added to the same buffer after the bytes that filled it before, if it fits
 abbrev pub Fills : Filled → List ℕ → Filled → Type 0
 Fills old text new =
-    (new.room.ghost_name ≡ old.room.ghost_name)
-    × ((front back : List ℕ) → old.room.now ≡ front ++ back → length front ≡ old.at → length text ≤ length back
-    → (new.room.now ≡ (front ++ text) ++ drop (length text) back) × (length (front ++ text) ≡ new.at))
+    (new.buffer.ghost_name ≡ old.buffer.ghost_name)
+    × ((front back : List ℕ) → old.buffer.now ≡ front ++ back → length front ≡ old.at → length text ≤ length back
+    → (new.buffer.now ≡ (front ++ text) ++ drop (length text) back) × (length (front ++ text) ≡ new.at))
 
 pub fills_nothing : (a : Filled) → Fills a [] a
 fills_nothing a = (

@@ -24,8 +24,8 @@ pub record IsUriPath (path written : List ℕ) : Type 0 where
   pub whole : IsDecodedWhole written
 
 -- a byte of most paths: a letter, a digit, `-`, `.`, `/` or `_`
-abbrev pub is_simple_byte : ℕ → Bool
-is_simple_byte b = is_between 45 57 b || is_ascii_lowercase b || is_ascii_uppercase b || b == 95
+abbrev pub is_common_path_byte : ℕ → Bool
+is_common_path_byte b = is_between 45 57 b || is_ascii_lowercase b || is_ascii_uppercase b || b == 95
 
 -- a byte that no path of the class has: a control, `#`, or one that is written unescaped and isn't one of a URI
 abbrev pub is_stray : ℕ → Bool

@@ -13,7 +13,7 @@ ghost use Rattle.git_location.specs.Internal.SettledPieces.{IsPiecesShort};
 ghost use Rattle.git_location.specs.Internal.Sinks.{ChecksPast, checks_joined, checks_nothing};
 
 use crate::url_ref::UrlRef;
-use crate::value::law_lent_value;
+use crate::value::law_borrowed_value;
 use crate::writer::piece::Pieces;
 use crate::writer::sink::Sink;
 use git_syntax::length::{LIMIT, LengthCheck};
@@ -49,7 +49,7 @@ fn has_short_parts(url: &UrlRef<'_>) -> bool
 fn longest_len(url: &UrlRef<'_>) -> u128
     ensures { length (canonical_text url.now) ≤ result }
 {
-    law_lent_value(url);
+    law_borrowed_value(url);
     let kept = url.scheme.as_str().len() as u128 + spelling_len(url.spelling);
     let escaped = part_len(url.user)
         + part_len(url.password)

@@ -19,47 +19,51 @@ const DIGITS: [u8; 16] = *b"0123456789ABCDEF";
 
 /// Puts the text with the bytes of the set, and those that aren't ASCII, as escapes.
 #[inline(never)]
-pub(crate) fn put_escaped<T, S: Sink<T>>(place: &mut T, text: &[u8], set: AsciiSet) -> Result<(), S::Fault>
+pub(crate) fn put_escaped<T, S: Sink<T>>(
+    place: &mut T,
+    text: &[u8],
+    set: AsciiSet,
+) -> Result<(), S::Fault>
     ensures { OnOk result (S.takes place.old (percent_encode set text.now) place.new) }
 {
-    let mut room = [0; 96];
+    let mut buffer = [0; 96];
     let mut rest = text;
     while !rest.is_empty() {
         let (block, behind) = rest.split_at(rest.len().min(BLOCK));
-        let size = escape_block(&mut room, block, set);
-        S::put(place, as_text(&room[..size]))?;
+        let size = escape_block(&mut buffer, block, set);
+        S::put(place, as_text(&buffer[..size]))?;
         rest = behind;
     }
     Ok(())
 }
 
 /// Writes the block with escapes to the front of the buffer, and returns its length there.
-fn escape_block(room: &mut [u8; 96], block: &[u8], set: AsciiSet) -> usize
+fn escape_block(buffer: &mut [u8; 96], block: &[u8], set: AsciiSet) -> usize
     requires { length block.now ≤ 32 }
-    ensures bytes { take result room.new ≡ percent_encode set block.now }
+    ensures bytes { take result buffer.new ≡ percent_encode set block.now }
     ensures bound { result ≤ 96 }
 {
     let mut size = 0;
     for byte in block {
-        size = put_byte(room, size, *byte, set);
+        size = put_byte(buffer, size, *byte, set);
     }
     size
 }
 
 /// Writes a byte, or its escape, at this index of the buffer, and returns the index after it.
 #[inline(always)]
-fn put_byte(room: &mut [u8; 96], at: usize, byte: u8, set: AsciiSet) -> usize
+fn put_byte(buffer: &mut [u8; 96], at: usize, byte: u8, set: AsciiSet) -> usize
     requires { at ≤ 93 }
-    ensures bytes { take result room.new ≡ take at room.old ++ encode_byte set byte }
+    ensures bytes { take result buffer.new ≡ take at buffer.old ++ encode_byte set byte }
     ensures bound { result ≤ at + 3 }
 {
     if set.should_percent_encode(byte) {
-        room[at] = b'%';
-        room[at + 1] = digit(byte / 16);
-        room[at + 2] = digit(byte % 16);
+        buffer[at] = b'%';
+        buffer[at + 1] = digit(byte / 16);
+        buffer[at + 2] = digit(byte % 16);
         return at + 3;
     }
-    room[at] = byte;
+    buffer[at] = byte;
     at + 1
 }
 

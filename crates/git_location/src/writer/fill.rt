@@ -12,18 +12,18 @@ use std::convert::Infallible;
 #[derive(Drop)]
 pub(crate) struct Filled<'a> {
     /// The buffer.
-    room: &'a mut [u8],
+    buffer: &'a mut [u8],
     /// The number of its bytes that are filled.
     at: usize,
 }
 
 /// Writes the text of the pieces to the front of the buffer, which is long enough.
 #[inline(always)]
-pub fn fill(room: &mut [u8], pieces: &Pieces<'_>)
-    requires { length (pieces_text pieces.now) ≤ length room.old }
-    ensures { room.new ≡ pieces_text pieces.now ++ drop (length (pieces_text pieces.now)) room.old }
+pub fn fill(buffer: &mut [u8], pieces: &Pieces<'_>)
+    requires { length (pieces_text pieces.now) ≤ length buffer.old }
+    ensures { buffer.new ≡ pieces_text pieces.now ++ drop (length (pieces_text pieces.now)) buffer.old }
 {
-    let mut place = Filled { room, at: 0 };
+    let mut place = Filled { buffer, at: 0 };
     let Ok(()) = pieces.put::<Filled<'_>, Front>(&mut place);
 }
 
@@ -43,8 +43,8 @@ impl<'a> Sink<Filled<'a>> for Front {
 
     fn put_end(place: &mut Filled<'a>, end: &[u8]) -> Result<(), Infallible> {
         // Nothing is promised if the buffer is too short.
-        if place.at <= place.room.len() && end.len() <= place.room.len() - place.at {
-            put_at(place.room, place.at, end);
+        if place.at <= place.buffer.len() && end.len() <= place.buffer.len() - place.at {
+            put_at(place.buffer, place.at, end);
             place.at += end.len();
         }
         Ok(())
@@ -58,11 +58,11 @@ impl<'a> Sink<Filled<'a>> for Front {
 }
 
 /// Writes the bytes at this index of the buffer.
-fn put_at(room: &mut [u8], at: usize, bytes: &[u8])
-    requires { at + length bytes.now ≤ length room.old }
-    ensures { room.new ≡ take at room.old ++ (bytes.now ++ drop (length bytes.now) (drop at room.old)) }
+fn put_at(buffer: &mut [u8], at: usize, bytes: &[u8])
+    requires { at + length bytes.now ≤ length buffer.old }
+    ensures { buffer.new ≡ take at buffer.old ++ (bytes.now ++ drop (length bytes.now) (drop at buffer.old)) }
 {
-    let (_, rest) = room.split_at_mut(at);
+    let (_, rest) = buffer.split_at_mut(at);
     let (place, _) = rest.split_at_mut(bytes.len());
     place.copy_from_slice(bytes);
 }

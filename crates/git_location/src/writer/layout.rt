@@ -2,7 +2,7 @@
 
 ghost use Rattle.std.specs.Prelude.{◌≡◌, ℕ, List, ◌++◌, option_map, unwrap_or};
 ghost use Rattle.git_syntax.specs.Location.Scheme.{ssh};
-ghost use Rattle.git_syntax.specs.Views.{lent_scheme};
+ghost use Rattle.git_syntax.specs.Views.{borrowed_scheme};
 ghost use Rattle.git_syntax.specs.AddressTest.{is_ipv6_text};
 ghost use Rattle.git_location.specs.Text as spec;
 ghost use Rattle.git_location.specs.Text.{text, helper_text, path_form_text, scp_text, canonical_text};
@@ -227,7 +227,7 @@ fn port_digits<'a>(port: Option<u16>, digits: &'a mut Buffer) -> Option<&'a str>
 /// A host outside brackets: unescaped, or escaped except for the colons of an address.
 #[inline(always)]
 fn open_host<'a>(scheme: SchemeRef<'_>, host: &'a str) -> Piece<'a>
-    ensures { piece_text result ≡ spec.open_host (lent_scheme scheme.entry) host.now }
+    ensures { piece_text result ≡ spec.open_host (borrowed_scheme scheme.entry) host.now }
 {
     match scheme {
         SchemeRef::File | SchemeRef::Http | SchemeRef::Https => Piece::Raw(host),

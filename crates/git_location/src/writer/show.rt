@@ -40,13 +40,13 @@ fn show_at_once<W: fmt::Write>(
     size: usize,
 ) -> fmt::Result
     requires size { size ≡ length (pieces_text pieces.now) }
-    requires room { size ≤ 128 }
+    requires buffer { size ≤ 128 }
     ensures { WritesStyledOnOk W.write_str_gives f.old result
         (lossy_text (pieces_text pieces.now)) f.new }
 {
-    let mut room = [0; ROOM];
-    fill(&mut room, pieces);
-    show_lossy(f, room.split_at(size).0)
+    let mut buffer = [0; ROOM];
+    fill(&mut buffer, pieces);
+    show_lossy(f, buffer.split_at(size).0)
 }
 
 /// The sink for a formatter.

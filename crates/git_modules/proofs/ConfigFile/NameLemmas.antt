@@ -9,7 +9,7 @@ not_nothing true c rest e h = cc
 not_nothing false c rest e h = cc
 
 -- the word of a text that begins with one of its bytes has a byte
-pub word_some : (n : ℕ) (room left : List ℕ) → take n room ≡ lowercase (word is_key_byte left) → begins_by is_key_byte left ≡ true → 0 < n
-word_some zero room [] e b = cc
-word_some zero room (c ∷ rest) e b = absurd (not_nothing (is_key_byte c) c (word is_key_byte rest) b e)
-word_some (suc n) room left e b = omega arith
+pub word_some : (n : ℕ) (buffer left : List ℕ) → take n buffer ≡ lowercase (word is_key_byte left) → begins_by is_key_byte left ≡ true → 0 < n
+word_some zero buffer [] e b = cc
+word_some zero buffer (c ∷ rest) e b = absurd (not_nothing (is_key_byte c) c (word is_key_byte rest) b e)
+word_some (suc n) buffer left e b = omega arith

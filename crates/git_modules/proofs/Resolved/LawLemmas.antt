@@ -8,7 +8,7 @@ use Rattle.git_syntax.specs.Bytes.{colon, left_bracket, slash, Lacks, begins_by,
 use Rattle.git_syntax.specs.Schemes.{host_syntax_of, is_web_scheme, scheme_of}
 use Rattle.git_syntax.specs.Authority.{Authority, unless_empty}
 use Rattle.git_syntax.specs.Flaws.{UrlForm}
-use Rattle.git_syntax.specs.Grammar.{HostFor, MeansAs, MeansByScheme, Spells, SpellsFile, SpellsUrl, UrlSyntax}
+use Rattle.git_syntax.specs.Grammar.{HostFor, DenotesAs, DenotesByScheme, Spells, SpellsFile, SpellsUrl, UrlSyntax}
 use Rattle.git_syntax.proofs.Parsing.ClassifierLemmas.{spelled_as_file, spelled_as_url, url_has_form, url_pieces}
 use Rattle.git_syntax.proofs.Parsing.SchemeLemmas.{means_cases}
 use Rattle.git_syntax.proofs.Texts.CutLemmas.{class_cut_unique, cut_at_first, scheme_text_free}
@@ -48,7 +48,7 @@ slash_or_none web path (inr begins) = inr (slash_starts web path begins)
 -- ---- locations
 
 -- parts with one user, password, host and port mean one place
-by_scheme_place : (scheme : Scheme) (p q : UrlSyntax) (v w : Location) → MeansByScheme scheme p v → MeansByScheme scheme q w → p.user ≡ q.user → p.password ≡ q.password → p.host ≡ q.host → p.port ≡ q.port → IsSamePlace v w
+by_scheme_place : (scheme : Scheme) (p q : UrlSyntax) (v w : Location) → DenotesByScheme scheme p v → DenotesByScheme scheme q w → p.user ≡ q.user → p.password ≡ q.password → p.host ≡ q.host → p.port ≡ q.port → IsSamePlace v w
 by_scheme_place scheme p q v w h k user password host port =
     let hosts = host_for_unique scheme p.host h.host k.host h.hosted (subst (λ z. HostFor scheme z k.host) (sym host) k.hosted) in
     record {
@@ -69,7 +69,7 @@ alone_place scheme flag t s v w e f = record {
   port = ap (λ z. z.port) f ∙ sym (ap (λ z. z.port) e);
 }
 
-means_place : (scheme : Scheme) (t s : List ℕ) (p q : UrlSyntax) (v w : Location) → MeansAs scheme t p v → MeansAs scheme s q w → p.user ≡ q.user → p.password ≡ q.password → p.host ≡ q.host → p.port ≡ q.port → IsSamePlace v w
+means_place : (scheme : Scheme) (t s : List ℕ) (p q : UrlSyntax) (v w : Location) → DenotesAs scheme t p v → DenotesAs scheme s q w → p.user ≡ q.user → p.password ≡ q.password → p.host ≡ q.host → p.port ≡ q.port → IsSamePlace v w
 means_place scheme t s p q v w h k user password host port =
     elim (means_cases scheme t p v h) [
       | inl (is, e) ↦ elim (means_cases scheme s q w k) [
@@ -89,7 +89,7 @@ url_place t s v w h k scheme authority =
     subst (λ a. Authority (host_syntax_of h.parts.scheme) a k.parts.user k.parts.password k.parts.host k.parts.port) authority
     (subst (λ z. Authority (host_syntax_of z) k.spelled.authority k.parts.user k.parts.password k.parts.host k.parts.port) scheme k.spelled.named) in
     let same = authority_unique (host_syntax_of h.parts.scheme) h.spelled.authority h.parts.user k.parts.user h.parts.password k.parts.password h.parts.host k.parts.host h.parts.port k.parts.port h.spelled.named named in
-    means_place (scheme_of h.parts.scheme) t s h.parts k.parts v w h.means (subst (λ z. MeansAs (scheme_of z) s k.parts w) scheme k.means) same.0 same.1 same.2 same.3
+    means_place (scheme_of h.parts.scheme) t s h.parts k.parts v w h.means (subst (λ z. DenotesAs (scheme_of z) s k.parts w) scheme k.means) same.0 same.1 same.2 same.3
 
 -- ---- the law
 

@@ -177,12 +177,12 @@ not_addressed front behind s user address path free bare e h =
 -- the scp form with the front of a parent has its user and its host
 before_place : (parent s : List ℕ) (v w : Location) (h : SpellsScpBefore parent v) (k : SpellsScpBefore s w) → h.front ≡ k.front → IsSamePlace v w
 before_place parent s v w h k same =
-    let again : SpellsScpBefore parent (scp_location k.user k.meant h.path) = record {
+    let again : SpellsScpBefore parent (scp_location k.user k.denoted h.path) = record {
       front = h.front;
       path = h.path;
       user = k.user;
       host = k.host;
-      meant = k.meant;
+      denoted = k.denoted;
       form = h.form;
       text = h.text;
       pathed = h.pathed;
@@ -190,7 +190,7 @@ before_place parent s v w h k same =
       hosted = k.hosted;
       value = refl;
     } in
-    let is = scp_before_unique parent v (scp_location k.user k.meant h.path) h again in
+    let is = scp_before_unique parent v (scp_location k.user k.denoted h.path) h again in
     record {
       scheme = ap (λ z. z.scheme) k.value ∙ sym (ap (λ z. z.scheme) is);
       user = ap (λ z. z.user) k.value ∙ sym (ap (λ z. z.user) is);

@@ -19,16 +19,16 @@ use crate::config_file::word::{Class, past_word, read_word};
 pub(super) fn read_header(
     text: &[u8],
     start: usize,
-    room: &mut [u8],
+    buffer: &mut [u8],
 ) -> Result<(usize, usize), Wrong>
     requires start { start ≤ length text.now }
-    requires room { length text.now ≤ start + length room.old }
+    requires buffer { length text.now ≤ start + length buffer.old }
     ensures stem { header.header_of (spec.left_at text.now start)
-        ≡ piece.read_as text.now room.new result }
+        ≡ piece.read_as text.now buffer.new result }
     ensures within { piece.IsWithin text.now start 0 result }
 {
-    let (len, at) = read_word(text, start, Class::Section, room);
-    read_behind(text, at, len, room)
+    let (len, at) = read_word(text, start, Class::Section, buffer);
+    read_behind(text, at, len, buffer)
 }
 
 /// Reads the rest of a header after its section, which is in the front of the buffer.
@@ -36,12 +36,12 @@ fn read_behind(
     text: &[u8],
     start: usize,
     len: usize,
-    room: &mut [u8],
+    buffer: &mut [u8],
 ) -> Result<(usize, usize), Wrong>
     requires start { start ≤ length text.now }
-    requires room { len + length text.now ≤ start + length room.old }
-    ensures stem { header.behind_section (take len room.old) (spec.left_at text.now start)
-        ≡ piece.read_as text.now room.new result }
+    requires buffer { len + length text.now ≤ start + length buffer.old }
+    ensures stem { header.behind_section (take len buffer.old) (spec.left_at text.now start)
+        ≡ piece.read_as text.now buffer.new result }
     ensures within { piece.IsWithin text.now start len result }
 {
     match byte_at(text, start) {
@@ -53,7 +53,7 @@ fn read_behind(
             Ok((len, behind))
         }
         Some((b'\n', _)) => Err(flaw_at(Flaw::NoQuote, start)),
-        Some((b' ' | b'\t' | b'\r', behind)) => read_subsection(text, behind, len, room),
+        Some((b' ' | b'\t' | b'\r', behind)) => read_subsection(text, behind, len, buffer),
         Some(_) => Err(flaw_at(Flaw::BadSection, start)),
     }
 }
@@ -63,20 +63,20 @@ fn read_subsection(
     text: &[u8],
     start: usize,
     len: usize,
-    room: &mut [u8],
+    buffer: &mut [u8],
 ) -> Result<(usize, usize), Wrong>
     requires start { start ≤ length text.now }
-    requires room { len + length text.now ≤ start + length room.old }
-    ensures stem { header.subsection_of (take len room.old)
+    requires buffer { len + length text.now ≤ start + length buffer.old }
+    ensures stem { header.subsection_of (take len buffer.old)
         (spec.past_word spec.is_blank (spec.left_at text.now start))
-        ≡ piece.read_as text.now room.new result }
+        ≡ piece.read_as text.now buffer.new result }
     ensures within { piece.IsWithin text.now start len result }
 {
     let at = past_word(text, start, Class::AfterSection);
     match byte_at(text, at) {
         Some((b'"', behind)) => {
-            room[len] = b'.';
-            let (len, at) = read_quoted(text, behind, len + 1, room)?;
+            buffer[len] = b'.';
+            let (len, at) = read_quoted(text, behind, len + 1, buffer)?;
             read_end(text, at, len)
         }
         _ => Err(flaw_at(Flaw::NoQuote, at)),
@@ -99,13 +99,13 @@ fn read_quoted(
     text: &[u8],
     start: usize,
     front: usize,
-    room: &mut [u8],
+    buffer: &mut [u8],
 ) -> Result<(usize, usize), Wrong>
     requires start { start ≤ length text.now }
-    requires room { front + length text.now ≤ start + length room.old }
-    ensures subsection { behind (take front room.old)
+    requires buffer { front + length text.now ≤ start + length buffer.old }
+    ensures subsection { behind (take front buffer.old)
         (header.quoted_text false (spec.left_at text.now start))
-        ≡ piece.read_as text.now room.new result }
+        ≡ piece.read_as text.now buffer.new result }
     ensures within { piece.IsWithin text.now start front result }
 {
     let mut at = start;
@@ -121,7 +121,7 @@ fn read_quoted(
         if is_last_quote(byte, is_escaped) {
             return Ok((len, behind));
         }
-        (len, is_escaped) = put_quoted(byte, is_escaped, len, room);
+        (len, is_escaped) = put_quoted(byte, is_escaped, len, buffer);
         at = behind;
     }
     Err(flaw_at(Flaw::OpenSubsection, at))
@@ -136,19 +136,19 @@ fn is_last_quote(byte: u8, is_escaped: bool) -> bool
 
 /// Writes a byte of a subsection, unless it begins an escape. Returns the number of bytes written, and whether an
 /// escape begins.
-fn put_quoted(byte: u8, is_escaped: bool, len: usize, room: &mut [u8]) -> (usize, bool)
-    requires { len < length room.old }
-    ensures bytes { piece.PutsQuoted byte is_escaped len room.old room.new result }
+fn put_quoted(byte: u8, is_escaped: bool, len: usize, buffer: &mut [u8]) -> (usize, bool)
+    requires { len < length buffer.old }
+    ensures bytes { piece.PutsQuoted byte is_escaped len buffer.old buffer.new result }
     ensures least { len ≤ result.0 }
     ensures most { result.0 ≤ len + 1 }
 {
     if is_escaped {
-        room[len] = byte;
+        buffer[len] = byte;
         return (len + 1, false);
     }
     if byte == b'\\' {
         return (len, true);
     }
-    room[len] = byte;
+    buffer[len] = byte;
     (len + 1, false)
 }

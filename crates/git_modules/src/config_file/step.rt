@@ -31,25 +31,25 @@ pub(super) enum Step<'a> {
 pub(super) fn read_step<'a>(
     text: &[u8],
     at: usize,
-    room: &'a mut [u8],
+    buffer: &'a mut [u8],
 ) -> Result<(Step<'a>, &'a mut [u8], usize), Wrong>
     requires start { at < length text.now }
-    requires room { length text.now ≤ at + length room.old }
+    requires buffer { length text.now ≤ at + length buffer.old }
     ensures item { item.item_of (spec.left_at text.now at) ≡ shown.step_as text.now result }
     ensures within { shown.IsStepWithin text.now at result }
 {
     let Some((byte, behind)) = byte_at(text, at) else {
-        return Ok((Step::Nothing, room, text.len()));
+        return Ok((Step::Nothing, buffer, text.len()));
     };
     match byte {
-        b' ' | b'\t' | b'\r' | b'\n' => Ok((Step::Nothing, room, behind)),
-        b'#' | b';' => Ok((Step::Nothing, room, past_line(text, behind))),
-        b'[' => read_stem(text, behind, room),
+        b' ' | b'\t' | b'\r' | b'\n' => Ok((Step::Nothing, buffer, behind)),
+        b'#' | b';' => Ok((Step::Nothing, buffer, past_line(text, behind))),
+        b'[' => read_stem(text, behind, buffer),
         _ => {
             if !byte.is_ascii_alphabetic() {
                 return Err(flaw_at(Flaw::NoStart, at));
             }
-            read_setting(text, at, room)
+            read_setting(text, at, buffer)
         }
     }
 }
@@ -58,16 +58,16 @@ pub(super) fn read_step<'a>(
 fn read_stem<'a>(
     text: &[u8],
     start: usize,
-    room: &'a mut [u8],
+    buffer: &'a mut [u8],
 ) -> Result<(Step<'a>, &'a mut [u8], usize), Wrong>
     requires start { start ≤ length text.now }
-    requires room { length text.now ≤ start + length room.old }
+    requires buffer { length text.now ≤ start + length buffer.old }
     ensures item { item.as_header (header_of (spec.left_at text.now start))
         ≡ shown.step_as text.now result }
     ensures within { shown.IsReadWithin text.now start result }
 {
-    let (len, next) = read_header(text, start, room)?;
-    let (stem, rest) = room.split_at_mut(len);
+    let (len, next) = read_header(text, start, buffer)?;
+    let (stem, rest) = buffer.split_at_mut(len);
     Ok((Step::Header(stem), rest, next))
 }
 
@@ -75,16 +75,16 @@ fn read_stem<'a>(
 fn read_setting<'a>(
     text: &[u8],
     start: usize,
-    room: &'a mut [u8],
+    buffer: &'a mut [u8],
 ) -> Result<(Step<'a>, &'a mut [u8], usize), Wrong>
     requires start { start ≤ length text.now }
-    requires room { length text.now ≤ start + length room.old }
+    requires buffer { length text.now ≤ start + length buffer.old }
     requires letter { begins_by spec.is_key_byte (spec.left_at text.now start) ≡ true }
     ensures item { item.setting_of (spec.left_at text.now start) ≡ shown.step_as text.now result }
     ensures within { shown.IsStepWithin text.now start result }
 {
-    let (len, at) = read_name(text, start, room);
-    let (name, rest) = room.split_at_mut(len);
+    let (len, at) = read_name(text, start, buffer);
+    let (name, rest) = buffer.split_at_mut(len);
     let at = past_word(text, at, Class::AfterName);
     match byte_at(text, at) {
         None => Ok((Step::Setting(name, None), rest, at)),
@@ -99,11 +99,11 @@ fn read_setting<'a>(
 }
 
 /// Writes a name in lower case to the front of the buffer. Returns its length, and the offset after it.
-fn read_name(text: &[u8], start: usize, room: &mut [u8]) -> (usize, usize)
+fn read_name(text: &[u8], start: usize, buffer: &mut [u8]) -> (usize, usize)
     requires start { start ≤ length text.now }
-    requires room { length text.now ≤ start + length room.old }
+    requires buffer { length text.now ≤ start + length buffer.old }
     requires letter { begins_by spec.is_key_byte (spec.left_at text.now start) ≡ true }
-    ensures bytes { take result.0 room.new
+    ensures bytes { take result.0 buffer.new
         ≡ lowercase (spec.word spec.is_key_byte (spec.left_at text.now start)) }
     ensures left { spec.left_at text.now result.1
         ≡ spec.past_word spec.is_key_byte (spec.left_at text.now start) }
@@ -111,5 +111,5 @@ fn read_name(text: &[u8], start: usize, room: &mut [u8]) -> (usize, usize)
     ensures least { start < result.1 }
     ensures most { result.1 ≤ length text.now }
 {
-    read_word(text, start, Class::Name, room)
+    read_word(text, start, Class::Name, buffer)
 }

@@ -129,12 +129,12 @@ enum Ending {
 pub(super) fn read_value(
     text: &[u8],
     start: usize,
-    room: &mut [u8],
+    buffer: &mut [u8],
 ) -> Result<(usize, usize), Wrong>
     requires start { start ≤ length text.now }
-    requires room { length text.now ≤ start + length room.old }
+    requires buffer { length text.now ≤ start + length buffer.old }
     ensures value { value.value_of (spec.left_at text.now start)
-        ≡ piece.read_as text.now room.new result }
+        ≡ piece.read_as text.now buffer.new result }
     ensures within { piece.IsWithin text.now start 0 result }
 {
     let mut at = start;
@@ -145,7 +145,7 @@ pub(super) fn read_value(
     };
     while let Some((byte, behind)) = byte_at(text, at) {
         let part = part_of(written.mode, byte);
-        match put_part(written, part, room) {
+        match put_part(written, part, buffer) {
             Ok(next) => written = next,
             Err(Ending::Line) => return Ok((written.kept, behind)),
             Err(Ending::Flaw(flaw)) => return Err(flaw_at(flaw, at)),
@@ -171,10 +171,10 @@ fn end_value(written: Written, at: usize) -> Result<(usize, usize), Wrong>
 }
 
 /// Writes the meaning of a byte of a value.
-fn put_part(written: Written, part: Part, room: &mut [u8]) -> Result<Written, Ending>
-    requires tail { shown.HasTail room.old written }
-    requires room { written.end < length room.old }
-    ensures { shown.PutsPart part room.old written room.new result }
+fn put_part(written: Written, part: Part, buffer: &mut [u8]) -> Result<Written, Ending>
+    requires tail { shown.HasTail buffer.old written }
+    requires buffer { written.end < length buffer.old }
+    ensures { shown.PutsPart part buffer.old written buffer.new result }
 {
     match part {
         Part::End => Err(Ending::Line),
@@ -184,14 +184,14 @@ fn put_part(written: Written, part: Part, room: &mut [u8]) -> Result<Written, En
             kept: written.kept,
             mode: Mode::Comment,
         }),
-        Part::Blank => Ok(put_blank(written, room)),
+        Part::Blank => Ok(put_blank(written, buffer)),
         Part::Mark(mode) => Ok(Written {
             end: written.end,
             kept: written.end,
             mode,
         }),
         Part::Byte(byte, mode) => {
-            room[written.end] = byte;
+            buffer[written.end] = byte;
             Ok(Written {
                 end: written.end + 1,
                 kept: written.end + 1,
@@ -202,15 +202,15 @@ fn put_part(written: Written, part: Part, room: &mut [u8]) -> Result<Written, En
 }
 
 /// Writes a space, unless nothing precedes it.
-fn put_blank(written: Written, room: &mut [u8]) -> Written
-    requires tail { shown.HasTail room.old written }
-    requires room { written.end < length room.old }
-    ensures { shown.PutsBlank room.old written room.new result }
+fn put_blank(written: Written, buffer: &mut [u8]) -> Written
+    requires tail { shown.HasTail buffer.old written }
+    requires buffer { written.end < length buffer.old }
+    ensures { shown.PutsBlank buffer.old written buffer.new result }
 {
     if written.end == 0 {
         return written;
     }
-    room[written.end] = b' ';
+    buffer[written.end] = b' ';
     Written {
         end: written.end + 1,
         kept: written.kept,

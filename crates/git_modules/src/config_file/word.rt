@@ -34,10 +34,15 @@ pub(super) fn is_of(class: Class, byte: u8) -> bool
 
 /// Writes the word that begins at an offset to the front of the buffer, in lower case. Returns its length, and the
 /// offset after it.
-pub(super) fn read_word(text: &[u8], start: usize, class: Class, room: &mut [u8]) -> (usize, usize)
+pub(super) fn read_word(
+    text: &[u8],
+    start: usize,
+    class: Class,
+    buffer: &mut [u8],
+) -> (usize, usize)
     requires start { start ≤ length text.now }
-    requires room { length text.now ≤ start + length room.old }
-    ensures bytes { take result.0 room.new
+    requires buffer { length text.now ≤ start + length buffer.old }
+    ensures bytes { take result.0 buffer.new
         ≡ lowercase (spec.word (piece.is_of class) (spec.left_at text.now start)) }
     ensures left { spec.left_at text.now result.1
         ≡ spec.past_word (piece.is_of class) (spec.left_at text.now start) }
@@ -50,7 +55,7 @@ pub(super) fn read_word(text: &[u8], start: usize, class: Class, room: &mut [u8]
         if !is_of(class, byte) {
             return (len, at);
         }
-        room[len] = byte.to_ascii_lowercase();
+        buffer[len] = byte.to_ascii_lowercase();
         len += 1;
         at = behind;
     }

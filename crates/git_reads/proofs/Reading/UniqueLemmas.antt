@@ -9,7 +9,7 @@ use Rattle.git_syntax.specs.Location.Scheme.{file, git, ssh}
 use Rattle.git_syntax.specs.Bytes.{slash, colon, FreeOf}
 use Rattle.git_syntax.specs.Schemes.{scheme_of}
 use Rattle.git_syntax.specs.Authority.{unless_empty}
-use Rattle.git_reads.specs.Git.{GitReading, OneGitReading, on_this_machine, from_tilde, git_decode, CutsPlace, git_port, BeforePort, HostAndPort, SecurePort, UserCut, ReachesSecure, ReachesGit, OwnUrl, IsNoUrl, IsRemote, IsLocal, ReadsGiven}
+use Rattle.git_reads.specs.Git.{GitReading, OneGitReading, on_this_machine, from_tilde, git_decode, CutsPlace, git_port, BeforePort, HostAndPort, SecurePort, UserCut, ReachesSecure, ReachesGit, OwnUrl, IsNoUrl, IsRemote, IsLocal, ReadsInput}
 use Rattle.git_syntax.proofs.Parsing.SchemeLemmas.{scheme_cases, transport}
 use Rattle.git_reads.proofs.Texts.PlaceLemmas.{brackets_unique, brackets_not_lacked, host_end_unique}
 use Rattle.git_syntax.proofs.Texts.CutLemmas.{heads, tails, different_bytes, cut_unique, free_head_tail, last_cut_unique, not_free}
@@ -225,39 +225,39 @@ git_paths place name path more reading other e f h k =
     git_reading_unique name more reading other (subst (λ p. ReachesGit name p reading) f (subst (λ n. ReachesGit n path reading) e h)) k
 
 -- the same form reads one thing
-reads_alike : (t : List ℕ) (reading other : GitReading) → ReadsGiven t reading → ReadsGiven t other → reading ≡ other
-reads_alike t r o (ReadsGiven.secure_url x place path u c h) (ReadsGiven.secure_url x' place' path' u' c' h') =
+reads_alike : (t : List ℕ) (reading other : GitReading) → ReadsInput t reading → ReadsInput t other → reading ≡ other
+reads_alike t r o (ReadsInput.secure_url x place path u c h) (ReadsInput.secure_url x' place' path' u' c' h') =
     let same = url_cut_unique ssh t x x' place place' path path' refl u u' c c' in
     secure_paths place place' (from_tilde (slash ∷ path)) (from_tilde (slash ∷ path')) r o same.0 (ap (λ p. from_tilde (slash ∷ p)) same.1) h h'
-reads_alike t r o (ReadsGiven.secure_url x place path u c h) (ReadsGiven.git_url x' place' path' u' c' h') = apart ssh git t x x' refl refl (λ e. cc) u u'
-reads_alike t r o (ReadsGiven.secure_url x place path u c h) (ReadsGiven.file_url x' place' path' u' c' h') = apart ssh file t x x' refl refl (λ e. cc) u u'
-reads_alike t r o (ReadsGiven.secure_url x place path u c h) (ReadsGiven.scp_form place' path' n m c' h') = own_no_other ssh t x u n
-reads_alike t r o (ReadsGiven.secure_url x place path u c h) (ReadsGiven.local_path p' path' n l e some safe low is) = own_no_other ssh t x u n
-reads_alike t r o (ReadsGiven.git_url x place path u c h) (ReadsGiven.secure_url x' place' path' u' c' h') = apart git ssh t x x' refl refl (λ e. cc) u u'
-reads_alike t r o (ReadsGiven.git_url x place path u c h) (ReadsGiven.git_url x' place' path' u' c' h') =
+reads_alike t r o (ReadsInput.secure_url x place path u c h) (ReadsInput.git_url x' place' path' u' c' h') = apart ssh git t x x' refl refl (λ e. cc) u u'
+reads_alike t r o (ReadsInput.secure_url x place path u c h) (ReadsInput.file_url x' place' path' u' c' h') = apart ssh file t x x' refl refl (λ e. cc) u u'
+reads_alike t r o (ReadsInput.secure_url x place path u c h) (ReadsInput.scp_form place' path' n m c' h') = own_no_other ssh t x u n
+reads_alike t r o (ReadsInput.secure_url x place path u c h) (ReadsInput.local_path p' path' n l e some safe low is) = own_no_other ssh t x u n
+reads_alike t r o (ReadsInput.git_url x place path u c h) (ReadsInput.secure_url x' place' path' u' c' h') = apart git ssh t x x' refl refl (λ e. cc) u u'
+reads_alike t r o (ReadsInput.git_url x place path u c h) (ReadsInput.git_url x' place' path' u' c' h') =
     let same = url_cut_unique git t x x' place place' path path' refl u u' c c' in
     git_paths place place' (from_tilde (slash ∷ path)) (from_tilde (slash ∷ path')) r o same.0 (ap (λ p. from_tilde (slash ∷ p)) same.1) h h'
-reads_alike t r o (ReadsGiven.git_url x place path u c h) (ReadsGiven.file_url x' place' path' u' c' h') = apart git file t x x' refl refl (λ e. cc) u u'
-reads_alike t r o (ReadsGiven.git_url x place path u c h) (ReadsGiven.scp_form place' path' n m c' h') = own_no_other git t x u n
-reads_alike t r o (ReadsGiven.git_url x place path u c h) (ReadsGiven.local_path p' path' n l e some safe low is) = own_no_other git t x u n
-reads_alike t r o (ReadsGiven.file_url x place path u c h) (ReadsGiven.secure_url x' place' path' u' c' h') = apart file ssh t x x' refl refl (λ e. cc) u u'
-reads_alike t r o (ReadsGiven.file_url x place path u c h) (ReadsGiven.git_url x' place' path' u' c' h') = apart file git t x x' refl refl (λ e. cc) u u'
-reads_alike t r o (ReadsGiven.file_url x place path u c h) (ReadsGiven.file_url x' place' path' u' c' h') =
+reads_alike t r o (ReadsInput.git_url x place path u c h) (ReadsInput.file_url x' place' path' u' c' h') = apart git file t x x' refl refl (λ e. cc) u u'
+reads_alike t r o (ReadsInput.git_url x place path u c h) (ReadsInput.scp_form place' path' n m c' h') = own_no_other git t x u n
+reads_alike t r o (ReadsInput.git_url x place path u c h) (ReadsInput.local_path p' path' n l e some safe low is) = own_no_other git t x u n
+reads_alike t r o (ReadsInput.file_url x place path u c h) (ReadsInput.secure_url x' place' path' u' c' h') = apart file ssh t x x' refl refl (λ e. cc) u u'
+reads_alike t r o (ReadsInput.file_url x place path u c h) (ReadsInput.git_url x' place' path' u' c' h') = apart file git t x x' refl refl (λ e. cc) u u'
+reads_alike t r o (ReadsInput.file_url x place path u c h) (ReadsInput.file_url x' place' path' u' c' h') =
     h ∙ ap (λ p. on_this_machine (slash ∷ p)) (url_cut_unique file t x x' place place' path path' refl u u' c c').1 ∙ sym h'
-reads_alike t r o (ReadsGiven.file_url x place path u c h) (ReadsGiven.scp_form place' path' n m c' h') = own_no_other file t x u n
-reads_alike t r o (ReadsGiven.file_url x place path u c h) (ReadsGiven.local_path p' path' n l e some safe low is) = own_no_other file t x u n
-reads_alike t r o (ReadsGiven.scp_form place path n m c h) (ReadsGiven.secure_url x' place' path' u' c' h') = own_no_other ssh t x' u' n
-reads_alike t r o (ReadsGiven.scp_form place path n m c h) (ReadsGiven.git_url x' place' path' u' c' h') = own_no_other git t x' u' n
-reads_alike t r o (ReadsGiven.scp_form place path n m c h) (ReadsGiven.file_url x' place' path' u' c' h') = own_no_other file t x' u' n
-reads_alike t r o (ReadsGiven.scp_form place path n m c h) (ReadsGiven.scp_form place' path' n' m' c' h') =
+reads_alike t r o (ReadsInput.file_url x place path u c h) (ReadsInput.scp_form place' path' n m c' h') = own_no_other file t x u n
+reads_alike t r o (ReadsInput.file_url x place path u c h) (ReadsInput.local_path p' path' n l e some safe low is) = own_no_other file t x u n
+reads_alike t r o (ReadsInput.scp_form place path n m c h) (ReadsInput.secure_url x' place' path' u' c' h') = own_no_other ssh t x' u' n
+reads_alike t r o (ReadsInput.scp_form place path n m c h) (ReadsInput.git_url x' place' path' u' c' h') = own_no_other git t x' u' n
+reads_alike t r o (ReadsInput.scp_form place path n m c h) (ReadsInput.file_url x' place' path' u' c' h') = own_no_other file t x' u' n
+reads_alike t r o (ReadsInput.scp_form place path n m c h) (ReadsInput.scp_form place' path' n' m' c' h') =
     let same = place_unique colon t place path place' path' c c' in
     secure_paths place place' (from_tilde path) (from_tilde path') r o same.0 (ap from_tilde same.1) h h'
-reads_alike t r o (ReadsGiven.scp_form place path n m c h) (ReadsGiven.local_path p' path' n' l e some safe low is) = remote_not_local t m l
-reads_alike t r o (ReadsGiven.local_path p path n l e some safe low is) (ReadsGiven.secure_url x' place' path' u' c' h') = own_no_other ssh t x' u' n
-reads_alike t r o (ReadsGiven.local_path p path n l e some safe low is) (ReadsGiven.git_url x' place' path' u' c' h') = own_no_other git t x' u' n
-reads_alike t r o (ReadsGiven.local_path p path n l e some safe low is) (ReadsGiven.file_url x' place' path' u' c' h') = own_no_other file t x' u' n
-reads_alike t r o (ReadsGiven.local_path p path n l e some safe low is) (ReadsGiven.scp_form place' path' n' m c' h') = remote_not_local t m l
-reads_alike t r o (ReadsGiven.local_path p path n l e some safe low is) (ReadsGiven.local_path p' path' n' l' e' some' safe' low' is') =
+reads_alike t r o (ReadsInput.scp_form place path n m c h) (ReadsInput.local_path p' path' n' l e some safe low is) = remote_not_local t m l
+reads_alike t r o (ReadsInput.local_path p path n l e some safe low is) (ReadsInput.secure_url x' place' path' u' c' h') = own_no_other ssh t x' u' n
+reads_alike t r o (ReadsInput.local_path p path n l e some safe low is) (ReadsInput.git_url x' place' path' u' c' h') = own_no_other git t x' u' n
+reads_alike t r o (ReadsInput.local_path p path n l e some safe low is) (ReadsInput.file_url x' place' path' u' c' h') = own_no_other file t x' u' n
+reads_alike t r o (ReadsInput.local_path p path n l e some safe low is) (ReadsInput.scp_form place' path' n' m c' h') = remote_not_local t m l
+reads_alike t r o (ReadsInput.local_path p path n l e some safe low is) (ReadsInput.local_path p' path' n' l' e' some' safe' low' is') =
     is ∙ ap on_this_machine (host_end_unique t p path p' path' e e').1 ∙ sym is'
 
 -- Git reads one thing in a text

@@ -10,7 +10,7 @@ use Rattle.git_reads.specs.declared.transport.Protocol.{Protocol}
 use Rattle.git_reads.specs.declared.transport.Protocol.TheVariants as protocol
 use Rattle.git_reads.specs.declared.transport.Unread.{Unread}
 use Rattle.git_reads.specs.declared.transport.Unread.TheVariants as why
-use Rattle.git_reads.specs.Git.{GitReading, on_this_machine, from_tilde, git_decode, HostEnd, CutsPlace, ReachesSecure, OwnUrl, IsNoUrl, IsRemote, IsLocal, ReadsGiven}
+use Rattle.git_reads.specs.Git.{GitReading, on_this_machine, from_tilde, git_decode, HostEnd, CutsPlace, ReachesSecure, OwnUrl, IsNoUrl, IsRemote, IsLocal, ReadsInput}
 use Rattle.git_reads.specs.Unread.{IsForeign, IsForHelper, IsOfTwoPlaces, IsForSecureShell, GetsUrl, GivesUrl, IsRewritten, IsGiven, LacksReading, Unreads}
 use Rattle.git_reads.specs.Views.{scheme_of_protocol}
 use Rattle.git_reads.specs.Transports.{BeginsBy, NamesHelper, url_text, LacksAny, FailsToReach, ReachesBy, GetsUrlBy, IsForeignFor, IsReadPath, IsUnreadPath, Fails}
@@ -79,12 +79,12 @@ pub record ReachesUrl (r : GitReading) (p : Scheme) (rest : List ℕ) : Type 0 w
   pub reaches : ReachesBy p place (slash ∷ path) r
 
 -- a reading of a transport's URL is reached by this transport
-own_reached : (p : Scheme) (t rest : List ℕ) (r : GitReading) → is_own p ≡ true → OwnUrl p t rest → ReadsGiven t r → ReachesUrl r p rest
-own_reached p t rest r own u (ReadsGiven.secure_url x place path v c h) = same_url (ReachesUrl r) p ssh t rest x own refl u v record { place = place; path = path; cut = c; reaches = h }
-own_reached p t rest r own u (ReadsGiven.git_url x place path v c h) = same_url (ReachesUrl r) p git t rest x own refl u v record { place = place; path = path; cut = c; reaches = h }
-own_reached p t rest r own u (ReadsGiven.file_url x place path v c h) = same_url (ReachesUrl r) p file t rest x own refl u v record { place = place; path = path; cut = c; reaches = h }
-own_reached p t rest r own u (ReadsGiven.scp_form place path n m c h) = own_no_other p t rest u n
-own_reached p t rest r own u (ReadsGiven.local_path passed path n l e some safe low is) = own_no_other p t rest u n
+own_reached : (p : Scheme) (t rest : List ℕ) (r : GitReading) → is_own p ≡ true → OwnUrl p t rest → ReadsInput t r → ReachesUrl r p rest
+own_reached p t rest r own u (ReadsInput.secure_url x place path v c h) = same_url (ReachesUrl r) p ssh t rest x own refl u v record { place = place; path = path; cut = c; reaches = h }
+own_reached p t rest r own u (ReadsInput.git_url x place path v c h) = same_url (ReachesUrl r) p git t rest x own refl u v record { place = place; path = path; cut = c; reaches = h }
+own_reached p t rest r own u (ReadsInput.file_url x place path v c h) = same_url (ReachesUrl r) p file t rest x own refl u v record { place = place; path = path; cut = c; reaches = h }
+own_reached p t rest r own u (ReadsInput.scp_form place path n m c h) = own_no_other p t rest u n
+own_reached p t rest r own u (ReadsInput.local_path passed path n l e some safe low is) = own_no_other p t rest u n
 
 -- the transport gets a URL at a cut of the rest
 pub record GetsUrlOf (p : Scheme) (rest : List ℕ) : Type 0 where
@@ -117,10 +117,10 @@ pub own_uncut : (p : Scheme) (t rest : List ℕ) → is_own p ≡ true → OwnUr
 own_uncut p t rest own u uncut = own_refused p t rest own u (λ r h. uncut h.place h.path h.cut) (λ h. uncut h.place h.path h.cut)
 
 -- what the transport reaches is read
-pub own_reads : (p : Scheme) (t rest place path : List ℕ) (r : GitReading) → OwnUrl p t rest → CutsPlace slash rest place path → ReachesBy p place (slash ∷ path) r → ReadsGiven t r
-own_reads ssh t rest place path r u c h = ReadsGiven.secure_url rest place path u c h
-own_reads git t rest place path r u c h = ReadsGiven.git_url rest place path u c h
-own_reads file t rest place path r u c h = ReadsGiven.file_url rest place path u c h
+pub own_reads : (p : Scheme) (t rest place path : List ℕ) (r : GitReading) → OwnUrl p t rest → CutsPlace slash rest place path → ReachesBy p place (slash ∷ path) r → ReadsInput t r
+own_reads ssh t rest place path r u c h = ReadsInput.secure_url rest place path u c h
+own_reads git t rest place path r u c h = ReadsInput.git_url rest place path u c h
+own_reads file t rest place path r u c h = ReadsInput.file_url rest place path u c h
 own_reads http t rest place path r u c h = absurd h
 own_reads https t rest place path r u c h = absurd h
 own_reads ext t rest place path r u c h = absurd h
@@ -164,12 +164,12 @@ own_scheme p scheme spelled rest own none u =
     ap scheme_of (mark_cut_unique scheme u.scheme spelled u.spelled none (held_free u.scheme free) u.joined).0 ∙ u.own
 
 -- a URL of none of Git's own transports has no reading
-foreign_lacks : (scheme spelled : List ℕ) → ¬ Holds url_mark scheme → IsForeign scheme → LacksAny (ReadsGiven (url_text scheme spelled))
-foreign_lacks scheme spelled none foreign r (ReadsGiven.secure_url x place path u c h) = foreign.0 (own_scheme ssh scheme spelled x refl none u)
-foreign_lacks scheme spelled none foreign r (ReadsGiven.git_url x place path u c h) = foreign.1.0 (own_scheme git scheme spelled x refl none u)
-foreign_lacks scheme spelled none foreign r (ReadsGiven.file_url x place path u c h) = foreign.1.1 (own_scheme file scheme spelled x refl none u)
-foreign_lacks scheme spelled none foreign r (ReadsGiven.scp_form place path n m c h) = n.no_mark (scheme, spelled, refl)
-foreign_lacks scheme spelled none foreign r (ReadsGiven.local_path passed path n l e some safe low is) = n.no_mark (scheme, spelled, refl)
+foreign_lacks : (scheme spelled : List ℕ) → ¬ Holds url_mark scheme → IsForeign scheme → LacksAny (ReadsInput (url_text scheme spelled))
+foreign_lacks scheme spelled none foreign r (ReadsInput.secure_url x place path u c h) = foreign.0 (own_scheme ssh scheme spelled x refl none u)
+foreign_lacks scheme spelled none foreign r (ReadsInput.git_url x place path u c h) = foreign.1.0 (own_scheme git scheme spelled x refl none u)
+foreign_lacks scheme spelled none foreign r (ReadsInput.file_url x place path u c h) = foreign.1.1 (own_scheme file scheme spelled x refl none u)
+foreign_lacks scheme spelled none foreign r (ReadsInput.scp_form place path n m c h) = n.no_mark (scheme, spelled, refl)
+foreign_lacks scheme spelled none foreign r (ReadsInput.local_path passed path n l e some safe low is) = n.no_mark (scheme, spelled, refl)
 
 -- a URL of none of Git's own transports isn't for Secure Shell
 foreign_gives : (scheme spelled place path : List ℕ) → ¬ Holds url_mark scheme → IsForeign scheme → ¬ IsForSecureShell (url_text scheme spelled) place path
@@ -225,12 +225,12 @@ is_no_url t none unnamed other = record {
 }
 
 -- a reading of a text without a mark is of the scp form or of a local path
-unmarked_read : {A : Type 0} (t : List ℕ) (r : GitReading) → ¬ Holds url_mark t → ReadsGiven t r → ((place path : List ℕ) → IsNoUrl t → IsRemote t → CutsPlace colon t place path → ReachesSecure place (from_tilde path) r → A) → ((passed path : List ℕ) → IsNoUrl t → IsLocal t → HostEnd t passed path → IsReadPath path → A) → A
-unmarked_read t r none (ReadsGiven.secure_url x place path u c h) scp path_of = unmarked_url ssh t x none u
-unmarked_read t r none (ReadsGiven.git_url x place path u c h) scp path_of = unmarked_url git t x none u
-unmarked_read t r none (ReadsGiven.file_url x place path u c h) scp path_of = unmarked_url file t x none u
-unmarked_read t r none (ReadsGiven.scp_form place path n m c h) scp path_of = scp place path n m c h
-unmarked_read t r none (ReadsGiven.local_path passed path n l e some safe low is) scp path_of = path_of passed path n l e record { some = some; safe = safe; no_home = low }
+unmarked_read : {A : Type 0} (t : List ℕ) (r : GitReading) → ¬ Holds url_mark t → ReadsInput t r → ((place path : List ℕ) → IsNoUrl t → IsRemote t → CutsPlace colon t place path → ReachesSecure place (from_tilde path) r → A) → ((passed path : List ℕ) → IsNoUrl t → IsLocal t → HostEnd t passed path → IsReadPath path → A) → A
+unmarked_read t r none (ReadsInput.secure_url x place path u c h) scp path_of = unmarked_url ssh t x none u
+unmarked_read t r none (ReadsInput.git_url x place path u c h) scp path_of = unmarked_url git t x none u
+unmarked_read t r none (ReadsInput.file_url x place path u c h) scp path_of = unmarked_url file t x none u
+unmarked_read t r none (ReadsInput.scp_form place path n m c h) scp path_of = scp place path n m c h
+unmarked_read t r none (ReadsInput.local_path passed path n l e some safe low is) scp path_of = path_of passed path n l e record { some = some; safe = safe; no_home = low }
 
 -- a text without a mark that is for Secure Shell has the scp form
 unmarked_gives : {A : Type 0} (t place path : List ℕ) → ¬ Holds url_mark t → IsForSecureShell t place path → ((behind : List ℕ) → IsNoUrl t → IsRemote t → CutsPlace colon t place behind → path ≡ from_tilde behind → A) → A
@@ -308,19 +308,19 @@ no_url_no_helper t n (IsForHelper.unnamed rest e) = n.no_empty_helper rest e
 no_url_no_helper t n (IsForHelper.by_scheme scheme rest foreign name other e) = n.no_mark (scheme, rest, e)
 
 -- a text for a helper has no reading
-helper_lacks : (t : List ℕ) (r : GitReading) → IsForHelper t → ¬ ReadsGiven t r
-helper_lacks t r h (ReadsGiven.secure_url x place path u c k) = own_no_helper ssh t x refl u h
-helper_lacks t r h (ReadsGiven.git_url x place path u c k) = own_no_helper git t x refl u h
-helper_lacks t r h (ReadsGiven.file_url x place path u c k) = own_no_helper file t x refl u h
-helper_lacks t r h (ReadsGiven.scp_form place path n m c k) = no_url_no_helper t n h
-helper_lacks t r h (ReadsGiven.local_path passed path n l e some safe low is) = no_url_no_helper t n h
+helper_lacks : (t : List ℕ) (r : GitReading) → IsForHelper t → ¬ ReadsInput t r
+helper_lacks t r h (ReadsInput.secure_url x place path u c k) = own_no_helper ssh t x refl u h
+helper_lacks t r h (ReadsInput.git_url x place path u c k) = own_no_helper git t x refl u h
+helper_lacks t r h (ReadsInput.file_url x place path u c k) = own_no_helper file t x refl u h
+helper_lacks t r h (ReadsInput.scp_form place path n m c k) = no_url_no_helper t n h
+helper_lacks t r h (ReadsInput.local_path passed path n l e some safe low is) = no_url_no_helper t n h
 
 -- a text of two places has no reading
-places_lacks : (t : List ℕ) (r : GitReading) → IsOfTwoPlaces t → ¬ ReadsGiven t r
+places_lacks : (t : List ℕ) (r : GitReading) → IsOfTwoPlaces t → ¬ ReadsInput t r
 places_lacks t r h k = unmarked_read t r h.no_url.no_mark k (λ place path n m c s. remote_not_local t m h.local) (λ passed path n l e some. both_ways (begins_with tilde path) some.no_home (ap (begins_with tilde) (host_end_unique t passed path h.passed h.path e h.end).1 ∙ h.tilde_first))
 
 -- a text that gives Secure Shell a URL has no reading
-gives_lacks : (t place path : List ℕ) (r : GitReading) → IsForSecureShell t place path → GetsUrl place path → ¬ ReadsGiven t r
+gives_lacks : (t place path : List ℕ) (r : GitReading) → IsForSecureShell t place path → GetsUrl place path → ¬ ReadsInput t r
 gives_lacks t place path r (IsForSecureShell.url x behind u c is) h k =
     let read = own_reached ssh t x r refl u k in
     let same = place_unique slash x place behind read.place read.path c read.cut in
@@ -358,12 +358,12 @@ named_for t (inr (rest, e)) = IsForHelper.unnamed rest e
 -- ---- what is read
 
 -- a local path is read where its path is
-pub local_reads : (t passed path : List ℕ) (r : GitReading) → ¬ Holds url_mark t → ¬ NamesHelper t → ¬ BeginsBy (codes "rsync:") t → IsLocal t → HostEnd t passed path → IsReadPath path → r ≡ on_this_machine path → ReadsGiven t r
-local_reads t passed path r none unnamed other place e some is = ReadsGiven.local_path passed path (is_no_url t none unnamed other) place e some.some some.safe some.no_home is
+pub local_reads : (t passed path : List ℕ) (r : GitReading) → ¬ Holds url_mark t → ¬ NamesHelper t → ¬ BeginsBy (codes "rsync:") t → IsLocal t → HostEnd t passed path → IsReadPath path → r ≡ on_this_machine path → ReadsInput t r
+local_reads t passed path r none unnamed other place e some is = ReadsInput.local_path passed path (is_no_url t none unnamed other) place e some.some some.safe some.no_home is
 
 -- what Secure Shell reaches of the scp form is read
-pub scp_reads : (t place path given : List ℕ) (r : GitReading) → IsNoUrl t → IsRemote t → CutsPlace colon t place path → given ≡ from_tilde path → ReachesSecure place given r → ReadsGiven t r
-scp_reads t place path given r n m c is h = ReadsGiven.scp_form place path n m c (subst (λ s. ReachesSecure place s r) is h)
+pub scp_reads : (t place path given : List ℕ) (r : GitReading) → IsNoUrl t → IsRemote t → CutsPlace colon t place path → given ≡ from_tilde path → ReachesSecure place given r → ReadsInput t r
+scp_reads t place path given r n m c is h = ReadsInput.scp_form place path n m c (subst (λ s. ReachesSecure place s r) is h)
 
 -- the transports that the code has are Git's own
 pub protocol_own : (p : Protocol) → is_own (scheme_of_protocol p) ≡ true

@@ -6,7 +6,7 @@ use Rattle.std.proofs.lemmas.List.{drop_at, length-append, length-take-le, take_
 use Rattle.bstr.specs.Find.{FindsNeedle}
 use Rattle.git_syntax.specs.Bytes.{at_sign, left_bracket, right_bracket, FreeOf, Holds, begins_with}
 use Rattle.git_syntax.proofs.Texts.CutLemmas.{cut_unique, different_bytes, heads, held_cut_unique, none_held, none_held_before, not_free, occurs_cut, tails}
-use Rattle.git_reads.specs.Git.{host_mark, CutsPlace, HostEnd, InBrackets, LacksHostBrackets, OpensHost}
+use Rattle.git_reads.specs.Git.{host_mark, CutsPlace, HostEnd, BracketCut, LacksHostBrackets, OpensHost}
 use Rattle.git_reads.specs.Internal.{CutsPlaceAt}
 
 -- ---- the bracket that opens a host
@@ -38,7 +38,7 @@ opened_joined t front rest (OpensHost.behind_at user none first e) =
 opened_joined t front rest (OpensHost.at_front none first e) = e ∙ ap (λ x. x ++ left_bracket ∷ rest) (sym first)
 
 -- the text up to the bracket that closes them, and the rest
-brackets_joined : (t front inside behind : List ℕ) → InBrackets t front inside behind → t ≡ (front ++ left_bracket ∷ inside) ++ right_bracket ∷ behind
+brackets_joined : (t front inside behind : List ℕ) → BracketCut t front inside behind → t ≡ (front ++ left_bracket ∷ inside) ++ right_bracket ∷ behind
 brackets_joined t front inside behind h =
     opened_joined t front (inside ++ right_bracket ∷ behind) h.opened ∙ sym (append_assoc front (left_bracket ∷ inside) (right_bracket ∷ behind))
 
@@ -47,7 +47,7 @@ brackets_length : (front inside : List ℕ) → length (front ++ left_bracket �
 brackets_length front inside = omega (arith, length-append front (left_bracket ∷ inside))
 
 -- the text is passed over up to there
-pub brackets_end : (t front inside behind passed rest : List ℕ) (n : ℕ) → InBrackets t front inside behind → n ≡ length front + 1 + length inside → passed ≡ take n t → rest ≡ drop n t → HostEnd t passed rest
+pub brackets_end : (t front inside behind passed rest : List ℕ) (n : ℕ) → BracketCut t front inside behind → n ≡ length front + 1 + length inside → passed ≡ take n t → rest ≡ drop n t → HostEnd t passed rest
 brackets_end t front inside behind passed rest n h place first last =
     let e = brackets_joined t front inside behind h in
     let size : length (front ++ left_bracket ∷ inside) ≡ n = brackets_length front inside ∙ sym place in
@@ -73,7 +73,7 @@ opens_unique t front rest other more (OpensHost.at_front none is e) (OpensHost.b
 opens_unique t front rest other more (OpensHost.at_front none is e) (OpensHost.at_front none' is' e') = (is ∙ sym is', tails (sym e ∙ e'))
 
 -- and one closes it
-pub brackets_unique : (t front inside behind other within beyond : List ℕ) → InBrackets t front inside behind → InBrackets t other within beyond → (front ≡ other) × (inside ≡ within) × (behind ≡ beyond)
+pub brackets_unique : (t front inside behind other within beyond : List ℕ) → BracketCut t front inside behind → BracketCut t other within beyond → (front ≡ other) × (inside ≡ within) × (behind ≡ beyond)
 brackets_unique t front inside behind other within beyond h k =
     let opened = opens_unique t front (inside ++ right_bracket ∷ behind) other (within ++ right_bracket ∷ beyond) h.opened k.opened in
     let closed = cut_unique right_bracket inside within behind beyond h.next k.next opened.1 in
@@ -85,7 +85,7 @@ opened_not_lacked t front rest (OpensHost.behind_at user none is e) lacks begins
 opened_not_lacked t front rest (OpensHost.at_front none is e) lacks begins = both_ways _ begins (ap (begins_with left_bracket) e)
 
 -- a pair of host brackets rules out that a text lacks one
-pub brackets_not_lacked : (t front inside behind : List ℕ) → InBrackets t front inside behind → LacksHostBrackets t → ⊥
+pub brackets_not_lacked : (t front inside behind : List ℕ) → BracketCut t front inside behind → LacksHostBrackets t → ⊥
 brackets_not_lacked t front inside behind h (LacksHostBrackets.unopened none begins) = opened_not_lacked t front (inside ++ right_bracket ∷ behind) h.opened none begins
 brackets_not_lacked t front inside behind h (LacksHostBrackets.unclosed other rest opened free) =
     let same = opens_unique t front (inside ++ right_bracket ∷ behind) other rest h.opened opened in

@@ -153,7 +153,7 @@ pub scp_checked : (b front path : List ℕ) (r : Option Place) → PlainScp b fr
 scp_checked b front path None h text some k = record {
   found = (
     scp_location k.found.user k.found.hosted.0 path,
-    record { front = front; path = path; user = k.found.user; host = k.found.host; meant = k.found.hosted.0; form = h.form; text = text; pathed = some_tested path some; split = k.found.split; hosted = k.found.hosted.1; value = refl },
+    record { front = front; path = path; user = k.found.user; host = k.found.host; denoted = k.found.hosted.0; form = h.form; text = text; pathed = some_tested path some; split = k.found.split; hosted = k.found.hosted.1; value = refl },
   );
   within = tt;
 }

@@ -10,7 +10,7 @@ use Rattle.git_syntax.specs.Bytes.{slash, colon, LacksWhiteSpace, is_scheme_text
 use Rattle.git_syntax.specs.Escapes.{is_sound}
 use Rattle.git_syntax.specs.Schemes.{scheme_of, host_syntax_of, requires_host, requires_path}
 use Rattle.git_syntax.specs.Authority.{Fits}
-use Rattle.git_syntax.specs.Grammar.{UrlSyntax, MeansByScheme, MeansAs}
+use Rattle.git_syntax.specs.Grammar.{UrlSyntax, DenotesByScheme, DenotesAs}
 use Rattle.git_syntax.specs.Flaws.{OtherUrlForm}
 use Rattle.git_syntax.specs.declared.rules.Rules.{Rules}
 use Rattle.git_syntax.specs.Internal.HostPieces.{host_syntax}
@@ -112,11 +112,11 @@ rest_held scheme rest authority path cut text held pathed = record {
 -- ---- whole URLs
 
 -- the parts of a URL mean a location by a scheme
-by_scheme : (scheme : Scheme) (parts : UrlSyntax) → (requires_path scheme ≡ true → 0 < length parts.path) → (v : Location) × MeansByScheme scheme parts v
+by_scheme : (scheme : Scheme) (parts : UrlSyntax) → (requires_path scheme ≡ true → 0 < length parts.path) → (v : Location) × DenotesByScheme scheme parts v
 by_scheme scheme parts pathed = (url_location scheme parts, means_location scheme parts pathed)
 
 -- the parts of a URL mean a location
-pub meaning : (scheme : Scheme) (b : List ℕ) (parts : UrlSyntax) → (requires_path scheme ≡ true → 0 < length parts.path) → (v : Location) × MeansAs scheme b parts v
+pub meaning : (scheme : Scheme) (b : List ℕ) (parts : UrlSyntax) → (requires_path scheme ≡ true → 0 < length parts.path) → (v : Location) × DenotesAs scheme b parts v
 meaning ext b parts pathed = (path_alone ext true b, refl)
 meaning file b parts pathed = by_scheme file parts pathed
 meaning git b parts pathed = by_scheme git parts pathed

@@ -52,11 +52,11 @@ IsAddressedScp b = (v : Location) × SpellsScpAddressed b v
 
 -- a host of the scp form denotes one
 abbrev pub StandsForScpHost : List ℕ → Type 0
-StandsForScpHost host = (meant : List ℕ) × ScpHost host meant
+StandsForScpHost host = (denoted : List ℕ) × ScpHost host denoted
 
 -- a host of the scp form that isn't empty spells one
 abbrev pub NamesScpHost : List ℕ → Type 0
-NamesScpHost host = (meant : List ℕ) × SpellsHost (escaped_percents host) meant
+NamesScpHost host = (denoted : List ℕ) × SpellsHost (escaped_percents host) denoted
 
 -- the front of the scp form is a host, or a user and a host
 pub record IsScpFront (front : List ℕ) : Type 0 where

@@ -9,7 +9,7 @@ use Rattle.git_syntax.specs.Location.Scheme.{file, git, ssh, http, https, ext, h
 use Rattle.git_syntax.specs.Bytes.{slash, colon, FreeOf, Holds, begins_with, is_helper_name, is_option_like}
 use Rattle.git_syntax.specs.Internal.Cuts.{url_mark}
 use Rattle.git_syntax.specs.Schemes.{is_ssh_scheme, scheme_of, scheme_text}
-use Rattle.git_reads.specs.Git.{GitReading, OwnUrl, IsNoUrl, IsRemote, ReadsGiven}
+use Rattle.git_reads.specs.Git.{GitReading, OwnUrl, IsNoUrl, IsRemote, ReadsInput}
 use Rattle.git_reads.specs.Transports.{BeginsBy, NamesHelper}
 use Rattle.git_location.specs.GitClass.{SuitsTransport, AgreesByTransport, AgreesBy}
 use Rattle.git_laws.specs.GitWeb.{ReadsOwnOverWeb}
@@ -19,7 +19,7 @@ use Rattle.git_reads.proofs.Reading.TransportLemmas.{helper_single, local_decide
 use Rattle.git_reads.proofs.Reading.UnreadLemmas.{is_no_url}
 use Rattle.git_rules.specs.declared.protocols.text.NoTransport.{NoTransport}
 use Rattle.git_rules.specs.declared.protocols.text.NoTransport.TheVariants as why
-use Rattle.git_rules.specs.TextTransports.{IsGiven, scheme_transport, UsesTransport, HasTransport, LacksTransport, EachDecided, TransportOfReading, TransportOfLocation}
+use Rattle.git_rules.specs.TextTransports.{IsWholeInput, scheme_transport, UsesTransport, HasTransport, LacksTransport, EachDecided, TransportOfReading, TransportOfLocation}
 use Rattle.git_rules.proofs.Allowed.TransportLemmas.{for_rsync, names_none, unknown, uses_empty, uses_helper, uses_url}
 
 -- ---- what a text begins with and holds
@@ -112,29 +112,29 @@ abbrev Decided : List ℕ → Type 0
 Decided t = ((name : List ℕ) × HasTransport t name) ⊎ ((w : NoTransport) × LacksTransport t w)
 
 -- a text that isn't a URL has a transport
-unmarked_decided : (t : List ℕ) → IsGiven t → IsNoUrl t → Decided t
-unmarked_decided t given n = elim (remote_or_not t) [
-  | inl remote ↦ inl (codes "ssh", record { given = given; uses = UsesTransport.scp_form n remote refl })
-  | inr other ↦ inl (codes "file", record { given = given; uses = UsesTransport.local_path n (local_decided t other) refl })
+unmarked_decided : (t : List ℕ) → IsWholeInput t → IsNoUrl t → Decided t
+unmarked_decided t input n = elim (remote_or_not t) [
+  | inl remote ↦ inl (codes "ssh", record { input = input; uses = UsesTransport.scp_form n remote refl })
+  | inr other ↦ inl (codes "file", record { input = input; uses = UsesTransport.local_path n (local_decided t other) refl })
 ]
 
 -- a text that is neither for a helper nor for `rsync` is decided by its mark
-marked_decided : (t : List ℕ) → IsGiven t → ¬ NamesHelper t → ¬ BeginsBy (codes "rsync:") t → Decided t
-marked_decided t given unnamed other = elim (mark_or_none t) [
+marked_decided : (t : List ℕ) → IsWholeInput t → ¬ NamesHelper t → ¬ BeginsBy (codes "rsync:") t → Decided t
+marked_decided t input unnamed other = elim (mark_or_none t) [
   | inl h ↦ elim (cases_Bool (is_helper_name h.scheme)) [
-    | inl named ↦ inl (scheme_transport h.scheme, record { given = given; uses = uses_url t h.scheme h.rest other h.joined named })
-    | inr is ↦ inr (why.UnknownScheme, (given, unknown t h.scheme h.rest unnamed other h.first h.joined is))
+    | inl named ↦ inl (scheme_transport h.scheme, record { input = input; uses = uses_url t h.scheme h.rest other h.joined named })
+    | inr is ↦ inr (why.UnknownScheme, (input, unknown t h.scheme h.rest unnamed other h.first h.joined is))
   ]
-  | inr none ↦ unmarked_decided t given (is_no_url t none unnamed other)
+  | inr none ↦ unmarked_decided t input (is_no_url t none unnamed other)
 ]
 
 -- a text that Git gets whole, and that isn't an option, is decided
-given_decided : (t : List ℕ) → IsGiven t → Decided t
-given_decided t given = elim (helper_or_none t) [
-  | inl (name, h) ↦ inl (name, record { given = given; uses = h })
+given_decided : (t : List ℕ) → IsWholeInput t → Decided t
+given_decided t input = elim (helper_or_none t) [
+  | inl (name, h) ↦ inl (name, record { input = input; uses = h })
   | inr unnamed ↦ elim (begins_or_not (codes "rsync:") t) [
-    | inl begins ↦ inr (why.Rsync, (given, for_rsync t unnamed begins))
-    | inr other ↦ marked_decided t given unnamed other
+    | inl begins ↦ inr (why.Rsync, (input, for_rsync t unnamed begins))
+    | inr other ↦ marked_decided t input unnamed other
   ]
 ]
 
@@ -191,16 +191,16 @@ of_protocol : (t : List ℕ) (known p : Scheme) → p ≡ known → UsesTranspor
 of_protocol t known p e h = subst (λ s. UsesTransport t (scheme_text s)) (sym e) h
 
 -- the transport of a text is that of what is read there
-reads_use : (t : List ℕ) (r : GitReading) → ReadsGiven t r → UsesTransport t (scheme_text r.protocol)
-reads_use t r (ReadsGiven.secure_url rest place path u cut h) = of_protocol t ssh r.protocol (ap (λ (g : GitReading). g.protocol) h.value) (own_uses ssh t rest u (ssh_name u.scheme (ssh_scheme u.scheme u.own)))
-reads_use t r (ReadsGiven.git_url rest place path u cut h) = of_protocol t git r.protocol (ap (λ (g : GitReading). g.protocol) h.value) (own_uses git t rest u (git_name u.scheme (git_scheme u.scheme u.own)))
-reads_use t r (ReadsGiven.file_url rest place path u cut is) = of_protocol t file r.protocol (ap (λ (g : GitReading). g.protocol) is) (own_uses file t rest u (file_name u.scheme (file_scheme u.scheme u.own)))
-reads_use t r (ReadsGiven.scp_form place path n m cut h) = of_protocol t ssh r.protocol (ap (λ (g : GitReading). g.protocol) h.value) (UsesTransport.scp_form n m refl)
-reads_use t r (ReadsGiven.local_path passed path n l end some safe low is) = of_protocol t file r.protocol (ap (λ (g : GitReading). g.protocol) is) (UsesTransport.local_path n l refl)
+reads_use : (t : List ℕ) (r : GitReading) → ReadsInput t r → UsesTransport t (scheme_text r.protocol)
+reads_use t r (ReadsInput.secure_url rest place path u cut h) = of_protocol t ssh r.protocol (ap (λ (g : GitReading). g.protocol) h.value) (own_uses ssh t rest u (ssh_name u.scheme (ssh_scheme u.scheme u.own)))
+reads_use t r (ReadsInput.git_url rest place path u cut h) = of_protocol t git r.protocol (ap (λ (g : GitReading). g.protocol) h.value) (own_uses git t rest u (git_name u.scheme (git_scheme u.scheme u.own)))
+reads_use t r (ReadsInput.file_url rest place path u cut is) = of_protocol t file r.protocol (ap (λ (g : GitReading). g.protocol) is) (own_uses file t rest u (file_name u.scheme (file_scheme u.scheme u.own)))
+reads_use t r (ReadsInput.scp_form place path n m cut h) = of_protocol t ssh r.protocol (ap (λ (g : GitReading). g.protocol) h.value) (UsesTransport.scp_form n m refl)
+reads_use t r (ReadsInput.local_path passed path n l end some safe low is) = of_protocol t file r.protocol (ap (λ (g : GitReading). g.protocol) is) (UsesTransport.local_path n l refl)
 
 -- where Git reads a place in a text, the transport of the text is that of the place
 pub transport_of_reading : TransportOfReading
-transport_of_reading t r h = record { given = record { whole = h.whole; no_option = h.no_option }; uses = reads_use t r h.reads }
+transport_of_reading t r h = record { input = record { whole = h.whole; no_option = h.no_option }; uses = reads_use t r h.reads }
 
 -- ---- locations
 
@@ -214,7 +214,7 @@ web_located known v t e own plain h =
     let asked = h.credential in
     let joined : t ≡ scheme_text known ++ (url_mark ++ (asked.authority ++ asked.behind)) = asked.joined ∙ ap (λ s. scheme_text s ++ (url_mark ++ (asked.authority ++ asked.behind))) e in
     record {
-      given = record { whole = asked.whole; no_option = ap is_option_like joined ∙ plain (asked.authority ++ asked.behind) };
+      input = record { whole = asked.whole; no_option = ap is_option_like joined ∙ plain (asked.authority ++ asked.behind) };
       uses = UsesTransport.url (scheme_text known) (asked.authority ++ asked.behind) joined own.named own.other own.name;
     }
 

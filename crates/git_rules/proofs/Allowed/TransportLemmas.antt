@@ -11,7 +11,7 @@ use Rattle.git_syntax.proofs.Parsing.FormLemmas.{mark_no_helper}
 use Rattle.git_reads.proofs.Reading.TransportLemmas.{local_decided}
 use Rattle.git_reads.proofs.Reading.UniqueLemmas.{remote_not_local}
 use Rattle.git_rules.specs.declared.protocols.text.NoTransport.TheVariants as why
-use Rattle.git_rules.specs.TextTransports.{IsGiven, scheme_transport, UsesTransport, IsForRsync, HasUnknownScheme, OneTransport, HasOrLacks}
+use Rattle.git_rules.specs.TextTransports.{IsWholeInput, scheme_transport, UsesTransport, IsForRsync, HasUnknownScheme, OneTransport, HasOrLacks}
 
 -- ---- one transport
 
@@ -79,7 +79,7 @@ given_whole : {A : Type 0} (t : List ℕ) → ¬ FreeOf 0 t → FreeOf 0 t → A
 given_whole t h k = absurd (h k)
 
 -- a text is an option or none
-given_plain : {A : Type 0} (t : List ℕ) → is_option_like t ≡ true → IsGiven t → A
+given_plain : {A : Type 0} (t : List ℕ) → is_option_like t ≡ true → IsWholeInput t → A
 given_plain t h k = absurd (both_ways (is_option_like t) k.no_option h)
 
 -- ---- a transport or a reason
@@ -108,8 +108,8 @@ unknown_unused t name h (UsesTransport.local_path n l is) = n.no_mark (h.scheme,
 
 -- a text with a transport lacks none
 pub has_or_lacks : HasOrLacks
-has_or_lacks t name why.ByteZero h k = given_whole t k h.given.whole
-has_or_lacks t name why.OptionLike h k = given_plain t k.1 h.given
+has_or_lacks t name why.ByteZero h k = given_whole t k h.input.whole
+has_or_lacks t name why.OptionLike h k = given_plain t k.1 h.input
 has_or_lacks t name why.Rsync h k = rsync_unused t name k.1 h.uses
 has_or_lacks t name why.UnknownScheme h k = unknown_unused t name k.1 h.uses
 

@@ -9,7 +9,7 @@ use Rattle.git_rules.specs.Config.{ConfigEntry, sets}
 use Rattle.git_rules.specs.Normal.{NormalPlace, IsNormalOf}
 use Rattle.git_rules.specs.NormalFlaws.{NormalizesIn}
 use Rattle.git_rules.specs.Patterns.{HasRank, RanksFor}
-use Rattle.git_rules.specs.PatternEntries.{HasRoomFor, LacksRoomFirst, RanksIn, RanksSubsection, RanksUrlIn}
+use Rattle.git_rules.specs.PatternEntries.{BufferSuffices, LacksRoomFirst, RanksIn, RanksSubsection, RanksUrlIn}
 use Rattle.git_rules.proofs.NormalForms.NormalUnique.{normal_unique}
 use Rattle.git_rules.proofs.Rules.RankLemmas.{cut_here}
 
@@ -23,63 +23,63 @@ url_ranked place pattern url (Some rank) form ranks = (
 )
 
 -- a text that is refused with room enough has no normal form
-pub no_form : (globs : Bool) (text : List ℕ) (room : ℕ) (e : NormalError) → ¬ (e ≡ NoRoom) → NormalizesIn globs text room (Err e) → (n : NormalPlace) → ¬ IsNormalOf globs text n
-no_form globs text room NoRoom other h = absurd (other refl)
-no_form globs text room NoUrl other h = h.2
-no_form globs text room BrokenEscape other h = h.2
-no_form globs text room NoHost other h = h.2
-no_form globs text room BadHost other h = h.2
-no_form globs text room BadPort other h = h.2
-no_form globs text room AboveRoot other h = h.2
+pub no_form : (globs : Bool) (text : List ℕ) (buffer_len : ℕ) (e : NormalError) → ¬ (e ≡ NoRoom) → NormalizesIn globs text buffer_len (Err e) → (n : NormalPlace) → ¬ IsNormalOf globs text n
+no_form globs text buffer_len NoRoom other h = absurd (other refl)
+no_form globs text buffer_len NoUrl other h = h.2
+no_form globs text buffer_len BrokenEscape other h = h.2
+no_form globs text buffer_len NoHost other h = h.2
+no_form globs text buffer_len BadHost other h = h.2
+no_form globs text buffer_len BadPort other h = h.2
+no_form globs text buffer_len AboveRoot other h = h.2
 
 -- or the buffer is too short
-pub too_short : (text : List ℕ) (room : ℕ) (e : NormalError) → e ≡ NoRoom → NormalizesIn true text room (Err e) → room < 3 * length text + 1
-too_short text room e same h = subst (λ x. NormalizesIn true text room (Err x)) same h
+pub too_short : (text : List ℕ) (buffer_len : ℕ) (e : NormalError) → e ≡ NoRoom → NormalizesIn true text buffer_len (Err e) → buffer_len < 3 * length text + 1
+too_short text buffer_len e same h = subst (λ x. NormalizesIn true text buffer_len (Err x)) same h
 
 -- otherwise the buffer suffices
-pub long_enough : (globs : Bool) (text : List ℕ) (room : ℕ) (e : NormalError) → ¬ (e ≡ NoRoom) → NormalizesIn globs text room (Err e) → 3 * length text + 1 ≤ room
-long_enough globs text room NoRoom other h = absurd (other refl)
-long_enough globs text room NoUrl other h = h.0
-long_enough globs text room BrokenEscape other h = h.0
-long_enough globs text room NoHost other h = h.0
-long_enough globs text room BadHost other h = h.0
-long_enough globs text room BadPort other h = h.0
-long_enough globs text room AboveRoot other h = h.0
+pub long_enough : (globs : Bool) (text : List ℕ) (buffer_len : ℕ) (e : NormalError) → ¬ (e ≡ NoRoom) → NormalizesIn globs text buffer_len (Err e) → 3 * length text + 1 ≤ buffer_len
+long_enough globs text buffer_len NoRoom other h = absurd (other refl)
+long_enough globs text buffer_len NoUrl other h = h.0
+long_enough globs text buffer_len BrokenEscape other h = h.0
+long_enough globs text buffer_len NoHost other h = h.0
+long_enough globs text buffer_len BadHost other h = h.0
+long_enough globs text buffer_len BadPort other h = h.0
+long_enough globs text buffer_len AboveRoot other h = h.0
 
 -- an entry that doesn't set the variable needs no buffer
-pub unset_fits : (section name : List ℕ) (place : Option NormalPlace) (room : ℕ) (e : ConfigEntry) → sets section name e ≡ false → HasRoomFor section name place room e
-unset_fits section name None room e other = tt
-unset_fits section name (Some place) room e other = λ of. absurd (both_ways _ other of)
+pub unset_fits : (section name : List ℕ) (place : Option NormalPlace) (buffer_len : ℕ) (e : ConfigEntry) → sets section name e ≡ false → BufferSuffices section name place buffer_len e
+unset_fits section name None buffer_len e other = tt
+unset_fits section name (Some place) buffer_len e other = λ of. absurd (both_ways _ other of)
 
 -- nor does one for all places
-pub everywhere_fits : (section name : List ℕ) (place : Option NormalPlace) (room : ℕ) (e : ConfigEntry) → e.subsection ≡ None → HasRoomFor section name place room e
-everywhere_fits section name None room e whole = tt
-everywhere_fits section name (Some place) room e whole =
-    λ of. subst (λ s. IfSome s (λ url. 3 * length url + 1 ≤ room)) (sym whole) tt
+pub everywhere_fits : (section name : List ℕ) (place : Option NormalPlace) (buffer_len : ℕ) (e : ConfigEntry) → e.subsection ≡ None → BufferSuffices section name place buffer_len e
+everywhere_fits section name None buffer_len e whole = tt
+everywhere_fits section name (Some place) buffer_len e whole =
+    λ of. subst (λ s. IfSome s (λ url. 3 * length url + 1 ≤ buffer_len)) (sym whole) tt
 
 -- nor does any without a place
-pub placeless_fits : (section name : List ℕ) (place : Option NormalPlace) (room : ℕ) (e : ConfigEntry) → place ≡ None → HasRoomFor section name place room e
-placeless_fits section name None room e none = tt
-placeless_fits section name (Some place) room e none = cc
+pub placeless_fits : (section name : List ℕ) (place : Option NormalPlace) (buffer_len : ℕ) (e : ConfigEntry) → place ≡ None → BufferSuffices section name place buffer_len e
+placeless_fits section name None buffer_len e none = tt
+placeless_fits section name (Some place) buffer_len e none = cc
 
 -- an entry needs the buffer that its URL needs
-pub entry_fits : (section name url : List ℕ) (place : NormalPlace) (room : ℕ) (e : ConfigEntry) (r : Result (Option Rank) NormalError) → e.subsection ≡ Some url → OnOk r (3 * length url + 1 ≤ room) → OnOk r (HasRoomFor section name (Some place) room e)
-entry_fits section name url place room e (Ok rank) same enough =
-    λ of. subst (λ s. IfSome s (λ u. 3 * length u + 1 ≤ room)) (sym same) enough
-entry_fits section name url place room e (Err error) same enough = tt
+pub entry_fits : (section name url : List ℕ) (place : NormalPlace) (buffer_len : ℕ) (e : ConfigEntry) (r : Result (Option Rank) NormalError) → e.subsection ≡ Some url → OnOk r (3 * length url + 1 ≤ buffer_len) → OnOk r (BufferSuffices section name (Some place) buffer_len e)
+entry_fits section name url place buffer_len e (Ok rank) same enough =
+    λ of. subst (λ s. IfSome s (λ u. 3 * length u + 1 ≤ buffer_len)) (sym same) enough
+entry_fits section name url place buffer_len e (Err error) same enough = tt
 
 -- an entry of the variable has the rank of its URL
-pub entry_ranked : (section name url : List ℕ) (place : NormalPlace) (room : ℕ) (e : ConfigEntry) (r : Result (Option Rank) NormalError) → sets section name e ≡ true → e.subsection ≡ Some url → RanksUrlIn place room url r → RanksIn section name (Some place) room e r
-entry_ranked section name url place room e (Ok None) of same none =
+pub entry_ranked : (section name url : List ℕ) (place : NormalPlace) (buffer_len : ℕ) (e : ConfigEntry) (r : Result (Option Rank) NormalError) → sets section name e ≡ true → e.subsection ≡ Some url → RanksUrlIn place buffer_len url r → RanksIn section name (Some place) buffer_len e r
+entry_ranked section name url place buffer_len e (Ok None) of same none =
     λ k ranked. none k (subst (λ s. RanksSubsection (Some place) s k) same ranked.1)
-entry_ranked section name url place room e (Ok (Some rank)) of same ranks = (
+entry_ranked section name url place buffer_len e (Ok (Some rank)) of same ranks = (
   (of, subst (λ s. RanksSubsection (Some place) s rank) (sym same) ranks.0),
   λ k ranked. ranks.1 k (subst (λ s. RanksSubsection (Some place) s k) same ranked.1),
 )
-entry_ranked section name url place room e (Err error) of same h = (
+entry_ranked section name url place buffer_len e (Err error) of same h = (
   h.0,
   λ fits.
-      let need : 3 * length url + 1 ≤ room = subst (λ s. IfSome s (λ u. 3 * length u + 1 ≤ room)) same (fits of) in
+      let need : 3 * length url + 1 ≤ buffer_len = subst (λ s. IfSome s (λ u. 3 * length u + 1 ≤ buffer_len)) same (fits of) in
       omega (arith, need, h.1),
 )
 
@@ -90,8 +90,8 @@ pub all_of : {T : Type 0} (P : T → Type 0) (items : List T) (n : ℕ) → leng
 all_of P items n whole h = subst (All P) (take_all n items whole) h
 
 -- the entry after a front for which the buffer sufficed
-pub first_short : (section name : List ℕ) (place : Option NormalPlace) (room : ℕ) (entries : List ConfigEntry) (i : ℕ) (e : ConfigEntry) → i < length entries → e ≡ get_or entries i e → All (HasRoomFor section name place room) (take i entries) → ¬ HasRoomFor section name place room e → LacksRoomFirst section name place room entries
-first_short section name place room entries i e within is enough short = record {
+pub first_short : (section name : List ℕ) (place : Option NormalPlace) (buffer_len : ℕ) (entries : List ConfigEntry) (i : ℕ) (e : ConfigEntry) → i < length entries → e ≡ get_or entries i e → All (BufferSuffices section name place buffer_len) (take i entries) → ¬ BufferSuffices section name place buffer_len e → LacksRoomFirst section name place buffer_len entries
+first_short section name place buffer_len entries i e within is enough short = record {
   before = take i entries;
   entry = e;
   others = drop (suc i) entries;

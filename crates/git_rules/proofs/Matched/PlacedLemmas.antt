@@ -14,24 +14,24 @@ use Rattle.git_rules.specs.NormalFlaws.{NormalizesIn}
 use Rattle.git_rules.specs.Places.{FrontPlacesIn, PlacesIn}
 
 -- what a text is refused for with the rest of the buffer
-front_refused : (t : List ℕ) (room rest : ℕ) (e : NormalError) → length t + rest ≡ room → NormalizesIn false t rest (Err e) → FrontPlacesIn t room (Err (Normal e))
-front_refused t room rest NoRoom whole h = omega (arith, h)
-front_refused t room rest NoUrl whole h = (omega (arith, h.0), h.1, h.2)
-front_refused t room rest BrokenEscape whole h = (omega (arith, h.0), h.1, h.2)
-front_refused t room rest NoHost whole h = (omega (arith, h.0), h.1, h.2)
-front_refused t room rest BadHost whole h = (omega (arith, h.0), h.1, h.2)
-front_refused t room rest BadPort whole h = (omega (arith, h.0), h.1, h.2)
-front_refused t room rest AboveRoot whole h = (omega (arith, h.0), h.1, h.2)
+front_refused : (t : List ℕ) (buffer_len rest : ℕ) (e : NormalError) → length t + rest ≡ buffer_len → NormalizesIn false t rest (Err e) → FrontPlacesIn t buffer_len (Err (Normal e))
+front_refused t buffer_len rest NoRoom whole h = omega (arith, h)
+front_refused t buffer_len rest NoUrl whole h = (omega (arith, h.0), h.1, h.2)
+front_refused t buffer_len rest BrokenEscape whole h = (omega (arith, h.0), h.1, h.2)
+front_refused t buffer_len rest NoHost whole h = (omega (arith, h.0), h.1, h.2)
+front_refused t buffer_len rest BadHost whole h = (omega (arith, h.0), h.1, h.2)
+front_refused t buffer_len rest BadPort whole h = (omega (arith, h.0), h.1, h.2)
+front_refused t buffer_len rest AboveRoot whole h = (omega (arith, h.0), h.1, h.2)
 
 -- the same by the two parts of the buffer
-pub front_refused_by : (room front back : List ℕ) (len : ℕ) (e : NormalError) → front ≡ take len room → length front ≡ len → length back + len ≡ length room → NormalizesIn false front (length back) (Err e) → FrontPlacesIn (take len room) (length room) (Err (Normal e))
-front_refused_by room front back len e same long whole h =
-    subst (λ t. FrontPlacesIn t (length room) (Err (Normal e))) same (front_refused front (length room) (length back) e (omega (arith, long, whole)) h)
+pub front_refused_by : (buffer_len front back : List ℕ) (len : ℕ) (e : NormalError) → front ≡ take len buffer_len → length front ≡ len → length back + len ≡ length buffer_len → NormalizesIn false front (length back) (Err e) → FrontPlacesIn (take len buffer_len) (length buffer_len) (Err (Normal e))
+front_refused_by buffer_len front back len e same long whole h =
+    subst (λ t. FrontPlacesIn t (length buffer_len) (Err (Normal e))) same (front_refused front (length buffer_len) (length back) e (omega (arith, long, whole)) h)
 
 -- a location without a text has no length of one
-pub no_text : (t : Result (List ℕ) WriteFault) (fault : WriteFault) (room : ℕ) → Err fault ≡ text_length t → PlacesIn t room (Err (Fault fault))
-no_text (Ok t) fault room e = cc
-no_text (Err other) fault room e = cc
+pub no_text : (t : Result (List ℕ) WriteFault) (fault : WriteFault) (buffer_len : ℕ) → Err fault ≡ text_length t → PlacesIn t buffer_len (Err (Fault fault))
+no_text (Ok t) fault buffer_len e = cc
+no_text (Err other) fault buffer_len e = cc
 
 -- the text is at the front where it fits
 front_text : (t old new : List ℕ) → length t ≤ length old → Placed (Ok t) old new → take (length t) new ≡ t

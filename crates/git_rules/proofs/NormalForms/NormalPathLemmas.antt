@@ -105,19 +105,19 @@ top_cut path front back (top ∷ below) shows free e =
 -- ---- a segment in a buffer
 
 -- what is written between two places of a buffer
-pub written_between : (room front form : List ℕ) (start end : ℕ) → take end room ≡ front ++ form → length front ≡ start → start ≤ end → end ≤ length room → take (end - start) (drop start room) ≡ form
-written_between room front form start end whole place order within =
+pub written_between : (buffer front form : List ℕ) (start end : ℕ) → take end buffer ≡ front ++ form → length front ≡ start → start ≤ end → end ≤ length buffer → take (end - start) (drop start buffer) ≡ form
+written_between buffer front form start end whole place order within =
     let sum : start + (end - start) ≡ end = omega (arith, order) in
-    sym (drop-take start (end - start) room) ∙ ap (λ n. drop start (take n room)) sum ∙ ap (drop start) whole ∙ ap (λ n. drop n (front ++ form)) (sym place) ∙ drop-append_seam front form
+    sym (drop-take start (end - start) buffer) ∙ ap (λ n. drop start (take n buffer)) sum ∙ ap (drop start) whole ∙ ap (λ n. drop n (front ++ form)) (sym place) ∙ drop-append_seam front form
 
 -- the front of a buffer before what was written behind it
-pub front_kept : (room front form : List ℕ) (at end : ℕ) → take end room ≡ front ++ form → length front ≡ at → at ≤ end → take at room ≡ front
-front_kept room front form at end whole place order =
-    sym (take-take at end room order) ∙ ap (take at) whole ∙ ap (λ n. take n (front ++ form)) (sym place) ∙ take-append_seam front form
+pub front_kept : (buffer front form : List ℕ) (at end : ℕ) → take end buffer ≡ front ++ form → length front ≡ at → at ≤ end → take at buffer ≡ front
+front_kept buffer front form at end whole place order =
+    sym (take-take at end buffer order) ∙ ap (take at) whole ∙ ap (λ n. take n (front ++ form)) (sym place) ∙ take-append_seam front form
 
 -- how long a front is
-pub front_length : (room : List ℕ) (at : ℕ) → at ≤ length room → length (take at room) ≡ at
-front_length room at within = omega (arith, length-take at room, within)
+pub front_length : (buffer : List ℕ) (at : ℕ) → at ≤ length buffer → length (take at buffer) ≡ at
+front_length buffer at within = omega (arith, length-take at buffer, within)
 
 -- a segment `.` leaves the stack
 put_dot : (stack : List (List ℕ)) (segment : List ℕ) → bytes_eq segment (codes ".") ≡ true → put_segment stack segment ≡ Some stack

@@ -201,25 +201,25 @@ url_no_flaw globs scheme text behind (inl (inr flaw)) = ⊎_elim (λ b. b) (λ b
 url_no_flaw globs scheme text behind (inr flaw) = flaw.1
 
 -- a text whose authority or path has a flaw is refused for that
-pub part_flawed : (globs : Bool) (text scheme authority behind : List ℕ) (room : ℕ) (e : NormalError) → 3 * length text + 1 ≤ room → UrlCut text scheme authority behind → PartFlaw globs (lowercase scheme) authority behind e → NormalizesIn globs text room (Err e)
-part_flawed globs text s a b room NoRoom enough cut flaw = absurd (room_no_flaw globs (lowercase s) a b flaw)
-part_flawed globs text s a b room NoUrl enough cut flaw = absurd (url_no_flaw globs (lowercase s) a b flaw)
-part_flawed globs text s a b room BrokenEscape enough cut flaw = (enough, (s, a, b, cut, flaw), cut_refused globs text s a b BrokenEscape cut flaw)
-part_flawed globs text s a b room NoHost enough cut flaw = (enough, (s, a, b, cut, flaw), cut_refused globs text s a b NoHost cut flaw)
-part_flawed globs text s a b room BadHost enough cut flaw = (enough, (s, a, b, cut, flaw), cut_refused globs text s a b BadHost cut flaw)
-part_flawed globs text s a b room BadPort enough cut flaw = (enough, (s, a, b, cut, flaw), cut_refused globs text s a b BadPort cut flaw)
-part_flawed globs text s a b room AboveRoot enough cut flaw = (enough, (s, a, b, cut, flaw), cut_refused globs text s a b AboveRoot cut flaw)
+pub part_flawed : (globs : Bool) (text scheme authority behind : List ℕ) (buffer_len : ℕ) (e : NormalError) → 3 * length text + 1 ≤ buffer_len → UrlCut text scheme authority behind → PartFlaw globs (lowercase scheme) authority behind e → NormalizesIn globs text buffer_len (Err e)
+part_flawed globs text s a b buffer_len NoRoom enough cut flaw = absurd (room_no_flaw globs (lowercase s) a b flaw)
+part_flawed globs text s a b buffer_len NoUrl enough cut flaw = absurd (url_no_flaw globs (lowercase s) a b flaw)
+part_flawed globs text s a b buffer_len BrokenEscape enough cut flaw = (enough, (s, a, b, cut, flaw), cut_refused globs text s a b BrokenEscape cut flaw)
+part_flawed globs text s a b buffer_len NoHost enough cut flaw = (enough, (s, a, b, cut, flaw), cut_refused globs text s a b NoHost cut flaw)
+part_flawed globs text s a b buffer_len BadHost enough cut flaw = (enough, (s, a, b, cut, flaw), cut_refused globs text s a b BadHost cut flaw)
+part_flawed globs text s a b buffer_len BadPort enough cut flaw = (enough, (s, a, b, cut, flaw), cut_refused globs text s a b BadPort cut flaw)
+part_flawed globs text s a b buffer_len AboveRoot enough cut flaw = (enough, (s, a, b, cut, flaw), cut_refused globs text s a b AboveRoot cut flaw)
 
 -- what was written of the parts is the normal form, or the path has a flaw
-pub parts_normalize : (globs : Bool) (text scheme lowered authority behind : List ℕ) (user : Option (List ℕ)) (host : List ℕ) (port : Option ℕ) (room : ℕ) (r : Result NormalPlace NormalError) → 3 * length text + 1 ≤ room → UrlCut text scheme authority behind → lowered ≡ lowercase scheme → ReadsAuthority globs lowered authority user host port
-    → MatchResult r (λ n. HoldsParts lowered user host port behind n) (λ e. PathFlaw behind e) → NormalizesIn globs text room r
-parts_normalize globs text scheme lowered authority behind user host port room (Ok n) enough cut low read holds =
+pub parts_normalize : (globs : Bool) (text scheme lowered authority behind : List ℕ) (user : Option (List ℕ)) (host : List ℕ) (port : Option ℕ) (buffer_len : ℕ) (r : Result NormalPlace NormalError) → 3 * length text + 1 ≤ buffer_len → UrlCut text scheme authority behind → lowered ≡ lowercase scheme → ReadsAuthority globs lowered authority user host port
+    → MatchResult r (λ n. HoldsParts lowered user host port behind n) (λ e. PathFlaw behind e) → NormalizesIn globs text buffer_len r
+parts_normalize globs text scheme lowered authority behind user host port buffer_len (Ok n) enough cut low read holds =
     let form = read.form in
     let one = subst (λ z. NormalAuthority globs z authority (option_map normal_text user) (lowercase host) port) low form in
     let two = subst (λ z. NormalAuthority globs (lowercase scheme) authority z (lowercase host) port) (sym holds.user_is) one in
     let three = subst (λ z. NormalAuthority globs (lowercase scheme) authority n.user z port) (sym holds.host_is) two in
     let four = subst (λ z. NormalAuthority globs (lowercase scheme) authority n.user n.host z) (sym holds.port_is) three in
     (enough, record { scheme = scheme; authority = authority; behind = behind; cut = cut; scheme_form = holds.scheme_is ∙ low; authority_form = four; path_form = holds.path_is })
-parts_normalize globs text scheme lowered authority behind user host port room (Err e) enough cut low read flaw =
+parts_normalize globs text scheme lowered authority behind user host port buffer_len (Err e) enough cut low read flaw =
     let form = subst (λ z. NormalAuthority globs z authority (option_map normal_text user) (lowercase host) port) low read.form in
-    part_flawed globs text scheme authority behind room e enough cut (inr ((option_map normal_text user, lowercase host, port, form), flaw))
+    part_flawed globs text scheme authority behind buffer_len e enough cut (inr ((option_map normal_text user, lowercase host, port, form), flaw))

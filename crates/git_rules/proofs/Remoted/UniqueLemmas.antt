@@ -28,7 +28,7 @@ one_ruled rules texts a b (all, h, is) (others, k, equal) =
 -- a remote has one list of push URLs
 one_own_list : (rules : Rules) (remote : List ℕ) (entries : List ConfigEntry) (a b : List Outcome) → HasPushUrls rules remote entries a → HasPushUrls rules remote entries b → a ≡ b
 one_own_list rules remote entries a b h k =
-    h.joined ∙ ap (λ xs. xs ++ h.ruled) (one_list rules.fetching _ h.given k.given h.rewritten k.rewritten) ∙ ap (λ xs. k.given ++ xs) (one_ruled rules.pushing _ h.ruled k.ruled h.tried k.tried) ∙ sym k.joined
+    h.joined ∙ ap (λ xs. xs ++ h.ruled) (one_list rules.fetching _ h.configured k.configured h.rewritten k.rewritten) ∙ ap (λ xs. k.configured ++ xs) (one_ruled rules.pushing _ h.ruled k.ruled h.tried k.tried) ∙ sym k.joined
 
 -- Git pushes to one list
 pub one_push_list : (rules : Rules) (remote : List ℕ) (entries : List ConfigEntry) (a b : List Outcome) → ArePushUrls rules remote entries a → ArePushUrls rules remote entries b → a ≡ b
@@ -41,7 +41,7 @@ one_push_list rules remote entries a b (inr h) (inr k) = one_list rules.fetching
 
 -- a remote with a URL isn't its own
 not_own : (remote : List ℕ) (entries : List ConfigEntry) (url : List ℕ) → values_of remote url_key entries ≡ url ∷ [] → is_its_own_url remote entries ≡ false
-not_own remote entries url given = ap (λ vs. is_none (first_of vs) && has_none remote vcs_key entries) given
+not_own remote entries url configured = ap (λ vs. is_none (first_of vs) && has_none remote vcs_key entries) configured
 
 -- a list of one isn't empty
 filled : (o : Outcome) → ¬ (o ∷ [] ≡ [])
@@ -58,21 +58,21 @@ unbased rules text none = inl (refl, refl, none)
 
 -- what a URL alone is pushed to
 pub one_url : (rules : Rules) (remote : List ℕ) (entries : List ConfigEntry) (url : List ℕ) (o : Outcome) → HasOneUrl remote entries url → IsRewrittenToPush rules false url o → ArePushUrls rules remote entries (o ∷ [])
-one_url rules remote entries url o (given, none) (inl (some, h)) =
+one_url rules remote entries url o (configured, none) (inl (some, h)) =
     let kept : o ∷ [] ≡ filter (λ p. is_some p.base) (o ∷ []) =
     sym (ap (λ b. if b then o ∷ [] else []) (based rules.pushing url o some h)) in
     let ruled : AreRuled rules.pushing (values_of remote url_key entries) (o ∷ []) =
-    subst (λ vs. AreRuled rules.pushing vs (o ∷ [])) (sym given) (o ∷ [], (h, tt), kept) in
-    inl (push_ruled rules remote entries [] (o ∷ []) (not_own remote entries url given) (subst (λ vs. AreRewritten rules.fetching vs []) (sym none) tt) refl ruled, filled o)
-one_url rules remote entries url o (given, none) (inr (unruled, h)) =
-    let own = not_own remote entries url given in
+    subst (λ vs. AreRuled rules.pushing vs (o ∷ [])) (sym configured) (o ∷ [], (h, tt), kept) in
+    inl (push_ruled rules remote entries [] (o ∷ []) (not_own remote entries url configured) (subst (λ vs. AreRewritten rules.fetching vs []) (sym none) tt) refl ruled, filled o)
+one_url rules remote entries url o (configured, none) (inr (unruled, h)) =
+    let own = not_own remote entries url configured in
     let tried : AreRuled rules.pushing (values_of remote url_key entries) [] =
-    subst (λ vs. AreRuled rules.pushing vs []) (sym given) (record { base = None; rest = url } ∷ [], (unbased rules.pushing url unruled, tt), refl) in
+    subst (λ vs. AreRuled rules.pushing vs []) (sym configured) (record { base = None; rest = url } ∷ [], (unbased rules.pushing url unruled, tt), refl) in
     let fetched : AreRewritten rules.fetching (values_of remote url_key entries) (o ∷ []) =
-    subst (λ vs. AreRewritten rules.fetching vs (o ∷ [])) (sym given) (h, tt) in
+    subst (λ vs. AreRewritten rules.fetching vs (o ∷ [])) (sym configured) (h, tt) in
     inr (push_ruled rules remote entries [] [] own (subst (λ vs. AreRewritten rules.fetching vs []) (sym none) tt) refl tried, urls_given rules remote entries (o ∷ []) own fetched)
 
 -- what a push URL alone is pushed to
 pub one_push_url : (rules : Rules) (remote : List ℕ) (entries : List ConfigEntry) (url : List ℕ) (o : Outcome) → HasOnePushUrl remote entries url → IsRewrittenToPush rules true url o → ArePushUrls rules remote entries (o ∷ [])
-one_push_url rules remote entries url o (own, given) h =
-    inl (push_given rules remote entries (o ∷ []) own (subst (λ vs. AreRewritten rules.fetching vs (o ∷ [])) (sym given) (h, tt)) (filled o), filled o)
+one_push_url rules remote entries url o (own, configured) h =
+    inl (push_given rules remote entries (o ∷ []) own (subst (λ vs. AreRewritten rules.fetching vs (o ∷ [])) (sym configured) (h, tt)) (filled o), filled o)

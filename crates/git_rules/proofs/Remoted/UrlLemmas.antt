@@ -66,7 +66,7 @@ some_rewritten rules (t ∷ texts) found h some = refl
 -- the push URLs of a remote whose name is its URL
 pub push_own : (rules : Rules) (remote : List ℕ) (entries : List ConfigEntry) (old new : List Outcome) → is_its_own_url remote entries ≡ true → AreRewritten rules.fetching (values_of remote pushurl_key entries) old → AddsRuled rules.pushing remote old new → HasPushUrls rules remote entries new
 push_own rules remote entries old new own h (o, k, added) = record {
-  given = old;
+  configured = old;
   ruled = filter (λ p. is_some p.base) (o ∷ []);
   rewritten = h;
   tried = subst (λ texts. AreRuled rules.pushing texts (filter (λ p. is_some p.base) (o ∷ []))) (sym (tried_own remote entries own)) (o ∷ [], (k, tt), refl);
@@ -74,13 +74,13 @@ push_own rules remote entries old new own h (o, k, added) = record {
 }
 
 -- the push URLs of a remote that has none of its own
-pub push_ruled : (rules : Rules) (remote : List ℕ) (entries : List ConfigEntry) (given found : List Outcome) → is_its_own_url remote entries ≡ false → AreRewritten rules.fetching (values_of remote pushurl_key entries) given → given ≡ [] → AreRuled rules.pushing (values_of remote url_key entries) found → HasPushUrls rules remote entries found
-push_ruled rules remote entries given found own h empty k =
+pub push_ruled : (rules : Rules) (remote : List ℕ) (entries : List ConfigEntry) (configured found : List Outcome) → is_its_own_url remote entries ≡ false → AreRewritten rules.fetching (values_of remote pushurl_key entries) configured → configured ≡ [] → AreRuled rules.pushing (values_of remote url_key entries) found → HasPushUrls rules remote entries found
+push_ruled rules remote entries configured found own h empty k =
     let none : values_of remote pushurl_key entries ≡ [] = none_rewritten rules.fetching _ (subst (AreRewritten rules.fetching (values_of remote pushurl_key entries)) empty h) in
     let all : tried_urls remote entries ≡ values_of remote url_key entries =
     tried_given remote entries own ∙ ap (λ vs. if is_none (first_of vs) then values_of remote url_key entries else []) none in
     record {
-      given = [];
+      configured = [];
       ruled = found;
       rewritten = subst (AreRewritten rules.fetching (values_of remote pushurl_key entries)) empty h;
       tried = subst (λ texts. AreRuled rules.pushing texts found) (sym all) k;
@@ -94,7 +94,7 @@ push_given rules remote entries found own h some =
     let all : tried_urls remote entries ≡ [] =
     tried_given remote entries own ∙ ap (λ b. if b then values_of remote url_key entries else []) some_given in
     record {
-      given = found;
+      configured = found;
       ruled = [];
       rewritten = h;
       tried = subst (λ texts. AreRuled rules.pushing texts []) (sym all) ([], tt, refl);

@@ -13,8 +13,8 @@ use Rattle.git_syntax.specs.Escapes.{password_set, user_set}
 use Rattle.git_syntax.specs.Authority.{unless_empty}
 use Rattle.git_syntax.proofs.Texts.CutLemmas.{free_of_lacked}
 use Rattle.git_location.specs.Settled.{IsSettledScp, IsSettledSecure, IsSettledBy}
-use Rattle.git_location.specs.GitClass.{is_contested, IsPlainPart, IsPlainHost, SuitsTransport, AgreesByTransport, AgreesBy}
-use Rattle.git_reads.specs.Git.{GitReading, GitReads, ReadsGiven, ReachesSecure, UserCut, from_tilde}
+use Rattle.git_location.specs.GitClass.{is_contested, IsPlainPart, IsHostOfGit, SuitsTransport, AgreesByTransport, AgreesBy}
+use Rattle.git_reads.specs.Git.{GitReading, GitReads, ReadsInput, ReachesSecure, UserCut, from_tilde}
 use Rattle.git_laws.specs.GitClass.{HostForGit, own_reading, ReadsOwnPlace, ReadsOwnBy, ReadsOwn, ReadAlike}
 use Rattle.git_laws.proofs.GitReadings.GitPieceLemmas.{kept_free}
 use Rattle.git_rules.specs.SecureShell.{Request, destination, is_url_like, user_refusal, host_refusal, url_refusal, path_refusal, request_refusal, ssh_refusal}
@@ -29,12 +29,12 @@ record IsReached (reading : GitReading) : Type 0 where
   reaches : ReachesSecure place path reading
 
 -- what is read of Secure Shell in a text is
-reached : (t : List ℕ) (reading : GitReading) → reading.protocol ≡ ssh → ReadsGiven t reading → IsReached reading
-reached t reading e (ReadsGiven.secure_url rest place path own cut reaches) = record { place = place; path = from_tilde (slash ∷ path); reaches = reaches }
-reached t reading e (ReadsGiven.git_url rest place path own cut reaches) = absurd (cc (ap (λ (r : GitReading). r.protocol) reaches.value, e))
-reached t reading e (ReadsGiven.file_url rest place path own cut is) = absurd (cc (ap (λ (r : GitReading). r.protocol) is, e))
-reached t reading e (ReadsGiven.scp_form place path no_url remote cut reaches) = record { place = place; path = from_tilde path; reaches = reaches }
-reached t reading e (ReadsGiven.local_path passed path no_url local end some no_option no_tilde is) = absurd (cc (ap (λ (r : GitReading). r.protocol) is, e))
+reached : (t : List ℕ) (reading : GitReading) → reading.protocol ≡ ssh → ReadsInput t reading → IsReached reading
+reached t reading e (ReadsInput.secure_url rest place path own cut reaches) = record { place = place; path = from_tilde (slash ∷ path); reaches = reaches }
+reached t reading e (ReadsInput.git_url rest place path own cut reaches) = absurd (cc (ap (λ (r : GitReading). r.protocol) reaches.value, e))
+reached t reading e (ReadsInput.file_url rest place path own cut is) = absurd (cc (ap (λ (r : GitReading). r.protocol) is, e))
+reached t reading e (ReadsInput.scp_form place path no_url remote cut reaches) = record { place = place; path = from_tilde path; reaches = reaches }
+reached t reading e (ReadsInput.local_path passed path no_url local end some no_option no_tilde is) = absurd (cc (ap (λ (r : GitReading). r.protocol) is, e))
 
 -- a host that is there is the text
 host_kept : (text host : List ℕ) → unless_empty text ≡ Some host → (text ≡ host) × (0 < length host)
@@ -67,7 +67,7 @@ plain_zero_free true set part held plain = free_of_lacked is_contested 0 part pl
 plain_zero_free false set part held plain = kept_free set part plain 0 held
 
 -- nor has a plain host of Secure Shell
-host_zero_free : (v : Location) (host : List ℕ) → v.scheme ≡ ssh → IsPlainHost v host → FreeOf 0 host
+host_zero_free : (v : Location) (host : List ℕ) → v.scheme ≡ ssh → IsHostOfGit v host → FreeOf 0 host
 host_zero_free v host e (inl plain) = plain_zero_free v.flag password_set host refl plain
 host_zero_free v host e (inr bracketed) = absurd (cc (bracketed.0, e))
 
@@ -122,7 +122,7 @@ record IsGiven (v : Location) (host : List ℕ) : Type 0 where
 accepted : (v : Location) (host : List ℕ) → v.scheme ≡ ssh → AgreesByTransport v → IsSettledScp v ⊎ IsSettledSecure v → ¬ (v.user ≡ Some []) → IsGiven v host → (r : Request) → request_refusal r v.port ≡ None → ssh_refusal r v ≡ None
 accepted v host e a settled named given r asked =
     let user_free = IfSome_then v.user a.plain.user (λ u p. plain_zero_free v.flag user_set u refl p) in
-    let host_free = host_zero_free v host e (subst (λ o. IfSome o (IsPlainHost v)) given.there a.plain.host) in
+    let host_free = host_zero_free v host e (subst (λ o. IfSome o (IsHostOfGit v)) given.there a.plain.host) in
     let host_safe = subst (λ o. IfSome o (λ h. is_option_like h ≡ false)) given.there a.no_option.host in
     let path_free = free_of_lacked is_contested 0 v.path a.plain.path refl in
     let user = user_accepted v.user named user_free a.no_option.user in
@@ -175,6 +175,6 @@ own_words alike v value agrees e =
     record {
       host = host;
       there = there;
-      made = accepted v host e a settled suits.2 first.given;
+      built = accepted v host e a settled suits.2 first.given;
       words = λ t has. (read_reached v t host e there (read.read t has)).words;
     }

@@ -7,9 +7,9 @@ ghost use Rattle.git_rules.specs.CredentialUrls.{credential_url};
 
 use crate::config::Entry;
 use crate::credentials::partial::fits_partly;
-use crate::normal::{NormalUrl, room_for};
+use crate::normal::{NormalUrl, needed_buffer_len};
 use crate::pattern::UrlPattern;
-use crate::pattern::entries::is_of_room;
+use crate::pattern::entries::is_short_buffer;
 use git_reads::credential::Request;
 use std::alloc::{AllocError, Global};
 
@@ -63,22 +63,22 @@ fn matches_url(
 ) -> Result<Option<bool>, AllocError>
     ensures { IfOk result (λ matches. DecidesUrl url.now (option_map (λ p. p.now) place.entry) matches) }
 {
-    let mut room = vec![in alloc; 0u8; room_for(url.len())]?;
-    matches_in(url, &mut room, place)
+    let mut buffer = vec![in alloc; 0u8; needed_buffer_len(url.len())]?;
+    matches_in(url, &mut buffer, place)
 }
 
 /// As `matches_url`, with a buffer for the normal form. A buffer that is too short counts as a failed allocation.
 fn matches_in(
     url: &[u8],
-    room: &mut [u8],
+    buffer: &mut [u8],
     place: Option<&NormalUrl<'_>>,
 ) -> Result<Option<bool>, AllocError>
     ensures { IfOk result (λ matches. DecidesUrl url.now (option_map (λ p. p.now) place.entry) matches) }
 {
-    match UrlPattern::parse_in(url, room) {
+    match UrlPattern::parse_in(url, buffer) {
         Ok(pattern) => Ok(Some(matches_place(&pattern, place))),
         Err(error) => {
-            if is_of_room(error) {
+            if is_short_buffer(error) {
                 Err(AllocError)
             } else {
                 Ok(None)

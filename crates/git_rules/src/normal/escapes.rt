@@ -11,29 +11,29 @@ ghost use Rattle.git_rules.specs.NormalPieces.{SplitsNormal};
 use percent_encoding::percent_encode_byte;
 
 /// Writes the normal form of a text to the front of the buffer; returns it, and the rest of the buffer.
-pub(super) fn normal_in<'a>(text: &[u8], room: &'a mut [u8]) -> (&'a [u8], &'a mut [u8])
+pub(super) fn normal_in<'a>(text: &[u8], buffer: &'a mut [u8]) -> (&'a [u8], &'a mut [u8])
     requires sound { is_sound text.now ≡ true }
-    requires room { 3 * length text.now ≤ length room.old }
+    requires buffer { 3 * length text.now ≤ length buffer.old }
     ensures text { result.0.now ≡ spec.normal_text text.now }
-    ensures left { length room.old ≤ length result.1.now + 3 * length text.now }
+    ensures left { length buffer.old ≤ length result.1.now + 3 * length text.now }
 {
-    let size = put_normal(room, 0, text);
-    let (form, left) = room.split_at_mut(size);
+    let size = put_normal(buffer, 0, text);
+    let (form, left) = buffer.split_at_mut(size);
     (form, left)
 }
 
 /// Writes the normal form of a text to the buffer from index `start` on, and returns the index after it.
-pub(super) fn put_normal(room: &mut [u8], start: usize, text: &[u8]) -> usize
+pub(super) fn put_normal(buffer: &mut [u8], start: usize, text: &[u8]) -> usize
     requires sound { is_sound text.now ≡ true }
-    requires room { start + 3 * length text.now ≤ length room.old }
-    ensures bytes { take result room.new ≡ take start room.old ++ spec.normal_text text.now }
+    requires buffer { start + 3 * length text.now ≤ length buffer.old }
+    ensures bytes { take result buffer.new ≡ take start buffer.old ++ spec.normal_text text.now }
     ensures least { start ≤ result }
     ensures most { result ≤ start + 3 * length text.now }
 {
     let mut at = start;
     let mut rest = text;
     while let Some((byte, escaped, behind)) = split_normal(rest) {
-        at = put_byte(room, at, byte, escaped);
+        at = put_byte(buffer, at, byte, escaped);
         rest = behind;
     }
     at
@@ -78,27 +78,27 @@ fn digit(byte: u8) -> u8
 }
 
 /// Writes the normal form of a byte to the buffer from index `at` on, and returns the index after it.
-fn put_byte(room: &mut [u8], at: usize, byte: u8, escaped: bool) -> usize
-    requires { at + 3 ≤ length room.old }
-    ensures bytes { take result room.new ≡ take at room.old ++ spec.normal_byte escaped byte }
+fn put_byte(buffer: &mut [u8], at: usize, byte: u8, escaped: bool) -> usize
+    requires { at + 3 ≤ length buffer.old }
+    ensures bytes { take result buffer.new ≡ take at buffer.old ++ spec.normal_byte escaped byte }
     ensures least { at ≤ result }
     ensures most { result ≤ at + 3 }
 {
     if is_unsafe(byte) || (escaped && is_reserved(byte)) {
-        put(room, at, percent_encode_byte(byte).as_bytes())
+        put(buffer, at, percent_encode_byte(byte).as_bytes())
     } else {
-        put(room, at, &[byte])
+        put(buffer, at, &[byte])
     }
 }
 
 /// Writes the bytes to the buffer from index `at` on, and returns the index after them.
-pub(super) fn put(room: &mut [u8], at: usize, bytes: &[u8]) -> usize
-    requires { at + length bytes.now ≤ length room.old }
+pub(super) fn put(buffer: &mut [u8], at: usize, bytes: &[u8]) -> usize
+    requires { at + length bytes.now ≤ length buffer.old }
     ensures end { result ≡ at + length bytes.now }
-    ensures bytes { take result room.new ≡ take at room.old ++ bytes.now }
+    ensures bytes { take result buffer.new ≡ take at buffer.old ++ bytes.now }
 {
     let end = at + bytes.len();
-    room[at..end].copy_from_slice(bytes);
+    buffer[at..end].copy_from_slice(bytes);
     end
 }
 

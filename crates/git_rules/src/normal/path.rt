@@ -18,55 +18,55 @@ use git_syntax::bytes::{cut, last_cut};
 use git_syntax::escape::is_sound;
 
 /// Writes the path, the query and the fragment in normal form to the front of the buffer, and returns them.
-pub(super) fn path_in<'a>(behind: &[u8], room: &'a mut [u8]) -> Result<&'a [u8], NormalError>
-    requires { 3 * length behind.now + 1 ≤ length room.old }
+pub(super) fn path_in<'a>(behind: &[u8], buffer: &'a mut [u8]) -> Result<&'a [u8], NormalError>
+    requires { 3 * length behind.now + 1 ≤ length buffer.old }
     ensures { MatchResult result (λ path. NormalPath behind.now path.now) (λ e. PathFlaw behind.now e) }
 {
     if !is_sound(behind) {
         return Err(NormalError::BrokenEscape);
     }
     let (segments, rest) = cut_before_rest(unrooted(behind));
-    let Some(at) = put_path(room, segments) else {
+    let Some(at) = put_path(buffer, segments) else {
         return Err(NormalError::AboveRoot);
     };
-    let at = put_root(room, at);
-    let end = put_normal(room, at, rest);
-    let (path, _) = room.split_at_mut(end);
+    let at = put_root(buffer, at);
+    let end = put_normal(buffer, at, rest);
+    let (path, _) = buffer.split_at_mut(end);
     Ok(path)
 }
 
 /// Writes the path of the segments of a text to the front of the buffer, and returns its length.
-fn put_path(room: &mut [u8], segments: &[u8]) -> Option<usize>
+fn put_path(buffer: &mut [u8], segments: &[u8]) -> Option<usize>
     requires sound { is_sound segments.now ≡ true }
-    requires room { 3 * length segments.now + 1 ≤ length room.old }
-    ensures path { ShowsFront (put_segments (normal_segments segments.now) []) room.new result }
+    requires buffer { 3 * length segments.now + 1 ≤ length buffer.old }
+    ensures path { ShowsFront (put_segments (normal_segments segments.now) []) buffer.new result }
     ensures most { IfSome result (λ end. end ≤ 3 * length segments.now + 1) }
 {
     let mut at = 0;
     let mut rest = segments;
     while let Some((segment, behind)) = cut(rest, b'/') {
-        at = put_segment(room, at, segment)?;
+        at = put_segment(buffer, at, segment)?;
         rest = behind;
     }
-    put_segment(room, at, rest)
+    put_segment(buffer, at, rest)
 }
 
 /// Pushes a segment on the stack whose path is the front of the buffer, and returns the new length of the path.
-fn put_segment(room: &mut [u8], at: usize, segment: &[u8]) -> Option<usize>
+fn put_segment(buffer: &mut [u8], at: usize, segment: &[u8]) -> Option<usize>
     requires sound { is_sound segment.now ≡ true }
-    requires room { at + 3 * length segment.now + 1 ≤ length room.old }
-    ensures path { (stack : List (List ℕ)) → ShowsStack (take at room.old) stack → FreeOf slash segment.now
-        → ShowsFront (put_segment stack (normal_text segment.now)) room.new result }
+    requires buffer { at + 3 * length segment.now + 1 ≤ length buffer.old }
+    ensures path { (stack : List (List ℕ)) → ShowsStack (take at buffer.old) stack → FreeOf slash segment.now
+        → ShowsFront (put_segment stack (normal_text segment.now)) buffer.new result }
     ensures most { IfSome result (λ end. end ≤ at + 3 * length segment.now + 1) }
 {
-    let start = put(room, at, b"/");
-    let end = put_normal(room, start, segment);
-    let written = &room[start..end];
+    let start = put(buffer, at, b"/");
+    let end = put_normal(buffer, start, segment);
+    let written = &buffer[start..end];
     if is_dot(written) {
         return Some(at);
     }
     if is_dots(written) {
-        return without_last(&room[..at]);
+        return without_last(&buffer[..at]);
     }
     Some(end)
 }
@@ -96,10 +96,10 @@ fn without_last(path: &[u8]) -> Option<usize>
 }
 
 /// Writes `/` to the front of the buffer if the path is empty, and returns the length of the path.
-fn put_root(room: &mut [u8], at: usize) -> usize
-    requires { 1 ≤ length room.old }
-    ensures path { take result room.new ≡ or_root (take at room.old) }
+fn put_root(buffer: &mut [u8], at: usize) -> usize
+    requires { 1 ≤ length buffer.old }
+    ensures path { take result buffer.new ≡ or_root (take at buffer.old) }
     ensures end { result ≡ max at 1 }
 {
-    if at == 0 { put(room, 0, b"/") } else { at }
+    if at == 0 { put(buffer, 0, b"/") } else { at }
 }

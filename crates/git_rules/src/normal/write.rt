@@ -19,19 +19,19 @@ pub(super) fn write_parts<'a>(
     scheme: &'a [u8],
     authority: Authority<'a>,
     behind: &[u8],
-    room: &'a mut [u8],
+    buffer: &'a mut [u8],
 ) -> Result<NormalUrl<'a>, NormalError>
     requires sound { HasSoundUser (option_copied authority.user) }
-    requires room { 3 * user_length (option_copied authority.user) + length authority.host.now
-        + 3 * length behind.now + 1 ≤ length room.old }
+    requires buffer { 3 * user_length (option_copied authority.user) + length authority.host.now
+        + 3 * length behind.now + 1 ≤ length buffer.old }
     ensures { MatchResult result
         (λ n. HoldsParts scheme.now (option_copied authority.entry.user) authority.entry.host.now
         authority.entry.port behind.now n)
         (λ e. PathFlaw behind.now e) }
 {
-    let (user, room) = user_in(authority.user, room);
-    let (host, room) = lowered_in(authority.host, room);
-    let path = path_in(behind, room)?;
+    let (user, buffer) = user_in(authority.user, buffer);
+    let (host, buffer) = lowered_in(authority.host, buffer);
+    let path = path_in(behind, buffer)?;
     Ok(NormalUrl {
         scheme,
         user,
@@ -42,32 +42,32 @@ pub(super) fn write_parts<'a>(
 }
 
 /// Returns a text in lower case, and the rest of the buffer.
-pub(super) fn lowered_in<'a>(text: &'a [u8], room: &'a mut [u8]) -> (&'a [u8], &'a mut [u8])
-    requires { length text.now ≤ length room.old }
+pub(super) fn lowered_in<'a>(text: &'a [u8], buffer: &'a mut [u8]) -> (&'a [u8], &'a mut [u8])
+    requires { length text.now ≤ length buffer.old }
     ensures text { result.0.now ≡ lowercase text.now }
-    ensures left { length room.old ≤ length result.1.now + length text.now }
+    ensures left { length buffer.old ≤ length result.1.now + length text.now }
 {
     if is_lowercase(text) {
-        return (text, room);
+        return (text, buffer);
     }
-    let (front, left) = room.split_at_mut(text.len());
+    let (front, left) = buffer.split_at_mut(text.len());
     front.copy_from_slice(text);
     front.make_ascii_lowercase();
     (front, left)
 }
 
 /// Returns the normal form of an optional user, and the rest of the buffer.
-fn user_in<'a>(user: Option<&[u8]>, room: &'a mut [u8]) -> (Option<&'a [u8]>, &'a mut [u8])
+fn user_in<'a>(user: Option<&[u8]>, buffer: &'a mut [u8]) -> (Option<&'a [u8]>, &'a mut [u8])
     requires sound { HasSoundUser (option_copied user) }
-    requires room { 3 * user_length (option_copied user) ≤ length room.old }
+    requires buffer { 3 * user_length (option_copied user) ≤ length buffer.old }
     ensures text { option_copied result.0 ≡ option_map normal_text (option_copied user.entry) }
-    ensures left { length room.old
+    ensures left { length buffer.old
         ≤ length result.1.now + 3 * user_length (option_copied user.entry) }
 {
     match user {
-        None => (None, room),
+        None => (None, buffer),
         Some(user) => {
-            let (text, left) = normal_in(user, room);
+            let (text, left) = normal_in(user, buffer);
             (Some(text), left)
         }
     }

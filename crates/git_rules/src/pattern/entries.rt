@@ -3,7 +3,7 @@
 //! The caller supplies one buffer, into which each URL is read in turn.
 
 ghost use Rattle.std.specs.Prelude.{◌≡◌, ◌≤◌, ◌+◌, ◌*◌, ◌↔◌, All, IsTrue, OnErr, OnOk, Some, length, option_copied};
-ghost use Rattle.git_rules.specs.PatternEntries.{HasRoomFor, IsBestIn, LacksRoomFirst, RanksIn, RanksUrlIn};
+ghost use Rattle.git_rules.specs.PatternEntries.{BufferSuffices, IsBestIn, LacksRoomFirst, RanksIn, RanksUrlIn};
 
 use crate::config::Entry;
 use crate::normal::{NormalError, NormalUrl};
@@ -21,7 +21,7 @@ const LOWEST: Rank = Rank {
 ///
 /// The entry sets it if its section and name match, ignoring letter case, and if it either has no subsection or its
 /// subsection is a URL that matches the place as a [`UrlPattern`]. An entry without a subsection applies to all
-/// places and has the lowest rank. The buffer `room` needs three bytes for each byte of the entry's URL, and one
+/// places and has the lowest rank. `buffer` needs three bytes for each byte of the entry's URL, and one
 /// more. Allocates nothing.
 ///
 /// For `http.*` Git uses the entries that [`settings_for`](crate::pattern::settings::settings_for) returns: the
@@ -44,8 +44,8 @@ const LOWEST: Rank = Rank {
 ///
 /// ```
 /// /// The helper that an entry of a configuration names for a place.
-/// fn helper<'a>(entry: &Entry<'a>, place: &NormalUrl<'_>, room: &mut [u8]) -> Result<Option<&'a [u8]>, NormalError> {
-///     match entry_rank(entry, "credential", "helper", place, room)? {
+/// fn helper<'a>(entry: &Entry<'a>, place: &NormalUrl<'_>, buffer: &mut [u8]) -> Result<Option<&'a [u8]>, NormalError> {
+///     match entry_rank(entry, "credential", "helper", place, buffer)? {
 ///         None => Ok(None),
 ///         Some(_) => Ok(entry.value),
 ///     }
@@ -56,11 +56,11 @@ pub fn entry_rank(
     section: &str,
     name: &str,
     place: &NormalUrl<'_>,
-    room: &mut [u8],
+    buffer: &mut [u8],
 ) -> Result<Option<Rank>, NormalError>
-    ensures { RanksIn section.now name.now (Some place.now) (length room.old) entry.now result }
+    ensures { RanksIn section.now name.now (Some place.now) (length buffer.old) entry.now result }
 {
-    rank_in(entry, section, name, Some(place), room)
+    rank_in(entry, section, name, Some(place), buffer)
 }
 
 /// The rank of an entry for a place. Without a place an entry with a URL doesn't set the variable, and no buffer is
@@ -70,12 +70,12 @@ pub(crate) fn rank_in(
     section: &str,
     name: &str,
     place: Option<&NormalUrl<'_>>,
-    room: &mut [u8],
+    buffer: &mut [u8],
 ) -> Result<Option<Rank>, NormalError>
-    ensures rank { RanksIn section.now name.now (option_copied place.entry) (length room.old) entry.now
+    ensures rank { RanksIn section.now name.now (option_copied place.entry) (length buffer.old) entry.now
         result }
-    ensures room { OnOk result
-        (HasRoomFor section.now name.now (option_copied place.entry) (length room.old) entry.now) }
+    ensures buffer { OnOk result
+        (BufferSuffices section.now name.now (option_copied place.entry) (length buffer.old) entry.now) }
 {
     if !entry.sets(section, name) {
         return Ok(None);
@@ -84,20 +84,24 @@ pub(crate) fn rank_in(
         None => Ok(Some(LOWEST)),
         Some(url) => match place {
             None => Ok(None),
-            Some(place) => url_rank(url, place, room),
+            Some(place) => url_rank(url, place, buffer),
         },
     }
 }
 
 /// The rank of a URL, if it matches the place.
-fn url_rank(url: &[u8], place: &NormalUrl<'_>, room: &mut [u8]) -> Result<Option<Rank>, NormalError>
-    ensures rank { RanksUrlIn place.now (length room.old) url.now result }
-    ensures room { OnOk result (3 * length url.now + 1 ≤ length room.old) }
+fn url_rank(
+    url: &[u8],
+    place: &NormalUrl<'_>,
+    buffer: &mut [u8],
+) -> Result<Option<Rank>, NormalError>
+    ensures rank { RanksUrlIn place.now (length buffer.old) url.now result }
+    ensures buffer { OnOk result (3 * length url.now + 1 ≤ length buffer.old) }
 {
-    match UrlPattern::parse_in(url, room) {
+    match UrlPattern::parse_in(url, buffer) {
         Ok(pattern) => Ok(pattern.rank_for(place)),
         Err(error) => {
-            if is_of_room(error) {
+            if is_short_buffer(error) {
                 Err(error)
             } else {
                 Ok(None)
@@ -107,7 +111,7 @@ fn url_rank(url: &[u8], place: &NormalUrl<'_>, room: &mut [u8]) -> Result<Option
 }
 
 /// Whether the error is that the buffer is too short.
-pub(crate) fn is_of_room(error: NormalError) -> bool
+pub(crate) fn is_short_buffer(error: NormalError) -> bool
     ensures { IsTrue result ↔ (error ≡ NormalError.NoRoom) }
 {
     match error {
@@ -133,9 +137,9 @@ pub(crate) fn is_of_room(error: NormalError) -> bool
 /// fn proxy<'a>(
 ///     entries: &[Entry<'a>],
 ///     place: &NormalUrl<'_>,
-///     room: &mut [u8],
+///     buffer: &mut [u8],
 /// ) -> Result<Option<&'a [u8]>, NormalError> {
-///     match best_entry(entries, "http", "proxy", place, room)? {
+///     match best_entry(entries, "http", "proxy", place, buffer)? {
 ///         None => Ok(None),
 ///         Some(i) => Ok(entries.get(i).and_then(|entry| entry.value)),
 ///     }
@@ -146,11 +150,11 @@ pub fn best_entry(
     section: &str,
     name: &str,
     place: &NormalUrl<'_>,
-    room: &mut [u8],
+    buffer: &mut [u8],
 ) -> Result<Option<usize>, NormalError>
-    ensures { IsBestIn section.now name.now (Some place.now) (length room.old) entries.now result }
+    ensures { IsBestIn section.now name.now (Some place.now) (length buffer.old) entries.now result }
 {
-    best_in(entries, section, name, Some(place), room)
+    best_in(entries, section, name, Some(place), buffer)
 }
 
 /// The index of the best entry for a place, by [`rank_in`].
@@ -159,18 +163,18 @@ pub(crate) fn best_in(
     section: &str,
     name: &str,
     place: Option<&NormalUrl<'_>>,
-    room: &mut [u8],
+    buffer: &mut [u8],
 ) -> Result<Option<usize>, NormalError>
-    ensures best { IsBestIn section.now name.now (option_copied place.entry) (length room.old) entries.now
+    ensures best { IsBestIn section.now name.now (option_copied place.entry) (length buffer.old) entries.now
         result }
-    ensures room { OnOk result
-        (All (HasRoomFor section.now name.now (option_copied place.entry) (length room.old)) entries.now) }
+    ensures buffer { OnOk result
+        (All (BufferSuffices section.now name.now (option_copied place.entry) (length buffer.old)) entries.now) }
     ensures first { OnErr result
-        (LacksRoomFirst section.now name.now (option_copied place.entry) (length room.old) entries.now) }
+        (LacksRoomFirst section.now name.now (option_copied place.entry) (length buffer.old) entries.now) }
 {
     let mut best = None;
     for (i, entry) in entries.iter().enumerate() {
-        let rank = rank_in(entry, section, name, place, room)?;
+        let rank = rank_in(entry, section, name, place, buffer)?;
         best = better(best, i, rank);
     }
     match best {

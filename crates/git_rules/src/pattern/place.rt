@@ -22,7 +22,7 @@ pub enum PlaceError {
 
 /// Returns the place of the location: the normal form of its text, by which Git picks settings for it.
 ///
-/// The function writes the text to the front of `room`, and its normal form after it. The buffer needs four bytes
+/// The function writes the text to the front of `buffer`, and its normal form after it. The buffer needs four bytes
 /// for each byte of the text ([`UrlRef::text_len`]), and one more. Allocates nothing.
 ///
 /// **The buffer then holds the whole text of the location, its password included**, after an error as well as after
@@ -36,33 +36,33 @@ pub enum PlaceError {
 ///
 /// ```
 /// /// Whether a pattern stands for a location.
-/// fn is_for(pattern: &UrlPattern<'_>, url: &UrlRef<'_>, room: &mut [u8]) -> bool {
-///     match place_in(url, room) {
+/// fn is_for(pattern: &UrlPattern<'_>, url: &UrlRef<'_>, buffer: &mut [u8]) -> bool {
+///     match place_in(url, buffer) {
 ///         Ok(place) => pattern.matches(&place),
 ///         Err(_) => false,
 ///     }
 /// }
 /// ```
-pub fn place_in<'a>(url: &UrlRef<'_>, room: &'a mut [u8]) -> Result<NormalUrl<'a>, PlaceError>
-    ensures { PlacesIn (text url.now) (length room.old) result }
+pub fn place_in<'a>(url: &UrlRef<'_>, buffer: &'a mut [u8]) -> Result<NormalUrl<'a>, PlaceError>
+    ensures { PlacesIn (text url.now) (length buffer.old) result }
 {
-    match url.write_into(room) {
+    match url.write_into(buffer) {
         Err(fault) => Err(PlaceError::Fault(fault)),
         Ok(len) => {
-            if len > room.len() as u128 {
+            if len > buffer.len() as u128 {
                 return Err(PlaceError::Normal(NormalError::NoRoom));
             }
-            normalize_front(room, len as usize)
+            normalize_front(buffer, len as usize)
         }
     }
 }
 
 /// Returns the normal form of the text at the front of the buffer, written to the rest of the buffer.
-fn normalize_front(room: &mut [u8], len: usize) -> Result<NormalUrl<'_>, PlaceError>
-    requires { len ≤ length room.old }
-    ensures { FrontPlacesIn (take len room.old) (length room.old) result }
+fn normalize_front(buffer: &mut [u8], len: usize) -> Result<NormalUrl<'_>, PlaceError>
+    requires { len ≤ length buffer.old }
+    ensures { FrontPlacesIn (take len buffer.old) (length buffer.old) result }
 {
-    let (text, rest) = room.split_at_mut(len);
+    let (text, rest) = buffer.split_at_mut(len);
     match NormalUrl::parse_in(text, rest) {
         Ok(url) => Ok(url),
         Err(error) => Err(PlaceError::Normal(error)),

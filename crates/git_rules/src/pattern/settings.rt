@@ -90,7 +90,7 @@ impl From<AllocError> for SettingsError {
 ///   ([`best_entry`](crate::pattern::entries::best_entry)). It may have no value. At most one index is returned.
 ///
 /// So in a list an entry for all places is used if it comes before an entry for a URL that matches, and not if it
-/// comes after it. The buffer `room` is used for one URL after the other, as for
+/// comes after it. `buffer` is used for one URL after the other, as for
 /// [`entry_rank`](crate::pattern::entries::entry_rank). Allocates as the list of indices grows.
 ///
 /// # Errors
@@ -106,10 +106,10 @@ impl From<AllocError> for SettingsError {
 ///     alloc: Global,
 ///     entries: &[Entry<'_>],
 ///     place: &NormalUrl<'_>,
-///     room: &mut [u8],
+///     buffer: &mut [u8],
 /// ) -> Result<Vec<u8>, SettingsError> {
 ///     let mut lines = Vec::new(alloc);
-///     for i in &settings_for(alloc, entries, "extraHeader", place, room)? {
+///     for i in &settings_for(alloc, entries, "extraHeader", place, buffer)? {
 ///         if let Some(header) = entries.get(*i).and_then(|entry| entry.value) {
 ///             lines.extend_from_slice(header)?; // `X-A: 1`, and `X-B: 2` of `http.https://h.extraHeader`
 ///             lines.extend_from_slice(b"\n")?;
@@ -123,16 +123,16 @@ pub fn settings_for(
     entries: &[Entry<'_>],
     name: &str,
     place: &NormalUrl<'_>,
-    room: &mut [u8],
+    buffer: &mut [u8],
 ) -> Result<Vec<usize>, SettingsError>
     ensures found { IfOk result
         (λ found. AreSettings name.now (Some place.now) entries.now found.items) }
     ensures refused { IfErr result
-        (λ error. RefusesSettings name.now (Some place.now) (length room.old) entries.now error) }
+        (λ error. RefusesSettings name.now (Some place.now) (length buffer.old) entries.now error) }
     ensures first { IfErr result
-        (λ error. IsOfFirst name.now (Some place.now) (length room.old) entries.now error) }
+        (λ error. IsOfFirst name.now (Some place.now) (length buffer.old) entries.now error) }
 {
-    settings_in(alloc, entries, name, Some(place), room)
+    settings_in(alloc, entries, name, Some(place), buffer)
 }
 
 /// Returns the indices of the entries of `http.name` whose values Git uses for a text without a normal form, in
@@ -159,10 +159,10 @@ pub fn settings_for(
 ///     entries: &[Entry<'a>],
 ///     text: &[u8],
 ///     own: &mut [u8],
-///     room: &mut [u8],
+///     buffer: &mut [u8],
 /// ) -> Result<Option<&'a [u8]>, SettingsError> {
 ///     let found = match NormalUrl::parse_in(text, own) {
-///         Ok(place) => settings_for(alloc, entries, "proxy", &place, room)?,
+///         Ok(place) => settings_for(alloc, entries, "proxy", &place, buffer)?,
 ///         Err(NormalError::NoRoom) => return Err(SettingsError::NoRoom),
 ///         Err(_) => settings_without_place(alloc, entries, "proxy")?, // of `https://h:0/`, a port that no host has
 ///     };
@@ -189,19 +189,19 @@ fn settings_in(
     entries: &[Entry<'_>],
     name: &str,
     place: Option<&NormalUrl<'_>>,
-    room: &mut [u8],
+    buffer: &mut [u8],
 ) -> Result<Vec<usize>, SettingsError>
     ensures found { IfOk result
         (λ found. AreSettings name.now (option_copied place.entry) entries.now found.items) }
     ensures refused { IfErr result
-        (λ error. RefusesSettings name.now (option_copied place.entry) (length room.old) entries.now
+        (λ error. RefusesSettings name.now (option_copied place.entry) (length buffer.old) entries.now
         error) }
     ensures first { IfErr result
-        (λ error. IsOfFirst name.now (option_copied place.entry) (length room.old) entries.now error) }
+        (λ error. IsOfFirst name.now (option_copied place.entry) (length buffer.old) entries.now error) }
 {
     match kind_of(name.as_bytes()) {
-        Kind::Single => best_alone(alloc, entries, name, place, room),
-        Kind::List => all_used(alloc, entries, name, place, room),
+        Kind::Single => best_alone(alloc, entries, name, place, buffer),
+        Kind::List => all_used(alloc, entries, name, place, buffer),
     }
 }
 
@@ -211,18 +211,18 @@ fn best_alone(
     entries: &[Entry<'_>],
     name: &str,
     place: Option<&NormalUrl<'_>>,
-    room: &mut [u8],
+    buffer: &mut [u8],
 ) -> Result<Vec<usize>, SettingsError>
     requires { ¬ IsListName name.now }
     ensures found { IfOk result
         (λ found. AreSettings name.now (option_copied place.entry) entries.now found.items) }
     ensures refused { IfErr result
-        (λ error. RefusesSettings name.now (option_copied place.entry) (length room.old) entries.now
+        (λ error. RefusesSettings name.now (option_copied place.entry) (length buffer.old) entries.now
         error) }
     ensures first { IfErr result
-        (λ error. IsOfFirst name.now (option_copied place.entry) (length room.old) entries.now error) }
+        (λ error. IsOfFirst name.now (option_copied place.entry) (length buffer.old) entries.now error) }
 {
-    match best_in(entries, "http", name, place, room) {
+    match best_in(entries, "http", name, place, buffer) {
         Err(_) => Err(SettingsError::NoRoom),
         Ok(None) => Ok(Vec::new(alloc)),
         Ok(Some(best)) => {
@@ -239,21 +239,21 @@ fn all_used(
     entries: &[Entry<'_>],
     name: &str,
     place: Option<&NormalUrl<'_>>,
-    room: &mut [u8],
+    buffer: &mut [u8],
 ) -> Result<Vec<usize>, SettingsError>
     requires { IsListName name.now }
     ensures found { IfOk result
         (λ found. AreSettings name.now (option_copied place.entry) entries.now found.items) }
     ensures refused { IfErr result
-        (λ error. RefusesSettings name.now (option_copied place.entry) (length room.old) entries.now
+        (λ error. RefusesSettings name.now (option_copied place.entry) (length buffer.old) entries.now
         error) }
     ensures first { IfErr result
-        (λ error. IsOfFirst name.now (option_copied place.entry) (length room.old) entries.now error) }
+        (λ error. IsOfFirst name.now (option_copied place.entry) (length buffer.old) entries.now error) }
 {
     let mut found = Vec::new(alloc);
     let mut best = None;
     for (i, entry) in entries.iter().enumerate() {
-        let Ok(rank) = rank_in(entry, "http", name, place, room) else {
+        let Ok(rank) = rank_in(entry, "http", name, place, buffer) else {
             return Err(SettingsError::NoRoom);
         };
         best = better(best, i, rank);

@@ -52,11 +52,11 @@ impl<'a> Model for SshCommand<'a> {
 
     ghost Value = { Command };
 
-    ghost use Rattle.git_rules.specs.SshCommand.{lent_command};
+    ghost use Rattle.git_rules.specs.SshCommand.{borrowed_command};
 
-    ghost view = { lent_command };
+    ghost view = { borrowed_command };
 
-    ghost invariant = { λ c. IsSafe (lent_command c) };
+    ghost invariant = { λ c. IsSafe (borrowed_command c) };
 }
 
 impl SshCommand<'_> {

@@ -50,9 +50,9 @@ impl<'a> Model for SshSettings<'a> {
 
     ghost Value = { Settings };
 
-    ghost use Rattle.git_rules.specs.SshProgramView.{lent_settings};
+    ghost use Rattle.git_rules.specs.SshProgramView.{borrowed_settings};
 
-    ghost view = { lent_settings };
+    ghost view = { borrowed_settings };
 }
 
 /// The variant that Git takes a Secure Shell program for.
@@ -118,9 +118,9 @@ impl<'a> Model for SshProgram<'a> {
 
     ghost Value = { Program };
 
-    ghost use Rattle.git_rules.specs.SshProgramView.{lent_program};
+    ghost use Rattle.git_rules.specs.SshProgramView.{borrowed_program};
 
-    ghost view = { lent_program };
+    ghost view = { borrowed_program };
 }
 
 impl<'a> SshProgram<'a> {

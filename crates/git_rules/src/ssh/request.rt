@@ -57,7 +57,7 @@ impl<'a> Model for SshRequest<'a> {
 
     ghost Value = { Request };
 
-    ghost use Rattle.git_rules.specs.SshRequest.{lent_request};
+    ghost use Rattle.git_rules.specs.SshRequest.{borrowed_request};
 
-    ghost view = { lent_request };
+    ghost view = { borrowed_request };
 }

@@ -1,6 +1,6 @@
 -- What the bits of a mask are, and what is known of a text by them: where a class of bytes is first and last, and whether
 -- all bytes or none are of it.
-use Rattle.std.proofs.Common.{◌≡◌, ◌↔◌, ℕ, zero, suc, ◌+◌, ◌-◌, ◌*◌, ◌/◌, ◌^◌, ◌<◌, ◌≤◌, Bool, true, false, cond, not, IsTrue, ◌&&◌, ◌||◌, List, [], ◌∷◌, map, length, get_or, Some, None, refl, sym, ap, ◌∙◌, subst, arith, lt_of_lt_of_le, pow_mono, pow_pos, pow-suc}
+use Rattle.std.proofs.Common.{◌≡◌, ℕ, zero, suc, ◌+◌, ◌-◌, ◌*◌, ◌/◌, ◌^◌, ◌<◌, ◌≤◌, Bool, true, false, cond, ◌&&◌, ◌||◌, List, [], ◌∷◌, map, length, get_or, Some, None, refl, sym, ap, ◌∙◌, subst, arith, lt_of_lt_of_le, pow_mono, pow_pos, pow-suc}
 use Rattle.std.specs.Int.{bit_at}
 use Rattle.std.specs.List.{list_any, list_all}
 use Rattle.std.proofs.lemmas.Bool.{and_parts, or_parts}
@@ -143,21 +143,3 @@ all_full test [] e = refl
 all_full test (b ∷ text) e =
     let parts = and_parts (test b) (list_all test text) e in
     set_first (test b) _ (2 ^ length text) parts.0 (pow_pos (length text)) (all_full test text parts.1) ∙ sym (ap (λ n. n - 1) (pow-suc 2 (length text)))
-
-none_not : (test : ℕ → Bool) (text : List ℕ) → list_any (λ b. not (test b)) text ≡ not (list_all test text)
-none_not test [] = refl
-none_not test (b ∷ text) = either (test b) (list_all test text) _ (none_not test text)
-  where
-    either : (x y rest : Bool) → rest ≡ not y → (not x || rest) ≡ not (x && y)
-    either true y rest e = e
-    either false y rest e = refl
-
--- a text lacks the bytes outside of a class where each byte is of the class
-pub none_but : (test : ℕ → Bool) (text : List ℕ) (answer : Bool) → IsTrue answer ↔ Lacks (λ b. not (test b)) text → answer ≡ list_all test text
-none_but test text answer h = decided answer (list_all test text) (λ e. sym (none_not test text) ∙ h.0 e) (λ e. h.1 (none_not test text ∙ e))
-  where
-    decided : (x y : Bool) → (x ≡ true → not y ≡ false) → (not y ≡ false → x ≡ true) → x ≡ y
-    decided true true f g = refl
-    decided false false f g = refl
-    decided true false f g = f refl
-    decided false true f g = g refl

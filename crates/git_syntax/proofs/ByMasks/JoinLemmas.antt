@@ -1,8 +1,8 @@
 -- Masks of a text by those of its parts, and the other way round.
-use Rattle.std.proofs.Common.{◌≡◌, ℕ, zero, suc, ◌+◌, ◌-◌, ◌*◌, ◌/◌, ◌%◌, ◌^◌, ◌<◌, ◌≤◌, max, ◌||◌, Bool, true, false, cond, List, [], ◌∷◌, ◌++◌, length, take, drop, refl, sym, ap, ap₂, ◌∙◌, subst, arith, bit_and, bit_or, lt_of_lt_of_le, pow_mono, pow_pos, pow-suc, mul_assoc, take-append-drop, length-drop, length-take-le, take-add, drop-drop, shl_exact, div-one}
+use Rattle.std.proofs.Common.{◌≡◌, ℕ, zero, suc, ◌+◌, ◌-◌, ◌*◌, ◌/◌, ◌%◌, ◌^◌, ◌<◌, ◌≤◌, Bool, true, false, cond, List, [], ◌∷◌, ◌++◌, length, take, drop, sym, ap, ap₂, ◌∙◌, subst, arith, bit_and, bit_or, pow_pos, pow-suc, mul_assoc, length-drop, length-take-le, take-add, drop-drop, shl_exact, div-one}
 use Rattle.git_syntax.specs.Internal.Masks.{mask_of}
 use Rattle.git_syntax.proofs.ByMasks.BitLemmas.{mask-lt}
-use lib.Bits.{and_mask, or_step, or_block, or_shifted_r, or_self, or_zero_l, or_zero_r}
+use lib.Bits.{and_mask, or_block, or_self, or_zero_l, or_zero_r}
 use lib.Pow.{shr-shr, mod-pow-add}
 use native.Mathlib.Nat.{zero-div, zero-mod, mod-one}
 
@@ -84,7 +84,7 @@ overlap test xs ys zs =
 -- a front of a text, and 16 bytes of it at a place
 pub joined : (test : ℕ → Bool) (text : List ℕ) (done at : ℕ) → at ≤ done → done ≤ at + 16 → at + 16 ≤ length text → length text ≤ 64
     → bit_or (mask_of test (take done text)) (mask_of test (take 16 (drop at text)) * 2 ^ at % 2 ^ 64) ≡ mask_of test (take (at + 16) text)
-joined test text done at behind near room short =
+joined test text done at behind near buffer short =
     let xs = take at text in
     let ys = take (done - at) (drop at text) in
     let zs = take (at + 16 - done) (drop done text) in
@@ -103,22 +103,6 @@ joined test text done at behind near room short =
     ∙ ap (λ b. bit_or (mask_of test (xs ++ ys)) b) (fits ∙ ap (λ n. block * 2 ^ n) (sym long))
     ∙ overlap test xs ys zs ∙ ap (mask_of test) (sym whole)
 
--- the first 64 bytes of a text, and its rest from a place in them
-pub stacked : (test : ℕ → Bool) (text : List ℕ) (place : ℕ) → place ≤ 64 → 64 < length text → length text ≤ 128
-    → bit_or (mask_of test (take 64 text)) (mask_of test (drop place text) / 2 ^ (64 - place) * 2 ^ 64 % 2 ^ 128) ≡ mask_of test text
-stacked test text place within long short =
-    let front = mask_of test (take 64 text) in
-    let back = mask_of test (drop 64 text) in
-    let size : length (take 64 text) ≡ 64 = length-take-le 64 text (omega arith) in
-    let to_end : place + (64 - place) ≡ 64 = omega arith in
-    let behind : mask_of test (drop place text) / 2 ^ (64 - place) ≡ back =
-    sym (mask-drop test (64 - place) (drop place text)) ∙ ap (mask_of test) (drop-drop (64 - place) place text ∙ ap (λ n. drop n text) to_end) in
-    let low : front < 2 ^ 64 = subst (λ n. front < 2 ^ n) size (mask-lt test (take 64 text)) in
-    let rest : length (drop 64 text) ≤ 64 = omega (arith, length-drop 64 text) in
-    let high : back < 2 ^ 64 = lt_of_lt_of_le (mask-lt test (drop 64 text)) (pow_mono rest) in
-    ap (λ n. bit_or front (n * 2 ^ 64 % 2 ^ 128)) behind ∙ ap (bit_or front) (shl_exact 64 64 128 high (omega arith)) ∙ or_shifted_r back 64 front low
-    ∙ ap (λ n. back * 2 ^ n + front) (sym size) ∙ sym (mask-append test (take 64 text) (drop 64 text)) ∙ ap (mask_of test) (take-append-drop 64 text)
-
 -- ---- a place
 
 -- a number with one bit
@@ -128,19 +112,3 @@ one_shifted size n lt = shl_exact 1 n size (omega arith) (omega arith) ∙ omega
 -- the bits before a place
 pub front_bits : (size : ℕ) (test : ℕ → Bool) (text : List ℕ) (n : ℕ) → n < size → bit_and (mask_of test text) (1 * 2 ^ n % 2 ^ size - 1) ≡ mask_of test (take n text)
 front_bits size test text n lt = ap (λ p. bit_and (mask_of test text) (p - 1)) (one_shifted size n lt) ∙ and_mask (mask_of test text) n ∙ sym (mask-take test n text)
-
--- ---- two classes
-
--- one class or another
-pub mask-or : (t u : ℕ → Bool) (text : List ℕ) → bit_or (mask_of t text) (mask_of u text) ≡ mask_of (λ b. t b || u b) text
-mask-or t u [] = refl
-mask-or t u (b ∷ text) = or_step (mask_of t (b ∷ text)) (mask_of u (b ∷ text)) ∙ parts (t b) (u b) _ _ _ (mask-or t u text)
-  where
-    either : (x y : Bool) (k : ℕ) → k * 2 + max (cond x 1 0) (cond y 1 0) ≡ cond (x || y) 1 0 + 2 * k
-    either true true k = omega arith
-    either true false k = omega arith
-    either false true k = omega arith
-    either false false k = omega arith
-
-    parts : (x y : Bool) (m n k : ℕ) → bit_or m n ≡ k → bit_or ((cond x 1 0 + 2 * m) / 2) ((cond y 1 0 + 2 * n) / 2) * 2 + max ((cond x 1 0 + 2 * m) % 2) ((cond y 1 0 + 2 * n) % 2) ≡ cond (x || y) 1 0 + 2 * k
-    parts x y m n k is = ap₂ (λ i j. i * 2 + j) (ap₂ bit_or (half x m) (half y n) ∙ is) (ap₂ max (odd x m) (odd y n)) ∙ either x y k

@@ -7,7 +7,7 @@ use Rattle.percent_encoding.specs.Percent.{percent_decode}
 use Rattle.git_syntax.specs.Authority.Authority.{host_alone, with_user}
 use Rattle.git_syntax.specs.Authority.Credentials.{user_alone}
 use Rattle.git_syntax.specs.Bytes.{FreeOf, at_sign, begins_with, colon, is_scheme_text, left_bracket, slash, tilde}
-use Rattle.git_syntax.specs.Grammar.{HasUrlSyntax, HostFor, IsSshHost, MeansByScheme, ScpFront, ScpUser, Spells, UrlSyntax, from_home, or_root, path_for}
+use Rattle.git_syntax.specs.Grammar.{HasUrlSyntax, HostFor, IsSshHost, DenotesByScheme, ScpFront, ScpUser, Spells, UrlSyntax, from_home, or_root, path_for}
 use Rattle.git_syntax.specs.Grammar.Spells.{file_url, local_path, remote_helper, scp_form, url}
 use Rattle.git_syntax.specs.Hosts.{HostSyntax}
 use Rattle.git_syntax.specs.Location.{Location, Scheme, path_alone}
@@ -73,7 +73,7 @@ scp_spelled b user host path parts free no_slashes joined =
       path = path;
       user = user;
       host = host;
-      meant = host;
+      denoted = host;
       form = record {
         joined = whole;
         neither = neither_by_colon b front path cut no_slashes free;
@@ -116,7 +116,7 @@ simple_ssh_host host simple =
     bracketed e = false≢true (sym (subst (λ t. FreeOf left_bracket t) e (simple_free left_bracket host simple refl)))
 
 -- a path that isn't empty isn't the root by default
-kept_root : (path : List ℕ) → 0 < length path → or_root path ≡ path
+pub kept_root : (path : List ℕ) → 0 < length path → or_root path ≡ path
 kept_root [] some = absurd (omega arith)
 kept_root (b ∷ path) some = refl
 
@@ -133,7 +133,7 @@ simple_fields scheme user host path = record { scheme = scheme; user = user; pas
 
 -- the fields mean the location, by a remote scheme
 simple_means : (p : Scheme) (user : Option (List ℕ)) (host path : List ℕ) → IsRemoteScheme p → IsSimpleHost host → is_common path ≡ true → 0 < length path
-    → HostFor p (Some host) (Some host) → MeansByScheme p (simple_fields (scheme_text p) user host path) (record (path_alone p false path) { user = user; host = Some host })
+    → HostFor p (Some host) (Some host) → DenotesByScheme p (simple_fields (scheme_text p) user host path) (record (path_alone p false path) { user = user; host = Some host })
 simple_means p user host path remote simple common some hosted = record {
   host = Some host;
   pathed = λ need. some;

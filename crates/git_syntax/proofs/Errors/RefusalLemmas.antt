@@ -80,12 +80,12 @@ too_long_refutes b v h k = unfit_url b h.front h.rest h.form h.unfit v (spelled_
 -- ---- the scp form
 
 -- a flawed host of the scp form stands for none
-scp_host_flaw_refutes : (host : List ℕ) (named : UrlFault) → ScpHostFlaw host named → (meant : List ℕ) → ¬ ScpHost host meant
-scp_host_flaw_refutes host named (ScpHostFlaw.empty e) meant h =
+scp_host_flaw_refutes : (host : List ℕ) (named : UrlFault) → ScpHostFlaw host named → (denoted : List ℕ) → ¬ ScpHost host denoted
+scp_host_flaw_refutes host named (ScpHostFlaw.empty e) denoted h =
     none_not_some (Some h.named) (empty_names_nothing git_hosts (escaped_percents host) (Some h.named) None (ap escaped_percents e) h.names) refl
-scp_host_flaw_refutes host named (ScpHostFlaw.holds_backslash held) meant h = held h.no_backslash
-scp_host_flaw_refutes host named (ScpHostFlaw.white_space text held) meant h = held h.no_white_space
-scp_host_flaw_refutes host named (ScpHostFlaw.bad_name n bad) meant h = flawed_unnamed git_hosts (escaped_percents host) n bad (Some h.named) None h.names
+scp_host_flaw_refutes host named (ScpHostFlaw.holds_backslash held) denoted h = held h.no_backslash
+scp_host_flaw_refutes host named (ScpHostFlaw.white_space text held) denoted h = held h.no_white_space
+scp_host_flaw_refutes host named (ScpHostFlaw.bad_name n bad) denoted h = flawed_unnamed git_hosts (escaped_percents host) n bad (Some h.named) None h.names
 
 -- a flawed scp form spells nothing
 scp_flaw_refutes : (b : List ℕ) (named : UrlFault) (v : Location) → ScpFlaw b named → ¬ Spells b v

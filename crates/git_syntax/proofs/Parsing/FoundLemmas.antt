@@ -9,8 +9,8 @@ use Rattle.git_syntax.specs.Location.{Scheme}
 use Rattle.git_syntax.specs.Location.Scheme.{file, git, ssh, http, https, ext, helper, helper_url}
 use Rattle.git_syntax.specs.Bytes.{colon, left_bracket, right_bracket, begins_with}
 use Rattle.git_syntax.specs.Schemes.{scheme_of, requires_path}
-use Rattle.git_syntax.specs.Grammar.{UrlSyntax, HasUrlSyntax, SpellsUrl, IsSshHost, MeansByScheme}
-use Rattle.git_syntax.specs.Internal.FoundPieces.{front_of, colon_dropped, ssh_host, host_for, url_location}
+use Rattle.git_syntax.specs.Grammar.{UrlSyntax, HasUrlSyntax, SpellsUrl, IsSshHost, DenotesByScheme}
+use Rattle.git_syntax.specs.Internal.FoundPieces.{text_before_last, colon_dropped, ssh_host, host_for, url_location}
 use Rattle.git_syntax.proofs.Texts.CutLemmas.{heads, tails}
 use Rattle.git_syntax.proofs.Parsing.UrlLocationLemmas.{ssh_host_utf8, spelled_url}
 
@@ -25,7 +25,7 @@ abbrev pub ReportsFront : ℕ → List ℕ → Option (List ℕ) → Type 0
 ReportsFront c t found = MatchOption found (EndsNot c t) (λ front. t ≡ front ++ c ∷ [])
 
 -- a text of one byte
-front_of_one : (c b : ℕ) → ReportsFront c (b ∷ []) (front_of c (b ∷ []))
+front_of_one : (c b : ℕ) → ReportsFront c (b ∷ []) (text_before_last c (b ∷ []))
 front_of_one c b = elim (cases_Bool (b == c)) [ inl same ↦ rw same (ap (λ t. t ∷ []) (eqb-true b c same)) | inr other ↦ rw other (ends_not other) ]
   where
     ends_not : (b == c) ≡ false → EndsNot c (b ∷ [])
@@ -46,14 +46,14 @@ front_of_more c b d bs None none = ends_not
     ends_not (x ∷ front) e = none front (tails e)
 
 -- the front before a last c is reported as it is
-front_reported : (c : ℕ) (t : List ℕ) → ReportsFront c t (front_of c t)
+front_reported : (c : ℕ) (t : List ℕ) → ReportsFront c t (text_before_last c t)
 front_reported c [] = ends_not
   where
     ends_not : EndsNot c []
     ends_not [] e = absurd cc
     ends_not (x ∷ front) e = absurd cc
 front_reported c (b ∷ []) = front_of_one c b
-front_reported c (b ∷ d ∷ bs) = front_of_more c b d bs (front_of c (d ∷ bs)) (front_reported c (d ∷ bs))
+front_reported c (b ∷ d ∷ bs) = front_of_more c b d bs (text_before_last c (d ∷ bs)) (front_reported c (d ∷ bs))
 
 -- ---- the host that Secure Shell takes
 
@@ -81,9 +81,9 @@ pub peels : (host : List ℕ) → IsSshHost host (ssh_host host)
 peels [] = ssh_host_open [] None refl (front_reported colon [])
 peels (b ∷ bs) =
     elim (cases_Bool (b == left_bracket)) [
-      | inr open_front ↦ rw open_front (ssh_host_open (b ∷ bs) (front_of colon (b ∷ bs)) open_front (front_reported colon (b ∷ bs)))
+      | inr open_front ↦ rw open_front (ssh_host_open (b ∷ bs) (text_before_last colon (b ∷ bs)) open_front (front_reported colon (b ∷ bs)))
       | inl bracket ↦
-          rw bracket (subst (λ c. IsSshHost (c ∷ bs) (unwrap_or (front_of right_bracket (unwrap_or (front_of colon bs) bs)) (c ∷ bs))) (sym (eqb-true b left_bracket bracket)) (ssh_host_bracket bs (front_of colon bs) (front_of right_bracket (unwrap_or (front_of colon bs) bs)) (front_reported colon bs) (front_reported right_bracket (unwrap_or (front_of colon bs) bs))))
+          rw bracket (subst (λ c. IsSshHost (c ∷ bs) (unwrap_or (text_before_last right_bracket (unwrap_or (text_before_last colon bs) bs)) (c ∷ bs))) (sym (eqb-true b left_bracket bracket)) (ssh_host_bracket bs (text_before_last colon bs) (text_before_last right_bracket (unwrap_or (text_before_last colon bs) bs)) (front_reported colon bs) (front_reported right_bracket (unwrap_or (text_before_last colon bs) bs))))
     ]
 
 -- which is text where that is
@@ -101,7 +101,7 @@ host_utf8 (helper_url name) named h = h
 -- ---- the location of a URL
 
 -- the parts of a URL mean this location by a scheme
-pub means_location : (scheme : Scheme) (parts : UrlSyntax) → (requires_path scheme ≡ true → 0 < length parts.path) → MeansByScheme scheme parts (url_location scheme parts)
+pub means_location : (scheme : Scheme) (parts : UrlSyntax) → (requires_path scheme ≡ true → 0 < length parts.path) → DenotesByScheme scheme parts (url_location scheme parts)
 means_location scheme parts pathed = grind (arith, nat_tests, peels)
 
 -- a URL spells it, except one of the helper `ext`

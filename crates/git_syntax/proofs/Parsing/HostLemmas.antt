@@ -289,7 +289,7 @@ no_port_follows : {syntax : HostSyntax} {base digits rest : List ℕ} {host : Op
 no_port_follows h e k = grind arith
 
 -- a name between brackets
-record InBrackets (syntax : HostSyntax) (piece : List ℕ) (host : Option (List ℕ)) (port : Option ℕ) : Type 0 where
+record NamedInBrackets (syntax : HostSyntax) (piece : List ℕ) (host : Option (List ℕ)) (port : Option ℕ) : Type 0 where
   x : List ℕ
   inner : List ℕ
   rest : List ℕ
@@ -308,7 +308,7 @@ record Outside (syntax : HostSyntax) (piece : List ℕ) (host : Option (List ℕ
   follows : Follows syntax named rest host port
 
 -- a piece with a bracket in front is named between brackets
-named_in_brackets : (syntax : HostSyntax) (piece : List ℕ) (host : Option (List ℕ)) (port : Option ℕ) → begins_with left_bracket piece ≡ true → Form syntax piece host port → InBrackets syntax piece host port
+named_in_brackets : (syntax : HostSyntax) (piece : List ℕ) (host : Option (List ℕ)) (port : Option ℕ) → begins_with left_bracket piece ≡ true → Form syntax piece host port → NamedInBrackets syntax piece host port
 named_in_brackets syntax piece host port b (Form.nothing e h p) = absurd (false≢true (sym (ap (begins_with left_bracket) e) ∙ b))
 named_in_brackets syntax piece host port b (Form.bracketed x inner rest f i e g) =
     record { x = x; inner = inner; rest = rest; around = record { closed = f; joined = e; followed = place_begins rest (follows_place g) }; stands = i; follows = g }

@@ -18,7 +18,7 @@ use Rattle.git_syntax.specs.Hosts.HostSyntax.{http_hosts, git_hosts, other_hosts
 use Rattle.git_syntax.specs.declared.host.HostPort.{HostPort}
 use Rattle.git_syntax.specs.declared.host.HostPiece.{HostPiece}
 use Rattle.git_syntax.specs.declared.host.HostPiece.TheVariants.{Simple, Address, Kept, Decoded, Literal, DecodedLiteral, Bracketed}
-use Rattle.git_syntax.specs.Internal.HostPieces.{in_brackets, is_bracketed, lowercase_address, meant_host, named_text, normal_case, slice_text, unescaped_host}
+use Rattle.git_syntax.specs.Internal.HostPieces.{in_brackets, is_bracketed, lowercase_address, denoted_host, named_text, normal_case, slice_text, unescaped_host}
 use Rattle.git_syntax.specs.Authority.{Authority, Credentials, user_beside}
 use Rattle.git_syntax.specs.Grammar.{AddressedCut, HasUrlSyntax, UrlSyntax}
 use Rattle.git_syntax.specs.Internal.FoundPieces.{optional_length, parts_length}
@@ -62,11 +62,11 @@ brackets_length : (inner rest : List ℕ) → length (left_bracket ∷ (inner ++
 brackets_length inner rest = omega (arith, length-append inner (right_bracket ∷ rest))
 
 -- a host in brackets is what its piece shows, in them
-pub bracketed_host : (piece : HostPiece) → is_bracketed piece ≡ true → meant_host piece ≡ in_brackets (normal_case piece (unescaped_host piece))
+pub bracketed_host : (piece : HostPiece) → is_bracketed piece ≡ true → denoted_host piece ≡ in_brackets (normal_case piece (unescaped_host piece))
 bracketed_host piece h = grind arith
 
 -- so it is two bytes longer than that
-pub bracketed_host_length : (piece : HostPiece) → is_bracketed piece ≡ true → length (meant_host piece) ≡ length (unescaped_host piece) + 2
+pub bracketed_host_length : (piece : HostPiece) → is_bracketed piece ≡ true → length (denoted_host piece) ≡ length (unescaped_host piece) + 2
 bracketed_host_length piece h = grind (arith, nat_tests, normal_case_length, bracketed_host, length-append)
 
 -- a bracket, a text behind it and the bracket that closes, in the front of a buffer
@@ -79,7 +79,7 @@ brackets_put (b ∷ []) behind shown size one within e =
     ∙ ap (λ t. left_bracket ∷ t) (take_more_set behind size right_bracket within ∙ ap (λ t. t ++ right_bracket ∷ []) e)
 
 -- a piece takes two bytes more than its slice at most
-meant_host_length : (piece : HostPiece) → length (meant_host piece) ≤ length (slice_text piece) + 2
+meant_host_length : (piece : HostPiece) → length (denoted_host piece) ≤ length (slice_text piece) + 2
 meant_host_length (Simple text) = omega arith
 meant_host_length (Address text) = omega (arith, lowercase_length text.now)
 meant_host_length (Kept text) = omega (arith, normal_host_length text.now)

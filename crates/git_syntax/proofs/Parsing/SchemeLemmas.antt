@@ -7,7 +7,7 @@ use Rattle.git_syntax.specs.Location.{Scheme, Location, path_alone}
 use Rattle.git_syntax.specs.Location.Scheme.{file, git, ssh, http, https, ext, helper, helper_url}
 use Rattle.git_syntax.specs.Bytes.{colon, FreeOf}
 use Rattle.git_syntax.specs.Schemes.{is_ssh_scheme, is_web_scheme, scheme_of, requires_path}
-use Rattle.git_syntax.specs.Grammar.{helper_scheme, UrlSyntax, MeansByScheme, MeansAs}
+use Rattle.git_syntax.specs.Grammar.{helper_scheme, UrlSyntax, DenotesByScheme, DenotesAs}
 
 -- what holds of both choices holds of the chosen one
 chosen : (P : Scheme → Type 0) (b : Bool) (p q : Scheme) → (b ≡ true → P p) → (b ≡ false → P q) → P (if b then p else q)
@@ -36,9 +36,9 @@ pub transport : (s : List ℕ) → requires_path (scheme_of s) ≡ true → IsTr
 transport s h = grind (arith, nat_tests, chosen, same_transport, bytes_eq, or_cases)
 
 -- a URL keeps its text as the path where its scheme is `ext`, and else its parts decide
-pub means_cases : (scheme : Scheme) (b : List ℕ) (parts : UrlSyntax) (v : Location) → MeansAs scheme b parts v → ((scheme ≡ ext) × (v ≡ path_alone ext true b)) ⊎ ((¬ (scheme ≡ ext)) × MeansByScheme scheme parts v)
+pub means_cases : (scheme : Scheme) (b : List ℕ) (parts : UrlSyntax) (v : Location) → DenotesAs scheme b parts v → ((scheme ≡ ext) × (v ≡ path_alone ext true b)) ⊎ ((¬ (scheme ≡ ext)) × DenotesByScheme scheme parts v)
 means_cases scheme b parts v h = grind arith
 
 -- a location has the scheme that its URL names
-pub means_scheme : (scheme : Scheme) (b : List ℕ) (parts : UrlSyntax) (v : Location) → MeansAs scheme b parts v → v.scheme ≡ scheme
+pub means_scheme : (scheme : Scheme) (b : List ℕ) (parts : UrlSyntax) (v : Location) → DenotesAs scheme b parts v → v.scheme ≡ scheme
 means_scheme scheme b parts v h = grind arith

@@ -67,8 +67,8 @@ open_bracket_unnamed x named f (SpellsHostPort.plain_port text y digits number g
 open_bracket_unnamed x named f (SpellsHostPort.colons y m a g i t h p) = bracket_first x g
 
 -- such a host isn't one of the scp form
-pub open_bracket_no_host : (host x meant : List ℕ) → host ≡ left_bracket ∷ x → FreeOf right_bracket x → ScpHost host meant → ⊥
-open_bracket_no_host host x meant e f h =
+pub open_bracket_no_host : (host x denoted : List ℕ) → host ≡ left_bracket ∷ x → FreeOf right_bracket x → ScpHost host denoted → ⊥
+open_bracket_no_host host x denoted e f h =
     open_bracket_unnamed (escaped_percents x) h.named (lacks_escaped_percents (λ b. b == right_bracket) x refl refl refl f) (subst (λ z. SpellsHostPort git_hosts (escaped_percents z) (Some h.named) None) e h.names)
 
 -- ---- the fronts of a text with the shape

@@ -64,8 +64,8 @@ colons_inside_host front user host k h = grind (arith, nat_tests, colons_inside_
 -- ---- the host
 
 -- a host that the piece names
-pub scp_host_found : (host piece meant : List ℕ) → FreeOf at_sign host → FreeOf backslash host → LacksWhiteSpace host → piece ≡ escaped_percents host → SpellsHost piece meant → ScpHost host meant
-scp_host_found host piece meant at back white e h = grind arith
+pub scp_host_found : (host piece denoted : List ℕ) → FreeOf at_sign host → FreeOf backslash host → LacksWhiteSpace host → piece ≡ escaped_percents host → SpellsHost piece denoted → ScpHost host denoted
+scp_host_found host piece denoted at back white e h = grind arith
 
 -- ---- the whole
 
@@ -78,11 +78,11 @@ pub scp_no_path : (b front : List ℕ) → ScpForm b front [] → (v : Location)
 scp_no_path b front h v k = grind (arith, nat_tests, scp_form_unique)
 
 -- no host, no location
-pub scp_no_host : (b front path : List ℕ) (user : Option (List ℕ)) (host : List ℕ) → ScpForm b front path → ScpUser front user host → FreeOf at_sign host → ((meant : List ℕ) → ¬ ScpHost host meant) → (v : Location) → ¬ SpellsScpBefore b v
+pub scp_no_host : (b front path : List ℕ) (user : Option (List ℕ)) (host : List ℕ) → ScpForm b front path → ScpUser front user host → FreeOf at_sign host → ((denoted : List ℕ) → ¬ ScpHost host denoted) → (v : Location) → ¬ SpellsScpBefore b v
 scp_no_host b front path user host h split at none v k =
     let same = scp_form_unique b front path k.front k.path h k.form in
     let pieces = scp_user_unique k.front user k.user host k.host at k.hosted.no_at (subst (λ f. ScpUser f user host) same.0 split) k.split in
-    none k.meant (subst (λ t. ScpHost t k.meant) (sym pieces.1) k.hosted)
+    none k.denoted (subst (λ t. ScpHost t k.denoted) (sym pieces.1) k.hosted)
 
 -- the front of a text is text
 front_utf8 : (b front path : List ℕ) → ScpForm b front path → IsUtf8 b → IsUtf8 front
@@ -108,7 +108,7 @@ addressed_no_path_before b user address k v h =
     elim (front_of_addressed b user address [] x y h.front h.path k f e h.form.joined h.form.form) [
       | inl within ↦
           let pieces = scp_user_unique h.front h.user (Some user) h.host (left_bracket ∷ x) h.hosted.no_at (address_front_free at_sign address x y refl k.cut.addressed e) h.split (with_user user within refl) in
-          open_bracket_no_host h.host x h.meant pieces.1 (address_front_free right_bracket address x y refl k.cut.addressed e) h.hosted
+          open_bracket_no_host h.host x h.denoted pieces.1 (address_front_free right_bracket address x y refl k.cut.addressed e) h.hosted
       | inr (behind, none) ↦ absurd (omega (arith, ap length none, h.pathed))
     ]
 
@@ -330,8 +330,8 @@ unbracketed_utf8 host inner (Unbrackets.brackets e) is =
 unbracketed_utf8 host inner (Unbrackets.same other e) is = subst IsUtf8 (sym e) is
 
 -- so is the host that one of the scp form stands for
-pub scp_meant_utf8 : {host meant : List ℕ} → ScpHost host meant → IsUtf8 meant
-scp_meant_utf8 {host} {meant} h = unbracketed_utf8 h.named meant h.unbracketed (names_utf8 git_hosts (escaped_percents host) h.named None h.names)
+pub scp_meant_utf8 : {host denoted : List ℕ} → ScpHost host denoted → IsUtf8 denoted
+scp_meant_utf8 {host} {denoted} h = unbracketed_utf8 h.named denoted h.unbracketed (names_utf8 git_hosts (escaped_percents host) h.named None h.names)
 
 -- ---- simple hosts
 

@@ -16,7 +16,7 @@ use Rattle.git_syntax.specs.Schemes.{is_web_scheme, scheme_of, host_syntax_of, r
 use Rattle.git_syntax.specs.Hosts.{HostSyntax, SpellsHostPort}
 use Rattle.git_syntax.specs.Authority.{Credentials, Authority}
 use Rattle.git_syntax.specs.Authority.Authority.{host_alone, with_user}
-use Rattle.git_syntax.specs.Grammar.{UrlSyntax, HasUrlSyntax, SpellsUrl, MeansAs, MeansByScheme, IsSshHost, or_root}
+use Rattle.git_syntax.specs.Grammar.{UrlSyntax, HasUrlSyntax, SpellsUrl, DenotesAs, DenotesByScheme, IsSshHost, or_root}
 use Rattle.git_syntax.specs.Flaws.{MissesPath}
 use Rattle.git_syntax.specs.Internal.UrlPieces.{AreTexts, InBrackets, DropsLast}
 use Rattle.git_syntax.proofs.Texts.CutLemmas.{tails, mark_cut_unique, path_cut_unique, free_of_lacked}
@@ -107,7 +107,7 @@ pieces_unique {b} {p} {q} h k =
     (pieces.0, rest.0, rest.1)
 
 -- a location whose scheme needs a path has one in its URL
-means_pathed : (p : Scheme) (b : List ℕ) (parts : UrlSyntax) (v : Location) → requires_path p ≡ true → MeansAs p b parts v → 0 < length parts.path
+means_pathed : (p : Scheme) (b : List ℕ) (parts : UrlSyntax) (v : Location) → requires_path p ≡ true → DenotesAs p b parts v → 0 < length parts.path
 means_pathed p b parts v need h = grind arith
 
 -- a URL without a path stands for no location where its scheme needs one
@@ -124,5 +124,5 @@ path_missed {b} {parts} h need empty =
     MissesPath.in_url parts.scheme h.authority need (free_of_lacked (is_path_start (is_web_scheme parts.scheme)) slash h.authority h.before_path refl) (h.joined ∙ ap (λ p. parts.scheme ++ (codes "://" ++ (h.authority ++ p))) empty ∙ ap (λ a. parts.scheme ++ (codes "://" ++ a)) (append-nil h.authority))
 
 -- a URL that was read stands for what its parts mean, by its scheme
-pub spelled_url : {b : List ℕ} {parts : UrlSyntax} {p : Scheme} {v : Location} → HasUrlSyntax b parts → p ≡ scheme_of parts.scheme → ¬ (p ≡ ext) → MeansByScheme p parts v → SpellsUrl b v
+pub spelled_url : {b : List ℕ} {parts : UrlSyntax} {p : Scheme} {v : Location} → HasUrlSyntax b parts → p ≡ scheme_of parts.scheme → ¬ (p ≡ ext) → DenotesByScheme p parts v → SpellsUrl b v
 spelled_url h e other means = grind arith

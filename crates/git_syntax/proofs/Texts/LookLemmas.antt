@@ -5,11 +5,11 @@ use Rattle.std.specs.Str.{IsUtf8}
 use Rattle.std.proofs.lemmas.Bool.{and_parts, cases_Bool, eqb-true, false≢true, or_parts}
 use Rattle.std.proofs.lemmas.Bool.Decides.{nat_tests}
 use Rattle.percent_encoding.specs.Percent.{percent_decode}
-use Rattle.git_syntax.specs.declared.look.Look.{Look}
-use Rattle.git_syntax.specs.declared.look.Look.TheVariants.{Plain, Ascii, Escaped, Other}
+use Rattle.git_syntax.specs.declared.byte_class.ByteClass.{ByteClass}
+use Rattle.git_syntax.specs.declared.byte_class.ByteClass.TheVariants.{Plain, Ascii, Escaped, Other}
 use Rattle.git_syntax.specs.Bytes.{percent_sign, FreeOf, LacksWhiteSpace, StartsPath, is_path_start}
 use Rattle.git_syntax.specs.Escapes.{is_printable, is_printable_byte, is_sound}
-use Rattle.git_syntax.specs.Internal.Looks.{Looks, begins_high, has_high_escape, knows_ascii, knows_plain, knows_printable}
+use Rattle.git_syntax.specs.Internal.ByteClasses.{HasByteClass, begins_high, has_high_escape, knows_ascii, knows_plain, knows_printable}
 use Rattle.git_syntax.proofs.Texts.AsciiLemmas.{ascii_cons, ascii_escape, ascii_kept, ascii_means_utf8, printable_ascii, printable_parts, printable_utf8, printable_white_space}
 use Rattle.git_syntax.proofs.Texts.CutLemmas.{free_head_tail}
 use Rattle.git_syntax.proofs.Texts.EscapeLemmas.{decode_byte, sound_parts}
@@ -54,35 +54,35 @@ ascii_decoded (b ∷ bs) printable low =
 -- ---- what is known of a text
 
 -- what is known to be printable holds no white space
-pub known_white_space : (look : Look) (t : List ℕ) → Looks look t → knows_printable look ≡ true → LacksWhiteSpace t
+pub known_white_space : (byte_class : ByteClass) (t : List ℕ) → HasByteClass byte_class t → knows_printable byte_class ≡ true → LacksWhiteSpace t
 known_white_space Plain t h known = plain_white_space t h
 known_white_space Ascii t h known = printable_white_space t h.printable
 known_white_space Escaped t h known = printable_white_space t h.printable
 known_white_space Other t h known = absurd (false≢true known)
 
 -- it is sound
-pub known_sound : (look : Look) (t : List ℕ) → Looks look t → knows_printable look ≡ true → is_sound t ≡ true
+pub known_sound : (byte_class : ByteClass) (t : List ℕ) → HasByteClass byte_class t → knows_printable byte_class ≡ true → is_sound t ≡ true
 known_sound Plain t h known = plain_sound t h
 known_sound Ascii t h known = h.sound
 known_sound Escaped t h known = h.sound
 known_sound Other t h known = absurd (false≢true known)
 
 -- and UTF-8
-pub known_utf8 : (look : Look) (t : List ℕ) → Looks look t → knows_printable look ≡ true → IsUtf8 t
+pub known_utf8 : (byte_class : ByteClass) (t : List ℕ) → HasByteClass byte_class t → knows_printable byte_class ≡ true → IsUtf8 t
 known_utf8 Plain t h known = plain_utf8 t h
 known_utf8 Ascii t h known = printable_utf8 t h.printable
 known_utf8 Escaped t h known = printable_utf8 t h.printable
 known_utf8 Other t h known = absurd (false≢true known)
 
 -- what is known to decode to ASCII decodes to UTF-8
-pub known_means_utf8 : (look : Look) (t : List ℕ) → Looks look t → knows_ascii look ≡ true → IsUtf8 (percent_decode t)
+pub known_means_utf8 : (byte_class : ByteClass) (t : List ℕ) → HasByteClass byte_class t → knows_ascii byte_class ≡ true → IsUtf8 (percent_decode t)
 known_means_utf8 Plain t h known = plain_means_utf8 t h
 known_means_utf8 Ascii t h known = ascii_means_utf8 t (ascii_decoded t h.printable h.low)
 known_means_utf8 Escaped t h known = absurd (false≢true known)
 known_means_utf8 Other t h known = absurd (false≢true known)
 
 -- what is known to be plain holds no `%`
-pub known_free : (look : Look) (t : List ℕ) → Looks look t → knows_plain look ≡ true → FreeOf percent_sign t
+pub known_free : (byte_class : ByteClass) (t : List ℕ) → HasByteClass byte_class t → knows_plain byte_class ≡ true → FreeOf percent_sign t
 known_free Plain t h known = plain_free t h
 known_free Ascii t h known = absurd (false≢true known)
 known_free Escaped t h known = absurd (false≢true known)
@@ -102,15 +102,15 @@ sound_path web front (c ∷ rest) (inl none) sound = absurd (cc)
 sound_path web front (c ∷ rest) (inr start) sound = (sound_parts front rest c (start_no_digit web c start) sound).1
 
 -- what is known of a text is known of the path at its end
-known_behind : (web : Bool) (look : Look) (front path : List ℕ) → StartsPath web path → Looks look (front ++ path) → Looks look path
+known_behind : (web : Bool) (byte_class : ByteClass) (front path : List ℕ) → StartsPath web path → HasByteClass byte_class (front ++ path) → HasByteClass byte_class path
 known_behind web Plain front path starts h = (plain_parts front path h).1
 known_behind web Ascii front path starts h = record { printable = (printable_parts front path h.printable).1; sound = sound_path web front path starts h.sound; low = high_behind front path h.low }
 known_behind web Escaped front path starts h = record { printable = (printable_parts front path h.printable).1; sound = sound_path web front path starts h.sound }
 known_behind web Other front path starts h = h
 
 -- so is it of the path of a URL
-pub known_path : (web : Bool) (look : Look) (text scheme rest authority path : List ℕ) → text ≡ scheme ++ (codes "://" ++ rest) → rest ≡ authority ++ path → StartsPath web path → Looks look text → Looks look path
-known_path web look text scheme rest authority path joined cut starts h =
+pub known_path : (web : Bool) (byte_class : ByteClass) (text scheme rest authority path : List ℕ) → text ≡ scheme ++ (codes "://" ++ rest) → rest ≡ authority ++ path → StartsPath web path → HasByteClass byte_class text → HasByteClass byte_class path
+known_path web byte_class text scheme rest authority path joined cut starts h =
     let whole : text ≡ (scheme ++ (codes "://" ++ authority)) ++ path =
     joined ∙ ap (λ t. scheme ++ (codes "://" ++ t)) cut ∙ ap (λ t. scheme ++ t) (sym (append_assoc (codes "://") authority path)) ∙ sym (append_assoc scheme (codes "://" ++ authority) path) in
-    known_behind web look (scheme ++ (codes "://" ++ authority)) path starts (subst (Looks look) whole h)
+    known_behind web byte_class (scheme ++ (codes "://" ++ authority)) path starts (subst (HasByteClass byte_class) whole h)

@@ -3,7 +3,7 @@ use Rattle.std.proofs.Common.{◌≡◌, ◌∙◌, ◌+◌, ◌&&◌, ◌||◌,
 use Rattle.std.proofs.lemmas.Bool.{and_from, and_parts, not-true}
 use Rattle.git_syntax.specs.Bytes.{FreeOf, is_hexadecimal, percent_sign}
 use Rattle.git_syntax.specs.Escapes.{begins_with_digits, is_sound}
-use Rattle.git_syntax.specs.Internal.Looks.{begins_high, has_high_escape}
+use Rattle.git_syntax.specs.Internal.ByteClasses.{begins_high, has_high_escape}
 use Rattle.git_syntax.specs.Internal.Runs.{BeginsDigits, PassesRun}
 use Rattle.git_syntax.proofs.Texts.AsciiLemmas.{sound_at_cut}
 use Rattle.git_syntax.proofs.Texts.EscapeLemmas.{digit_not_percent, sound_kept, sound_step}

@@ -14,7 +14,7 @@ use Rattle.git_syntax.specs.Hosts.{HostSyntax, Bracketed, SpellsHostPort}
 use Rattle.git_syntax.specs.Hosts.HostSyntax.{git_hosts}
 use Rattle.git_syntax.specs.Schemes.{is_web_scheme, scheme_of, host_syntax_of}
 use Rattle.git_syntax.specs.Authority.{Credentials, Authority}
-use Rattle.git_syntax.specs.Grammar.{helper_scheme, SpellsHelper, UrlSyntax, HasUrlSyntax, IsSshHost, HostFor, path_for, retained_spelling, MeansByScheme, MeansAs, SpellsUrl, SpellsFile, ScpUser, Unbrackets, ScpHost, scp_location, SpellsScpBefore, SpellsScpAddressed, SpellsScp, Spells}
+use Rattle.git_syntax.specs.Grammar.{helper_scheme, SpellsHelper, UrlSyntax, HasUrlSyntax, IsSshHost, HostFor, path_for, retained_spelling, DenotesByScheme, DenotesAs, SpellsUrl, SpellsFile, ScpUser, Unbrackets, ScpHost, scp_location, SpellsScpBefore, SpellsScpAddressed, SpellsScp, Spells}
 use Rattle.git_syntax.proofs.Parsing.SchemeLemmas.{means_cases}
 use Rattle.git_syntax.proofs.Texts.CutLemmas.{tails, class_cut_unique, path_cut_unique, cut_unique, last_cut_unique, scheme_text_free, helper_name_free, free-append, not_free}
 use Rattle.git_syntax.proofs.Addresses.AddressLemmas.{address_free, address_utf8, address-lowercase}
@@ -114,19 +114,19 @@ meant_with scheme parts host = record {
 }
 
 -- the parts of a URL mean one location by its scheme
-by_scheme_unique : (scheme : Scheme) (parts : UrlSyntax) (v w : Location) → MeansByScheme scheme parts v → MeansByScheme scheme parts w → v ≡ w
+by_scheme_unique : (scheme : Scheme) (parts : UrlSyntax) (v w : Location) → DenotesByScheme scheme parts v → DenotesByScheme scheme parts w → v ≡ w
 by_scheme_unique scheme parts v w h k =
     h.value ∙ ap (λ host. meant_with scheme parts host) (host_for_unique scheme parts.host h.host k.host h.hosted k.hosted) ∙ sym k.value
 
 -- the parts of a URL mean one location
-pub means_unique : (scheme : Scheme) (b : List ℕ) (parts : UrlSyntax) (v w : Location) → MeansAs scheme b parts v → MeansAs scheme b parts w → v ≡ w
+pub means_unique : (scheme : Scheme) (b : List ℕ) (parts : UrlSyntax) (v w : Location) → DenotesAs scheme b parts v → DenotesAs scheme b parts w → v ≡ w
 means_unique scheme b parts v w h k = grind (arith, nat_tests, by_scheme_unique, means_cases)
 
 -- a URL's bytes spell one location in its form
 pub url_unique : (b : List ℕ) (v w : Location) → SpellsUrl b v → SpellsUrl b w → v ≡ w
 url_unique b v w h k =
     let same = parts_unique b h.parts k.parts h.spelled k.spelled in
-    means_unique (scheme_of k.parts.scheme) b k.parts v w (subst (λ p. MeansAs (scheme_of p.scheme) b p v) same h.means) k.means
+    means_unique (scheme_of k.parts.scheme) b k.parts v w (subst (λ p. DenotesAs (scheme_of p.scheme) b p v) same h.means) k.means
 
 -- ---- file URLs
 
@@ -155,7 +155,7 @@ pub scp_before_unique : (b : List ℕ) (v w : Location) → SpellsScpBefore b v 
 scp_before_unique b v w h k =
     let whole = same_front b h.front h.path k.front k.path h.form.joined k.form.joined h.form.form k.form.form in
     let pieces = scp_user_unique k.front h.user k.user h.host k.host h.hosted.no_at k.hosted.no_at (subst (λ f. ScpUser f h.user h.host) whole.0 h.split) k.split in
-    h.value ∙ scp_same h.user k.user h.meant k.meant h.path k.path pieces.0 (scp_host_unique h.host k.host h.meant k.meant pieces.1 h.hosted k.hosted) whole.1 ∙ sym k.value
+    h.value ∙ scp_same h.user k.user h.denoted k.denoted h.path k.path pieces.0 (scp_host_unique h.host k.host h.denoted k.denoted pieces.1 h.hosted k.hosted) whole.1 ∙ sym k.value
 
 -- ---- the form `user@[address]:path`
 
@@ -177,12 +177,12 @@ bracketed_address_named a h =
     SpellsHostPort.bracketed a (lowercase a) (address_free right_bracket a refl h) (Bracketed.literal (lowercase a) (Literal.address h refl) (sym (lowercase_kept a h)) (address_utf8 (lowercase a) (address-lowercase a h))) refl refl refl
 
 -- such a host of the scp form stands for the address in lower case
-bracketed_address_host : (host a meant : List ℕ) → host ≡ left_bracket ∷ (a ++ right_bracket ∷ []) → IsIpv6Text a → ScpHost host meant → meant ≡ lowercase a
-bracketed_address_host host a meant e address h =
+bracketed_address_host : (host a denoted : List ℕ) → host ≡ left_bracket ∷ (a ++ right_bracket ∷ []) → IsIpv6Text a → ScpHost host denoted → denoted ≡ lowercase a
+bracketed_address_host host a denoted e address h =
     let free : FreeOf percent_sign (a ++ right_bracket ∷ []) = free-append percent_sign a (right_bracket ∷ []) (address_free percent_sign a refl address) refl in
     let kept : escaped_percents host ≡ left_bracket ∷ (a ++ right_bracket ∷ []) = ap (λ z. escaped_percents z) e ∙ escaped_percents_kept (left_bracket ∷ (a ++ right_bracket ∷ [])) free in
     let names = names_unique git_hosts (left_bracket ∷ (a ++ right_bracket ∷ [])) (Some h.named) (Some (left_bracket ∷ (lowercase a ++ right_bracket ∷ []))) None None (subst (λ z. SpellsHostPort git_hosts z (Some h.named) None) kept h.names) (bracketed_address_named a address) in
-    unbrackets_unique h.named meant (lowercase a) h.unbracketed (Unbrackets.brackets (same_Some h.named (left_bracket ∷ (lowercase a ++ right_bracket ∷ [])) names.0))
+    unbrackets_unique h.named denoted (lowercase a) h.unbracketed (Unbrackets.brackets (same_Some h.named (left_bracket ∷ (lowercase a ++ right_bracket ∷ [])) names.0))
 
 -- where both spell the bytes, they spell one location
 pub scp_forms_agree : (b : List ℕ) (v w : Location) → SpellsScpBefore b v → SpellsScpAddressed b w → v ≡ w
@@ -191,12 +191,12 @@ scp_forms_agree b v w h k =
     elim (front_of_addressed b k.user k.address k.path x y h.front h.path k.form f e h.form.joined h.form.form) [
       | inl within ↦
           let pieces = scp_user_unique h.front h.user (Some k.user) h.host (left_bracket ∷ x) h.hosted.no_at (address_front_free at_sign k.address x y refl k.form.cut.addressed e) h.split (ScpUser.with_user k.user within refl) in
-          absurd (open_bracket_no_host h.host x h.meant pieces.1 (address_front_free right_bracket k.address x y refl k.form.cut.addressed e) h.hosted)
+          absurd (open_bracket_no_host h.host x h.denoted pieces.1 (address_front_free right_bracket k.address x y refl k.form.cut.addressed e) h.hosted)
       | inr (behind, paths) ↦
           let free : FreeOf at_sign (k.address ++ right_bracket ∷ []) = free-append at_sign k.address (right_bracket ∷ []) (address_free at_sign k.address refl k.form.cut.addressed) refl in
           let pieces = scp_user_unique h.front h.user (Some k.user) h.host (left_bracket ∷ (k.address ++ right_bracket ∷ [])) h.hosted.no_at free h.split (ScpUser.with_user k.user behind refl) in
           h.value
-          ∙ scp_same h.user (Some k.user) h.meant (lowercase k.address) h.path k.path pieces.0 (bracketed_address_host h.host k.address h.meant pieces.1 k.form.cut.addressed h.hosted) paths
+          ∙ scp_same h.user (Some k.user) h.denoted (lowercase k.address) h.path k.path pieces.0 (bracketed_address_host h.host k.address h.denoted pieces.1 k.form.cut.addressed h.hosted) paths
           ∙ sym k.value
     ]
 

@@ -24,10 +24,10 @@ use Rattle.git_syntax.specs.Grammar.{UrlSyntax, helper_scheme, path_for, retaine
 -- ---- the host that Secure Shell takes
 
 -- the text before a last c, if the text ends in one
-abbrev pub front_of : ℕ → List ℕ → Option (List ℕ)
-front_of c [] = None
-front_of c (b ∷ []) = if b == c then Some [] else None
-front_of c (b ∷ d ∷ bs) = option_map (λ front. b ∷ front) (front_of c (d ∷ bs))
+abbrev pub text_before_last : ℕ → List ℕ → Option (List ℕ)
+text_before_last c [] = None
+text_before_last c (b ∷ []) = if b == c then Some [] else None
+text_before_last c (b ∷ d ∷ bs) = option_map (λ front. b ∷ front) (text_before_last c (d ∷ bs))
 
 -- the host without a last colon, if it has no other; `front` is the host before that colon
 abbrev pub colon_dropped : List ℕ → Option (List ℕ) → List ℕ
@@ -39,8 +39,8 @@ abbrev pub ssh_host : List ℕ → List ℕ
 ssh_host [] = []
 ssh_host (b ∷ bs) =
     if b == left_bracket
-    then unwrap_or (front_of right_bracket (unwrap_or (front_of colon bs) bs)) (b ∷ bs)
-    else colon_dropped (b ∷ bs) (front_of colon (b ∷ bs))
+    then unwrap_or (text_before_last right_bracket (unwrap_or (text_before_last colon bs) bs)) (b ∷ bs)
+    else colon_dropped (b ∷ bs) (text_before_last colon (b ∷ bs))
 
 -- the host of a location, by its scheme, from the host of its URL: the one that `HostFor` allows
 abbrev pub host_for : Scheme → Option (List ℕ) → Option (List ℕ)
@@ -55,7 +55,7 @@ host_for (helper_url name) named = named
 
 -- ---- the location that slices mean
 
--- the location that the fields of a URL mean, by its scheme: the one that `MeansByScheme` allows
+-- the location that the fields of a URL mean, by its scheme: the one that `DenotesByScheme` allows
 abbrev pub url_location : Scheme → UrlSyntax → Location
 url_location scheme parts = record {
   scheme = scheme;
@@ -81,13 +81,13 @@ scp_host_of (host.Name text) = normal_host text.now
 scp_host_of (host.Kept text) = text.now
 
 -- the location that the slices of a text mean
-abbrev pub meant : Found → Location
-meant (found.Helper name address) = path_alone (helper_scheme name.now) true address.now
-meant (found.Local path) = path_alone file true path.now
-meant (found.File host path) = record (path_alone file false path.now) { host = unless_empty host.now }
-meant (found.Ext text) = path_alone ext true text.now
-meant (found.Url rules url) = url_location (scheme_of url.scheme.now) (syntax_of url)
-meant (found.Scp user host path) = scp_location (option_copied user) (scp_host_of host) path.now
+abbrev pub denoted : Found → Location
+denoted (found.Helper name address) = path_alone (helper_scheme name.now) true address.now
+denoted (found.Local path) = path_alone file true path.now
+denoted (found.File host path) = record (path_alone file false path.now) { host = unless_empty host.now }
+denoted (found.Ext text) = path_alone ext true text.now
+denoted (found.Url rules url) = url_location (scheme_of url.scheme.now) (syntax_of url)
+denoted (found.Scp user host path) = scp_location (option_copied user) (scp_host_of host) path.now
 
 -- the rules of a URL are those of its scheme, its texts are UTF-8, and `escaped` says whether its path has a
 -- `%`
@@ -126,7 +126,7 @@ parts_length parts = optional_length parts.user + optional_length parts.password
 
 -- a buffer of this length suffices for the fields that differ from the text: those of a URL, and the host of
 -- the scp form
-abbrev pub room_for : Found → ℕ
-room_for (found.Url rules url) = parts_length (syntax_of url)
-room_for (found.Scp user host path) = length (scp_slice host)
-room_for _ = 0
+abbrev pub buffer_length_for : Found → ℕ
+buffer_length_for (found.Url rules url) = parts_length (syntax_of url)
+buffer_length_for (found.Scp user host path) = length (scp_slice host)
+buffer_length_for _ = 0

@@ -41,14 +41,14 @@ lowercase_address (b ∷ bs) = if b == percent_sign then b ∷ bs
     else to_ascii_lowercase b ∷ lowercase_address bs
 
 -- the host that a piece denotes
-abbrev pub meant_host : HostPiece → List ℕ
-meant_host (Simple text) = text.now
-meant_host (Address text) = lowercase text.now
-meant_host (Kept text) = normal_host text.now
-meant_host (Decoded text) = normal_host (percent_decode text.now)
-meant_host (Literal text) = in_brackets (lowercase_address text.now)
-meant_host (DecodedLiteral text) = in_brackets (lowercase_address (percent_decode text.now))
-meant_host (Bracketed text) = in_brackets (percent_decode text.now)
+abbrev pub denoted_host : HostPiece → List ℕ
+denoted_host (Simple text) = text.now
+denoted_host (Address text) = lowercase text.now
+denoted_host (Kept text) = normal_host text.now
+denoted_host (Decoded text) = normal_host (percent_decode text.now)
+denoted_host (Literal text) = in_brackets (lowercase_address text.now)
+denoted_host (DecodedLiteral text) = in_brackets (lowercase_address (percent_decode text.now))
+denoted_host (Bracketed text) = in_brackets (percent_decode text.now)
 
 -- the slice in a piece
 abbrev pub slice_text : HostPiece → List ℕ
@@ -92,8 +92,8 @@ is_bracketed (Bracketed text) = true
 
 -- the text of a host: the host that its piece denotes, and the colon after it if the host keeps one
 abbrev pub named_text : HostPort → List ℕ
-named_text named = if named.keeps_colon then meant_host named.piece ++ colon ∷ []
-    else meant_host named.piece
+named_text named = if named.keeps_colon then denoted_host named.piece ++ colon ∷ []
+    else denoted_host named.piece
 
 -- the host that was read
 abbrev pub host_of : Option HostPort → Option (List ℕ)

@@ -3,7 +3,7 @@ use Rattle.std.specs.Prelude.{◌≡◌, ◌≤◌, ℕ, Bool, true, false, List
 use Rattle.std.specs.Borrow.{Bor}
 use Rattle.git_syntax.specs.Bytes.{is_hexadecimal, percent_sign}
 use Rattle.git_syntax.specs.Escapes.{begins_with_digits, is_sound}
-use Rattle.git_syntax.specs.Internal.Looks.{begins_high, has_high_escape}
+use Rattle.git_syntax.specs.Internal.ByteClasses.{begins_high, has_high_escape}
 
 -- the text begins with two hexadecimal digits, of which this is the first, and goes on with the rest
 pub record BeginsDigits (text : List ℕ) (high : ℕ) (behind : List ℕ) : Type 0 where

@@ -24,10 +24,10 @@ ColonsInside text = FreeOf colon text
     × (text ≡ inside ++ right_bracket ∷ rest))
 
 -- the text spells this host, which may have brackets around it
-pub record SpellsHost (piece meant : List ℕ) : Type 0 where
+pub record SpellsHost (piece denoted : List ℕ) : Type 0 where
   pub named : List ℕ
   pub names : SpellsHostPort git_hosts piece (Some named) None
-  pub unbracketed : Unbrackets named meant
+  pub unbracketed : Unbrackets named denoted
 
 -- the result for a host that isn't empty: the host that it spells with each `%` escaped, or a flaw of it
 abbrev pub ReadsScpPiece : List ℕ → Result rust.ScpHost UrlFault → Type 0

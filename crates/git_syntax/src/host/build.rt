@@ -5,7 +5,7 @@
 ghost use Rattle.std.specs.Prelude.{◌≡◌, ◌+◌, ◌≤◌, ◌++◌, IfOk, IsUtf8, drop, length, string_bytes, take};
 ghost use Rattle.git_syntax.specs.Bytes.{lowercase};
 ghost use Rattle.git_syntax.specs.Hosts as spec;
-ghost use Rattle.git_syntax.specs.Internal.HostPieces.{is_bracketed, lowercase_address, meant_host, named_text, normal_case, slice_text, unescaped_host};
+ghost use Rattle.git_syntax.specs.Internal.HostPieces.{is_bracketed, lowercase_address, denoted_host, named_text, normal_case, slice_text, unescaped_host};
 
 use crate::bytes::{copy_into, cut};
 use crate::escape::decode_into;
@@ -27,16 +27,16 @@ impl HostPort<'_> {
     }
 
     /// Writes the text of the host to the front of the buffer and returns its length.
-    pub fn put_into(self, room: &mut [u8]) -> usize
-        requires { length (named_text self) ≤ length room.old }
+    pub fn put_into(self, buffer: &mut [u8]) -> usize
+        requires { length (named_text self) ≤ length buffer.old }
         ensures size { result ≡ length (named_text self.entry) }
-        ensures bytes { take result room.new ≡ named_text self.entry }
+        ensures bytes { take result buffer.new ≡ named_text self.entry }
     {
-        let size = write_piece(room, self.piece);
+        let size = write_piece(buffer, self.piece);
         if !self.keeps_colon {
             return size;
         }
-        room[size] = b':';
+        buffer[size] = b':';
         size + 1
     }
 }
@@ -57,15 +57,15 @@ fn piece_bytes(piece: HostPiece<'_>) -> &[u8]
 }
 
 /// Writes the host that a piece denotes to the front of the buffer and returns its length.
-fn write_piece(room: &mut [u8], piece: HostPiece<'_>) -> usize
-    requires { length (meant_host piece) ≤ length room.old }
-    ensures size { result ≡ length (meant_host piece.entry) }
-    ensures bytes { take result room.new ≡ meant_host piece.entry }
+fn write_piece(buffer: &mut [u8], piece: HostPiece<'_>) -> usize
+    requires { length (denoted_host piece) ≤ length buffer.old }
+    ensures size { result ≡ length (denoted_host piece.entry) }
+    ensures bytes { take result buffer.new ≡ denoted_host piece.entry }
 {
     if !is_bracketed(piece) {
-        return write_shown(room, piece);
+        return write_shown(buffer, piece);
     }
-    let (front, behind) = room.split_at_mut(1);
+    let (front, behind) = buffer.split_at_mut(1);
     front[0] = b'[';
     let size = write_shown(behind, piece);
     behind[size] = b']';
@@ -85,29 +85,29 @@ fn is_bracketed(piece: HostPiece<'_>) -> bool
 
 /// Writes the text that a piece denotes, without its brackets, to the front of the buffer and returns its
 /// length.
-fn write_shown(room: &mut [u8], piece: HostPiece<'_>) -> usize
-    requires { length (unescaped_host piece) ≤ length room.old }
+fn write_shown(buffer: &mut [u8], piece: HostPiece<'_>) -> usize
+    requires { length (unescaped_host piece) ≤ length buffer.old }
     ensures size { result ≡ length (unescaped_host piece.entry) }
-    ensures bytes { take result room.new ≡ normal_case piece.entry (unescaped_host piece.entry) }
+    ensures bytes { take result buffer.new ≡ normal_case piece.entry (unescaped_host piece.entry) }
 {
-    let size = write_unescaped(room, piece);
-    settle(&mut room[..size], piece);
+    let size = write_unescaped(buffer, piece);
+    settle(&mut buffer[..size], piece);
     size
 }
 
 /// Writes the text of a piece, decoded if necessary, to the front of the buffer and returns its length.
-fn write_unescaped(room: &mut [u8], piece: HostPiece<'_>) -> usize
-    requires { length (unescaped_host piece) ≤ length room.old }
+fn write_unescaped(buffer: &mut [u8], piece: HostPiece<'_>) -> usize
+    requires { length (unescaped_host piece) ≤ length buffer.old }
     ensures size { result ≡ length (unescaped_host piece.entry) }
-    ensures bytes { take result room.new ≡ unescaped_host piece.entry }
+    ensures bytes { take result buffer.new ≡ unescaped_host piece.entry }
 {
     match piece {
         HostPiece::Simple(text)
         | HostPiece::Address(text)
         | HostPiece::Kept(text)
-        | HostPiece::Literal(text) => copy_into(room, text),
+        | HostPiece::Literal(text) => copy_into(buffer, text),
         HostPiece::Decoded(text) | HostPiece::DecodedLiteral(text) | HostPiece::Bracketed(text) =>
-            decode_into(room, text),
+            decode_into(buffer, text),
     }
 }
 

@@ -7,7 +7,7 @@ ghost use Rattle.git_syntax.specs.Bytes.{colon};
 ghost use Rattle.git_syntax.specs.Flaws.{IsNoPort};
 ghost use Rattle.git_syntax.specs.Hosts as spec;
 ghost use Rattle.git_syntax.specs.Hosts.{Number};
-ghost use Rattle.git_syntax.specs.Internal.HostPieces.{EndsHost, Follows, IsBadPort, meant_host, named_text, host_syntax};
+ghost use Rattle.git_syntax.specs.Internal.HostPieces.{EndsHost, Follows, IsBadPort, denoted_host, named_text, host_syntax};
 
 use crate::bytes::{after, starts_with_byte};
 use crate::host::{HostPiece, HostPort, HostSyntax, alone};
@@ -21,7 +21,7 @@ pub(super) fn with_rest<'a>(
 ) -> Option<HostPort<'a>>
     requires { EndsHost rest.now }
     ensures { MatchOption result (IsBadPort (host_syntax syntax) rest.now)
-        (λ named. Follows (host_syntax syntax) (meant_host piece.entry) rest.now
+        (λ named. Follows (host_syntax syntax) (denoted_host piece.entry) rest.now
         (Some (named_text named)) named.port) }
 {
     match after(rest, b':') {
@@ -44,7 +44,7 @@ pub(super) fn with_port<'a>(
     digits: &[u8],
 ) -> Option<HostPort<'a>>
     ensures { MatchOption result (IsNoPort (host_syntax syntax) digits.now)
-        (λ named. Follows (host_syntax syntax) (meant_host piece.entry) (colon ∷ digits.now)
+        (λ named. Follows (host_syntax syntax) (denoted_host piece.entry) (colon ∷ digits.now)
         (Some (named_text named)) named.port) }
 {
     if digits.is_empty() {

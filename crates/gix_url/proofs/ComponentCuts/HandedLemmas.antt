@@ -18,11 +18,11 @@ use Rattle.git_syntax.specs.Grammar.{or_root}
 use Rattle.git_location.specs.Text.{matching_or, original_path}
 use Rattle.git_laws.specs.Components.{Components, term_of, CutsText, CutsPath, SplitsField, PairsOf, QueryOf, WebComponents}
 use Rattle.git_syntax.specs.Escapes.{matches}
-use Rattle.gix_url.specs.Internal.Meanings.{meant_by}
-use Rattle.gix_url.specs.ComponentViews.{text_bytes, pair_bytes, components, LentTerm, LentPairs, LentQuery}
-use Rattle.gix_url.specs.Internal.ComponentPieces.{LendsTerm, LendsPairs, LendsQuery, LendsParts, HasQuery, SpellsPath}
+use Rattle.gix_url.specs.Internal.Meanings.{denoted_by}
+use Rattle.gix_url.specs.ComponentViews.{text_bytes, pair_bytes, components, BorrowedTerm, BorrowedPairs, BorrowedQuery}
+use Rattle.gix_url.specs.Internal.ComponentPieces.{BorrowsTerm, BorrowsPairs, BorrowsQuery, BorrowsParts, HasQuery, SpellsPath}
 use Rattle.git_laws.proofs.ComponentCuts.ComponentLemmas.{matched, unmatched}
-use Rattle.gix_url.proofs.ComponentCuts.MeaningLemmas.{Parts, meant-nil, meant_around, meant_spaces}
+use Rattle.gix_url.proofs.ComponentCuts.MeaningLemmas.{Parts, denoted-nil, meant_around, meant_spaces}
 use Rattle.git_laws.proofs.ComponentCuts.CutComponentLemmas.{path_unique, no_query}
 
 -- ---- the spelling that matches
@@ -63,11 +63,11 @@ held_within a b c (x, y, e) (z, w, k) =
     (z ++ x, y ++ w, k ∙ ap (λ t. z ++ (t ++ w)) e ∙ ap (λ t. z ++ t) (append_assoc x (a ++ y) w ∙ ap (λ t. x ++ t) (append_assoc a y w)) ∙ sym (append_assoc z x (a ++ (y ++ w))))
 
 -- what the texts around a delimiter stand for is part of what the whole stands for
-held_around : (escaped : Bool) (text x y : List ℕ) (c : ℕ) → Parts c → text ≡ x ++ c ∷ y → Holds (meant_by escaped x) (meant_by escaped text) × Holds (meant_by escaped y) (meant_by escaped text)
+held_around : (escaped : Bool) (text x y : List ℕ) (c : ℕ) → Parts c → text ≡ x ++ c ∷ y → Holds (denoted_by escaped x) (denoted_by escaped text) × Holds (denoted_by escaped y) (denoted_by escaped text)
 held_around escaped text x y c parts cut =
-    let split = ap (meant_by escaped) cut ∙ meant_around escaped x y c parts in (
-      ([], c ∷ meant_by escaped y, split),
-      (meant_by escaped x ++ c ∷ [], [], split ∙ sym (append_assoc (meant_by escaped x) (c ∷ []) (meant_by escaped y)) ∙ ap (λ t. (meant_by escaped x ++ c ∷ []) ++ t) (sym (append-nil (meant_by escaped y)))),
+    let split = ap (denoted_by escaped) cut ∙ meant_around escaped x y c parts in (
+      ([], c ∷ denoted_by escaped y, split),
+      (denoted_by escaped x ++ c ∷ [], [], split ∙ sym (append_assoc (denoted_by escaped x) (c ∷ []) (denoted_by escaped y)) ∙ ap (λ t. (denoted_by escaped x ++ c ∷ []) ++ t) (sym (append-nil (denoted_by escaped y)))),
     )
 
 -- `?` parts a text
@@ -79,62 +79,62 @@ number_parts : Parts number_sign
 number_parts = record { digit = refl; percent = refl }
 
 -- what the parts of a text around its first c stand for is part of what the text stands for
-held_off : (escaped : Bool) (text front : List ℕ) (behind : Option (List ℕ)) (c : ℕ) → Parts c → CutsText c text front behind → Holds (meant_by escaped front) (meant_by escaped text) × IfSome behind (λ x. Holds (meant_by escaped x) (meant_by escaped text))
+held_off : (escaped : Bool) (text front : List ℕ) (behind : Option (List ℕ)) (c : ℕ) → Parts c → CutsText c text front behind → Holds (denoted_by escaped front) (denoted_by escaped text) × IfSome behind (λ x. Holds (denoted_by escaped x) (denoted_by escaped text))
 held_off escaped text front None c parts (free, e) =
-    (subst (λ t. Holds (meant_by escaped front) (meant_by escaped t)) e (held_self (meant_by escaped front)), tt)
+    (subst (λ t. Holds (denoted_by escaped front) (denoted_by escaped t)) e (held_self (denoted_by escaped front)), tt)
 held_off escaped text front (Some x) c parts (free, e) = held_around escaped text front x c parts e
 
 -- what the pieces of a path stand for is part of what the path stands for
 record HoldsPieces (escaped : Bool) (whole front : List ℕ) (query fragment : Option (List ℕ)) : Type 0 where
-  front_held : Holds (meant_by escaped front) whole
-  query_held : IfSome query (λ q. Holds (meant_by escaped q) whole)
-  fragment_held : IfSome fragment (λ f. Holds (meant_by escaped f) whole)
+  front_held : Holds (denoted_by escaped front) whole
+  query_held : IfSome query (λ q. Holds (denoted_by escaped q) whole)
+  fragment_held : IfSome fragment (λ f. Holds (denoted_by escaped f) whole)
 
 -- it does
-held_pieces : (escaped : Bool) (text front : List ℕ) (query fragment : Option (List ℕ)) → CutsPath text front query fragment → HoldsPieces escaped (meant_by escaped text) front query fragment
+held_pieces : (escaped : Bool) (text front : List ℕ) (query fragment : Option (List ℕ)) → CutsPath text front query fragment → HoldsPieces escaped (denoted_by escaped text) front query fragment
 held_pieces escaped text front query fragment (middle, first, second) =
     let (middle_held, fragment_held) = held_off escaped text middle fragment number_sign number_parts first in
     let (front_held, query_held) = held_off escaped middle front query question_mark question_parts second in
-    let held : (t : List ℕ) → Holds (meant_by escaped t) (meant_by escaped middle) → Holds (meant_by escaped t) (meant_by escaped text) =
-    λ t inside. held_within (meant_by escaped t) (meant_by escaped middle) (meant_by escaped text) inside middle_held in
+    let held : (t : List ℕ) → Holds (denoted_by escaped t) (denoted_by escaped middle) → Holds (denoted_by escaped t) (denoted_by escaped text) =
+    λ t inside. held_within (denoted_by escaped t) (denoted_by escaped middle) (denoted_by escaped text) inside middle_held in
     record { front_held = held front front_held; query_held = IfSome_then query query_held held; fragment_held = fragment_held }
 
 -- what each of these texts stands for is part of the path
 abbrev AreHeld : Bool → List ℕ → List (List ℕ) → Type 0
-AreHeld escaped path texts = All (λ t. Holds (meant_by escaped t) path) texts
+AreHeld escaped path texts = All (λ t. Holds (denoted_by escaped t) path) texts
 
 -- what the fields of a text stand for is part of what the text stands for
-held_fields : (escaped : Bool) (path : List ℕ) (fields : List (List ℕ)) → Holds (meant_by escaped (join_with_byte ampersand fields)) path → AreHeld escaped path fields
-held_fields escaped path [] held = All-nil (λ t. Holds (meant_by escaped t) path)
-held_fields escaped path (t ∷ []) held = All-cons (λ x. Holds (meant_by escaped x) path) t [] held (All-nil (λ x. Holds (meant_by escaped x) path))
+held_fields : (escaped : Bool) (path : List ℕ) (fields : List (List ℕ)) → Holds (denoted_by escaped (join_with_byte ampersand fields)) path → AreHeld escaped path fields
+held_fields escaped path [] held = All-nil (λ t. Holds (denoted_by escaped t) path)
+held_fields escaped path (t ∷ []) held = All-cons (λ x. Holds (denoted_by escaped x) path) t [] held (All-nil (λ x. Holds (denoted_by escaped x) path))
 held_fields escaped path (t ∷ u ∷ us) held =
     let whole = join_with_byte ampersand (t ∷ u ∷ us) in
     let rest = join_with_byte ampersand (u ∷ us) in
     let parts = held_around escaped whole t rest ampersand (record { digit = refl; percent = refl }) refl in
-    All-cons (λ x. Holds (meant_by escaped x) path) t (u ∷ us) (held_within (meant_by escaped t) (meant_by escaped whole) path parts.0 held) (held_fields escaped path (u ∷ us) (held_within (meant_by escaped rest) (meant_by escaped whole) path parts.1 held))
+    All-cons (λ x. Holds (denoted_by escaped x) path) t (u ∷ us) (held_within (denoted_by escaped t) (denoted_by escaped whole) path parts.0 held) (held_fields escaped path (u ∷ us) (held_within (denoted_by escaped rest) (denoted_by escaped whole) path parts.1 held))
 
 -- what name and value stand for is part of what the field stands for
-held_split : (escaped : Bool) (path field name value : List ℕ) → SplitsField field name value → Holds (meant_by escaped field) path → Holds (meant_by escaped name) path × Holds (meant_by escaped value) path
+held_split : (escaped : Bool) (path field name value : List ℕ) → SplitsField field name value → Holds (denoted_by escaped field) path → Holds (denoted_by escaped name) path × Holds (denoted_by escaped value) path
 held_split escaped path field name value (SplitsField.name_alone free e j) (x, y, k) =
-    (subst (λ t. Holds (meant_by escaped t) path) (sym e) (x, y, k), subst (λ t. Holds (meant_by escaped t) path) (sym j) (subst (λ t. Holds t path) (sym (meant-nil escaped)) ([], path, refl)))
+    (subst (λ t. Holds (denoted_by escaped t) path) (sym e) (x, y, k), subst (λ t. Holds (denoted_by escaped t) path) (sym j) (subst (λ t. Holds t path) (sym (denoted-nil escaped)) ([], path, refl)))
 held_split escaped path field name value (SplitsField.with_value free e) held =
     let parts = held_around escaped field name value equals_sign (record { digit = refl; percent = refl }) e in
-    (held_within (meant_by escaped name) (meant_by escaped field) path parts.0 held, held_within (meant_by escaped value) (meant_by escaped field) path parts.1 held)
+    (held_within (denoted_by escaped name) (denoted_by escaped field) path parts.0 held, held_within (denoted_by escaped value) (denoted_by escaped field) path parts.1 held)
 
 -- ---- names and values
 
 -- a name or a value is what its piece stands for
-term_meant : (v : Location) (piece : List ℕ) (text : QueryText) → LendsTerm (matches v.spelling v.path) piece text → text_bytes text ≡ term_of v piece
+term_meant : (v : Location) (piece : List ℕ) (text : QueryText) → BorrowsTerm (matches v.spelling v.path) piece text → text_bytes text ≡ term_of v piece
 term_meant v piece (Borrowed text) h = h.1 ∙ sym (meant_spaces (matches v.spelling v.path) piece h.0)
 term_meant v piece (Owned text) h = h.1
 
 -- and is part of the path where it is lent
-term_lent : (v : Location) (piece : List ℕ) (text : QueryText) → LendsTerm (matches v.spelling v.path) piece text → Holds (meant_by (matches v.spelling v.path) piece) v.path → LentTerm v piece text
+term_lent : (v : Location) (piece : List ℕ) (text : QueryText) → BorrowsTerm (matches v.spelling v.path) piece text → Holds (denoted_by (matches v.spelling v.path) piece) v.path → BorrowedTerm v piece text
 term_lent v piece (Borrowed text) h held = (h.0, subst (λ t. Holds t v.path) (sym h.1) held)
 term_lent v piece (Owned text) h held = h.0
 
 -- names and values are what their fields stand for
-pairs_meant : (v : Location) (fields : List (List ℕ)) (pairs : List (QueryText × QueryText)) → LendsPairs (matches v.spelling v.path) fields pairs → PairsOf v fields (map pair_bytes pairs)
+pairs_meant : (v : Location) (fields : List (List ℕ)) (pairs : List (QueryText × QueryText)) → BorrowsPairs (matches v.spelling v.path) fields pairs → PairsOf v fields (map pair_bytes pairs)
 pairs_meant v [] pairs h = ap (map pair_bytes) h
 pairs_meant v ([] ∷ fields) pairs h = pairs_meant v fields pairs h
 pairs_meant v ((b ∷ bs) ∷ fields) pairs (pair, others, lends, rest, e) =
@@ -143,24 +143,24 @@ pairs_meant v ((b ∷ bs) ∷ fields) pairs (pair, others, lends, rest, e) =
     (lends.name, lends.value, map pair_bytes others, lends.split, pairs_meant v fields others rest, ap (map pair_bytes) e ∙ (λ i. (name i, value i) ∷ map pair_bytes others))
 
 -- and are part of the path where they are lent
-pairs_lent : (v : Location) (fields : List (List ℕ)) (pairs : List (QueryText × QueryText)) → LendsPairs (matches v.spelling v.path) fields pairs → AreHeld (matches v.spelling v.path) v.path fields → LentPairs v fields pairs
+pairs_lent : (v : Location) (fields : List (List ℕ)) (pairs : List (QueryText × QueryText)) → BorrowsPairs (matches v.spelling v.path) fields pairs → AreHeld (matches v.spelling v.path) v.path fields → BorrowedPairs v fields pairs
 pairs_lent v [] pairs h held = h
-pairs_lent v ([] ∷ fields) pairs h held = pairs_lent v fields pairs h (All-tail (λ t. Holds (meant_by (matches v.spelling v.path) t) v.path) [] fields held)
+pairs_lent v ([] ∷ fields) pairs h held = pairs_lent v fields pairs h (All-tail (λ t. Holds (denoted_by (matches v.spelling v.path) t) v.path) [] fields held)
 pairs_lent v ((b ∷ bs) ∷ fields) pairs (pair, others, lends, rest, e) held =
     let syntax = matches v.spelling v.path in
-    let parts = held_split syntax v.path (b ∷ bs) lends.name lends.value lends.split (All-head (λ t. Holds (meant_by syntax t) v.path) (b ∷ bs) fields held) in
-    let more = pairs_lent v fields others rest (All-tail (λ t. Holds (meant_by syntax t) v.path) (b ∷ bs) fields held) in
+    let parts = held_split syntax v.path (b ∷ bs) lends.name lends.value lends.split (All-head (λ t. Holds (denoted_by syntax t) v.path) (b ∷ bs) fields held) in
+    let more = pairs_lent v fields others rest (All-tail (λ t. Holds (denoted_by syntax t) v.path) (b ∷ bs) fields held) in
     (lends.name, lends.value, pair, others, lends.split, term_lent v lends.name pair.0 lends.name_lent parts.0, term_lent v lends.value pair.1 lends.value_lent parts.1, more, e)
 
 -- the names and values of a query are what it stands for
-query_meant : (v : Location) (text : Option (List ℕ)) (pairs : Option (List (QueryText × QueryText))) → LendsQuery (matches v.spelling v.path) text pairs → QueryOf v text (option_map (map pair_bytes) pairs)
+query_meant : (v : Location) (text : Option (List ℕ)) (pairs : Option (List (QueryText × QueryText))) → BorrowsQuery (matches v.spelling v.path) text pairs → QueryOf v text (option_map (map pair_bytes) pairs)
 query_meant v None pairs h = ap (option_map (map pair_bytes)) h
 query_meant v (Some text) None h = absurd h
-query_meant v (Some text) (Some pairs) h = (h.field ∷ h.fields, map pair_bytes pairs, h.cut, pairs_meant v (h.field ∷ h.fields) pairs h.lent, refl)
+query_meant v (Some text) (Some pairs) h = (h.field ∷ h.fields, map pair_bytes pairs, h.cut, pairs_meant v (h.field ∷ h.fields) pairs h.borrowed, refl)
 
 -- so they are lent
-query_handed : (v : Location) (front : List ℕ) (fragment text : Option (List ℕ)) (pairs : Option (List (QueryText × QueryText))) → CutsPath (original_path v) front text fragment → IfSome text (λ q. Holds (meant_by (matches v.spelling v.path) q) v.path) → LendsQuery (matches v.spelling v.path) text pairs → LentQuery v pairs
-query_handed v front fragment None pairs cut held h = subst (LentQuery v) (sym h) tt
+query_handed : (v : Location) (front : List ℕ) (fragment text : Option (List ℕ)) (pairs : Option (List (QueryText × QueryText))) → CutsPath (original_path v) front text fragment → IfSome text (λ q. Holds (denoted_by (matches v.spelling v.path) q) v.path) → BorrowsQuery (matches v.spelling v.path) text pairs → BorrowedQuery v pairs
+query_handed v front fragment None pairs cut held h = subst (BorrowedQuery v) (sym h) tt
 query_handed v front fragment (Some text) None cut held h = absurd h
 query_handed v front fragment (Some text) (Some pairs) cut held h =
     let syntax = matches v.spelling v.path in record {
@@ -170,7 +170,7 @@ query_handed v front fragment (Some text) (Some pairs) cut held h =
       fields = h.field ∷ h.fields;
       cut = cut;
       split = h.cut;
-      lent = pairs_lent v (h.field ∷ h.fields) pairs h.lent (held_fields syntax v.path (h.field ∷ h.fields) (subst (λ t. Holds (meant_by syntax t) v.path) h.cut.joined held));
+      borrowed = pairs_lent v (h.field ∷ h.fields) pairs h.borrowed (held_fields syntax v.path (h.field ∷ h.fields) (subst (λ t. Holds (denoted_by syntax t) v.path) h.cut.joined held));
     }
 
 -- ---- the components
@@ -181,7 +181,7 @@ viewed f g None = refl
 viewed f g (Some x) = refl
 
 -- what was returned are the components of a location of HTTP
-pub parts_meant : (v : Location) (parts : PathComponents) → LendsParts (matches v.spelling v.path) (original_path v) parts → WebComponents v (components parts)
+pub parts_meant : (v : Location) (parts : PathComponents) → BorrowsParts (matches v.spelling v.path) (original_path v) parts → WebComponents v (components parts)
 parts_meant v parts h = record {
   front = h.front;
   query = h.query;
@@ -193,7 +193,7 @@ parts_meant v parts h = record {
 }
 
 -- what the pieces of a location's original path stand for is part of its path
-held_parts : (v : Location) (front : List ℕ) (query fragment : Option (List ℕ)) → meant_by (matches v.spelling v.path) (original_path v) ≡ v.path → CutsPath (original_path v) front query fragment → HoldsPieces (matches v.spelling v.path) v.path front query fragment
+held_parts : (v : Location) (front : List ℕ) (query fragment : Option (List ℕ)) → denoted_by (matches v.spelling v.path) (original_path v) ≡ v.path → CutsPath (original_path v) front query fragment → HoldsPieces (matches v.spelling v.path) v.path front query fragment
 held_parts v front query fragment whole cut =
     let held = held_pieces (matches v.spelling v.path) (original_path v) front query fragment cut in
     subst (λ path. HoldsPieces (matches v.spelling v.path) path front query fragment) whole held
@@ -204,23 +204,23 @@ rooted [] path b held e = inr e
 rooted (c ∷ t) path b held e = inl (subst (λ x. Holds x path) (sym e) held)
 
 -- the path is part of the location's, or is the root
-pub path_lent : (v : Location) (parts : PathComponents) → LendsParts (matches v.spelling v.path) (original_path v) parts → meant_by (matches v.spelling v.path) (original_path v) ≡ v.path → Holds (bstr_bytes parts.path) v.path ⊎ (bstr_bytes parts.path ≡ slash ∷ [])
-path_lent v parts h whole = rooted (meant_by (matches v.spelling v.path) h.front) v.path (bstr_bytes parts.path) (held_parts v h.front h.query h.fragment whole h.cut).front_held h.path_meant
+pub path_lent : (v : Location) (parts : PathComponents) → BorrowsParts (matches v.spelling v.path) (original_path v) parts → denoted_by (matches v.spelling v.path) (original_path v) ≡ v.path → Holds (bstr_bytes parts.path) v.path ⊎ (bstr_bytes parts.path ≡ slash ∷ [])
+path_lent v parts h whole = rooted (denoted_by (matches v.spelling v.path) h.front) v.path (bstr_bytes parts.path) (held_parts v h.front h.query h.fragment whole h.cut).front_held h.path_meant
 
 -- the names and values of the query are lent
-pub query_lent : (v : Location) (parts : PathComponents) → LendsParts (matches v.spelling v.path) (original_path v) parts → meant_by (matches v.spelling v.path) (original_path v) ≡ v.path → LentQuery v (option_map (λ pairs. pairs.items) parts.query)
+pub query_lent : (v : Location) (parts : PathComponents) → BorrowsParts (matches v.spelling v.path) (original_path v) parts → denoted_by (matches v.spelling v.path) (original_path v) ≡ v.path → BorrowedQuery v (option_map (λ pairs. pairs.items) parts.query)
 query_lent v parts h whole = query_handed v h.front h.fragment h.query (option_map (λ pairs. pairs.items) parts.query) h.cut (held_parts v h.front h.query h.fragment whole h.cut).query_held h.query_lent
 
 -- a fragment is part of what its text is part of
-fragment_in : (escaped : Bool) (path : List ℕ) (given : Option BStr) (fragment : Option (List ℕ)) → option_map bstr_bytes given ≡ option_map (meant_by escaped) fragment → IfSome fragment (λ f. Holds (meant_by escaped f) path) → IfSome given (λ f. Holds (bstr_bytes f) path)
+fragment_in : (escaped : Bool) (path : List ℕ) (given : Option BStr) (fragment : Option (List ℕ)) → option_map bstr_bytes given ≡ option_map (denoted_by escaped) fragment → IfSome fragment (λ f. Holds (denoted_by escaped f) path) → IfSome given (λ f. Holds (bstr_bytes f) path)
 fragment_in escaped path None fragment e held = tt
 fragment_in escaped path (Some f) None e held = absurd (cc)
 fragment_in escaped path (Some f) (Some g) e held =
-    let same : bstr_bytes f ≡ meant_by escaped g = cc in
+    let same : bstr_bytes f ≡ denoted_by escaped g = cc in
     subst (λ t. Holds t path) (sym same) held
 
 -- the fragment is part of the location's path
-pub fragment_lent : (v : Location) (parts : PathComponents) → LendsParts (matches v.spelling v.path) (original_path v) parts → meant_by (matches v.spelling v.path) (original_path v) ≡ v.path → IfSome parts.fragment (λ f. Holds (bstr_bytes f) v.path)
+pub fragment_lent : (v : Location) (parts : PathComponents) → BorrowsParts (matches v.spelling v.path) (original_path v) parts → denoted_by (matches v.spelling v.path) (original_path v) ≡ v.path → IfSome parts.fragment (λ f. Holds (bstr_bytes f) v.path)
 fragment_lent v parts h whole = fragment_in (matches v.spelling v.path) v.path parts.fragment h.fragment h.fragment_meant (held_parts v h.front h.query h.fragment whole h.cut).fragment_held
 
 -- a location whose original path has a query has one
@@ -239,14 +239,14 @@ given (Err e) h = absurd (h refl)
 -- ---- the original path
 
 -- what the original path stands for is the path
-pub whole_meant : (v : Location) (whole : EscapedText) → SpellsPath v whole → meant_by (matches v.spelling v.path) (original_path v) ≡ v.path
-whole_meant v whole (text, meant, syntax) =
-    ap (λ b. meant_by b (original_path v)) (sym syntax) ∙ ap (meant_by whole.escaped) (sym text) ∙ sym whole.meaning ∙ meant
+pub whole_meant : (v : Location) (whole : EscapedText) → SpellsPath v whole → denoted_by (matches v.spelling v.path) (original_path v) ≡ v.path
+whole_meant v whole (text, denoted, syntax) =
+    ap (λ b. denoted_by b (original_path v)) (sym syntax) ∙ ap (denoted_by whole.escaped) (sym text) ∙ sym whole.meaning ∙ denoted
 
 -- what is lent of it is lent of the location's original path
-pub lends_whole : (v : Location) (whole : EscapedText) (parts : PathComponents) → SpellsPath v whole → LendsParts whole.escaped whole.text.now parts → LendsParts (matches v.spelling v.path) (original_path v) parts
-lends_whole v whole parts (text, meant, syntax) h =
-    subst (λ b. LendsParts b (original_path v) parts) syntax (subst (λ t. LendsParts whole.escaped t parts) text h)
+pub lends_whole : (v : Location) (whole : EscapedText) (parts : PathComponents) → SpellsPath v whole → BorrowsParts whole.escaped whole.text.now parts → BorrowsParts (matches v.spelling v.path) (original_path v) parts
+lends_whole v whole parts (text, denoted, syntax) h =
+    subst (λ b. BorrowsParts b (original_path v) parts) syntax (subst (λ t. BorrowsParts whole.escaped t parts) text h)
 
 -- a path alone is part of the location's
 pub path_alone_held : (t path : List ℕ) → t ≡ path → Holds t path

@@ -8,25 +8,25 @@ use Rattle.gix_url.specs.declared.components.QueryText.{QueryText}
 use Rattle.gix_url.specs.declared.components.cuts.EscapedText.{EscapedText}
 use Rattle.git_syntax.specs.Bytes.{number_sign, plus_sign, question_mark, FreeOf, space, ampersand}
 use Rattle.git_laws.specs.Components.{CutsText, CutsPath, with_spaces}
-use Rattle.gix_url.specs.Internal.Meanings.{meant_by}
-use Rattle.gix_url.specs.Internal.ComponentPieces.{CutsAround, CutsOff, LendsFields, AddsPair, HasQuery, LendsQuery, is_field, one_field, begun_by, begun_in, ends_in, field_count}
+use Rattle.gix_url.specs.Internal.Meanings.{denoted_by}
+use Rattle.gix_url.specs.Internal.ComponentPieces.{CutsAround, CutsOff, BorrowsFields, AddsPair, HasQuery, BorrowsQuery, is_field, one_field, begun_by, begun_in, ends_in, field_count}
 use Rattle.git_syntax.proofs.Texts.CutLemmas.{free_head_tail, free_parts}
 use Rattle.gix_url.proofs.ComponentCuts.MeaningLemmas.{Parts, meant_around, meant_around_plus, meant_spaces}
 
 -- ---- pieces and what they stand for
 
 -- what a piece stands for, by whether the escapes of the whole stand for their bytes
-pub meant_as : (piece : EscapedText) (escaped : Bool) → piece.escaped ≡ escaped → piece.meant.now ≡ meant_by escaped piece.text.now
-meant_as piece escaped e = piece.meaning ∙ ap (λ b. meant_by b piece.text.now) e
+pub meant_as : (piece : EscapedText) (escaped : Bool) → piece.escaped ≡ escaped → piece.denoted.now ≡ denoted_by escaped piece.text.now
+meant_as piece escaped e = piece.meaning ∙ ap (λ b. denoted_by b piece.text.now) e
 
 -- the parts around a delimiter stand for what is around it in what the whole stands for
-pub spelled_cut : (c : ℕ) (whole front behind : EscapedText) → Parts c → CutsAround c whole front behind → whole.meant.now ≡ front.meant.now ++ c ∷ behind.meant.now
+pub spelled_cut : (c : ℕ) (whole front behind : EscapedText) → Parts c → CutsAround c whole front behind → whole.denoted.now ≡ front.denoted.now ++ c ∷ behind.denoted.now
 spelled_cut c whole front behind parts cut =
     let first = meant_as front whole.escaped cut.front_escaped in
     let second = meant_as behind whole.escaped cut.behind_escaped in
-    whole.meaning ∙ ap (meant_by whole.escaped) cut.joined ∙ meant_around whole.escaped front.text.now behind.text.now c parts
-    ∙ ap (λ t. t ++ c ∷ meant_by whole.escaped behind.text.now) (sym first)
-    ∙ ap (λ t. front.meant.now ++ c ∷ t) (sym second)
+    whole.meaning ∙ ap (denoted_by whole.escaped) cut.joined ∙ meant_around whole.escaped front.text.now behind.text.now c parts
+    ∙ ap (λ t. t ++ c ∷ denoted_by whole.escaped behind.text.now) (sym first)
+    ∙ ap (λ t. front.denoted.now ++ c ∷ t) (sym second)
 
 -- `+` parts a text
 pub plus_parts : Parts plus_sign
@@ -35,28 +35,28 @@ plus_parts = record { digit = refl; percent = refl }
 -- ---- spaces
 
 -- what was made grows by the text before the next `+`, and a space
-pub spaced_more : (escaped : Bool) (whole made rest front behind meant new : List ℕ) → FreeOf plus_sign front → rest ≡ front ++ plus_sign ∷ behind → meant ≡ meant_by escaped front → whole ≡ made ++ meant_by escaped (with_spaces rest) → new ≡ (made ++ meant) ++ space ∷ [] → whole ≡ new ++ meant_by escaped (with_spaces behind)
-spaced_more escaped whole made rest front behind meant new free cut is before grown =
-    let last = meant_by escaped (with_spaces behind) in
+pub spaced_more : (escaped : Bool) (whole built rest front behind denoted new : List ℕ) → FreeOf plus_sign front → rest ≡ front ++ plus_sign ∷ behind → denoted ≡ denoted_by escaped front → whole ≡ built ++ denoted_by escaped (with_spaces rest) → new ≡ (built ++ denoted) ++ space ∷ [] → whole ≡ new ++ denoted_by escaped (with_spaces behind)
+spaced_more escaped whole built rest front behind denoted new free cut is before grown =
+    let last = denoted_by escaped (with_spaces behind) in
     before
-    ∙ ap (λ t. made ++ meant_by escaped (with_spaces t)) cut
-    ∙ ap (λ t. made ++ t) (meant_around_plus escaped front behind free ∙ ap (λ t. t ++ space ∷ last) (sym is))
-    ∙ sym (append_assoc made meant (space ∷ last))
-    ∙ sym (append_assoc (made ++ meant) (space ∷ []) last)
+    ∙ ap (λ t. built ++ denoted_by escaped (with_spaces t)) cut
+    ∙ ap (λ t. built ++ t) (meant_around_plus escaped front behind free ∙ ap (λ t. t ++ space ∷ last) (sym is))
+    ∙ sym (append_assoc built denoted (space ∷ last))
+    ∙ sym (append_assoc (built ++ denoted) (space ∷ []) last)
     ∙ ap (λ t. t ++ last) (sym grown)
 
 -- and is whole with the text behind the last
-pub spaced_whole : (escaped : Bool) (whole made rest meant : List ℕ) → FreeOf plus_sign rest → meant ≡ meant_by escaped rest → whole ≡ made ++ meant_by escaped (with_spaces rest) → made ++ meant ≡ whole
-spaced_whole escaped whole made rest meant free is before =
-    ap (λ t. made ++ t) (is ∙ sym (meant_spaces escaped rest free)) ∙ sym before
+pub spaced_whole : (escaped : Bool) (whole built rest denoted : List ℕ) → FreeOf plus_sign rest → denoted ≡ denoted_by escaped rest → whole ≡ built ++ denoted_by escaped (with_spaces rest) → built ++ denoted ≡ whole
+spaced_whole escaped whole built rest denoted free is before =
+    ap (λ t. built ++ t) (is ∙ sym (meant_spaces escaped rest free)) ∙ sym before
 
 -- in a text that is turned in place, byte by byte, the next byte goes to those that have their spaces
 pub spaced_next : (text items : List ℕ) (i y : ℕ) → i < length items → length items ≡ length text → take i items ≡ with_spaces (take i text) → drop i items ≡ drop i text → y ≡ (if get_or items i 0 == plus_sign then space else get_or items i 0) → take (i + 1) (set items i y) ≡ with_spaces (take (i + 1) text)
-spaced_next text items i y inside size made left is =
+spaced_next text items i y inside size built left is =
     let at : i + 0 ≡ i = omega arith in
     let same : get_or items i 0 ≡ get_or text i 0 = ap (λ n. get_or items n 0) (sym at) ∙ sym (get_or-drop i items 0 0) ∙ ap (λ t. get_or t 0 0) left ∙ get_or-drop i text 0 0 ∙ ap (λ n. get_or text n 0) at in
     take_more_set items i y inside
-    ∙ ap (λ t. t ++ y ∷ []) made
+    ∙ ap (λ t. t ++ y ∷ []) built
     ∙ ap (λ b. with_spaces (take i text) ++ b ∷ []) (is ∙ ap (λ b. if b == plus_sign then space else b) same)
     ∙ sym (map-append (λ b. if b == plus_sign then space else b) (take i text) (get_or text i 0 ∷ []))
     ∙ sym (ap with_spaces (take_more text i 0 (omega (arith, inside, size))))
@@ -140,34 +140,34 @@ begun_joined before (b ∷ bs) behind =
 -- names and values of the rest, behind those that a first field adds
 pub record Adds (escaped : Bool) (text : List ℕ) (old new : List (QueryText × QueryText)) : Type 0 where
   pub whole : List (QueryText × QueryText)
-  pub lent : LendsFields escaped text whole
+  pub borrowed : BorrowsFields escaped text whole
   pub behind : new ≡ old ++ whole
 
 -- those of a first field and of the rest are those of the text
-pub adds_field : (escaped : Bool) (text field behind : List ℕ) (old new more : List (QueryText × QueryText)) → FreeOf ampersand field → text ≡ field ++ ampersand ∷ behind → AddsPair escaped field old new → LendsFields escaped behind more → Adds escaped text old (new ++ more)
+pub adds_field : (escaped : Bool) (text field behind : List ℕ) (old new more : List (QueryText × QueryText)) → FreeOf ampersand field → text ≡ field ++ ampersand ∷ behind → AddsPair escaped field old new → BorrowsFields escaped behind more → Adds escaped text old (new ++ more)
 adds_field escaped text [] behind old new more free cut adds rest = record {
   whole = more;
-  lent = record {
+  borrowed = record {
     field = [];
     fields = rest.field ∷ rest.fields;
     cut = record {
       each = All-cons (FreeOf ampersand) [] (rest.field ∷ rest.fields) free rest.cut.each;
       joined = cut ∙ ap (λ t. ampersand ∷ t) rest.cut.joined;
     };
-    lent = rest.lent;
+    borrowed = rest.borrowed;
   };
   behind = ap (λ t. t ++ more) adds;
 }
 adds_field escaped text (b ∷ bs) behind old new more free cut (pair, lends, grown) rest = record {
   whole = pair ∷ more;
-  lent = record {
+  borrowed = record {
     field = b ∷ bs;
     fields = rest.field ∷ rest.fields;
     cut = record {
       each = All-cons (FreeOf ampersand) (b ∷ bs) (rest.field ∷ rest.fields) free rest.cut.each;
       joined = cut ∙ ap (λ t. (b ∷ bs) ++ ampersand ∷ t) rest.cut.joined;
     };
-    lent = (pair, more, lends, rest.lent, refl);
+    borrowed = (pair, more, lends, rest.borrowed, refl);
   };
   behind = ap (λ t. t ++ more) grown ∙ append_assoc old (pair ∷ []) more;
 }
@@ -181,16 +181,16 @@ adds_raw piece field old new text syntax adds =
 pub adds_last : (escaped : Bool) (field : List ℕ) (old new : List (QueryText × QueryText)) → FreeOf ampersand field → AddsPair escaped field old new → Adds escaped field old new
 adds_last escaped [] old new free adds = record {
   whole = [];
-  lent = record { field = []; fields = []; cut = record { each = All-cons (FreeOf ampersand) [] [] free (All-nil (FreeOf ampersand)); joined = refl }; lent = refl };
+  borrowed = record { field = []; fields = []; cut = record { each = All-cons (FreeOf ampersand) [] [] free (All-nil (FreeOf ampersand)); joined = refl }; borrowed = refl };
   behind = adds ∙ sym (append-nil old);
 }
 adds_last escaped (b ∷ bs) old new free (pair, lends, grown) = record {
   whole = pair ∷ [];
-  lent = record {
+  borrowed = record {
     field = b ∷ bs;
     fields = [];
     cut = record { each = All-cons (FreeOf ampersand) (b ∷ bs) [] free (All-nil (FreeOf ampersand)); joined = refl };
-    lent = (pair, [], lends, refl, refl);
+    borrowed = (pair, [], lends, refl, refl);
   };
   behind = grown;
 }
@@ -233,7 +233,7 @@ cuts_twice whole front path query fragment h k =
 -- ---- what was returned
 
 -- the meaning of a fragment, by whether the escapes of the whole stand for their bytes
-pub fragment_meant : (escaped : Bool) (fragment : Option EscapedText) → IfSome fragment (λ p. p.escaped ≡ escaped) → option_map (λ p. p.meant.now) fragment ≡ option_map (meant_by escaped) (option_map (λ p. p.text.now) fragment)
+pub fragment_meant : (escaped : Bool) (fragment : Option EscapedText) → IfSome fragment (λ p. p.escaped ≡ escaped) → option_map (λ p. p.denoted.now) fragment ≡ option_map (denoted_by escaped) (option_map (λ p. p.text.now) fragment)
 fragment_meant escaped None same = refl
 fragment_meant escaped (Some piece) same = ap Some (meant_as piece escaped same)
 
@@ -247,12 +247,12 @@ has_query whole front query found fragment twice is = record {
 }
 
 -- no query, and no names and values
-pub query_absent : (escaped : Bool) (found : Option EscapedText) (pairs : Option (List (QueryText × QueryText))) → found ≡ None → pairs ≡ None → LendsQuery escaped (option_map (λ p. p.text.now) found) pairs
-query_absent escaped found pairs is none = subst (λ o. LendsQuery escaped (option_map (λ (p : EscapedText). p.text.now) o) pairs) (sym is) none
+pub query_absent : (escaped : Bool) (found : Option EscapedText) (pairs : Option (List (QueryText × QueryText))) → found ≡ None → pairs ≡ None → BorrowsQuery escaped (option_map (λ p. p.text.now) found) pairs
+query_absent escaped found pairs is none = subst (λ o. BorrowsQuery escaped (option_map (λ (p : EscapedText). p.text.now) o) pairs) (sym is) none
 
 -- a query, and the names and values of its fields
-pub query_present : (escaped : Bool) (found : Option EscapedText) (pairs : Option (List (QueryText × QueryText))) (query : EscapedText) (items : List (QueryText × QueryText)) → found ≡ Some query → IfSome found (λ p. p.escaped ≡ escaped) → pairs ≡ Some items → LendsFields query.escaped query.text.now items → LendsQuery escaped (option_map (λ p. p.text.now) found) pairs
-query_present escaped found pairs query items is same has lent =
+pub query_present : (escaped : Bool) (found : Option EscapedText) (pairs : Option (List (QueryText × QueryText))) (query : EscapedText) (items : List (QueryText × QueryText)) → found ≡ Some query → IfSome found (λ p. p.escaped ≡ escaped) → pairs ≡ Some items → BorrowsFields query.escaped query.text.now items → BorrowsQuery escaped (option_map (λ p. p.text.now) found) pairs
+query_present escaped found pairs query items is same has borrowed =
     let syntax : query.escaped ≡ escaped = subst (λ o. IfSome o (λ (p : EscapedText). p.escaped ≡ escaped)) is same in
-    subst (λ o. LendsQuery escaped (option_map (λ (p : EscapedText). p.text.now) o) pairs) (sym is)
-    (subst (λ o. LendsQuery escaped (Some query.text.now) o) (sym has) (subst (λ b. LendsFields b query.text.now items) syntax lent))
+    subst (λ o. BorrowsQuery escaped (option_map (λ (p : EscapedText). p.text.now) o) pairs) (sym is)
+    (subst (λ o. BorrowsQuery escaped (Some query.text.now) o) (sym has) (subst (λ b. BorrowsFields b query.text.now items) syntax borrowed))

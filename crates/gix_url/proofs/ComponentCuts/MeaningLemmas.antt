@@ -8,7 +8,7 @@ use Rattle.percent_encoding.proofs.PercentLemmas.{percent_decode-nil, percent_de
 use Rattle.git_syntax.specs.Bytes.{plus_sign, FreeOf, space}
 use Rattle.git_syntax.specs.Escapes.{begins_with_digits}
 use Rattle.git_laws.specs.Components.{with_spaces}
-use Rattle.gix_url.specs.Internal.Meanings.{meant_by}
+use Rattle.gix_url.specs.Internal.Meanings.{denoted_by}
 use Rattle.git_laws.proofs.ComponentCuts.ComponentLemmas.{spaces_free}
 use Rattle.git_syntax.proofs.Texts.EscapeLemmas.{decode_byte, decode_broken, decode_escape, digits_before}
 
@@ -79,43 +79,43 @@ decoded_none (b ∷ bs) short = absurd (omega (arith, short))
 -- ---- what pieces stand for
 
 -- the empty text stands for itself
-pub meant-nil : (escaped : Bool) → meant_by escaped [] ≡ []
-meant-nil true = percent_decode-nil
-meant-nil false = refl
+pub denoted-nil : (escaped : Bool) → denoted_by escaped [] ≡ []
+denoted-nil true = percent_decode-nil
+denoted-nil false = refl
 
 -- the texts around a delimiter stand for what is around it in what the whole stands for
-pub meant_around : (escaped : Bool) (xs ys : List ℕ) (c : ℕ) → Parts c → meant_by escaped (xs ++ c ∷ ys) ≡ meant_by escaped xs ++ c ∷ meant_by escaped ys
+pub meant_around : (escaped : Bool) (xs ys : List ℕ) (c : ℕ) → Parts c → denoted_by escaped (xs ++ c ∷ ys) ≡ denoted_by escaped xs ++ c ∷ denoted_by escaped ys
 meant_around true xs ys c parts = decode_around xs ys c parts
 meant_around false xs ys c parts = refl
 
 -- so the front is as long a front of what the whole stands for
-pub meant_front : (escaped : Bool) (whole meant xs ys : List ℕ) (c at : ℕ) → Parts c → meant ≡ meant_by escaped whole → whole ≡ xs ++ c ∷ ys → at ≡ length (meant_by escaped xs) → take at meant ≡ meant_by escaped xs
-meant_front escaped whole meant xs ys c at parts e cut size =
-    let split = e ∙ ap (meant_by escaped) cut ∙ meant_around escaped xs ys c parts in
-    ap (take at) split ∙ take_at (meant_by escaped xs) (c ∷ meant_by escaped ys) at (sym size)
+pub meant_front : (escaped : Bool) (whole denoted xs ys : List ℕ) (c at : ℕ) → Parts c → denoted ≡ denoted_by escaped whole → whole ≡ xs ++ c ∷ ys → at ≡ length (denoted_by escaped xs) → take at denoted ≡ denoted_by escaped xs
+meant_front escaped whole denoted xs ys c at parts e cut size =
+    let split = e ∙ ap (denoted_by escaped) cut ∙ meant_around escaped xs ys c parts in
+    ap (take at) split ∙ take_at (denoted_by escaped xs) (c ∷ denoted_by escaped ys) at (sym size)
 
 -- the text behind the delimiter
-pub meant_behind : (escaped : Bool) (whole meant xs ys : List ℕ) (c at : ℕ) → Parts c → meant ≡ meant_by escaped whole → whole ≡ xs ++ c ∷ ys → at ≡ length (meant_by escaped xs) → drop (at + 1) meant ≡ meant_by escaped ys
-meant_behind escaped whole meant xs ys c at parts e cut size =
-    let front = meant_by escaped xs in
-    let split = e ∙ ap (meant_by escaped) cut ∙ meant_around escaped xs ys c parts ∙ sym (append_assoc front (c ∷ []) (meant_by escaped ys)) in
-    ap (drop (at + 1)) split ∙ drop_at (front ++ c ∷ []) (meant_by escaped ys) (at + 1) (omega (arith, size, length-append front (c ∷ [])))
+pub meant_behind : (escaped : Bool) (whole denoted xs ys : List ℕ) (c at : ℕ) → Parts c → denoted ≡ denoted_by escaped whole → whole ≡ xs ++ c ∷ ys → at ≡ length (denoted_by escaped xs) → drop (at + 1) denoted ≡ denoted_by escaped ys
+meant_behind escaped whole denoted xs ys c at parts e cut size =
+    let front = denoted_by escaped xs in
+    let split = e ∙ ap (denoted_by escaped) cut ∙ meant_around escaped xs ys c parts ∙ sym (append_assoc front (c ∷ []) (denoted_by escaped ys)) in
+    ap (drop (at + 1)) split ∙ drop_at (front ++ c ∷ []) (denoted_by escaped ys) (at + 1) (omega (arith, size, length-append front (c ∷ [])))
 
 -- the cut is in what the whole stands for
-pub meant_within : (escaped : Bool) (whole meant xs ys : List ℕ) (c at : ℕ) → Parts c → meant ≡ meant_by escaped whole → whole ≡ xs ++ c ∷ ys → at ≡ length (meant_by escaped xs) → at + 1 ≤ length meant
-meant_within escaped whole meant xs ys c at parts e cut size =
-    let split = e ∙ ap (meant_by escaped) cut ∙ meant_around escaped xs ys c parts in
-    omega (arith, size, ap length split, length-append (meant_by escaped xs) (c ∷ meant_by escaped ys))
+pub meant_within : (escaped : Bool) (whole denoted xs ys : List ℕ) (c at : ℕ) → Parts c → denoted ≡ denoted_by escaped whole → whole ≡ xs ++ c ∷ ys → at ≡ length (denoted_by escaped xs) → at + 1 ≤ length denoted
+meant_within escaped whole denoted xs ys c at parts e cut size =
+    let split = e ∙ ap (denoted_by escaped) cut ∙ meant_around escaped xs ys c parts in
+    omega (arith, size, ap length split, length-append (denoted_by escaped xs) (c ∷ denoted_by escaped ys))
 
 -- ---- spaces
 
 -- with each `+` a space, the texts around the first `+` stand for what is around that space
-pub meant_around_plus : (escaped : Bool) (xs ys : List ℕ) → FreeOf plus_sign xs → meant_by escaped (with_spaces (xs ++ plus_sign ∷ ys)) ≡ meant_by escaped xs ++ space ∷ meant_by escaped (with_spaces ys)
+pub meant_around_plus : (escaped : Bool) (xs ys : List ℕ) → FreeOf plus_sign xs → denoted_by escaped (with_spaces (xs ++ plus_sign ∷ ys)) ≡ denoted_by escaped xs ++ space ∷ denoted_by escaped (with_spaces ys)
 meant_around_plus escaped xs ys free =
     let parts : Parts space = record { digit = refl; percent = refl } in
-    ap (meant_by escaped) (map-append (λ b. if b == plus_sign then space else b) xs (plus_sign ∷ ys) ∙ ap (λ t. t ++ space ∷ with_spaces ys) (spaces_free xs free))
+    ap (denoted_by escaped) (map-append (λ b. if b == plus_sign then space else b) xs (plus_sign ∷ ys) ∙ ap (λ t. t ++ space ∷ with_spaces ys) (spaces_free xs free))
     ∙ meant_around escaped xs (with_spaces ys) space parts
 
 -- a text without `+` stands for the same
-pub meant_spaces : (escaped : Bool) (xs : List ℕ) → FreeOf plus_sign xs → meant_by escaped (with_spaces xs) ≡ meant_by escaped xs
-meant_spaces escaped xs free = ap (meant_by escaped) (spaces_free xs free)
+pub meant_spaces : (escaped : Bool) (xs : List ℕ) → FreeOf plus_sign xs → denoted_by escaped (with_spaces xs) ≡ denoted_by escaped xs
+meant_spaces escaped xs free = ap (denoted_by escaped) (spaces_free xs free)

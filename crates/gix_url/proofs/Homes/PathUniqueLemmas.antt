@@ -6,6 +6,7 @@ use Rattle.std.proofs.lemmas.List.Concat.{flat_map-append}
 use Rattle.git_syntax.specs.Bytes.{dot, slash, FreeOf, begins_by, begins_with}
 use Rattle.git_syntax.specs.Grammar.{or_root}
 use Rattle.gix_url.specs.Paths.{counts, IsPiece, behind_slashes, IsIdle, HoldsPieces, HasPieces, WithoutFirst, Opens, Joins, LiesBelow, EndsInPiece, IsParent}
+use Rattle.git_syntax.proofs.ByMasks.SimpleTextLemmas.{kept_root}
 use Rattle.git_syntax.proofs.Texts.CutLemmas.{tails, class_cut_unique, free-cons}
 use Rattle.gix_url.proofs.Homes.PathLemmas.{idle_none, last_byte, pieces_past}
 use Rattle.std.proofs.lemmas.List.{same_from_push}
@@ -192,11 +193,6 @@ in_parts first xs gaps tails piece gap tail e f =
     ∙ (ap (λ t. t ++ behind_slashes (piece ∷ tails)) (flat_map-append (λ segment. slash ∷ segment) xs gaps)
     ∙ append_assoc (behind_slashes xs) (behind_slashes gaps) (behind_slashes (piece ∷ tails))))))
 
--- a text that isn't empty is itself, where an empty one would be the root
-rooted : (text : List ℕ) → 0 < length text → or_root text ≡ text
-rooted [] some = absurd (omega arith)
-rooted (b ∷ bs) some = refl
-
 -- behind another piece
 shows_behind : (text front gap piece tail : List ℕ) → EndsInPiece front → IsIdle gap → IsPiece piece → IsIdle tail → text ≡ front ++ (gap ++ (slash ∷ (piece ++ tail))) → ShowsParent text (Some front)
 unfolding above upper
@@ -219,7 +215,7 @@ shows_behind text front gap piece tail (EndsInPiece.lone_piece free some) (gaps,
   no_slash = free;
   each = each_in_parts gaps (piece ∷ tails) (idle_each gaps g) (is.0, idle_each tails t);
   whole = e ∙ (ap (λ x. x ++ (gap ++ (slash ∷ (piece ++ tail)))) (sym (append-nil front)) ∙ in_parts front [] gaps tails piece gap tail eg et);
-  shown = rw (last_at gaps piece tails is.1 t, no_last gaps g) (ap Some (sym (rooted front some)));
+  shown = rw (last_at gaps piece tails is.1 t, no_last gaps g) (ap Some (sym (kept_root front some)));
 }
 
 -- each case of a parent is shown by segments

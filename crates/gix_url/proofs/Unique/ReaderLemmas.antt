@@ -9,7 +9,7 @@ use Rattle.git_syntax.specs.Location.{Location}
 use Rattle.git_syntax.specs.Grammar.{Spells}
 use Rattle.gix_url.specs.Flaws.{Flaw}
 use Rattle.gix_url.specs.Readings.{Refuses, Reads}
-use Rattle.gix_url.specs.Laws.{ReadersAgree, SameWithRoom}
+use Rattle.gix_url.specs.Laws.{ReadersAgree, SameWithBuffer}
 use Rattle.git_syntax.proofs.Unique.UniqueLemmas.{spells_unique}
 use Rattle.git_refusals.proofs.Refusing.UnspelledLemmas.{refused_unspelled}
 use Rattle.git_refusals.specs.declared.refusal.Refusal.{Refusal}
@@ -35,21 +35,21 @@ memory_alone b e v (inr none) spelled = absurd (none v spelled)
 
 -- they answer alike
 pub readers_agree : ReadersAgree
-readers_agree b room (Ok v) (Ok w) owned lent = spells_unique b v w owned.found lent.found
-readers_agree b room (Ok v) (Err unread.NoRoom) owned lent = lent.refused.1
-readers_agree b room (Ok v) (Err (unread.Refused refusal)) owned lent = lent.refused.0 v owned.found
-readers_agree b room (Err e) (Ok w) owned lent = memory_alone b e w owned.refused lent.found
-readers_agree b room (Err e) (Err unread.NoRoom) owned lent =
-    let (some, short) = lent.refused in (memory_alone b e some.0 owned.refused some.1, short)
-readers_agree b room (Err e) (Err (unread.Refused refusal)) owned lent = tt
+readers_agree b buffer_len (Ok v) (Ok w) owned borrowed = spells_unique b v w owned.found borrowed.found
+readers_agree b buffer_len (Ok v) (Err unread.NoRoom) owned borrowed = borrowed.refused.1
+readers_agree b buffer_len (Ok v) (Err (unread.Refused refusal)) owned borrowed = borrowed.refused.0 v owned.found
+readers_agree b buffer_len (Err e) (Ok w) owned borrowed = memory_alone b e w owned.refused borrowed.found
+readers_agree b buffer_len (Err e) (Err unread.NoRoom) owned borrowed =
+    let (some, short) = borrowed.refused in (memory_alone b e some.0 owned.refused some.1, short)
+readers_agree b buffer_len (Err e) (Err (unread.Refused refusal)) owned borrowed = tt
 
 -- what the one answers, unless memory ran out, is what is spelled
 answer_owned : (b : List ℕ) (r : Result Location Error) → Reads b r → ¬ (r ≡ Err error.Memory) → (v : Location) → Spells b v → r ≡ Ok v
 answer_owned b r reads ample v spelled = elim (reads.answered v spelled) [ inl is ↦ is | inr memory ↦ absurd (ample memory) ]
 
 -- and with room for as many bytes they answer the same locations
-pub same_with_room : SameWithRoom
-same_with_room b room owned lent enough reads reads_in ample v = (
+pub same_with_room : SameWithBuffer
+same_with_room b buffer_len owned borrowed enough reads reads_in ample v = (
   λ is. (reads_in.exact enough v).1 (answer_spelled b owned reads.found v is),
   λ is. answer_owned b owned reads ample v ((reads_in.exact enough v).0 is),
 )

@@ -18,7 +18,7 @@ use Rattle.git_location.specs.Settled.{IsValue, IsSettledUrl, IsRawPath, IsSettl
 use Rattle.git_location.specs.Internal.SettledPieces.{IsWrittenAsUrl}
 use Rattle.gix_url.specs.Readings.{Reads}
 use Rattle.git_location.specs.Readings.{IsAgain}
-use Rattle.gix_url.specs.FromParts.{MadeOf, ReportsName, invalid_name, given_or, with_given, keeping}
+use Rattle.gix_url.specs.FromParts.{BuiltFrom, ReportsName, invalid_name, given_or, with_kept_path, keeping}
 use Rattle.git_syntax.proofs.Texts.CutLemmas.{lacks-append}
 use Rattle.git_syntax.proofs.Parsing.SchemeLemmas.{scheme_cases, means_cases}
 use Rattle.git_syntax.proofs.Unique.UniqueLemmas.{spells_unique}
@@ -53,7 +53,7 @@ invalid_unsettled v name h settled =
     both_ways _ invalid by_name.0.named
 
 -- an error that names such a name is the answer
-pub invalid_made : (v : Location) (r : Result Location Error) (e : Error) → r ≡ Err e → (name : List ℕ) × (invalid_name v.scheme ≡ Some name) × ReportsName name e → MadeOf v r
+pub invalid_made : (v : Location) (r : Result Location Error) (e : Error) → r ≡ Err e → (name : List ℕ) × (invalid_name v.scheme ≡ Some name) × ReportsName name e → BuiltFrom v r
 invalid_made v r e is (name, invalid, reported) = record {
   helper_name = λ n h. let same : name ≡ n = cc in (e, is, subst (λ m. ReportsName m e) same reported);
   fault = λ valid f h. absurd (cc);
@@ -140,7 +140,7 @@ given_same [] = refl
 given_same (b ∷ bs) = refl
 
 -- what comes back of parts without a spelling is them, with the given path in place
-with_given_back : (v w : Location) → v.spelling ≡ None → fields w ≡ fields v → with_given v.path w ≡ v
+with_given_back : (v w : Location) → v.spelling ≡ None → fields w ≡ fields v → with_kept_path v.path w ≡ v
 with_given_back v w bare same =
     let path : v.path ≡ w.path = sym (ap (λ l. l.path) same) in
     let kept : given_or v.path w.path ≡ w.path = ap (λ p. given_or p w.path) path ∙ given_same w.path in
@@ -164,10 +164,10 @@ parts_back v w bare is h again read =
     (λ a b. read_bare v.scheme v w back.written refl bare a b is h again.same_fields back.has_text (read back.written back.has_text).found)
 
 -- what was read, with the path that is kept, is the answer
-pub read_made : (v w made : Location) → v.spelling ≡ None → IsValue v → invalid_name v.scheme ≡ None → made ≡ keeping v.scheme v.path w
+pub read_made : (v w built : Location) → v.spelling ≡ None → IsValue v → invalid_name v.scheme ≡ None → built ≡ keeping v.scheme v.path w
     → ((t : List ℕ) → text v ≡ Ok t → Reads t (Ok w)) → ((f : WriteFault) → text v ≡ Err f → (let answered : Result Location Error = Ok w in answered ≡ Err (error.Unwritable f))) → (IsSettled v → IsAgain v w)
-    → MadeOf v (Ok made)
-read_made v w made bare is valid kept read fault settled = record {
+    → BuiltFrom v (Ok built)
+read_made v w built bare is valid kept read fault settled = record {
   helper_name = λ n h. absurd (cc);
   fault = λ also f h. let wrong = fault f h in absurd (cc);
   read = λ t h. (w, read t h, kept);
@@ -177,8 +177,8 @@ read_made v w made bare is valid kept read fault settled = record {
 -- what the text was refused with is the answer
 pub refused_made : (v : Location) (r : Result Location Error) (e : Error) → r ≡ Err e → invalid_name v.scheme ≡ None
     → ((t : List ℕ) → text v ≡ Ok t → Reads t (Err e)) → ((f : WriteFault) → text v ≡ Err f → (let answered : Result Location Error = Err e in answered ≡ Err (error.Unwritable f))) → (IsSettled v → e ≡ error.Memory)
-    → MadeOf v r
-refused_made v r e is valid read fault settled = subst (MadeOf v) (sym is) record {
+    → BuiltFrom v r
+refused_made v r e is valid read fault settled = subst (BuiltFrom v) (sym is) record {
   helper_name = λ n h. absurd (cc);
   fault = λ also f h. fault f h;
   read = read;

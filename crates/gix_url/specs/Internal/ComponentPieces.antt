@@ -13,11 +13,11 @@ use Rattle.git_syntax.specs.Grammar.{or_root}
 use Rattle.git_laws.specs.Components.{CutsPath, CutsFields, SplitsField, with_spaces}
 use Rattle.git_syntax.specs.Escapes.{matches}
 use Rattle.git_location.specs.Text.{original_path}
-use Rattle.gix_url.specs.Internal.Meanings.{meant_by}
+use Rattle.gix_url.specs.Internal.Meanings.{denoted_by}
 
 -- the original path of a location, with its decoding
 abbrev pub SpellsPath : Location → EscapedText → Type 0
-SpellsPath v whole = (whole.text.now ≡ original_path v) × (whole.meant.now ≡ v.path)
+SpellsPath v whole = (whole.text.now ≡ original_path v) × (whole.denoted.now ≡ v.path)
     × (whole.escaped ≡ matches v.spelling v.path)
 
 -- the pieces of a text around the first c, escaped if the text is
@@ -41,35 +41,35 @@ CutsOff c whole front (Some behind) = CutsAround c whole front behind
 -- ---- the query
 
 -- a name or a value is the decoding of its piece, borrowed if the piece has no raw `+`
-abbrev pub LendsTerm : Bool → List ℕ → QueryText → Type 0
-LendsTerm escaped piece (Borrowed text) = FreeOf plus_sign piece
-    × (bstr_bytes text ≡ meant_by escaped piece)
-LendsTerm escaped piece (Owned text) = (¬ FreeOf plus_sign piece)
-    × (bstring_bytes text ≡ meant_by escaped (with_spaces piece))
+abbrev pub BorrowsTerm : Bool → List ℕ → QueryText → Type 0
+BorrowsTerm escaped piece (Borrowed text) = FreeOf plus_sign piece
+    × (bstr_bytes text ≡ denoted_by escaped piece)
+BorrowsTerm escaped piece (Owned text) = (¬ FreeOf plus_sign piece)
+    × (bstring_bytes text ≡ denoted_by escaped (with_spaces piece))
 
 -- a name and its value are the decodings of the two parts of a field
-pub record LendsPair (escaped : Bool) (field : List ℕ) (pair : QueryText × QueryText) : Type 0 where
+pub record BorrowsPair (escaped : Bool) (field : List ℕ) (pair : QueryText × QueryText) : Type 0 where
   pub name : List ℕ
   pub value : List ℕ
   pub split : SplitsField field name value
-  pub name_lent : LendsTerm escaped name pair.0
-  pub value_lent : LendsTerm escaped value pair.1
+  pub name_lent : BorrowsTerm escaped name pair.0
+  pub value_lent : BorrowsTerm escaped value pair.1
 
 -- these names and values are the decodings of the fields, in order; empty fields are skipped
-abbrev pub LendsPairs : Bool → List (List ℕ) → List (QueryText × QueryText) → Type 0
-LendsPairs escaped [] pairs = pairs ≡ []
-LendsPairs escaped ([] ∷ fields) pairs = LendsPairs escaped fields pairs
-LendsPairs escaped ((b ∷ bs) ∷ fields) pairs =
+abbrev pub BorrowsPairs : Bool → List (List ℕ) → List (QueryText × QueryText) → Type 0
+BorrowsPairs escaped [] pairs = pairs ≡ []
+BorrowsPairs escaped ([] ∷ fields) pairs = BorrowsPairs escaped fields pairs
+BorrowsPairs escaped ((b ∷ bs) ∷ fields) pairs =
     (pair : QueryText × QueryText) × (others : List (QueryText × QueryText))
-    × LendsPair escaped (b ∷ bs) pair × LendsPairs escaped fields others × (pairs ≡ pair ∷ others)
+    × BorrowsPair escaped (b ∷ bs) pair × BorrowsPairs escaped fields others × (pairs ≡ pair ∷ others)
 
 -- these names and values are the decodings of the fields of a text, which has at least one
-pub record LendsFields (escaped : Bool) (text : List ℕ)
+pub record BorrowsFields (escaped : Bool) (text : List ℕ)
     (pairs : List (QueryText × QueryText)) : Type 0 where
   pub field : List ℕ
   pub fields : List (List ℕ)
   pub cut : CutsFields text (field ∷ fields)
-  pub lent : LendsPairs escaped (field ∷ fields) pairs
+  pub borrowed : BorrowsPairs escaped (field ∷ fields) pairs
 
 -- the field is not empty
 abbrev pub is_field : List ℕ → Bool
@@ -103,34 +103,34 @@ abbrev pub field_count : List ℕ → ℕ
 field_count text = length (filter is_field (slice_split (λ b. b == ampersand) text))
 
 -- the name and the value of a field were appended
-abbrev pub AddsLent : Bool → List ℕ → List (QueryText × QueryText) → List (QueryText × QueryText)
+abbrev pub AddsBorrowed : Bool → List ℕ → List (QueryText × QueryText) → List (QueryText × QueryText)
     → Type 0
-AddsLent escaped field old new = (pair : QueryText × QueryText) × LendsPair escaped field pair
+AddsBorrowed escaped field old new = (pair : QueryText × QueryText) × BorrowsPair escaped field pair
     × (new ≡ old ++ pair ∷ [])
 
 -- the name and the value of a field were appended, unless the field is empty
 abbrev pub AddsPair : Bool → List ℕ → List (QueryText × QueryText) → List (QueryText × QueryText)
     → Type 0
 AddsPair escaped [] old new = new ≡ old
-AddsPair escaped (b ∷ bs) old new = AddsLent escaped (b ∷ bs) old new
+AddsPair escaped (b ∷ bs) old new = AddsBorrowed escaped (b ∷ bs) old new
 
 -- ---- all components
 
 -- these are the names and values of a query, if there is one
-abbrev pub LendsQuery : Bool → Option (List ℕ) → Option (List (QueryText × QueryText)) → Type 0
-LendsQuery escaped None pairs = pairs ≡ None
-LendsQuery escaped (Some query) None = ⊥
-LendsQuery escaped (Some query) (Some pairs) = LendsFields escaped query pairs
+abbrev pub BorrowsQuery : Bool → Option (List ℕ) → Option (List (QueryText × QueryText)) → Type 0
+BorrowsQuery escaped None pairs = pairs ≡ None
+BorrowsQuery escaped (Some query) None = ⊥
+BorrowsQuery escaped (Some query) (Some pairs) = BorrowsFields escaped query pairs
 
 -- the components of a text of HTTP
-pub record LendsParts (escaped : Bool) (text : List ℕ) (parts : PathComponents) : Type 0 where
+pub record BorrowsParts (escaped : Bool) (text : List ℕ) (parts : PathComponents) : Type 0 where
   pub front : List ℕ
   pub query : Option (List ℕ)
   pub fragment : Option (List ℕ)
   pub cut : CutsPath text front query fragment
-  pub path_meant : bstr_bytes parts.path ≡ or_root (meant_by escaped front)
-  pub query_lent : LendsQuery escaped query (option_map (λ pairs. pairs.items) parts.query)
-  pub fragment_meant : option_map bstr_bytes parts.fragment ≡ option_map (meant_by escaped) fragment
+  pub path_meant : bstr_bytes parts.path ≡ or_root (denoted_by escaped front)
+  pub query_lent : BorrowsQuery escaped query (option_map (λ pairs. pairs.items) parts.query)
+  pub fragment_meant : option_map bstr_bytes parts.fragment ≡ option_map (denoted_by escaped) fragment
 
 -- a text has a query
 pub record HasQuery (text : List ℕ) : Type 0 where

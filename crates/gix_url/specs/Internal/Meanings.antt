@@ -3,5 +3,5 @@ use Rattle.std.specs.Prelude.{ℕ, Bool, List, if◌then◌else◌}
 use Rattle.percent_encoding.specs.Percent.{percent_decode}
 
 -- the meaning of a piece: its decoding if it is escaped, and else the piece itself
-abbrev pub meant_by : Bool → List ℕ → List ℕ
-meant_by escaped piece = if escaped then percent_decode piece else piece
+abbrev pub denoted_by : Bool → List ℕ → List ℕ
+denoted_by escaped piece = if escaped then percent_decode piece else piece

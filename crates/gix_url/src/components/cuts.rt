@@ -6,7 +6,7 @@ ghost use Rattle.std.specs.Prelude.{◌≡◌, ◌==◌, ◌++◌, [], ◌∷◌
 ghost use Rattle.std.specs.Char.{is_digit};
 ghost use Rattle.percent_encoding.specs.Percent.{percent_decode};
 ghost use Rattle.git_syntax.specs.Bytes.{FreeOf};
-ghost use Rattle.gix_url.specs.Internal.Meanings.{meant_by};
+ghost use Rattle.gix_url.specs.Internal.Meanings.{denoted_by};
 
 use crate::components::measure::meant_len;
 use crate::components::near::cut_near;
@@ -18,10 +18,10 @@ pub(super) struct EscapedText<'a> {
     /// The text.
     pub(super) text: &'a [u8],
     /// Its decoding.
-    pub(super) meant: &'a [u8],
+    pub(super) denoted: &'a [u8],
     /// Whether an escape in the text is decoded, or is literal text.
     pub(super) escaped: bool,
-    ghost meaning: { meant.now ≡ meant_by escaped text.now },
+    ghost meaning: { denoted.now ≡ denoted_by escaped text.now },
 }
 
 impl<'a> EscapedText<'a> {
@@ -30,26 +30,26 @@ impl<'a> EscapedText<'a> {
     /// The unescaped text: an escape in it is literal text.
     pub(super) fn raw(text: &'a [u8]) -> EscapedText<'a>
         ensures text { result.text.now ≡ text.now }
-        ensures meant { result.meant.now ≡ text.now }
+        ensures denoted { result.denoted.now ≡ text.now }
         ensures escaped { result.escaped ≡ false }
     {
         EscapedText {
             text,
-            meant: text,
+            denoted: text,
             escaped: false,
         }
     }
 
-    /// The spelling of `meant`, to which it decodes.
-    pub(super) fn spelling(text: &'a [u8], meant: &'a [u8]) -> EscapedText<'a>
-        requires { percent_decode text.now ≡ meant.now }
+    /// The spelling of `denoted`, to which it decodes.
+    pub(super) fn spelling(text: &'a [u8], denoted: &'a [u8]) -> EscapedText<'a>
+        requires { percent_decode text.now ≡ denoted.now }
         ensures text { result.text.now ≡ text.now }
-        ensures meant { result.meant.now ≡ meant.now }
+        ensures denoted { result.denoted.now ≡ denoted.now }
         ensures escaped { result.escaped ≡ true }
     {
         EscapedText {
             text,
-            meant,
+            denoted,
             escaped: true,
         }
     }
@@ -88,12 +88,12 @@ impl<'a> EscapedText<'a> {
         (
             EscapedText {
                 text: front,
-                meant: self.meant.split_at(at).0,
+                denoted: self.denoted.split_at(at).0,
                 escaped: self.escaped,
             },
             EscapedText {
                 text: behind,
-                meant: self.meant.split_at(at + 1).1,
+                denoted: self.denoted.split_at(at + 1).1,
                 escaped: self.escaped,
             },
         )
@@ -118,7 +118,7 @@ impl<'a> EscapedText<'a> {
     {
         EscapedText {
             text: b"",
-            meant: b"",
+            denoted: b"",
             escaped: self.escaped,
         }
     }

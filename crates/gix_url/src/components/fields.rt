@@ -4,12 +4,12 @@
 
 ghost use Rattle.std.specs.Prelude.{◌≡◌, ◌==◌, ◌+◌, ◌≤◌, ◌<◌, ◌++◌, [], ◌∷◌, IfOk, IsTrue, OnOk, false, length, vec_capacity, vec_len};
 ghost use Rattle.git_syntax.specs.Bytes.{FreeOf, ampersand, plus_sign};
-ghost use Rattle.gix_url.specs.Internal.ComponentPieces.{AddsLent, AddsPair, LendsFields, begun_by, begun_in, ends_in, field_count, one_field};
+ghost use Rattle.gix_url.specs.Internal.ComponentPieces.{AddsBorrowed, AddsPair, BorrowsFields, begun_by, begun_in, ends_in, field_count, one_field};
 
 use super::QueryText;
 use crate::components::cuts::EscapedText;
-use crate::components::lend::{lend_pair, lent_pair};
 use crate::components::near::cut_near;
+use crate::components::query_texts::{borrow_pair, borrowed_pair};
 use git_syntax::bytes::is_free_of;
 use std::alloc::{AllocError, Global};
 
@@ -17,27 +17,27 @@ use std::alloc::{AllocError, Global};
 const PIECE: usize = 255;
 
 /// The names and values of the query.
-pub(super) fn lend_query<'a>(
+pub(super) fn borrow_query<'a>(
     alloc: Global,
     query: EscapedText<'a>,
 ) -> Result<Vec<(QueryText<'a>, QueryText<'a>)>, AllocError>
     ensures { IfOk result
-        (λ pairs. LendsFields query.entry.escaped query.entry.text.now pairs.items) }
+        (λ pairs. BorrowsFields query.entry.escaped query.entry.text.now pairs.items) }
 {
     if query.escaped {
-        lend_spelled(alloc, query)
+        borrow_spelled(alloc, query)
     } else {
-        lend_raw(alloc, query.text)
+        borrow_raw(alloc, query.text)
     }
 }
 
 /// The names and values of a query whose escapes are decoded.
-fn lend_spelled<'a>(
+fn borrow_spelled<'a>(
     alloc: Global,
     query: EscapedText<'a>,
 ) -> Result<Vec<(QueryText<'a>, QueryText<'a>)>, AllocError>
     ensures { IfOk result
-        (λ pairs. LendsFields query.entry.escaped query.entry.text.now pairs.items) }
+        (λ pairs. BorrowsFields query.entry.escaped query.entry.text.now pairs.items) }
 {
     let mut pairs = Vec::with_capacity(alloc, count_fields(query.text))?;
     let plain = is_free_of(query.text, b'+');
@@ -51,11 +51,11 @@ fn lend_spelled<'a>(
 }
 
 /// The names and values of a query whose escapes are literal text.
-fn lend_raw<'a>(
+fn borrow_raw<'a>(
     alloc: Global,
     query: &'a [u8],
 ) -> Result<Vec<(QueryText<'a>, QueryText<'a>)>, AllocError>
-    ensures { IfOk result (λ pairs. LendsFields false query.now pairs.items) }
+    ensures { IfOk result (λ pairs. BorrowsFields false query.now pairs.items) }
 {
     let mut pairs = Vec::with_capacity(alloc, count_fields(query))?;
     let plain = is_free_of(query, b'+');
@@ -77,7 +77,7 @@ fn push_field<'a>(
     field: EscapedText<'a>,
     plain: bool,
 ) -> Result<(), AllocError>
-    requires room { vec_len pairs.old + one_field field.text.now ≤ vec_capacity pairs.old }
+    requires reserved { vec_len pairs.old + one_field field.text.now ≤ vec_capacity pairs.old }
     requires plain { IsTrue plain → FreeOf plus_sign field.text.now }
     ensures pairs { OnOk result
         (AddsPair field.entry.escaped field.entry.text.now pairs.old.items pairs.new.items) }
@@ -89,7 +89,7 @@ fn push_field<'a>(
         return Ok(());
     }
     if lacks_plus(field.text, plain) {
-        push_within(pairs, lent_pair(field));
+        push_within(pairs, borrowed_pair(field));
         return Ok(());
     }
     push_made(alloc, pairs, field)
@@ -105,11 +105,11 @@ fn push_made<'a>(
 ) -> Result<(), AllocError>
     requires { vec_len pairs.old < vec_capacity pairs.old }
     ensures pairs { OnOk result
-        (AddsLent field.entry.escaped field.entry.text.now pairs.old.items pairs.new.items) }
+        (AddsBorrowed field.entry.escaped field.entry.text.now pairs.old.items pairs.new.items) }
     ensures len { OnOk result (vec_len pairs.new ≡ vec_len pairs.old + 1) }
     ensures capacity { vec_capacity pairs.old ≤ vec_capacity pairs.new }
 {
-    let pair = lend_pair(alloc, field)?;
+    let pair = borrow_pair(alloc, field)?;
     push_within(pairs, pair);
     Ok(())
 }

@@ -2,14 +2,14 @@
 
 ghost use Rattle.std.specs.Prelude.{◌≡◌, ◌+◌, ◌≤◌, ◌∷◌, length};
 ghost use Rattle.percent_encoding.specs.Percent.{percent_decode};
-ghost use Rattle.gix_url.specs.Internal.Meanings.{meant_by};
+ghost use Rattle.gix_url.specs.Internal.Meanings.{denoted_by};
 
 use git_syntax::escape::begins_with_digits;
 
 /// The length of the text's decoding, or of the text itself if its escapes are literal.
 #[inline(always)]
 pub(super) fn meant_len(text: &[u8], escaped: bool) -> usize
-    ensures { result ≡ length (meant_by escaped text.now) }
+    ensures { result ≡ length (denoted_by escaped text.now) }
 {
     if escaped {
         decoded_len(text)

@@ -8,7 +8,7 @@ ghost use Rattle.std.specs.Cmp.{on_equiv, on_per, partial_equiv_from_equiv};
 ghost use Rattle.std.specs.Cmp.Lexicographic.{nat_list_eq_equiv, pointwise};
 ghost use Rattle.bstr.specs.BStr.{bstr_bytes};
 ghost use Rattle.git_laws.specs.ComponentEquality.{components_eq, components_equiv, fragment_eq, pair_eq, query_eq};
-ghost use Rattle.gix_url.specs.ComponentViews.{components, is_borrowed, pair_bytes, pair_lent, text_bytes, what_is_lent};
+ghost use Rattle.gix_url.specs.ComponentViews.{components, is_borrowed, pair_bytes, pair_borrowed, text_bytes, what_is_borrowed};
 
 use crate::components::fields::push_within;
 use crate::components::{PathComponents, QueryText};
@@ -48,7 +48,7 @@ impl<'a> QueryText<'a> {
         ensures equal { IfOk result (λ copy. text_bytes copy ≡ text_bytes self.now) }
         ensures alike { IfOk result (λ copy. is_borrowed copy ≡ is_borrowed self.now) }
         ensures memory { IfErr result (λ e. e ≡ Error.Memory) }
-        ensures lent { is_borrowed self.now ≡ true → IsOk result }
+        ensures borrowed { is_borrowed self.now ≡ true → IsOk result }
     {
         match self {
             QueryText::Borrowed(text) => Ok(QueryText::Borrowed(*text)),
@@ -75,7 +75,7 @@ impl<'a> PathComponents<'a> {
     /// Components without a query need none.
     pub fn clone(&self, alloc: Global) -> Result<PathComponents<'a>, Error>
         ensures equal { IfOk result (λ copy. components copy ≡ components self.now) }
-        ensures alike { IfOk result (λ copy. what_is_lent copy ≡ what_is_lent self.now) }
+        ensures alike { IfOk result (λ copy. what_is_borrowed copy ≡ what_is_borrowed self.now) }
         ensures memory { IfErr result (λ e. e ≡ Error.Memory) }
         ensures no_query { (components self.now).query ≡ None → IsOk result }
     {
@@ -97,7 +97,7 @@ fn copied_pairs<'a>(
     pairs: &[(QueryText<'a>, QueryText<'a>)],
 ) -> Result<Vec<(QueryText<'a>, QueryText<'a>)>, Error>
     ensures equal { IfOk result (λ copy. map pair_bytes copy.items ≡ map pair_bytes pairs.now) }
-    ensures alike { IfOk result (λ copy. map pair_lent copy.items ≡ map pair_lent pairs.now) }
+    ensures alike { IfOk result (λ copy. map pair_borrowed copy.items ≡ map pair_borrowed pairs.now) }
     ensures memory { IfErr result (λ e. e ≡ Error.Memory) }
 {
     let mut copy = Vec::with_capacity(alloc, pairs.len())?;
@@ -113,7 +113,7 @@ fn copied_pair<'a>(
     pair: &(QueryText<'a>, QueryText<'a>),
 ) -> Result<(QueryText<'a>, QueryText<'a>), Error>
     ensures equal { IfOk result (λ copy. pair_bytes copy ≡ pair_bytes pair.now) }
-    ensures alike { IfOk result (λ copy. pair_lent copy ≡ pair_lent pair.now) }
+    ensures alike { IfOk result (λ copy. pair_borrowed copy ≡ pair_borrowed pair.now) }
     ensures memory { IfErr result (λ e. e ≡ Error.Memory) }
 {
     Ok((pair.0.clone(alloc)?, pair.1.clone(alloc)?))

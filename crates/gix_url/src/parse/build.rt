@@ -2,7 +2,7 @@
 
 ghost use Rattle.std.specs.Prelude.{◌≡◌, IfOk, IfSome, IsUtf8, option_map, string_bytes};
 ghost use Rattle.std.specs.Option.{option_copied};
-ghost use Rattle.git_syntax.specs.Internal.FoundPieces.{AreScpTexts, IsReady, meant, scp_host_of};
+ghost use Rattle.git_syntax.specs.Internal.FoundPieces.{AreScpTexts, IsReady, denoted, scp_host_of};
 ghost use Rattle.git_syntax.specs.Grammar.{helper_scheme, scp_location};
 ghost use Rattle.git_syntax.specs.Location.{path_alone};
 ghost use Rattle.gix_url.specs.Views.{owned_scheme};
@@ -22,7 +22,7 @@ use std::alloc::{AllocError, Global};
 /// The location that found slices mean.
 pub(super) fn build(alloc: Global, found: Found<'_>) -> Result<Url, AllocError>
     requires { IsReady found }
-    ensures { IfOk result (λ v. v ≡ meant found.entry) }
+    ensures { IfOk result (λ v. v ≡ denoted found.entry) }
 {
     match found {
         Found::Helper { name, address } => {

@@ -13,7 +13,7 @@ use crate::codes::{MEMORY, NO_LOCATION};
 use crate::rules::entries::{EntryBytes, entries_of};
 use crate::rules::stops::{Stop, no_stop, stop_without_value};
 use git_rules::config::Entry;
-use git_rules::normal::{NormalError, NormalUrl, room_for};
+use git_rules::normal::{NormalError, NormalUrl, needed_buffer_len};
 use git_rules::pattern::settings::{SettingsError, settings_for, settings_without_place};
 use std::alloc::Global;
 
@@ -97,7 +97,7 @@ fn put_settings(
     ensures stop { LeavesStop result stop.new }
 {
     *stop = no_stop();
-    let Ok(mut buffer) = vec![in alloc; 0u8; room_for(text.len())] else {
+    let Ok(mut buffer) = vec![in alloc; 0u8; needed_buffer_len(text.len())] else {
         return MEMORY;
     };
     match NormalUrl::parse_in(text, buffer.as_mut_slice()) {
@@ -128,7 +128,7 @@ fn put_for_place(
     ensures stop { LeavesStop result stop.new }
 {
     *stop = no_stop();
-    let Ok(mut buffer) = vec![in alloc; 0u8; room_for(longest(entries))] else {
+    let Ok(mut buffer) = vec![in alloc; 0u8; needed_buffer_len(longest(entries))] else {
         return MEMORY;
     };
     match settings_for(alloc, entries, name, place, buffer.as_mut_slice()) {

@@ -3,7 +3,7 @@
 ghost use Rattle.std.specs.Prelude.{◌≡◌, ◌++◌, [], IfOk, OnOk, map};
 ghost use Rattle.std.specs.List.{flat_map};
 ghost use Rattle.gix_url_c.specs.EntryNumbers.{entry_numbers, entry_texts, file_numbers, file_texts};
-ghost use Rattle.gix_url_c.specs.Looks.{truth};
+ghost use Rattle.gix_url_c.specs.SeenLocations.{truth};
 
 use crate::output::part;
 use git_modules::config_file::FileEntry;

@@ -19,5 +19,5 @@ returns-in-Ok c = reported_answer c.args.line.now _ _ _ _ c.in-Ok.ensures.found 
 
 pub returns-in-Err-Refused : goal.returns-in-Err-Refused
 returns-in-Err-Refused c =
-    let refused = subst (RefusesIn c.args.line.now (length c.args.room.now)) c.in-Err-Refused.field-0-is c.in-Err-Refused.ensures.refused in
+    let refused = subst (RefusesIn c.args.line.now (length c.args.line_buffer.now)) c.in-Err-Refused.field-0-is c.in-Err-Refused.ensures.refused in
     refused_answer c.args.line.now _ _ _ _ refused.1 c.refuse.ensures

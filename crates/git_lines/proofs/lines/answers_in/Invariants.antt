@@ -6,7 +6,7 @@ use Rattle.git_lines.proofs.lines.answers_in.Given as goal
 abbrev pub invariant-loop-line : goal.invariant-loop-line
 invariant-loop-line l = record {
   done : Done l.fn.text l.rest l.out.items l.all;
-  room : HasLinesWithin (length l.room) l.rest;
+  line_buffer : HasLinesWithin (length l.line_buffer) l.rest;
 }
 
 abbrev pub decreases-loop-line : goal.decreases-loop-line

@@ -7,8 +7,8 @@ pub loop-line-preserved : goal.loop-line-preserved
 loop-line-preserved c =
     subst (Measured c.args.text.now c.in-Some.behind.now) (sym c.max-longest.ensures) (measured_step c.args.text.now c.loop-line.rest.now c.in-Some.line.now c.in-Some.behind.now c.loop-line.longest c.loop-line.invariant c.in-Some.ensures)
 
-pub returns-clause-room : goal.returns-clause-room
-returns-clause-room c =
+pub returns-clause-line_buffer : goal.returns-clause-line_buffer
+returns-clause-line_buffer c =
     (measured_all c.args.text.now c.loop-line.rest.now c.loop-line.longest c.max.result c.loop-line.invariant c.in_default.ensures).1 (omega (arith, c.max.ensures))
 
 pub returns-clause-least : goal.returns-clause-least

@@ -6,7 +6,7 @@ use Rattle.git_modules.proofs.config_file.entries.Given as goal
 abbrev pub invariant-loop-at : goal.invariant-loop-at
 invariant-loop-at l = record {
   read : IsAt l.text l.at l.line l.owner l.found.items;
-  left : length l.text ≤ l.at + length l.room;
+  left : length l.text ≤ l.at + length l.unused_buffer;
   whole : length l.text ≤ length l.fn.buffer;
 }
 

@@ -2,7 +2,7 @@
 use Rattle.std.proofs.Common.{◌∙◌, ap, drop, refl, subst}
 use Rattle.std.proofs.lemmas.Bool.{false≢true}
 use Rattle.std.proofs.lemmas.Result.{IfErr-weaker, IfOk-weaker}
-use Rattle.git_reads.specs.Git.{ReachesSecure, ReadsGiven, from_tilde}
+use Rattle.git_reads.specs.Git.{ReachesSecure, ReadsInput, from_tilde}
 use Rattle.git_reads.specs.Unread.{GetsUrl}
 use Rattle.git_reads.specs.Views.{git_reading}
 use Rattle.git_reads.specs.Transports.{Fails, FailsToReach, IsUnreadPath}
@@ -13,7 +13,7 @@ use Rattle.git_reads.proofs.transport.no_url.Goals as goal
 pub returns-then-not-is_remote-clause-read : goal.returns-then-not-is_remote-clause-read
 returns-then-not-is_remote-clause-read c =
     let place = local_decided c.args.text.now (λ h. false≢true (c.if-not-is_remote.ensures.1 h)) in
-    IfOk-weaker c.local_path.result _ (λ it. ReadsGiven c.args.text.now (git_reading it)) (λ it h. local_reads c.args.text.now c.past_brackets.result.0.now c.past_brackets.result.1.now (git_reading it) c.requires.no_mark c.requires.no_helper (λ k. false≢true (c.if-begins_by.ensures.1 k)) place c.past_brackets.ensures.end h.0 h.1) c.local_path.ensures.read
+    IfOk-weaker c.local_path.result _ (λ it. ReadsInput c.args.text.now (git_reading it)) (λ it h. local_reads c.args.text.now c.past_brackets.result.0.now c.past_brackets.result.1.now (git_reading it) c.requires.no_mark c.requires.no_helper (λ k. false≢true (c.if-begins_by.ensures.1 k)) place c.past_brackets.ensures.end h.0 h.1) c.local_path.ensures.read
 
 pub returns-then-not-is_remote-clause-why : goal.returns-then-not-is_remote-clause-why
 returns-then-not-is_remote-clause-why c =
@@ -24,7 +24,7 @@ pub returns-in-Some-clause-read : goal.returns-in-Some-clause-read
 returns-in-Some-clause-read c =
     let (behind, is, cut) = c.in-Some.ensures in
     let path = c.from_tilde.ensures ∙ ap from_tilde (c.split_at.ensures.back ∙ ap (drop 1) is) in
-    IfOk-weaker c.secure.result (λ it. ReachesSecure c.in-Some.place.now c.from_tilde.result.now (git_reading it)) (λ it. ReadsGiven c.args.text.now (git_reading it)) (λ it h. scp_reads c.args.text.now c.in-Some.place.now behind c.from_tilde.result.now (git_reading it) (is_no_url c.args.text.now c.requires.no_mark c.requires.no_helper (λ k. false≢true (c.if-begins_by.ensures.1 k))) (c.if-not-is_remote.ensures.0 refl) cut path h) c.secure.ensures.read
+    IfOk-weaker c.secure.result (λ it. ReachesSecure c.in-Some.place.now c.from_tilde.result.now (git_reading it)) (λ it. ReadsInput c.args.text.now (git_reading it)) (λ it h. scp_reads c.args.text.now c.in-Some.place.now behind c.from_tilde.result.now (git_reading it) (is_no_url c.args.text.now c.requires.no_mark c.requires.no_helper (λ k. false≢true (c.if-begins_by.ensures.1 k))) (c.if-not-is_remote.ensures.0 refl) cut path h) c.secure.ensures.read
 
 pub returns-in-Some-clause-why : goal.returns-in-Some-clause-why
 returns-in-Some-clause-why c =

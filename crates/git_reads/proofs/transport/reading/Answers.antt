@@ -2,7 +2,7 @@
 use Rattle.std.proofs.Common.{◌≡◌, refl, subst, sym}
 use Rattle.std.proofs.lemmas.Result.{IfErr-weaker, IfOk-weaker}
 use Rattle.git_reads.specs.declared.transport.Unread.TheVariants as why
-use Rattle.git_reads.specs.Git.{GitReads, ReadsGiven}
+use Rattle.git_reads.specs.Git.{GitReads, ReadsInput}
 use Rattle.git_reads.specs.Unread.{LacksReading, Unreads}
 use Rattle.git_reads.specs.Views.{git_reading}
 use Rattle.git_reads.specs.Transports.{Fails, url_text}
@@ -20,7 +20,7 @@ returns-then-names_helper-clause-why c = (
 
 pub returns-in-Some-clause-read : goal.returns-in-Some-clause-read
 returns-in-Some-clause-read c =
-    IfOk-weaker c.url.result (λ it. ReadsGiven (url_text c.in-Some.scheme.now c.in-Some.spelled.now) (git_reading it)) (λ it. GitReads c.args.text.now (git_reading it)) (λ it h. record { whole = c.if-not-is_free_of.ensures.0 refl; no_option = sym c.if-starts_with_byte.ensures; reads = subst (λ t. ReadsGiven t (git_reading it)) (sym c.in-Some.ensures.1) h }) c.url.ensures.read
+    IfOk-weaker c.url.result (λ it. ReadsInput (url_text c.in-Some.scheme.now c.in-Some.spelled.now) (git_reading it)) (λ it. GitReads c.args.text.now (git_reading it)) (λ it h. record { whole = c.if-not-is_free_of.ensures.0 refl; no_option = sym c.if-starts_with_byte.ensures; reads = subst (λ t. ReadsInput t (git_reading it)) (sym c.in-Some.ensures.1) h }) c.url.ensures.read
 
 pub returns-in-Some-clause-none : goal.returns-in-Some-clause-none
 returns-in-Some-clause-none c =
@@ -32,7 +32,7 @@ returns-in-Some-clause-why c =
 
 pub returns-in-None-clause-read : goal.returns-in-None-clause-read
 returns-in-None-clause-read c =
-    IfOk-weaker c.no_url.result (λ it. ReadsGiven c.args.text.now (git_reading it)) (λ it. GitReads c.args.text.now (git_reading it)) (λ it h. record { whole = c.if-not-is_free_of.ensures.0 refl; no_option = sym c.if-starts_with_byte.ensures; reads = h }) c.no_url.ensures.read
+    IfOk-weaker c.no_url.result (λ it. ReadsInput c.args.text.now (git_reading it)) (λ it. GitReads c.args.text.now (git_reading it)) (λ it h. record { whole = c.if-not-is_free_of.ensures.0 refl; no_option = sym c.if-starts_with_byte.ensures; reads = h }) c.no_url.ensures.read
 
 pub returns-in-None-clause-none : goal.returns-in-None-clause-none
 returns-in-None-clause-none c =

@@ -1,7 +1,7 @@
 -- The scheme names the transport, and what is behind the mark is decoded.
 use Rattle.std.proofs.Common.{◌∙◌, ◌++◌, ap, subst}
 use Rattle.std.proofs.lemmas.Result.{IfErr-weaker, IfOk-weaker, err_from_is_err_and}
-use Rattle.git_reads.specs.Git.{ReadsGiven, git_decode}
+use Rattle.git_reads.specs.Git.{ReadsInput, git_decode}
 use Rattle.git_reads.specs.Views.{git_reading, scheme_of_protocol}
 use Rattle.git_reads.specs.Transports.{Fails, FailsToReach, GetsUrlBy, ReachesBy, url_text}
 use Rattle.git_reads.proofs.Reading.UnreadLemmas.{foreign_fails, own_fails, own_reads, own_rewritten, own_uncut, own_url, protocol_own}
@@ -20,7 +20,7 @@ returns-in-Some-cut_place-clause-read c =
     let decoded = c.as_slice.ensures.value ∙ c.in_ok-append_decoded.ensures.value ∙ ap (λ s. s ++ git_decode c.args.spelled.now) c.clear.ensures.items in
     let url = own_url c.args.scheme.now c.args.spelled.now c.as_slice.result.now (scheme_of_protocol c.in-Some.protocol) c.in-Some.ensures decoded in
     let (behind, is, cut) = c.in-Some-cut_place.ensures in
-    IfOk-weaker c.reach.result (λ it. ReachesBy (scheme_of_protocol c.in-Some.protocol) c.in-Some-cut_place.place.now c.in-Some-cut_place.path.now (git_reading it)) (λ it. ReadsGiven (url_text c.args.scheme.now c.args.spelled.now) (git_reading it)) (λ it h. own_reads (scheme_of_protocol c.in-Some.protocol) (url_text c.args.scheme.now c.args.spelled.now) c.as_slice.result.now c.in-Some-cut_place.place.now behind (git_reading it) url cut (subst (λ s. ReachesBy (scheme_of_protocol c.in-Some.protocol) c.in-Some-cut_place.place.now s (git_reading it)) is h)) c.reach.ensures.read
+    IfOk-weaker c.reach.result (λ it. ReachesBy (scheme_of_protocol c.in-Some.protocol) c.in-Some-cut_place.place.now c.in-Some-cut_place.path.now (git_reading it)) (λ it. ReadsInput (url_text c.args.scheme.now c.args.spelled.now) (git_reading it)) (λ it h. own_reads (scheme_of_protocol c.in-Some.protocol) (url_text c.args.scheme.now c.args.spelled.now) c.as_slice.result.now c.in-Some-cut_place.place.now behind (git_reading it) url cut (subst (λ s. ReachesBy (scheme_of_protocol c.in-Some.protocol) c.in-Some-cut_place.place.now s (git_reading it)) is h)) c.reach.ensures.read
 
 pub returns-in-Some-cut_place-clause-why : goal.returns-in-Some-cut_place-clause-why
 returns-in-Some-cut_place-clause-why c =

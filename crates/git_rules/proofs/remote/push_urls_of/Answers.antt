@@ -10,12 +10,12 @@ returns-then-is_its_own_url c =
 
 pub returns-then-is_empty : goal.returns-then-is_empty
 returns-then-is_empty c =
-    let given = c.in_ok-found.found in
-    let empty = nothing given.items given.len c.is_empty.result given.ok.0 c.is_empty.ensures c.if-is_empty.true in
-    IfOk-weaker c.ruled_urls.result (λ found. AreRuled c.args.rules.now.pushing (values_of c.args.name.now url_key c.args.entries.now) found.items) (λ found. HasPushUrls c.args.rules.now c.args.name.now c.args.entries.now found.items) (λ found k. push_ruled c.args.rules.now c.args.name.now c.args.entries.now given.items found.items (sym c.is_its_own_url.ensures ∙ c.if-is_its_own_url.false) c.in_ok-found.ensures empty k) c.ruled_urls.ensures
+    let configured = c.in_ok-found.found in
+    let empty = nothing configured.items configured.len c.is_empty.result configured.ok.0 c.is_empty.ensures c.if-is_empty.true in
+    IfOk-weaker c.ruled_urls.result (λ found. AreRuled c.args.rules.now.pushing (values_of c.args.name.now url_key c.args.entries.now) found.items) (λ found. HasPushUrls c.args.rules.now c.args.name.now c.args.entries.now found.items) (λ found k. push_ruled c.args.rules.now c.args.name.now c.args.entries.now configured.items found.items (sym c.is_its_own_url.ensures ∙ c.if-is_its_own_url.false) c.in_ok-found.ensures empty k) c.ruled_urls.ensures
 
 pub returns : goal.returns
 returns c =
-    let given = c.in_ok-found.found in
-    let some = something given.items given.len c.is_empty.result given.ok.0 c.is_empty.ensures c.if-is_empty.false in
-    push_given c.args.rules.now c.args.name.now c.args.entries.now given.items (sym c.is_its_own_url.ensures ∙ c.if-is_its_own_url.false) c.in_ok-found.ensures some
+    let configured = c.in_ok-found.found in
+    let some = something configured.items configured.len c.is_empty.result configured.ok.0 c.is_empty.ensures c.if-is_empty.false in
+    push_given c.args.rules.now c.args.name.now c.args.entries.now configured.items (sym c.is_its_own_url.ensures ∙ c.if-is_its_own_url.false) c.in_ok-found.ensures some

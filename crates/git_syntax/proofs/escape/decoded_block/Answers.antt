@@ -12,13 +12,13 @@ returns-in_default-clause-shorter c = λ some. end_shorter c.args.text.now c.loo
 
 pub loop-at-preserved : goal.loop-at-preserved
 loop-at-preserved c = record {
-  bytes = byte_more c.args.text.now c.loop-at.block c.loop-at.rest.now c.in-Some.behind.now c.loop-at.at c.in-Some.byte (omega (arith, c.loop-at.invariant.room, c.loop-at-test.true)) c.loop-at.invariant.bytes c.in-Some.ensures;
-  room = length-set c.loop-at.block c.loop-at.at c.in-Some.byte ∙ c.loop-at.invariant.room;
+  bytes = byte_more c.args.text.now c.loop-at.block c.loop-at.rest.now c.in-Some.behind.now c.loop-at.at c.in-Some.byte (omega (arith, c.loop-at.invariant.buffer, c.loop-at-test.true)) c.loop-at.invariant.bytes c.in-Some.ensures;
+  buffer = length-set c.loop-at.block c.loop-at.at c.in-Some.byte ∙ c.loop-at.invariant.buffer;
   zeros = zeros_left c.loop-at.block c.loop-at.at c.in-Some.byte c.loop-at-test.true c.loop-at.invariant.zeros;
 }
 
 pub returns-clause-bytes : goal.returns-clause-bytes
-returns-clause-bytes c = full_block c.args.text.now c.loop-at.block c.loop-at.rest.now c.loop-at.at (omega (arith, c.loop-at.invariant.room, c.loop-at-test.false)) c.loop-at.invariant.bytes
+returns-clause-bytes c = full_block c.args.text.now c.loop-at.block c.loop-at.rest.now c.loop-at.at (omega (arith, c.loop-at.invariant.buffer, c.loop-at-test.false)) c.loop-at.invariant.bytes
 
 pub returns-clause-shorter : goal.returns-clause-shorter
-returns-clause-shorter c = λ some. block_shorter c.args.text.now c.loop-at.block c.loop-at.rest.now c.loop-at.at (omega (arith, c.loop-at-test.false)) (omega (arith, c.loop-at.invariant.room, c.loop-at.auto.at-end)) c.loop-at.invariant.bytes
+returns-clause-shorter c = λ some. block_shorter c.args.text.now c.loop-at.block c.loop-at.rest.now c.loop-at.at (omega (arith, c.loop-at-test.false)) (omega (arith, c.loop-at.invariant.buffer, c.loop-at.auto.at-end)) c.loop-at.invariant.bytes

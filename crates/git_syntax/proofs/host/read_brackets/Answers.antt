@@ -1,7 +1,7 @@
 -- The text between brackets, and what follows it.
 use Rattle.std.proofs.Common.{Some, refl}
 use Rattle.std.proofs.lemmas.Bool.{false≢true}
-use Rattle.git_syntax.specs.Internal.HostPieces.{named_text, meant_host, host_syntax}
+use Rattle.git_syntax.specs.Internal.HostPieces.{named_text, denoted_host, host_syntax}
 use Rattle.git_syntax.proofs.Parsing.HostLemmas.{bracketed_name, no_port_behind, not_ended, not_inner}
 use Rattle.git_syntax.proofs.host.read_brackets.Goals as goal
 
@@ -15,7 +15,7 @@ returns-in_default c =
 
 pub returns-in-Some-with_rest : goal.returns-in-Some-with_rest
 returns-in-Some-with_rest c =
-    bracketed_name (host_syntax c.args.syntax) _ c.args.inner.now c.args.rest.now (meant_host c.in-Some.host) (Some (named_text c.in-Some-with_rest.named)) c.in-Some-with_rest.named.port
+    bracketed_name (host_syntax c.args.syntax) _ c.args.inner.now c.args.rest.now (denoted_host c.in-Some.host) (Some (named_text c.in-Some-with_rest.named)) c.in-Some-with_rest.named.port
     c.requires refl c.in-Some.ensures c.in-Some-with_rest.ensures
 
 pub returns-in-None : goal.returns-in-None

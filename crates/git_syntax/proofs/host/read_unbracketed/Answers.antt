@@ -3,7 +3,7 @@ use Rattle.std.proofs.Common.{◌∷◌, Some, inr, refl}
 use Rattle.std.proofs.lemmas.Bool.{false≢true}
 use Rattle.git_syntax.specs.Bytes.{colon}
 use Rattle.git_syntax.specs.Flaws.{HasBadHost, HasBadPort}
-use Rattle.git_syntax.specs.Internal.HostPieces.{named_text, meant_host, host_syntax}
+use Rattle.git_syntax.specs.Internal.HostPieces.{named_text, denoted_host, host_syntax}
 use Rattle.git_syntax.proofs.Parsing.HostLemmas.{colon_again, colon_first, not_digits, plain_front, plain_name}
 use Rattle.git_syntax.proofs.host.read_unbracketed.Goals as goal
 use Rattle.git_syntax.proofs.host.read_unbracketed.Goals.{then-is_empty-via-then-is_empty, then-is_empty-via-else-is_empty+then-not-is_free_of}
@@ -28,7 +28,7 @@ returns-in_default-read_text c =
 pub returns-in-Some-with_port : goal.returns-in-Some-with_port
 returns-in-Some-with_port c =
     let front = plain_front c.args.piece.now c.in-Some.text.now (colon ∷ c.in-Some.digits.now) c.if-is_empty.ensures c.in-Some.ensures.0 c.requires.no_bracket c.in-Some.ensures.1 in
-    plain_name (host_syntax c.args.syntax) c.args.piece.now c.in-Some.text.now c.in-Some.digits.now (meant_host c.in-Some-read_text.host) (Some (named_text c.in-Some-with_port.named)) c.in-Some-with_port.named.port
+    plain_name (host_syntax c.args.syntax) c.args.piece.now c.in-Some.text.now c.in-Some.digits.now (denoted_host c.in-Some-read_text.host) (Some (named_text c.in-Some-with_port.named)) c.in-Some-with_port.named.port
     front c.in-Some.ensures.1 c.in-Some-read_text.ensures c.in-Some-with_port.ensures
 
 pub returns-in-None : goal.returns-in-None

@@ -33,5 +33,5 @@ returns-clause-ready c = record {
       subst IsUtf8 (literal_normal c.args.address.now (lowercase c.args.address.now) (Literal.address c.requires.cut.addressed refl)) (address_utf8 (lowercase c.args.address.now) (address-lowercase c.args.address.now c.requires.cut.addressed));
 }
 
-pub returns-clause-room : goal.returns-clause-room
-returns-clause-room c = address_within c.requires.cut
+pub returns-clause-buffer : goal.returns-clause-buffer
+returns-clause-buffer c = address_within c.requires.cut

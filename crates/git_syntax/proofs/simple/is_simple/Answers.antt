@@ -1,4 +1,4 @@
--- A local path, or what its first colon tells.
+-- A local path, or a URL, by its first colon.
 use Rattle.std.proofs.Common.{true, arith}
 use Rattle.git_syntax.specs.Location.{path_alone}
 use Rattle.git_syntax.specs.Location.Scheme.{file}

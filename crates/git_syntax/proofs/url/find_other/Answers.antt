@@ -9,4 +9,4 @@ returns-then-not-fits-clause-flaw c =
     record { front = c.args.scheme.now; rest = c.args.rest.now; form = c.requires.form; unfit = λ fits. false≢true (c.if-not-fits.ensures.1 fits) }
 
 pub as_text-requires : goal.as_text-requires
-as_text-requires c = known_utf8 c.look_at-look.result c.args.input.now c.look_at-look.ensures (sym c.if-is_printable.ensures)
+as_text-requires c = known_utf8 c.byte_class_of-byte_class.result c.args.input.now c.byte_class_of-byte_class.ensures (sym c.if-is_printable.ensures)

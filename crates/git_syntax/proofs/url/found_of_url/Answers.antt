@@ -26,5 +26,5 @@ returns-clause-found c =
 pub returns-clause-ready : goal.returns-clause-ready
 returns-clause-ready c = record { ruled = c.requires.rules; scheme_text = scheme_utf8 c.requires.spelled; texts = texts c.requires.spelled; escaped = c.requires.escaped }
 
-pub returns-clause-room : goal.returns-clause-room
-returns-clause-room c = parts_within c.requires.spelled
+pub returns-clause-buffer : goal.returns-clause-buffer
+returns-clause-buffer c = parts_within c.requires.spelled

@@ -25,7 +25,7 @@ returns-then-not-is_scheme_text-clause-flaw c =
 
 pub means_text-requires : goal.means_text-requires
 means_text-requires c =
-    known_path c.args.rules.web c.args.look c.args.text.now c.args.scheme.now c.args.rest.now c.cut_before_path.result.0.now c.cut_before_path.result.1.now c.requires.form.form.joined c.cut_before_path.ensures.joined c.cut_before_path.ensures.rest c.requires.look
+    known_path c.args.rules.web c.args.byte_class c.args.text.now c.args.scheme.now c.args.rest.now c.cut_before_path.result.0.now c.cut_before_path.result.1.now c.requires.form.form.joined c.cut_before_path.ensures.joined c.cut_before_path.ensures.rest c.requires.byte_class
 
 pub returns-then-not-means_text-clause-refused : goal.returns-then-not-means_text-clause-refused
 returns-then-not-means_text-clause-refused c =
@@ -51,4 +51,4 @@ returns-in_err-parts-clause-flaw c =
 
 pub holds_escape-requires : goal.holds_escape-requires
 holds_escape-requires c =
-    known_path c.args.rules.web c.args.look c.args.text.now c.args.scheme.now c.args.rest.now c.cut_before_path.result.0.now c.cut_before_path.result.1.now c.requires.form.form.joined c.cut_before_path.ensures.joined c.cut_before_path.ensures.rest c.requires.look
+    known_path c.args.rules.web c.args.byte_class c.args.text.now c.args.scheme.now c.args.rest.now c.cut_before_path.result.0.now c.cut_before_path.result.1.now c.requires.form.form.joined c.cut_before_path.ensures.joined c.cut_before_path.ensures.rest c.requires.byte_class

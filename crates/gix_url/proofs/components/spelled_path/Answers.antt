@@ -13,7 +13,7 @@ pub returns-in-Some : goal.returns-in-Some
 returns-in-Some c =
     let found = found_spelling c.in-Some.spelling.now c.args.url.now.spelling c.args.url.now.path c.in-Some.ensures in (
       c.spelling.ensures.text ∙ c.in-Some.ensures c.args.url.now.path,
-      c.spelling.ensures.meant ∙ ap (λ (v : Location). v.path) c.url.view_is,
+      c.spelling.ensures.denoted ∙ ap (λ (v : Location). v.path) c.url.view_is,
       c.spelling.ensures.escaped ∙ sym found.0,
     )
 
@@ -21,6 +21,6 @@ pub returns-in-None : goal.returns-in-None
 returns-in-None c =
     let path = ap (λ (v : Location). v.path) c.url.view_is in (
       c.raw.ensures.text ∙ path ∙ c.in-None.ensures c.args.url.now.path,
-      c.raw.ensures.meant ∙ path,
+      c.raw.ensures.denoted ∙ path,
       c.raw.ensures.escaped ∙ sym (no_spelling c.args.url.now.spelling c.args.url.now.path c.in-None.ensures),
     )

@@ -6,7 +6,7 @@ use Rattle.gix_url.proofs.stored.respell.Given as goal
 abbrev pub invariant-loop-front : goal.invariant-loop-front
 invariant-loop-front l = record {
   items : l.spelling.items ++ new_spelling l.rest ≡ new_spelling l.path;
-  room : vec_len l.spelling + length (new_spelling l.rest) ≤ vec_capacity l.spelling;
+  reserved : vec_len l.spelling + length (new_spelling l.rest) ≤ vec_capacity l.spelling;
 }
 
 abbrev pub decreases-loop-front : goal.decreases-loop-front

@@ -16,23 +16,23 @@ use Rattle.user_proofs.proofs.PickedLemmas.{one_place, placed}
 use Rattle.user_proofs.proofs.credentials.headers_for.Goals as goal
 
 -- the place is the normal form of the text
-form_of : (v : Location) (room : ℕ) (place : NormalPlace) → PlacesIn (text v) room (Ok place) → (t : List ℕ) → text v ≡ Ok t → IsNormalOf false t place
-form_of v room place h t e = (subst (λ x. PlacesIn x room (Ok place)) e h).1
+form_of : (v : Location) (buffer_len : ℕ) (place : NormalPlace) → PlacesIn (text v) buffer_len (Ok place) → (t : List ℕ) → text v ≡ Ok t → IsNormalOf false t place
+form_of v buffer_len place h t e = (subst (λ x. PlacesIn x buffer_len (Ok place)) e h).1
 
 -- an entry that ranks for the place is for all places, or goes to its own
-goes : PickedGoesToOwn → (v : Location) (room : ℕ) (place : NormalPlace) (e : ConfigEntry) (rank : Rank) (named : Option (List ℕ)) → IsValue v → IsWeb v → AgreesWithGit v → PlacesIn (text v) room (Ok place) → e.subsection ≡ named → RanksSubsection (Some place) named rank → (e.subsection ≡ None) ⊎ GoesToOwn v e
-goes law v room place e rank None value web agrees placing named ranked = inl named
-goes law v room place e rank (Some url) value web agrees placing named ranked = inr (record {
+goes : PickedGoesToOwn → (v : Location) (buffer_len : ℕ) (place : NormalPlace) (e : ConfigEntry) (rank : Rank) (named : Option (List ℕ)) → IsValue v → IsWeb v → AgreesWithGit v → PlacesIn (text v) buffer_len (Ok place) → e.subsection ≡ named → RanksSubsection (Some place) named rank → (e.subsection ≡ None) ⊎ GoesToOwn v e
+goes law v buffer_len place e rank None value web agrees placing named ranked = inl named
+goes law v buffer_len place e rank (Some url) value web agrees placing named ranked = inr (record {
   url = url;
   named = named;
   pattern = ranked.0;
   form = ranked.1;
-  reaches = λ free t has. law v t place ranked.0 value web agrees has (form_of v room place placing t has) ranked.2.0 free;
+  reaches = λ free t has. law v t place ranked.0 value web agrees has (form_of v buffer_len place placing t has) ranked.2.0 free;
 })
 
 -- each entry that is used is one of these
-own : PickedGoesToOwn → (v : Location) (room : ℕ) (place : NormalPlace) (entries : List ConfigEntry) (found : List ℕ) → IsValue v → IsWeb v → AgreesWithGit v → PlacesIn (text v) room (Ok place) → AreSettings (codes "extraHeader") (Some place) entries found → AreOwn v entries found
-own law v room place entries found value web agrees placing (inl (list, are)) i held =
+own : PickedGoesToOwn → (v : Location) (buffer_len : ℕ) (place : NormalPlace) (entries : List ConfigEntry) (found : List ℕ) → IsValue v → IsWeb v → AgreesWithGit v → PlacesIn (text v) buffer_len (Ok place) → AreSettings (codes "extraHeader") (Some place) entries found → AreOwn v entries found
+own law v buffer_len place entries found value web agrees placing (inl (list, are)) i held =
     let used = (are.used i).0 held in
     let taken = used.taken in
     record {
@@ -41,9 +41,9 @@ own law v room place entries found value web agrees placing (inl (list, are)) i 
       others = taken.others;
       joined = taken.joined;
       index = taken.index;
-      own = goes law v room place used.entry taken.rank used.entry.subsection value web agrees placing refl taken.ranks.1;
+      own = goes law v buffer_len place used.entry taken.rank used.entry.subsection value web agrees placing refl taken.ranks.1;
     }
-own law v room place entries found value web agrees placing (inr (single, best)) i held = absurd (single (inl refl))
+own law v buffer_len place entries found value web agrees placing (inr (single, best)) i held = absurd (single (inl refl))
 
 -- what follows for a value that is there
 if_ok : {A E : Type 0} (P Q : A → Type 0) (r : Result A E) → ((a : A) → P a → Q a) → IfOk r P → IfOk r Q
@@ -58,15 +58,15 @@ returns-in_default-clause-sent c =
 pub returns-clause-own : goal.returns-clause-own
 returns-clause-own c =
     let v = c.args.url.now in
-    let room = length c.args.buffer.now in
+    let buffer_len = length c.args.buffer.now in
     let place = c.in-Ok.place in
-    let placing = subst (λ w. PlacesIn (text w) room (Ok place)) c.as_ref.ensures c.in-Ok.ensures in
-    if_ok _ _ c.settings_for.result (λ found are. own c.law_patterns.ensures v room place c.args.entries.now _ c.law_value.ensures.value (c.if-not-is_web.ensures.0 refl) (c.if-not-agrees_with_git.ensures.0 refl) placing are) c.settings_for.ensures.found
+    let placing = subst (λ w. PlacesIn (text w) buffer_len (Ok place)) c.as_ref.ensures c.in-Ok.ensures in
+    if_ok _ _ c.settings_for.result (λ found are. own c.law_patterns.ensures v buffer_len place c.args.entries.now _ c.law_value.ensures.value (c.if-not-is_web.ensures.0 refl) (c.if-not-agrees_with_git.ensures.0 refl) placing are) c.settings_for.ensures.found
 
 pub returns-clause-sent : goal.returns-clause-sent
 returns-clause-sent c =
     let v = c.args.url.now in
-    let room = length c.args.buffer.now in
+    let buffer_len = length c.args.buffer.now in
     let own = c.in-Ok.place in
-    let placing = subst (λ w. PlacesIn (text w) room (Ok own)) c.as_ref.ensures c.in-Ok.ensures in
-    if_ok _ _ c.settings_for.result (λ found are t place web agrees has form fits. subst (λ p. AreSettings (codes "extraHeader") (Some p) c.args.entries.now found.items) (one_place c.law_normal_form.ensures.one v t room own place has form placing) are) c.settings_for.ensures.found
+    let placing = subst (λ w. PlacesIn (text w) buffer_len (Ok own)) c.as_ref.ensures c.in-Ok.ensures in
+    if_ok _ _ c.settings_for.result (λ found are t place web agrees has form fits. subst (λ p. AreSettings (codes "extraHeader") (Some p) c.args.entries.now found.items) (one_place c.law_normal_form.ensures.one v t buffer_len own place has form placing) are) c.settings_for.ensures.found

@@ -14,4 +14,4 @@ returns c =
     let password = c.part_len-2.ensures.exact ∙ ap (λ (v : Location). optional_length v.password) c.url.view_is in
     let host = c.part_len-3.ensures.exact ∙ ap (λ (v : Location). optional_length v.host) c.url.view_is in
     let path = ap (λ (v : Location). length v.path) c.url.view_is in
-    omega (arith, scheme, spelling, user, password, host, path, text_longest c.args.url.now c.law_lent_value.ensures.value.port)
+    omega (arith, scheme, spelling, user, password, host, path, text_longest c.args.url.now c.law_borrowed_value.ensures.value.port)

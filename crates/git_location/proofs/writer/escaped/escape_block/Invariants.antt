@@ -5,6 +5,6 @@ use Rattle.git_location.proofs.writer.escaped.escape_block.Given as goal
 
 abbrev pub invariant-loop-byte : goal.invariant-loop-byte
 invariant-loop-byte l = record {
-  bytes : take l.size l.room ≡ percent_encode l.set (take l.byte-index l.block);
+  bytes : take l.size l.buffer ≡ percent_encode l.set (take l.byte-index l.block);
   bound : l.size ≤ 3 * l.byte-index;
 }

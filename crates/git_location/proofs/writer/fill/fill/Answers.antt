@@ -5,5 +5,5 @@ use Rattle.git_location.proofs.writer.fill.fill.Goals as goal
 pub returns : goal.returns
 returns c =
     let same = c.in-Ok.ensures.0 in
-    let filled = (c.in-Ok.ensures.1 [] c.args.room.now refl refl c.requires).0 in
+    let filled = (c.in-Ok.ensures.1 [] c.args.buffer.now refl refl c.requires).0 in
     search (rules, same, filled)

@@ -7,11 +7,11 @@ use Rattle.git_modules.proofs.config_file.header.read_quoted.Given as goal
 
 abbrev pub invariant-loop-byte : goal.invariant-loop-byte
 invariant-loop-byte l = record {
-  bytes : behind (take l.front l.fn.room) (quoted_text false (left_at l.text l.start)) ≡ behind (take l.len l.room) (quoted_text l.is_escaped (left_at l.text l.at));
+  bytes : behind (take l.front l.fn.buffer) (quoted_text false (left_at l.text l.start)) ≡ behind (take l.len l.buffer) (quoted_text l.is_escaped (left_at l.text l.at));
   least : l.start ≤ l.at;
   most : l.at ≤ length l.text;
   size : l.len + l.start ≤ l.front + l.at;
-  kept : length l.room ≡ length l.fn.room;
+  kept : length l.buffer ≡ length l.fn.buffer;
 }
 
 abbrev pub decreases-loop-byte : goal.decreases-loop-byte

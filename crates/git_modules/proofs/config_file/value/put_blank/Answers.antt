@@ -8,4 +8,4 @@ returns c =
     let w = c.args.written in
     let tail = c.requires.tail in
     let some : 0 < w.end = omega arith in
-    (λ d left e. blank_goes c.args.room.now w.end w.kept d w.mode left tail.0 some e, (omega arith, blank_tail c.args.room.now w.end w.kept tail.0 tail.1 c.requires.room), omega arith)
+    (λ d left e. blank_goes c.args.buffer.now w.end w.kept d w.mode left tail.0 some e, (omega arith, blank_tail c.args.buffer.now w.end w.kept tail.0 tail.1 c.requires.buffer), omega arith)

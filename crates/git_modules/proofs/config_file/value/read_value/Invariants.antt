@@ -7,11 +7,11 @@ use Rattle.git_modules.proofs.config_file.value.read_value.Given as goal
 
 abbrev pub invariant-loop-byte : goal.invariant-loop-byte
 invariant-loop-byte l = record {
-  value : value_of (left_at l.text l.start) ≡ value_on l.room l.written (left_at l.text l.at);
-  tail : HasTail l.room l.written;
+  value : value_of (left_at l.text l.start) ≡ value_on l.buffer l.written (left_at l.text l.at);
+  tail : HasTail l.buffer l.written;
   most : l.at ≤ length l.text;
   size : l.written.end + l.start ≤ l.at;
-  kept : length l.room ≡ length l.fn.room;
+  kept : length l.buffer ≡ length l.fn.buffer;
 }
 
 abbrev pub decreases-loop-byte : goal.decreases-loop-byte

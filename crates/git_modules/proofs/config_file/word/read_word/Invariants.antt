@@ -7,11 +7,11 @@ use Rattle.git_modules.proofs.config_file.word.read_word.Given as goal
 
 abbrev pub invariant-loop-byte : goal.invariant-loop-byte
 invariant-loop-byte l = record {
-  bytes : take l.len l.room ++ lowercase (word (is_of l.class) (left_at l.text l.at)) ≡ lowercase (word (is_of l.class) (left_at l.text l.start));
+  bytes : take l.len l.buffer ++ lowercase (word (is_of l.class) (left_at l.text l.at)) ≡ lowercase (word (is_of l.class) (left_at l.text l.start));
   left : past_word (is_of l.class) (left_at l.text l.at) ≡ past_word (is_of l.class) (left_at l.text l.start);
   size : l.len + l.start ≤ l.at;
   most : l.at ≤ length l.text;
-  kept : length l.room ≡ length l.fn.room;
+  kept : length l.buffer ≡ length l.fn.buffer;
 }
 
 abbrev pub decreases-loop-byte : goal.decreases-loop-byte

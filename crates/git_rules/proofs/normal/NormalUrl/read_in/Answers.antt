@@ -10,12 +10,12 @@ pub returns-in_err-authority : goal.returns-in_err-authority
 returns-in_err-authority c =
     let (e, is, same) = err_from_is_err_and c.from_residual.result c.from_residual.ensures.1 in
     let error = c.in_err-authority.field-0.0 in
-    let flaw = subst (λ s. AuthorityFlaw c.args.globs s c.in-Some.authority.now error) c.lowered_in-room.ensures.text c.in_err-authority.ensures in
-    subst (λ r. NormalizesIn c.args.globs c.args.text.now (length c.args.room.now) r) (sym (is ∙ ap (λ x. Err x) same))
-    (part_flawed c.args.globs c.args.text.now c.in-Some.scheme.now c.in-Some.authority.now c.in-Some.behind.now (length c.args.room.now) error (c.if-not-is_enough.ensures.0 refl) c.in-Some.ensures (inl flaw))
+    let flaw = subst (λ s. AuthorityFlaw c.args.globs s c.in-Some.authority.now error) c.lowered_in-buffer.ensures.text c.in_err-authority.ensures in
+    subst (λ r. NormalizesIn c.args.globs c.args.text.now (length c.args.buffer.now) r) (sym (is ∙ ap (λ x. Err x) same))
+    (part_flawed c.args.globs c.args.text.now c.in-Some.scheme.now c.in-Some.authority.now c.in-Some.behind.now (length c.args.buffer.now) error (c.if-not-is_enough.ensures.0 refl) c.in-Some.ensures (inl flaw))
 
 pub returns : goal.returns
 returns c =
     let authority = c.in_ok-authority.authority in
-    parts_normalize c.args.globs c.args.text.now c.in-Some.scheme.now c.lowered_in-room.result.0.now c.in-Some.authority.now c.in-Some.behind.now (option_copied authority.user) authority.host.now authority.port (length c.args.room.now) c.write_parts.result
-    (c.if-not-is_enough.ensures.0 refl) c.in-Some.ensures c.lowered_in-room.ensures.text c.in_ok-authority.ensures c.write_parts.ensures
+    parts_normalize c.args.globs c.args.text.now c.in-Some.scheme.now c.lowered_in-buffer.result.0.now c.in-Some.authority.now c.in-Some.behind.now (option_copied authority.user) authority.host.now authority.port (length c.args.buffer.now) c.write_parts.result
+    (c.if-not-is_enough.ensures.0 refl) c.in-Some.ensures c.lowered_in-buffer.ensures.text c.in_ok-authority.ensures c.write_parts.ensures

@@ -6,11 +6,11 @@ use Rattle.git_rules.proofs.normal.escapes.put_normal.Given as goal
 
 abbrev pub invariant-loop-byte : goal.invariant-loop-byte
 invariant-loop-byte l = record {
-  joined : take l.at l.room ++ normal_text l.rest ≡ take l.start l.fn.room ++ normal_text l.text;
+  joined : take l.at l.buffer ++ normal_text l.rest ≡ take l.start l.fn.buffer ++ normal_text l.text;
   sound : is_sound l.rest ≡ true;
   least : l.start ≤ l.at;
   left : l.at + 3 * length l.rest ≤ l.start + 3 * length l.text;
-  kept : length l.room ≡ length l.fn.room;
+  kept : length l.buffer ≡ length l.fn.buffer;
 }
 
 abbrev pub decreases-loop-byte : goal.decreases-loop-byte

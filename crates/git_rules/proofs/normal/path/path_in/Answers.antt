@@ -8,8 +8,8 @@ pub put_path-requires-clause-sound : goal.put_path-requires-clause-sound
 put_path-requires-clause-sound c =
     (sound_cut c.unrooted.result.now c.cut_before_rest.result.0.now c.cut_before_rest.result.1.now c.cut_before_rest.ensures (ap is_sound c.unrooted.ensures ∙ sound_unrooted c.args.behind.now (sym c.if-not-is_sound.ensures))).0
 
-pub put_path-requires-clause-room : goal.put_path-requires-clause-room
-put_path-requires-clause-room c =
+pub put_path-requires-clause-buffer : goal.put_path-requires-clause-buffer
+put_path-requires-clause-buffer c =
     let fits = length-pieces c.args.behind.now c.unrooted.result.now c.cut_before_rest.result.0.now c.cut_before_rest.result.1.now c.unrooted.ensures c.cut_before_rest.ensures in
     omega (arith, fits, c.requires)
 
@@ -17,12 +17,12 @@ pub put_normal-end-requires-clause-sound : goal.put_normal-end-requires-clause-s
 put_normal-end-requires-clause-sound c =
     (sound_cut c.unrooted.result.now c.cut_before_rest.result.0.now c.cut_before_rest.result.1.now c.cut_before_rest.ensures (ap is_sound c.unrooted.ensures ∙ sound_unrooted c.args.behind.now (sym c.if-not-is_sound.ensures))).1
 
-pub put_normal-end-requires-clause-room : goal.put_normal-end-requires-clause-room
-put_normal-end-requires-clause-room c =
+pub put_normal-end-requires-clause-buffer : goal.put_normal-end-requires-clause-buffer
+put_normal-end-requires-clause-buffer c =
     let fits = length-pieces c.args.behind.now c.unrooted.result.now c.cut_before_rest.result.0.now c.cut_before_rest.result.1.now c.unrooted.ensures c.cut_before_rest.ensures in
-    omega (arith, fits, c.requires, c.in-Some.ensures.most, c.put_root-at.ensures.end, c.put_path.auto.room, c.put_root-at.auto.room)
+    omega (arith, fits, c.requires, c.in-Some.ensures.most, c.put_root-at.ensures.end, c.put_path.auto.buffer, c.put_root-at.auto.buffer)
 
 pub split_at_mut-path-requires : goal.split_at_mut-path-requires
 split_at_mut-path-requires c =
     let fits = length-pieces c.args.behind.now c.unrooted.result.now c.cut_before_rest.result.0.now c.cut_before_rest.result.1.now c.unrooted.ensures c.cut_before_rest.ensures in
-    omega (arith, fits, c.requires, c.in-Some.ensures.most, c.put_root-at.ensures.end, c.put_path.auto.room, c.put_root-at.auto.room, c.put_normal-end.auto.room, c.put_normal-end.ensures.most)
+    omega (arith, fits, c.requires, c.in-Some.ensures.most, c.put_root-at.ensures.end, c.put_path.auto.buffer, c.put_root-at.auto.buffer, c.put_normal-end.auto.buffer, c.put_normal-end.ensures.most)

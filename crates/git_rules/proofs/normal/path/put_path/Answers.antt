@@ -29,7 +29,7 @@ loop-segment-preserved c =
       left = sym (put_first segment behind inv.stack shown.0 c.in-Some.ensures.0 shown.1) ∙ sym (ap (λ z. put_segments (normal_segments z) inv.stack) c.in-Some.ensures.1) ∙ inv.left;
       sound = (sound_around segment behind slash refl (sym (ap is_sound c.in-Some.ensures.1) ∙ inv.sound)).1;
       room_left = omega (arith, c.in_ok-at.ensures.most, inv.room_left, ap length c.in-Some.ensures.1, length-append segment (slash ∷ behind));
-      kept = omega (arith, c.put_segment.auto.room, inv.kept);
+      kept = omega (arith, c.put_segment.auto.buffer, inv.kept);
     }
 
 pub returns-clause-path : goal.returns-clause-path
@@ -37,4 +37,4 @@ returns-clause-path c =
     let inv = c.loop-segment.invariant in
     let rest = c.loop-segment.rest.now in
     let shown = c.put_segment-2.ensures.path inv.stack inv.shown c.in_default.ensures in
-    subst (λ o. ShowsFront o c.put_segment-2.new.room c.put_segment-2.result) (sym (put_last rest inv.stack c.in_default.ensures) ∙ inv.left) shown
+    subst (λ o. ShowsFront o c.put_segment-2.new.buffer c.put_segment-2.result) (sym (put_last rest inv.stack c.in_default.ensures) ∙ inv.left) shown

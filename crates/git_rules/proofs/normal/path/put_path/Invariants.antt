@@ -9,11 +9,11 @@ use Rattle.git_rules.proofs.normal.path.put_path.Given as goal
 abbrev pub invariant-loop-segment : goal.invariant-loop-segment
 invariant-loop-segment l = record {
   stack : List (List ℕ);
-  shown : ShowsStack (take l.at l.room) stack;
+  shown : ShowsStack (take l.at l.buffer) stack;
   left : put_segments (normal_segments l.rest) stack ≡ put_segments (normal_segments l.segments) [];
   sound : is_sound l.rest ≡ true;
   room_left : l.at + 3 * length l.rest ≤ 3 * length l.segments;
-  kept : length l.room ≡ length l.fn.room;
+  kept : length l.buffer ≡ length l.fn.buffer;
 }
 
 abbrev pub decreases-loop-segment : goal.decreases-loop-segment

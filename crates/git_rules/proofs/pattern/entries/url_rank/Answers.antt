@@ -7,15 +7,15 @@ use Rattle.git_rules.proofs.pattern.entries.url_rank.Goals as goal
 pub returns-in-Ok-clause-rank : goal.returns-in-Ok-clause-rank
 returns-in-Ok-clause-rank c = url_ranked c.args.place.now c.in-Ok.pattern c.args.url.now c.rank_for.result c.in-Ok.ensures.1 c.rank_for.ensures
 
-pub returns-then-is_of_room-clause-rank : goal.returns-then-is_of_room-clause-rank
-returns-then-is_of_room-clause-rank c =
-    let same = c.is_of_room.ensures.0 c.if-is_of_room.true in
-    (same, too_short c.args.url.now (length c.args.room.now) c.in-Err.error same c.in-Err.ensures)
+pub returns-then-is_short_buffer-clause-rank : goal.returns-then-is_short_buffer-clause-rank
+returns-then-is_short_buffer-clause-rank c =
+    let same = c.is_short_buffer.ensures.0 c.if-is_short_buffer.true in
+    (same, too_short c.args.url.now (length c.args.buffer.now) c.in-Err.error same c.in-Err.ensures)
 
-pub returns-else-is_of_room-clause-rank : goal.returns-else-is_of_room-clause-rank
-returns-else-is_of_room-clause-rank c =
-    λ k ranked. no_form true c.args.url.now (length c.args.room.now) c.in-Err.error (λ same. both_ways _ c.if-is_of_room.false (c.is_of_room.ensures.1 same)) c.in-Err.ensures ranked.0 ranked.1
+pub returns-else-is_short_buffer-clause-rank : goal.returns-else-is_short_buffer-clause-rank
+returns-else-is_short_buffer-clause-rank c =
+    λ k ranked. no_form true c.args.url.now (length c.args.buffer.now) c.in-Err.error (λ same. both_ways _ c.if-is_short_buffer.false (c.is_short_buffer.ensures.1 same)) c.in-Err.ensures ranked.0 ranked.1
 
-pub returns-else-is_of_room-clause-room : goal.returns-else-is_of_room-clause-room
-returns-else-is_of_room-clause-room c =
-    long_enough true c.args.url.now (length c.args.room.now) c.in-Err.error (λ same. both_ways _ c.if-is_of_room.false (c.is_of_room.ensures.1 same)) c.in-Err.ensures
+pub returns-else-is_short_buffer-clause-buffer : goal.returns-else-is_short_buffer-clause-buffer
+returns-else-is_short_buffer-clause-buffer c =
+    long_enough true c.args.url.now (length c.args.buffer.now) c.in-Err.error (λ same. both_ways _ c.if-is_short_buffer.false (c.is_short_buffer.ensures.1 same)) c.in-Err.ensures

@@ -5,8 +5,8 @@ use Rattle.git_rules.proofs.Matched.PlacedLemmas.{no_text, read_front}
 use Rattle.git_rules.proofs.pattern.place.place_in.Goals as goal
 
 pub returns-in-Err : goal.returns-in-Err
-returns-in-Err c = no_text (text c.args.url.now) c.in-Err.fault (length c.args.room.now) c.in-Err.ensures.length
+returns-in-Err c = no_text (text c.args.url.now) c.in-Err.fault (length c.args.buffer.now) c.in-Err.ensures.length
 
-pub returns-else-len-room : goal.returns-else-len-room
-returns-else-len-room c =
-    read_front (text c.args.url.now) c.in-Ok.len c.args.room.now c.write_into.new.room c.normalize_front.result c.in-Ok.ensures.length c.in-Ok.ensures.placed (omega arith) (omega arith) c.normalize_front.ensures
+pub returns-else-len-buffer : goal.returns-else-len-buffer
+returns-else-len-buffer c =
+    read_front (text c.args.url.now) c.in-Ok.len c.args.buffer.now c.write_into.new.buffer c.normalize_front.result c.in-Ok.ensures.length c.in-Ok.ensures.placed (omega arith) (omega arith) c.normalize_front.ensures

@@ -3,14 +3,14 @@ use Rattle.std.proofs.lemmas.Result.{err_from_is_err_and}
 use Rattle.git_rules.proofs.Rules.EntryLemmas.{front_missing}
 use Rattle.git_rules.proofs.rewrite.Rewrites.add_entry.Goals as goal
 
-pub returns-in_err-front_of : goal.returns-in_err-front_of
-returns-in_err-front_of c =
+pub returns-in_err-rule_front : goal.returns-in_err-rule_front
+returns-in_err-rule_front c =
     let reported = err_from_is_err_and c.from_residual.result c.from_residual.ensures.1 in
     let base = ap (λ e. e.subsection) (sym c.entry.view_is) ∙ ap (option_map (λ t. t.now)) c.in-Some.is in
-    rw (reported.1, reported.2) (front_missing c.args.entry.now c.args.self.now _ _ (inl (sym c.sets.ensures ∙ c.if-sets.true)) base c.in_err-front_of.ensures)
+    rw (reported.1, reported.2) (front_missing c.args.entry.now c.args.self.now _ _ (inl (sym c.sets.ensures ∙ c.if-sets.true)) base c.in_err-rule_front.ensures)
 
-pub returns-in_err-front_of-2 : goal.returns-in_err-front_of-2
-returns-in_err-front_of-2 c =
-    let reported = err_from_is_err_and c.from_residual-in_err-front_of-2.result c.from_residual-in_err-front_of-2.ensures.1 in
+pub returns-in_err-rule_front-2 : goal.returns-in_err-rule_front-2
+returns-in_err-rule_front-2 c =
+    let reported = err_from_is_err_and c.from_residual-in_err-rule_front-2.result c.from_residual-in_err-rule_front-2.ensures.1 in
     let base = ap (λ e. e.subsection) (sym c.entry.view_is) ∙ ap (option_map (λ t. t.now)) c.in-Some.is in
-    rw (reported.1, reported.2) (front_missing c.args.entry.now c.args.self.now _ _ (inr (sym c.sets-2.ensures ∙ c.if-sets-2.true)) base c.in_err-front_of-2.ensures)
+    rw (reported.1, reported.2) (front_missing c.args.entry.now c.args.self.now _ _ (inr (sym c.sets-2.ensures ∙ c.if-sets-2.true)) base c.in_err-rule_front-2.ensures)

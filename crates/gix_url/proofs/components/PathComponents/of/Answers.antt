@@ -1,7 +1,7 @@
 -- What the buffers lend are the components of the location.
 use Rattle.std.proofs.Common.{◌∙◌, inl, inr, ap, sym, ⊎_elim, subst}
 use Rattle.git_syntax.specs.Location.{Location}
-use Rattle.git_syntax.specs.Views.{lent_scheme}
+use Rattle.git_syntax.specs.Views.{borrowed_scheme}
 use Rattle.git_location.specs.Settled.{IsWeb}
 use Rattle.gix_url.specs.Internal.ComponentPieces.{HasQuery}
 use Rattle.gix_url.specs.ComponentViews.{components}
@@ -18,30 +18,30 @@ returns-in-File-clause-path c =
 is_web : (c : goal.After-web_components) → IsWeb c.args.url.now
 is_web c =
     let seen = sym (ap (λ (v : Location). v.scheme) c.url.view_is) in
-    ⊎_elim (λ e. inl (seen ∙ ap lent_scheme e)) (λ e. inr (seen ∙ ap lent_scheme e)) c.in-Http.is
+    ⊎_elim (λ e. inl (seen ∙ ap borrowed_scheme e)) (λ e. inr (seen ∙ ap borrowed_scheme e)) c.in-Http.is
 
 pub returns-in-Http-clause-parts : goal.returns-in-Http-clause-parts
 returns-in-Http-clause-parts c =
     let v = c.args.url.now in
-    IfOk-weaker c.web_components.result _ _ (λ parts h. (web_parts v (components parts) (is_web c)).1 (parts_meant v parts (lends_whole v c.spelled_path.result parts c.spelled_path.ensures h))) c.web_components.ensures.lent
+    IfOk-weaker c.web_components.result _ _ (λ parts h. (web_parts v (components parts) (is_web c)).1 (parts_meant v parts (lends_whole v c.spelled_path.result parts c.spelled_path.ensures h))) c.web_components.ensures.borrowed
 
 pub returns-in-Http-clause-path : goal.returns-in-Http-clause-path
 returns-in-Http-clause-path c =
     let v = c.args.url.now in
     let whole = whole_meant v c.spelled_path.result c.spelled_path.ensures in
-    IfOk-weaker c.web_components.result _ _ (λ parts h. path_lent v parts (lends_whole v c.spelled_path.result parts c.spelled_path.ensures h) whole) c.web_components.ensures.lent
+    IfOk-weaker c.web_components.result _ _ (λ parts h. path_lent v parts (lends_whole v c.spelled_path.result parts c.spelled_path.ensures h) whole) c.web_components.ensures.borrowed
 
 pub returns-in-Http-clause-query : goal.returns-in-Http-clause-query
 returns-in-Http-clause-query c =
     let v = c.args.url.now in
     let whole = whole_meant v c.spelled_path.result c.spelled_path.ensures in
-    IfOk-weaker c.web_components.result _ _ (λ parts h. query_lent v parts (lends_whole v c.spelled_path.result parts c.spelled_path.ensures h) whole) c.web_components.ensures.lent
+    IfOk-weaker c.web_components.result _ _ (λ parts h. query_lent v parts (lends_whole v c.spelled_path.result parts c.spelled_path.ensures h) whole) c.web_components.ensures.borrowed
 
 pub returns-in-Http-clause-fragment : goal.returns-in-Http-clause-fragment
 returns-in-Http-clause-fragment c =
     let v = c.args.url.now in
     let whole = whole_meant v c.spelled_path.result c.spelled_path.ensures in
-    IfOk-weaker c.web_components.result _ _ (λ parts h. fragment_lent v parts (lends_whole v c.spelled_path.result parts c.spelled_path.ensures h) whole) c.web_components.ensures.lent
+    IfOk-weaker c.web_components.result _ _ (λ parts h. fragment_lent v parts (lends_whole v c.spelled_path.result parts c.spelled_path.ensures h) whole) c.web_components.ensures.borrowed
 
 pub returns-in-Http-clause-no_query : goal.returns-in-Http-clause-no_query
 returns-in-Http-clause-no_query c given_parts parts none =

@@ -17,7 +17,7 @@ pub returns-in-Err-clause-refused : goal.returns-in-Err-clause-refused
 returns-in-Err-clause-refused c = inr (c.in-Err.fault, refl, sym c.in-Err.ensures)
 
 pub returns-in-Ok-clause-settled : goal.returns-in-Ok-clause-settled
-returns-in-Ok-clause-settled c = written_again c.args.url.now _ c.collect_in.result c.law_lent_value.ensures.value c.in-Ok.ensures c.collect_in.ensures.text c.collect_in.ensures.memory
+returns-in-Ok-clause-settled c = written_again c.args.url.now _ c.collect_in.result c.law_borrowed_value.ensures.value c.in-Ok.ensures c.collect_in.ensures.text c.collect_in.ensures.memory
 
 pub returns-in-Err-clause-settled : goal.returns-in-Err-clause-settled
-returns-in-Err-clause-settled c = λ h. absurd (settled_has_text c.args.url.now c.in-Err.fault c.law_lent_value.ensures.value h c.in-Err.ensures)
+returns-in-Err-clause-settled c = λ h. absurd (settled_has_text c.args.url.now c.in-Err.fault c.law_borrowed_value.ensures.value h c.in-Err.ensures)

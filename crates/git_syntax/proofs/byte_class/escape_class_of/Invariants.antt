@@ -1,0 +1,14 @@
+-- A text is as sound as the text behind its escapes, and decodes to ASCII where that does and they do.
+use Rattle.std.proofs.Common.{◌≡◌, length, true}
+use Rattle.git_syntax.specs.Escapes.{is_sound}
+use Rattle.git_syntax.specs.Internal.ByteClasses.{has_high_escape}
+use Rattle.git_syntax.proofs.byte_class.escape_class_of.Given as goal
+
+abbrev pub invariant-loop-behind : goal.invariant-loop-behind
+invariant-loop-behind l = record {
+  sound : is_sound l.rest ≡ is_sound l.text;
+  high : l.ascii ≡ true → has_high_escape l.rest ≡ has_high_escape l.text;
+}
+
+abbrev pub decreases-loop-behind : goal.decreases-loop-behind
+decreases-loop-behind l = length l.rest

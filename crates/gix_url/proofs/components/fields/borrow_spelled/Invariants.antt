@@ -1,0 +1,18 @@
+-- What the rest stands for, behind the names and values so far, is what the whole stands for, and there is
+-- room for it; a whole without `+` leaves none in the rest.
+use Rattle.std.proofs.Common.{◌≡◌, ◌++◌, ◌+◌, ◌≤◌, List, IsTrue, length, vec_len, vec_capacity}
+use Rattle.gix_url.specs.declared.components.QueryText.{QueryText}
+use Rattle.git_syntax.specs.Bytes.{FreeOf, plus_sign}
+use Rattle.gix_url.specs.Internal.ComponentPieces.{BorrowsFields, field_count}
+use Rattle.gix_url.proofs.components.fields.borrow_spelled.Given as goal
+
+abbrev pub invariant-loop-field : goal.invariant-loop-field
+invariant-loop-field l = record {
+  escaped : l.rest.escaped ≡ l.fn.query.escaped;
+  borrowed : (more : List (QueryText × QueryText)) → BorrowsFields l.fn.query.escaped l.rest.text.now more → BorrowsFields l.fn.query.escaped l.fn.query.text.now (l.pairs.items ++ more);
+  reserved : vec_len l.pairs + field_count l.rest.text.now ≤ vec_capacity l.pairs;
+  plain : IsTrue l.plain → FreeOf plus_sign l.rest.text.now;
+}
+
+abbrev pub decreases-loop-field : goal.decreases-loop-field
+decreases-loop-field l = length l.rest.text.now
