@@ -29,6 +29,10 @@ kept_value v known scheme h = grind arith
 pub flagged_text : (v : Location) → v.scheme ≡ file → IsSettledLocal v → text v ≡ Ok v.path
 flagged_text v scheme h = grind arith
 
+-- the parts of a remote helper are its name and its path
+helper_parts : (name path : List ℕ) → is_helper_name name ≡ true → SpellsHelper (name ++ colon ∷ (colon ∷ path)) (path_alone (helper_scheme name) true path)
+helper_parts name path named = record { name = name; address = path; parts = record { named = named; joined = refl }; value = refl }
+
 -- ---- closure
 
 -- no URL but that of `ext` keeps its bytes
@@ -45,7 +49,7 @@ scp_not_kept b v h keeps = grind arith
 
 -- a spelled location that keeps its bytes is settled
 pub kept_closed : (b : List ℕ) (v : Location) → Spells b v → KeepsBytes v → IsSettled v
-kept_closed b v (Spells.url h) keeps = subst (λ l. IsSettled l) (sym (url_kept b v h keeps)) (helper_settled (codes "ext") b refl)
+kept_closed b v (Spells.url h) keeps = subst (λ l. IsSettled l) (sym (url_kept b v h keeps)) (helper_unchanged (codes "ext::" ++ b) (path_alone ext true b) (helper_parts (codes "ext") b refl)).0
 kept_closed b v (Spells.file_url h) keeps = absurd (false≢true (subst (λ l. KeepsBytes l) h.value keeps))
 kept_closed b v (Spells.remote_helper h) keeps = (helper_unchanged b v h).0
 kept_closed b v (Spells.scp_form h) keeps = absurd (scp_not_kept b v h keeps)
@@ -82,7 +86,11 @@ kept_back v scheme t value writes spelled settled = (
 
 -- the name, `::` and a path spell a remote helper
 helper_spelled : (name path : List ℕ) → is_helper_name name ≡ true → Spells (name ++ colon ∷ (colon ∷ path)) (path_alone (helper_scheme name) true path)
-helper_spelled name path named = Spells.remote_helper record { name = name; address = path; parts = record { named = named; joined = refl }; value = refl }
+helper_spelled name path named = Spells.remote_helper (helper_parts name path named)
+
+-- a local path spells itself
+local_parts : (path : List ℕ) → LocalForm path → SpellsLocal path (path_alone file true path)
+local_parts path form = record { nonempty = form.nonempty; neither = form.neither; no_scp = form.no_scp; value = refl }
 
 -- the scheme of a helper that isn't `ext`
 other_helper : (name : List ℕ) → bytes_eq name (codes "ext") ≡ false → helper_scheme name ≡ helper name
@@ -92,14 +100,14 @@ other_helper name other = rw other refl
 pub helper_again : (name : List ℕ) (v : Location) → v.scheme ≡ helper name → bytes_eq name (codes "ext") ≡ false → IsSettledHelper name v → (back : ComesBack v) × IsSettled back.reread
 helper_again name v scheme other h =
     let named : helper_scheme name ≡ helper name = other_helper name other in
-    kept_back v (helper name) (name ++ colon ∷ (colon ∷ v.path)) (kept_value v (helper name) scheme h.bare) (λ spelling. helper_written name v.path spelling h.named) (subst (λ p. Spells (name ++ colon ∷ (colon ∷ v.path)) (path_alone p true v.path)) named (helper_spelled name v.path h.named)) (subst (λ p. IsSettled (path_alone p true v.path)) named (helper_settled name v.path h.named))
+    kept_back v (helper name) (name ++ colon ∷ (colon ∷ v.path)) (kept_value v (helper name) scheme h.bare) (λ spelling. helper_written name v.path spelling h.named) (subst (λ p. Spells (name ++ colon ∷ (colon ∷ v.path)) (path_alone p true v.path)) named (helper_spelled name v.path h.named)) (subst (λ p. IsSettled (path_alone p true v.path)) named (helper_unchanged (name ++ colon ∷ (colon ∷ v.path)) (path_alone (helper_scheme name) true v.path) (helper_parts name v.path h.named)).0)
 
 -- so does one of `ext`
 pub ext_again : (v : Location) → v.scheme ≡ ext → IsSettledHelper (codes "ext") v → (back : ComesBack v) × IsSettled back.reread
 ext_again v scheme h =
-    kept_back v ext (codes "ext::" ++ v.path) (kept_value v ext scheme h.bare) (λ spelling. refl) (helper_spelled (codes "ext") v.path refl) (helper_settled (codes "ext") v.path refl)
+    kept_back v ext (codes "ext::" ++ v.path) (kept_value v ext scheme h.bare) (λ spelling. refl) (helper_spelled (codes "ext") v.path refl) (helper_unchanged (codes "ext::" ++ v.path) (path_alone ext true v.path) (helper_parts (codes "ext") v.path refl)).0
 
 -- and a settled local path
 pub local_again : (v : Location) → v.scheme ≡ file → IsSettledLocal v → (back : ComesBack v) × IsSettled back.reread
 local_again v scheme h =
-    kept_back v file v.path (kept_value v file scheme h.bare) (local_written v.path) (Spells.local_path record { nonempty = h.form.nonempty; neither = h.form.neither; no_scp = h.form.no_scp; value = refl }) (local_settled v.path h.form)
+    kept_back v file v.path (kept_value v file scheme h.bare) (local_written v.path) (Spells.local_path (local_parts v.path h.form)) (local_unchanged v.path (path_alone file true v.path) (local_parts v.path h.form)).0
