@@ -6,7 +6,7 @@ usage: scripts/page_template.py             writes crates/explain_page/src/templ
 
 The template is crates/explain_page/page/page.html. A slot is `<!-- name -->`, outside of style and script. The slot `policy` becomes
 the content security policy, which allows the style and the script of the template by their hashes and nothing else; the others
-are filled in by the program. A block of data isn't run. `scripts/documents` asks for `faults()`.
+are filled in by the program. A block of data isn't run. `tests/documents` asks for `faults()`.
 """
 import base64
 import hashlib

@@ -6,7 +6,7 @@ usage: scripts/pictures.py                 writes docs/pictures/*.svg and docs/e
        scripts/pictures.py --terminal      the same, after it has stored the output of `explain` (`scripts/built`, or EXPLAIN)
 
 A row is `name = terms`: a quoted text is literal, a word is another row or a set of bytes, `[x]` may be missing, `{x}` occurs
-any number of times, `(x | y)` is one of them. `scripts/documents` calls `faults()`: the pictures that are not current.
+any number of times, `(x | y)` is one of them. `tests/documents` calls `faults()`: the pictures that are not current.
 """
 import os
 import re

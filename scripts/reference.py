@@ -5,7 +5,7 @@ what is promised is seen there.
 
 usage: scripts/reference.py --write
 
-`scripts/documents` asks for `faults()`: pages that are not those of the sources.
+`tests/documents` asks for `faults()`: pages that are not those of the sources.
 """
 import glob
 import os

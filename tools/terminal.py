@@ -1,7 +1,7 @@
 """A command line of `explain` and its output on a terminal, of which `docs/explain.svg` is a picture.
 
-The output is stored, so that `scripts/documents` needs no program: it compares the picture with the stored output, and
-`scripts/hostile golden` compares the stored output with the program.
+The output is stored, so that `tests/documents` needs no program: it compares the picture with the stored output, and
+`tests/programs` compares the stored output with the program.
 """
 import re
 import shlex

@@ -1,28 +1,20 @@
-#!/usr/bin/env python3
-"""Refuses lemmas of the library's layers that nothing cites or that are stated twice, and topics that cite a later one.
+"""No lemma of the library's layers is cited by nothing or stated twice, and no topic cites a later one.
 
-It takes some seconds and builds nothing. A declaration cites the names in its text that its file declares or imports, except
-fields, labels of records, and variables that it binds. Definitions, answers to goals, sources and other crates are the starting
-points: a lemma is cited if they cite it, directly or through other lemmas. Lemmas that cite only each other are not cited.
+A declaration cites the names in its text that its file declares or imports, except fields, labels of records, and variables that it
+binds. Definitions, answers to goals, sources and other crates are the starting points: a lemma is cited if they cite it, directly or
+through other lemmas. Two lemmas are equal if their statements differ only in the names of variables and in implicit arguments, two
+definitions of `proofs/` if their bodies are also equal; in two layers as well, since an upper layer can cite a lower one.
 
-A lemma that only a crate above cites is cited.
-
-Two lemmas are equal if their statements differ only in the names of variables and in implicit arguments, two definitions of
-`proofs/` if their bodies are also equal; in two layers as well, since an upper layer can cite a lower one.
-
-In each layer `proofs/Lib.antt` lists the topics, and the file of a topic its files, in the required order: no lemma cites one
-of a later topic, of a later file of its topic, or of the folder of a function.
+In each layer `proofs/Lib.antt` lists the topics, and the file of a topic its files, in the required order.
 """
 import collections
 import functools
 import glob
 import os
 import re
-import sys
 
-sys.dont_write_bytecode = True
-sys.path.append(f"{sys.path[0]}/../tools")
-from rt_api import LAYERS, ROOT
+import pytest
+from rt_api import LAYERS, ROOT, read
 
 OF_LAYERS = tuple(f"Rattle.{it}." for it in LAYERS)
 WORD = re.compile(r'[^\s(){}.;,@"]+')
@@ -30,11 +22,6 @@ HEAD = re.compile(r"((?:(?:pattern|unfoldable|abbrev|axiom|pub|data|record) )*)(
 USE = re.compile(r"(pub )?use ([^\s{]+?)(?:\.\{(.*)\}| as (\S+))?$")
 GROUP = re.compile(r"[({]([^(){}:]+) : ((?:[^(){}]|\((?:[^()]|\([^()]*\))*\))*)[)}](?: →)?")
 BINDERS = re.compile(r"[({]([^(){}:]+) : |λ ([^.]+)\. |let \(?([^=:]+?)\)? [:=] |\| (.*?) ↦")
-
-
-def read(path):
-    with open(path, encoding="utf-8") as it:
-        return it.read()
 
 
 class Declaration:
@@ -94,7 +81,7 @@ class File:
     """A file of proofs or of definitions: its declarations, and its names for them and for its imports."""
 
     def __init__(self, layer, path):
-        self.layer, self.path = layer, os.path.relpath(path, f"{ROOT}/crates/{layer}")
+        self.layer, self.path = layer, os.path.relpath(path, f"crates/{layer}")
         self.names, self.passed_on, self.declared = {}, {}, []
         self.module = f"Rattle.{layer}." + self.path.removesuffix(".antt").replace("/", ".")
         self.is_library = re.match(r"proofs/[A-Z]", self.path)
@@ -139,8 +126,8 @@ def known_names(files):
 def elsewhere():
     """The lemmas that sources and other crates name."""
     named = re.compile(rf"\b({'|'.join(LAYERS)}|crate)\.proofs\.([\w.]+)\.(\{{.*?\}}|[^\s,(){{}}.]+)")
-    for path in glob.glob(f"{ROOT}/crates/*/[sp]*/**/*.*t", recursive=True):
-        own = os.path.relpath(path, f"{ROOT}/crates").split("/")[0]
+    for path in glob.glob("crates/*/[sp]*/**/*.*t", root_dir=ROOT, recursive=True):
+        own = path.split("/")[1]
         if not path.endswith(".antt") or own not in LAYERS:
             for crate, module, names in named.findall(read(path).replace("::", ".")):
                 prefix = f"Rattle.{own if crate == 'crate' else crate}.proofs.{module}"
@@ -172,7 +159,7 @@ def doubled(files):
 
 def listed(layer, path="Lib"):
     """The files of lemmas of a layer, in their order."""
-    inside = re.findall(r"(?m)^pub mod (\w+)$", read(f"{ROOT}/crates/{layer}/proofs/{path}.antt"))
+    inside = re.findall(r"(?m)^pub mod (\w+)$", read(f"crates/{layer}/proofs/{path}.antt"))
     return [found for it in inside for found in listed(layer, it if path == "Lib" else f"{path}/{it}")] or [path]
 
 
@@ -187,22 +174,22 @@ def upward(files, layer):
                 yield f"{layer}/{file.path} cites {name.removeprefix(proofs)}, whose turn comes later"
 
 
-def files_of(layer):
-    """The files of proofs and definitions of a layer."""
-    folder = f"{ROOT}/crates/{layer}"
-    paths = glob.glob(f"{folder}/proofs/**/*.antt", recursive=True) + glob.glob(f"{folder}/specs/**/*.antt", recursive=True)
-    return [File(layer, it) for it in sorted(paths)]
+@functools.cache
+def files():
+    """The files of proofs and definitions of all layers."""
+    paths = ((it, path) for it in LAYERS for part in ("proofs", "specs") for path in glob.glob(f"crates/{it}/{part}/**/*.antt", root_dir=ROOT, recursive=True))
+    return [File(*it) for it in sorted(paths, key=lambda it: (LAYERS.index(it[0]), it[1]))]
 
 
-def main():
-    files = [file for it in LAYERS for file in files_of(it)]
-    faults = [*uncited(files), *doubled(files), *(fault for it in LAYERS for fault in upward(files, it))]
-    for it in faults:
-        print(f"lemmas: {it}", file=sys.stderr)
-    count = sum(len(listed(it)) for it in LAYERS)
-    print(f"lemmas: {sum(len(it.declared) for it in files if it.is_library)} in {count} files, {len(faults)} faults")
-    return 1 if faults else 0
+def test_each_lemma_is_cited():
+    assert not [*uncited(files())]
+    assert sum(len(it.declared) for it in files() if it.is_library) > 3000
 
 
-if __name__ == "__main__":
-    sys.exit(main())
+def test_no_lemma_is_stated_twice():
+    assert not [*doubled(files())]
+
+
+@pytest.mark.parametrize("layer", LAYERS)
+def test_no_lemma_cites_a_later_one(layer):
+    assert not [*upward(files(), layer)]
