@@ -15,7 +15,7 @@ import pictures
 import pytest
 import reference
 from reference_names import CLAUSE
-from row_coverage import contracts
+from contracts import contracts
 from rt_api import LAYERS, ROOT, lines_of_crates, read, stored
 from second_reading import explain_tables, stored_run
 

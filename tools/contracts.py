@@ -1,10 +1,9 @@
-"""The calls without a row: public functions of the library, and calls that the program `answers` makes."""
+"""The public calls of the libraries, each with its contract."""
 import re
 
-from public_items import files_of, public_items
+from public_items import public_items
 from rt_api import LAYERS, LIBRARIES
 
-PROGRAM = "answers"
 # The items of lower layers for upper ones: public by a type or a module that the library re-exports, and not for users.
 OF_LAYERS = {
     "SchemeRef::of_known_scheme", "UrlRef::canonical_pieces", "UrlRef::form", "UrlRef::helper_pieces", "UrlRef::is_settled_as",
@@ -40,24 +39,3 @@ def contracts():
     """The contract of each public call of the libraries, by its name: their own, and the re-exported ones."""
     found = {name: it for name, it in passed_calls().items() if name not in OF_LAYERS}
     return {**found, **{name: it for library in LIBRARIES for name, it in calls(public_items(library)).items()}}
-
-
-def program_calls():
-    """The names of the calls that the program makes."""
-    found = set()
-    for file in files_of(PROGRAM):
-        with open(file, encoding="utf-8") as it:
-            found.update(re.findall(r'"(\w+::?\w+)"', it.read()))
-    return found
-
-
-def missing_calls(table):
-    """The calls of both libraries that have no row, or request memory and have no row with a large text; and the calls that
-    rows name and the program doesn't make."""
-    named, made = {it.members.get("call") for it in table}, program_calls()
-    allocating = {it.members.get("call") for it in table if it.requests}
-    large = {it.members.get("call") for it in table if it.place.partition(".")[0].endswith("large")}
-    faults = [f"{it} has no row" for it in sorted((contracts().keys() | made) - named)]
-    faults += [f"{it} isn't a call that the library passes on" for it in sorted(OF_LAYERS - passed_calls().keys())]
-    faults += [f"{it} asks for memory and has no row with a large text" for it in sorted(allocating - large)]
-    return faults + [f"{it} isn't a call of the program" for it in sorted(map(str, named - made))]
