@@ -8,6 +8,10 @@ from rt_api import program
 # The number of times that each call of the library was made.
 ASKED: collections.Counter[str] = collections.Counter()
 
+# The numbers in a summary: lines, URLs, scp forms, local paths, remote helpers; settled, not settled, refused, dangerous.
+SUMMARY = (b"lines: %d\nform\n%8d  URL\n%8d  scp form\n%8d  local path\n%8d  remote helper\n"
+           b"verdict\n%8d  settled\n%8d  not settled\n%8d  refused\n%8d  dangerous\n")
+
 
 def ended(texts, end=b"\n"):
     """Texts as lines, each with its end."""

@@ -7,16 +7,16 @@ import pty
 import re
 import subprocess
 
-from rt_api import ROOT, program
+import pytest
+from options import GIVEN, NEEDED, OF_ITSELF, excluded
+from rt_api import ROOT, program, read, stored
+from runs import SUMMARY, run
 
 # A call: the program, its arguments, its input; its status, its output, and a part of its error message.
 Call = collections.namedtuple("Call", "program words input status shown reported", defaults=(b"", 0, b"", b""))
 LINES = b"h:p\n\nhttp://h:0/\n"
 ANSWERS = b"settled\th:p\nrefused\tEmptyLocal\nrefused\tBadUrl BadPort\n"
 FETCHED = b"GIT_PROTOCOL=version=2 ssh -o SendEnv=GIT_PROTOCOL "
-# Lines, URLs, scp forms, local paths, remote helpers; settled, not settled, refused, dangerous.
-SUMMARY = (b"lines: %d\nform\n%8d  URL\n%8d  scp form\n%8d  local path\n%8d  remote helper\n"
-           b"verdict\n%8d  settled\n%8d  not settled\n%8d  refused\n%8d  dangerous\n")
 WRONG = {"status": 2, "reported": b"error: "}
 
 CALLS = [
@@ -131,99 +131,60 @@ CALLS = [
     Call("explain", ["--color=always", "http://h:0/"], status=1,
          shown=b"line 1: refused: the port of HTTP must not be 0\n    http://h:0/\n             \x1b[1;31m^\x1b[0m\n"),
 ]
-# Each option and TEXT with a value, so that a run ends at once and succeeds.
-GIVEN = {
-    "TEXT": "h:p", "--file": "--file=/dev/null", "--null": "--null", "--crlf": "--crlf", "--config": "--config=/dev/null", "--remotes": "--remotes",
-    "--gitmodules": "--gitmodules=/dev/null", "--parent": "--parent=https://h/p", "--json": "--json", "--sarif": "--sarif",
-    "--html": "--html=x", "--only": "--only=host", "--ssh": "--ssh", "--summary": "--summary", "--quiet": "--quiet", "--fail-on": "--fail-on=policy", "--color": "--color=never"}
-# The option that an option requires.
-NEEDED = {"--parent": "--gitmodules"}
-# The options by which `explain` prints a text about itself, and the files of its crate with the same text.
-OF_ITSELF = {"--help": "help", "-h": "help", "--version": "version", "-V": "version"}
+
+CALLS += [Call("explain", [option], shown=stored(f"crates/explain/{file}")) for option, file in OF_ITSELF.items()]
 
 
-def fault_of(call):
-    """The fault of a call, if it has one."""
-    ran = subprocess.run([program(call.program), *call.words], input=call.input, stdout=subprocess.PIPE, stderr=subprocess.PIPE, timeout=60)
-    reports = call.reported in ran.stderr if call.reported else not ran.stderr
-    is_right = ran.returncode == call.status and ran.stdout == call.shown and reports
-    return None if is_right else f"{call.program} {call.words}: {ran.returncode}, {ran.stdout!r}, {ran.stderr!r}"
+@pytest.mark.parametrize("call", CALLS, ids=lambda it: f"{it.program} {it.words}"[:60])
+def test_call(call):
+    ran = run(call.program, call.words, call.input)
+    assert (ran.returncode, ran.stdout) == (call.status, call.shown)
+    assert call.reported in ran.stderr if call.reported else not ran.stderr
 
 
-def stored(file):
-    with open(f"{ROOT}/crates/explain/{file}", "rb") as it:
-        return it.read()
-
-
-def terminal_faults():
-    """If `explain` reads a terminal, it reports that in one line."""
+def test_reading_a_terminal_is_reported():
     terminal, streams = pty.openpty()
     started = subprocess.Popen([program("explain")], stdin=streams, stdout=subprocess.DEVNULL, stderr=subprocess.PIPE)
     os.write(terminal, b"\x04")
     said = started.communicate(timeout=20)[1]
     os.close(streams)
     os.close(terminal)
-    if started.returncode or said.count(b"\n") != 1 or not said.startswith(b"explain: reads a location a line"):
-        yield f"explain on a terminal: {started.returncode}, {said!r}"
+    assert started.returncode == 0 and re.fullmatch(rb"explain: reads a location a line.*\n", said)
 
 
-def is_coloured(**variables):
-    """Whether answers that go to a terminal are coloured, with these variables set."""
+@pytest.mark.parametrize("variables, wanted", [
+    ({"TERM": "xterm"}, True), ({"TERM": "xterm", "NO_COLOR": ""}, True), ({}, False), ({"TERM": "dumb"}, False), ({"TERM": "xterm", "NO_COLOR": "1"}, False)], ids=str)
+def test_colours_on_a_terminal(variables, wanted):
+    """Answers are coloured on a terminal that can show colours, unless NO_COLOR says otherwise."""
     terminal, streams = pty.openpty()
     environment = {name: value for name, value in os.environ.items() if name not in ("NO_COLOR", "TERM")}
     subprocess.run([program("explain"), "h:p"], stdin=subprocess.DEVNULL, stdout=streams, env={**environment, **variables}, timeout=20)
     shown = os.read(terminal, 4096)
     os.close(streams)
     os.close(terminal)
-    return b"\x1b[" in shown
+    assert (b"\x1b[" in shown) == wanted
 
 
-def colour_faults():
-    """Answers are coloured on a terminal that can show colours, unless NO_COLOR says otherwise; never elsewhere."""
-    if not is_coloured(TERM="xterm") or not is_coloured(TERM="xterm", NO_COLOR=""):
-        yield "answers are not coloured on a terminal"
-    for variables in ({}, {"TERM": "dumb"}, {"TERM": "xterm", "NO_COLOR": "1"}):
-        if is_coloured(**variables):
-            yield f"answers are coloured with {variables}"
-
-
-def version_faults():
+def test_version():
     """The version is that of the last changes, with that of the Rust crate; a log in SARIF also has it."""
-    with open(f"{ROOT}/CHANGELOG.md", encoding="utf-8") as it:
-        version = re.search(r"(?m)^## ([\d.]+\+\d+), ", it.read())[1]
-    if stored("version").decode().splitlines()[0] != f"explain {version} (gix-url {version.partition('+')[0]})":
-        yield f"the stored version isn't that of {version}"
-    log = subprocess.run([program("explain"), "--sarif", "h:p"], stdout=subprocess.PIPE, timeout=60).stdout
-    if json.loads(log)["runs"][0]["tool"]["driver"]["version"] != version:
-        yield f"a log in SARIF isn't that of {version}"
+    version = re.search(r"(?m)^## ([\d.]+\+\d+), ", read("CHANGELOG.md"))[1]
+    assert read("crates/explain/version").splitlines()[0] == f"explain {version} (gix-url {version.partition('+')[0]})"
+    assert json.loads(run("explain", ["--sarif", "h:p"]).stdout)["runs"][0]["tool"]["driver"]["version"] == version
 
 
-def excluded():
-    """The pairs that can't be combined, as the help lists them."""
-    text = stored("help").decode().partition("These can't be given together:\n")[2].partition("\n\n")[0]
-    for line in text.splitlines():
-        first, rest = (re.findall(r"TEXT|--[\w-]+", it) for it in line.partition(" with ")[::2])
-        yield from map(frozenset, itertools.product(first, rest) if rest else itertools.combinations(first, 2))
+@pytest.mark.quick
+def test_each_option_is_tried_in_pairs():
+    assert {*re.findall(r"(?m)^ +(?:-\w, )?(--[\w-]+)", read("crates/explain/help"))} <= {*GIVEN, *OF_ITSELF}
+    assert not [it for it, count in collections.Counter(excluded()).items() if count > 1]
 
 
-def pair_faults():
-    """The pairs for which the help differs from the program, and the options that are tried with no pair."""
-    listed = {*re.findall(r"(?m)^ +(?:-\w, )?(--[\w-]+)", stored("help").decode())}
-    yield from (f"no pair with {it} is tried" for it in sorted(listed - {*GIVEN, *OF_ITSELF}))
-    refused = collections.Counter(excluded())
-    yield from (f"the help says {count} times that {sorted(it)} exclude each other" for it, count in refused.items() if count > 1)
-    for pair in map(frozenset, itertools.combinations(GIVEN, 2)):
-        needed = set() if pair in refused else {NEEDED[it] for it in pair & {*NEEDED}} - pair
-        words = [GIVEN[it] for it in sorted({*pair, *needed})]
-        ran = subprocess.run([program("explain"), *words], stdin=subprocess.DEVNULL, capture_output=True, timeout=60)
-        is_right = b" cannot be used with " in ran.stderr if ran.returncode == 2 else ran.returncode == 0 and not ran.stderr
-        if not is_right or (ran.returncode == 2) != (pair in refused):
-            yield f"explain {words} ends with {ran.returncode} and says {ran.stderr!r}, which the help doesn't"
-
-
-def check(_room):
-    calls = [*CALLS, *(Call("explain", [option], shown=stored(file)) for option, file in OF_ITSELF.items())]
-    faults = [it for it in map(fault_of, calls) if it]
-    pairs = len(GIVEN) * (len(GIVEN) - 1) // 2
-    told = [f"{len(calls)} command lines, and `explain` that reads a terminal", f"{pairs} pairs of options, as the help says which exclude each other"]
-    return [*faults, *version_faults(), *pair_faults(), *colour_faults(), *terminal_faults()], told
+@pytest.mark.parametrize("pair", itertools.combinations(GIVEN, 2), ids="".join)
+def test_pair(pair):
+    """Two options are refused together exactly if the help says so."""
+    is_excluded = frozenset(pair) in {*excluded()}
+    needed = set() if is_excluded else {NEEDED[it] for it in pair if it in NEEDED}
+    ran = run("explain", [GIVEN[it] for it in sorted({*pair, *needed})])
+    if is_excluded:
+        assert ran.returncode == 2 and b" cannot be used with " in ran.stderr
+    else:
+        assert ran.returncode == 0 and not ran.stderr

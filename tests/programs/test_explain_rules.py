@@ -1,6 +1,6 @@
 """The reports of `./explain --config` on lines, compared with the results of the library by the program `answers`; and command lines.
 
-The library's calls, which `rules_witness` compares with Git, return the rewritten text of a line, the entries that apply to it
+The library's calls, which `tests/witnesses` compares with Git, return the rewritten text of a line, the entries that apply to it
 and whether its transport may be used; `second_reading` returns the reading of a text. For each case all JSON is compared, and
 the reports on standard error. Configurations are written by hand, and taken from those that are compared with Git. The text
 output was written by hand (`crates/explain/golden/by_config`).
@@ -8,23 +8,23 @@ output was written by hand (`crates/explain/golden/by_config`).
 import json
 import os
 import re
-import subprocess
 from collections import namedtuple
-from itertools import accumulate, zip_longest
+from itertools import accumulate
 
-import rules_match
-import rules_remote
-import rules_rewrite
+import pytest
+import runs
+from git_runs import entry_of as entry
+from git_runs import is_named, listed
 from row_text import bytes_of, text_of
-from rt_api import ROOT, program
-from rules_asked import entry_of as entry, is_named, listed
-from rules_library import together
+from rt_api import stored
+from runs import ended, together
 from second_reading import grammar, hidden
 from second_reading.dangers import dangers
 from second_reading.explain import lossy, shown_line, told
 from second_reading.hidden import redacted
+from texts import Places, Remotes, Rules, examples, lacks_value, made
 
-STORED = f"{ROOT}/crates/explain/golden/by_config"
+STORED = "crates/explain/golden/by_config"
 # The number of configurations of each kind that are taken from those compared with Git.
 TAKEN = 40
 # The names of the findings for which a run may fail, in their order.
@@ -240,131 +240,111 @@ REMOTES = [
 ]
 
 
-def made_remotes():
+def remotes_of_git():
     """Configurations with remotes that are compared with Git, except those with a rule that has no value."""
-    some = [entries for entries, _ in rules_remote.made(TAKEN)]
-    return [*REMOTES, *(Case(it, []) for it in some if not any(map(rules_rewrite.lacks_value, it)))]
+    some = [entries for entries, _ in examples(made(Remotes, "configuration"), TAKEN)]
+    return [*REMOTES, *(Case(it, []) for it in some if not any(map(lacks_value, it)))]
 
 
-def made():
+def cases_of_git():
     """Cases of the configurations that are compared with Git."""
-    for entries, asked in rules_rewrite.made(TAKEN):
+    for entries, asked in examples(made(Rules, "configuration"), TAKEN):
         yield Case(entries, [line for line, _ in asked if not {10, 0} & {*line}])
-    for sets, urls in rules_match.made(TAKEN):
+    for sets, urls in examples(made(Places, "configuration"), TAKEN):
         every = [it for entries in sets for it in entries]
         some = [it._replace(section=b"credential") if at % 3 == 0 else it for at, it in enumerate(every)]
         yield Case(some, [it for it in urls if not {10, 0} & {*it}])
 
 
 def run(case, *words):
-    """The program over a case: its status, its answers and its reports."""
+    """The program over a case."""
     variables = {"GIT_ALLOW_PROTOCOL": case.allow_list, "GIT_PROTOCOL_FROM_USER": case.from_user}
     environment = {name: value for name, value in os.environ.items() if name not in variables}
     environment.update({name: os.fsdecode(value) for name, value in variables.items() if value is not None})
-    ran = subprocess.run([program("explain"), *words], input=b"".join(it + b"\n" for it in case.lines), stdout=subprocess.PIPE,
-                         stderr=subprocess.PIPE, timeout=60, env=environment)
-    return ran.returncode, ran.stdout, ran.stderr
+    return runs.run("explain", words, ended(case.lines), env=environment)
 
 
-def case_faults(case, words, wanted, file):
-    """The differences of the program's report on a case from these words of its entries, and this of its lines."""
-    pairs = zip(placed(case.entries), words)
-    reported = "".join(f"explain: the entry at byte {at} of the configuration {it}\n" for (at, _), it in pairs if it)
-    with open(file, "wb") as it:
-        it.write(listed(case.entries))
-    _, shown, said = run(case, "--json", "--config", file)
-    found = [json.loads(it) for it in shown.splitlines()]
-    if said.decode() != reported:
-        yield f"of {case.entries} {said.decode()!r} is reported, and not {reported!r}"
-    if len(found) != len(case.lines):
-        yield f"{len(case.lines)} lines have {len(found)} answers"
-    if b"s3cret" in shown + said + run(case, "--config", file)[1]:
-        yield f"by {case.entries} a secret is shown"
-    for line, it, rules_of in zip(case.lines, found, wanted):
-        if json.loads(json.dumps(rules_of)) != it["rules"] or list(rules_of) != list(it["rules"]):
-            yield f"of {line!r} by {case} {it['rules']} is reported, and not {rules_of}"
+@pytest.fixture
+def given(tmp_path):
+    """Writes the configuration of a case, and returns its words."""
+    def write(case):
+        (tmp_path / "config").write_bytes(listed(case.entries))
+        return "--config", str(tmp_path / "config")
+    return write
 
 
-def remote_faults(case, wanted, file):
-    """The differences of the program's report on the remotes of a case from this."""
-    with open(file, "wb") as it:
-        it.write(listed(case.entries))
-    _, shown, said = run(case, "--json", "--remotes", "--config", file)
-    found = [json.loads(it) for it in shown.splitlines()]
-    for it in found:
-        it.update({member: [{**way, "rewritten": None} for way in it[member]] for member in ("fetch", "push")})
-    if found != json.loads(json.dumps(wanted)):
-        yield f"of the remotes of {case.entries} {found} is reported, and not {wanted}"
-    if b"s3cret" in shown + said + run(case, "--remotes", "--config", file)[1]:
-        yield f"by {case.entries} a secret is shown of a remote"
-
-
-def command_faults(folder):
-    """The differences of a command line's outcome from the one written by hand: no lines of `explain` except these."""
-    file, nothing, rest = f"{folder}/given", Case([], []), Case([], [b"gh:p"])
-    with open(file, "wb") as it:
-        it.write(b"url.https://h/.insteadof\ngh:\0")
-    cut_off, keyless = Case([], [b"url.https://h/.insteadof", b"gh:\0a.b", b"c"]), Case([], [b"url.https://h/.insteadof", b"gh:\0x\0"])
-    said_of_cut = b"explain: the entry at byte 29 of the configuration has no end\n"
-    for case, words, status, fetched, reported in (
-        (rest, ["--config", file], 0, b"https://h/p", b""),
-        (rest, ["--config", os.devnull], 0, b"gh:p", b""),
-        (nothing, ["--config", file, "gh:p"], 0, b"https://h/p", b""),
-        (cut_off, ["--config", "-", "gh:p"], 0, b"https://h/p", said_of_cut),
-        (keyless, ["--config", "-", "gh:p"], 2, None, b"explain: cannot read -: use git config --list -z"),
-        (Case([], [b"user.name=me"]), ["--config", "-", "gh:p"], 2, None, b"explain: cannot read -: use git config --list -z"),
-        (rest, ["--config", f"{folder}/none"], 2, None, b"explain: cannot read "),
-        (rest, ["--config", folder], 2, None, b"explain: cannot read "),
-        (rest, ["--config", "-"], 2, None, b"explain: --config - needs the lines"),
-        (rest, ["--config", "-", "-"], 2, None, b"explain: --config - needs the lines"),
-        (rest, ["--config", file, "--only", "host"], 0, b"gh\n", b""),
-        (rest, ["--config", file, "--quiet"], 0, None, b""),
-        (rest, ["--config", f"{folder}/none", "--html"], 2, None, b"explain: cannot read "),
-        (nothing, ["--config", "-", "--html"], 2, None, b"explain: --config - needs the lines"),
-        (rest, ["--config", file, "--remotes"], 0, None, b""),
-        (rest, ["--config", file, "--remotes", "h:p"], 2, None, b"error: "),
-        (Case([], [b"remote.o.url", b"h:p\0"]), ["--remotes"], 0, b"h:p", b"explain: the entry at byte 17 of the configuration has no end\n"),
-        (Case([], [b"remote.o.url", b"ext::x\0"]), ["--remotes", "-q"], 1, None, b"explain: the entry at byte 20 of the configuration has no end\n"),
-        (Case([], [b"remote.o.url=h:p"]), ["--remotes"], 2, None, b"explain: cannot read -: use git config --list -z"),
-    ):
-        found, shown, said = run(case, *words)
-        row = re.search(rb'(?m)^    fetches     "([^"]*)"', shown)
-        is_said = said.startswith(reported) if status else said == reported
-        if found != status or not is_said or (row[1] if row else shown or None) != fetched:
-            yield f"{words}: {found}, {shown!r}, {said!r}"
-    if b'"rules":null}' not in run(rest, "--json")[1]:
-        yield "without --config there are rules"
-
-
-def stored(name):
-    with open(f"{STORED}/{name}", "rb") as it:
-        return it.read()
-
-
-def people_faults(folder):
-    """The differences of the text output from the one written by hand."""
-    for case, wanted in BY_VARIABLE:
-        with open(f"{folder}/config", "wb") as it:
-            it.write(listed(case.entries))
-        shown = run(case, "--config", f"{folder}/config")[1]
-        if b"\n    transport   %b\n" % wanted not in shown:
-            yield f"explain prints {shown!r}, and not {wanted!r}"
-    shown = run(Case([], stored("stdin").splitlines()), "--config", f"{STORED}/config")[1]
-    rows = [it for it in shown.splitlines() if re.match(rb"line |    (fetches|pushes|danger|credential|http|transport) ", it)]
-    pairs = zip_longest(rows, stored("stdout").splitlines())
-    yield from (f"explain prints {got!r}, and not {wanted!r}" for got, wanted in pairs if got != wanted)
-
-
-def check(folder):
-    cases = [*BY_HAND, *made()]
+def test_lines(given):
+    cases = [*BY_HAND, *cases_of_git()]
     words = iter(together([fault(it) for case in cases for it in case.entries]))
     wanted = iter(together([rules(case, line) for case in cases for line in case.lines]))
-    remotes = made_remotes()
-    reports = iter(together([remote(case, name) for case in remotes for name in names_of_remotes(case.entries)]))
-    faults = [*command_faults(folder), *people_faults(folder)]
-    for case in remotes:
-        faults += remote_faults(case, [next(reports) for _ in names_of_remotes(case.entries)], f"{folder}/config")
     for case in cases:
-        faults += case_faults(case, [next(words) for _ in case.entries], [next(wanted) for _ in case.lines], f"{folder}/config")
-    lines = sum(len(it.lines) for it in cases)
-    return faults, [f"{lines} lines by {len(cases)} configurations, and the remotes of {len(remotes)}, as the library's calls have it"]
+        reported = "".join(f"explain: the entry at byte {at} of the configuration {it}\n" for at, _ in placed(case.entries) if (it := next(words)))
+        ran, text = run(case, "--json", *given(case)), run(case, *given(case))
+        assert ran.stderr.decode() == reported and b"s3cret" not in ran.stdout + ran.stderr + text.stdout, case
+        for line, it in zip(case.lines, map(json.loads, ran.stdout.splitlines()), strict=True):
+            rules_of = next(wanted)
+            assert json.loads(json.dumps(rules_of)) == it["rules"] and list(rules_of) == list(it["rules"]), f"of {line!r} by {case}"
+
+
+def test_remotes(given):
+    cases = remotes_of_git()
+    wanted = iter(together([remote(case, name) for case in cases for name in names_of_remotes(case.entries)]))
+    for case in cases:
+        ran, text = run(case, "--json", "--remotes", *given(case)), run(case, "--remotes", *given(case))
+        found = [json.loads(it) for it in ran.stdout.splitlines()]
+        for it in found:
+            it.update({member: [{**way, "rewritten": None} for way in it[member]] for member in ("fetch", "push")})
+        assert found == json.loads(json.dumps([next(wanted) for _ in names_of_remotes(case.entries)])), case.entries
+        assert b"s3cret" not in ran.stdout + ran.stderr + text.stdout, case
+
+
+REST = Case([], [b"gh:p"])
+CUT_OFF = Case([], [b"url.https://h/.insteadof", b"gh:\0a.b", b"c"])
+KEYLESS = Case([], [b"url.https://h/.insteadof", b"gh:\0x\0"])
+SAID_OF_CUT = b"explain: the entry at byte 29 of the configuration has no end\n"
+
+
+@pytest.mark.parametrize("case, words, status, fetched, reported", [
+    (REST, ["--config", "FILE"], 0, b"https://h/p", b""),
+    (REST, ["--config", os.devnull], 0, b"gh:p", b""),
+    (Case([], []), ["--config", "FILE", "gh:p"], 0, b"https://h/p", b""),
+    (CUT_OFF, ["--config", "-", "gh:p"], 0, b"https://h/p", SAID_OF_CUT),
+    (KEYLESS, ["--config", "-", "gh:p"], 2, None, b"explain: cannot read -: use git config --list -z"),
+    (Case([], [b"user.name=me"]), ["--config", "-", "gh:p"], 2, None, b"explain: cannot read -: use git config --list -z"),
+    (REST, ["--config", "FOLDER/none"], 2, None, b"explain: cannot read "),
+    (REST, ["--config", "FOLDER"], 2, None, b"explain: cannot read "),
+    (REST, ["--config", "-"], 2, None, b"explain: --config - needs the lines"),
+    (REST, ["--config", "-", "-"], 2, None, b"explain: --config - needs the lines"),
+    (REST, ["--config", "FILE", "--only", "host"], 0, b"gh\n", b""),
+    (REST, ["--config", "FILE", "--quiet"], 0, None, b""),
+    (REST, ["--config", "FOLDER/none", "--html"], 2, None, b"explain: cannot read "),
+    (Case([], []), ["--config", "-", "--html"], 2, None, b"explain: --config - needs the lines"),
+    (REST, ["--config", "FILE", "--remotes"], 0, None, b""),
+    (REST, ["--config", "FILE", "--remotes", "h:p"], 2, None, b"error: "),
+    (Case([], [b"remote.o.url", b"h:p\0"]), ["--remotes"], 0, b"h:p", b"explain: the entry at byte 17 of the configuration has no end\n"),
+    (Case([], [b"remote.o.url", b"ext::x\0"]), ["--remotes", "-q"], 1, None, b"explain: the entry at byte 20 of the configuration has no end\n"),
+    (Case([], [b"remote.o.url=h:p"]), ["--remotes"], 2, None, b"explain: cannot read -: use git config --list -z"),
+])
+def test_command_line(case, words, status, fetched, reported, tmp_path):
+    """The outcome that was written by hand: no lines of `explain` except these."""
+    (tmp_path / "given").write_bytes(b"url.https://h/.insteadof\ngh:\0")
+    ran = run(case, *(it.replace("FILE", f"{tmp_path}/given").replace("FOLDER", str(tmp_path)) for it in words))
+    row = re.search(rb'(?m)^    fetches     "([^"]*)"', ran.stdout)
+    assert ran.returncode == status and (row[1] if row else ran.stdout or None) == fetched
+    assert ran.stderr.startswith(reported) if status else ran.stderr == reported
+
+
+def test_without_a_configuration():
+    assert b'"rules":null}' in run(REST, "--json").stdout
+
+
+@pytest.mark.parametrize("case, wanted", BY_VARIABLE)
+def test_text_by_a_variable(case, wanted, given):
+    assert b"\n    transport   %b\n" % wanted in run(case, *given(case)).stdout
+
+
+def test_text():
+    """The text output is as it was written by hand."""
+    shown = run(Case([], stored(f"{STORED}/stdin").splitlines()), "--config", f"{STORED}/config").stdout
+    rows = [it for it in shown.splitlines() if re.match(rb"line |    (fetches|pushes|danger|credential|http|transport) ", it)]
+    assert rows == stored(f"{STORED}/stdout").splitlines()

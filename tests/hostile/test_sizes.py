@@ -6,16 +6,16 @@ grow with them.
 Time is processor time. A quadratic algorithm takes ten times as long for each byte of a text that is ten times as long; four
 times is accepted, for a machine with other load.
 """
-import contextlib
 import filecmp
 import json
 import os
-import re
-import resource
+import subprocess
+import sys
 
-import command_lines
-import make_remotes
+import pytest
 from rt_api import program
+from runs import SUMMARY
+from texts import realistic
 
 LARGE = 100_000_000
 SMALL = LARGE // 10
@@ -107,21 +107,30 @@ def put(path, pieces):
         return sum(map(it.write, pieces))
 
 
+# Starts a program with its streams in files, and prints its status, its seconds, its bytes of memory and its system calls that read. The
+# memory of the process that starts a program counts for it, so this one is small.
+LAUNCHER = r"""
+import json, os, re, resource, sys
+given, out, seconds, *words = sys.argv[1:]
+resource.setrlimit(resource.RLIMIT_CPU, (int(seconds), resource.getrlimit(resource.RLIMIT_CPU)[1]))
+streams = [(os.POSIX_SPAWN_OPEN, 0, given, os.O_RDONLY, 0), (os.POSIX_SPAWN_OPEN, 1, out, os.O_WRONLY | os.O_CREAT | os.O_TRUNC, 0o600)]
+process = os.posix_spawn(words[0], words, {}, file_actions=streams)
+os.waitid(os.P_PID, process, os.WEXITED | os.WNOWAIT)
+with open(f"/proc/{process}/io", encoding="ascii") as it:
+    reads = int(re.search(r"(?m)^syscr: (\d+)", it.read())[1])
+_, status, used = os.wait4(process, 0)
+print(json.dumps([os.waitstatus_to_exitcode(status), used.ru_utime + used.ru_stime, used.ru_maxrss * 1024, reads]))
+"""
+
+
 class Ran:
-    """A run of a program over a text: its seconds, its bytes of memory, its system calls that read, and whether its answer is
-    correct, if an answer is given."""
+    """A run of a program over a text, and whether its answer is correct, if an answer is given."""
 
     def __init__(self, words, folder, text, answer=None):
         given, right, out = (f"{folder}/{it}" for it in ("given", "right", "out"))
         self.size = put(given, text)
-        actions = [(os.POSIX_SPAWN_OPEN, 0, given, os.O_RDONLY, 0),
-                   (os.POSIX_SPAWN_OPEN, 1, out, os.O_WRONLY | os.O_CREAT | os.O_TRUNC, 0o600)]
-        process = os.posix_spawn(words[0], words, {}, file_actions=actions)
-        os.waitid(os.P_PID, process, os.WEXITED | os.WNOWAIT)
-        with open(f"/proc/{process}/io", encoding="ascii") as it:
-            self.reads = int(re.search(r"(?m)^syscr: (\d+)", it.read())[1])
-        _, status, used = os.wait4(process, 0)
-        self.status, self.seconds, self.bytes = os.waitstatus_to_exitcode(status), used.ru_utime + used.ru_stime, used.ru_maxrss * 1024
+        said = subprocess.run([sys.executable, "-I", "-S", "-c", LAUNCHER, given, out, str(MOST_SECONDS), *words], stdout=subprocess.PIPE, check=True).stdout
+        self.status, self.seconds, self.bytes, self.reads = json.loads(said)
         if answer is None:
             self.is_right = self.status in (0, 1) and os.path.getsize(out) > self.size
             return
@@ -152,7 +161,7 @@ def order_of(call, size):
 
 def remotes_of(size):
     """This many remotes, each with another number, each tenth of which has a host of its own."""
-    remotes = make_remotes.remotes()
+    remotes = realistic()
     named = (remotes[n % len(remotes)] if n % 10 else b"https://host%d.example/p" % n for n in range(size))
     return [b"%b%d\n" % (it, n // len(remotes)) for n, it in enumerate(named)], None
 
@@ -181,99 +190,57 @@ def modules_of(size):
 
 def summed(size):
     """This many lines with one host, and their summary."""
-    shown = command_lines.SUMMARY % (size, 0, size, 0, 0, size, 0, 0, 0) + b'host\n%8d  "example.com"\n' % size
+    shown = SUMMARY % (size, 0, size, 0, 0, size, 0, 0, 0) + b'host\n%8d  "example.com"\n' % size
     return chunks(b"", b"git@example.com:group/repo.git\n", size, b""), [shown]
 
 
-class Compared:
-    """The runs over two sizes, the smaller one twice; the memory for each byte and the seconds may be limited."""
-
-    def __init__(self, name, words, folder, make, small, large, most_bytes=None, most_seconds=MOST_SECONDS, most_more=None):
-        tenths, whole = [Ran(words, folder, *make(small)) for _ in range(2)], Ran(words, folder, *make(large))
-        self.name, self.is_right = name, all(it.is_right for it in (*tenths, whole))
-        self.most_bytes, self.most_seconds, self.most_more = most_bytes, most_seconds, most_more
-        self.seconds, self.reads, self.most_reads = whole.seconds, whole.reads, OWN_READS + whole.size // LEAST_READ
-        # The ratio of the times for each byte in the larger and the smaller size, and of the memory.
-        least = max(0.001, min(it.seconds for it in tenths))
-        self.growth, self.bytes = whole.seconds / least / (whole.size / tenths[0].size), (whole.bytes - OWN_BYTES) / whole.size
-        # The memory for each byte that only the larger size has.
-        self.more = (whole.bytes - tenths[-1].bytes) / (whole.size - tenths[-1].size)
-
-    def faults(self):
-        if not self.is_right:
-            yield f"{self.name} is answered otherwise"
-        if self.growth > MOST_GROWTH:
-            yield f"{self.name} takes {self.growth:.1f} times as long for each byte as a tenth of it: that isn't linear"
-        if self.seconds > self.most_seconds:
-            yield f"{self.name} takes {self.seconds:.1f} s, and may take {self.most_seconds}"
-        if self.most_bytes and self.bytes > self.most_bytes:
-            yield f"{self.name} takes {self.bytes:.2f} bytes of memory for each byte"
-        if self.most_more and self.more > self.most_more:
-            yield f"{self.name} takes {self.more:.2f} bytes of memory for each byte more"
-        if self.reads > self.most_reads:
-            yield f"{self.name} is read by {self.reads} calls of the system, and may be by {self.most_reads}"
+def compare(words, folder, make, small, large, most_bytes=None, most_seconds=MOST_SECONDS, most_more=None):
+    """Runs over two sizes, the smaller one twice; the memory for each byte and the seconds may be limited."""
+    tenths, whole = [Ran(words, folder, *make(small)) for _ in range(2)], Ran(words, folder, *make(large))
+    assert all(it.is_right for it in (*tenths, whole)), "it is answered otherwise"
+    # The ratio of the times for each byte in the larger and the smaller size.
+    growth = whole.seconds / max(0.001, min(it.seconds for it in tenths)) / (whole.size / tenths[0].size)
+    size = (whole.bytes - OWN_BYTES) / whole.size
+    # The memory for each byte that only the larger size has.
+    more = (whole.bytes - tenths[-1].bytes) / (whole.size - tenths[-1].size)
+    print(f"{whole.seconds:.1f} s, {growth:.2f} times as long for each byte as a tenth of it, {size:.2f} bytes of memory for each byte, {whole.reads} reads")
+    assert growth <= MOST_GROWTH, "that isn't linear"
+    assert whole.seconds <= most_seconds
+    assert not most_bytes or size <= most_bytes
+    assert not most_more or more <= most_more
+    assert whole.reads <= OWN_READS + whole.size // LEAST_READ
 
 
-@contextlib.contextmanager
-def limited(seconds):
-    """Limits each program that is started here, and this process, to this many seconds of the processor."""
-    before = resource.getrlimit(resource.RLIMIT_CPU)
-    resource.setrlimit(resource.RLIMIT_CPU, (seconds, before[1]))
-    try:
-        yield
-    finally:
-        resource.setrlimit(resource.RLIMIT_CPU, before)
+@pytest.mark.parametrize("shape", SHAPES, ids=lambda it: repr(b"".join([it[0], it[1], b"..", it[2]]))[2:-1])
+def test_lines_of_a_shape(shape, tmp_path):
+    compare([program("locations")], tmp_path, lambda size: line_of(shape, size), SMALL, LARGE, MOST_BYTES)
 
 
-def compared_lines(folder):
-    words = [program("locations")]
-    for shape in SHAPES:
-        begin, repeated, end, _ = shape
-        name = b"".join([begin, repeated, b"..", end]).decode()
-        yield Compared(name, words, folder, lambda size, it=shape: line_of(it, size), SMALL, LARGE, MOST_BYTES)
-    yield Compared("lines of a byte", words, folder, lambda count: (chunks(b"", LINE, count, b""), chunks(b"", LINE_ANSWER, count, b"")),
-                   LINES // 10, LINES, MOST_BYTES)
+def test_lines_of_a_byte(tmp_path):
+    compare([program("locations")], tmp_path, lambda count: (chunks(b"", LINE, count, b""), chunks(b"", LINE_ANSWER, count, b"")),
+            LINES // 10, LINES, MOST_BYTES)
 
 
-def compared_calls(folder):
-    for call in CALLS:
-        name = f"{call[1]('')['call']} over {call[0]}.."
-        yield Compared(name, [program("answers")], folder, lambda size, it=call: order_of(it, size), SMALL_ORDER, LARGE_ORDER)
+@pytest.mark.parametrize("call", CALLS, ids=lambda it: f"{it[1]('')['call']} over {it[0]}..")
+def test_calls(call, tmp_path):
+    compare([program("answers")], tmp_path, lambda size: order_of(call, size), SMALL_ORDER, LARGE_ORDER)
 
 
-def compared_page(folder):
-    words = [program("explain"), "--html"]
-    yield Compared(f"a page of {REMOTES} remotes", words, folder, remotes_of, REMOTES // 10, REMOTES, MOST_PAGE_BYTES)
+def test_page(tmp_path):
+    compare([program("explain"), "--html"], tmp_path, remotes_of, REMOTES // 10, REMOTES, MOST_PAGE_BYTES)
 
 
-def compared_rules(folder):
-    explain = [program("explain"), "--json", "--config", "-", "https://h/p"]
-    for name, words, make in (("Rewrites::rewrite_fetch", [program("answers")], order_of_rules), ("explain", explain, configuration_of)):
-        yield Compared(f"{name} by {RULES} rules", words, folder, make, RULES // 10, RULES, most_seconds=MOST_RULES_SECONDS)
+def test_a_rewrite_by_many_rules(tmp_path):
+    compare([program("answers")], tmp_path, order_of_rules, RULES // 10, RULES, most_seconds=MOST_RULES_SECONDS)
 
 
-def compared_modules(folder):
-    words = [program("explain"), "--gitmodules", "-"]
-    yield Compared(f"a file of {MODULES} submodules", words, folder, modules_of, MODULES // 10, MODULES, most_seconds=MOST_MODULES_SECONDS)
+def test_a_large_configuration(tmp_path):
+    compare([program("explain"), "--json", "--config", "-", "https://h/p"], tmp_path, configuration_of, RULES // 10, RULES, most_seconds=MOST_RULES_SECONDS)
 
 
-def compared_summary(folder):
-    words = [program("explain"), "--summary"]
-    yield Compared(f"a summary of {SUMMED} lines", words, folder, summed, SUMMED // 10, SUMMED, most_more=MOST_SUMMARY_BYTES)
+def test_many_submodules(tmp_path):
+    compare([program("explain"), "--gitmodules", "-"], tmp_path, modules_of, MODULES // 10, MODULES, most_seconds=MOST_MODULES_SECONDS)
 
 
-def check(folder):
-    """The faults, and the measurements."""
-    parts = {f"{len(SHAPES)} shapes of a line of {LARGE // 10**6} MB, {LINES // 10**6} million lines": compared_lines,
-             f"{len(CALLS)} calls over {LARGE_ORDER // 10**6} MB": compared_calls, f"a page of {REMOTES} remotes": compared_page,
-             f"a configuration with {RULES} rules": compared_rules, f"a file of {MODULES} submodules": compared_modules,
-             f"a summary of {SUMMED} lines": compared_summary}
-    faults, said = [], []
-    with limited(MOST_SECONDS):
-        for name, compare in parts.items():
-            found = [*compare(folder)]
-            faults += [fault for it in found for fault in it.faults()]
-            most = [max(getattr(it, of) for it in found) for of in ("seconds", "growth", "bytes", "reads")]
-            said.append(f"{name}: at most {most[0]:.1f} s, {most[1]:.2f} times as long for each byte as a tenth of it, "
-                        f"{most[2]:.2f} bytes of memory for each byte, {most[3]} reads")
-    return faults, said
+def test_a_summary(tmp_path):
+    compare([program("explain"), "--summary"], tmp_path, summed, SUMMED // 10, SUMMED, most_more=MOST_SUMMARY_BYTES)

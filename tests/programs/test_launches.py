@@ -4,10 +4,14 @@ import pty
 import shutil
 import signal
 import subprocess
+import tempfile
 import time
 from collections import namedtuple
 
+import pytest
 from rt_api import ROOT
+
+pytestmark = [pytest.mark.quick, pytest.mark.needs("setpriv", "pgrep")]
 
 # A command `rt` that records its calls, sleeps if SLOW is set, counts functions, and makes a program that prints its arguments.
 RT = """#!/bin/sh
@@ -144,14 +148,18 @@ def on_a_terminal(tree):
     return (started.wait(60), shown, "\n" in text, text.endswith("\r\x1b[K")), (0, [True] * 3, False, True)
 
 
-LAUNCHES = [first_call, by_a_link, another_crate, changed_source, interrupted, without_the_command, broken_command, read_only, little_disk, on_a_terminal]
+@pytest.fixture(scope="module")
+def tree():
+    """The user `nobody` has to reach it."""
+    folder = tempfile.mkdtemp(prefix="launches-", dir=f"{ROOT}/out")
+    os.chmod(folder, 0o755)
+    yield planted(f"{folder}/tree")
+    shutil.rmtree(folder)
 
 
-def check(room):
-    os.chmod(room, 0o755)
-    tree, faults = planted(f"{room}/tree"), []
-    for launch in LAUNCHES:
-        got, want = launch(tree)
-        if got != want:
-            faults.append(f"{launch.__name__.replace('_', ' ')}: {got}, and not {want}")
-    return faults, [f"{len(LAUNCHES)} ways to begin a program"]
+# In this order: later ones begin with what is built.
+@pytest.mark.parametrize("launch", [first_call, by_a_link, another_crate, changed_source, interrupted, without_the_command, broken_command, read_only, little_disk, on_a_terminal],
+                         ids=lambda it: it.__name__)
+def test_launch(launch, tree):
+    found, wanted = launch(tree)
+    assert found == wanted

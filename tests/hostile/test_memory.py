@@ -13,8 +13,9 @@ import os
 import re
 import subprocess
 
-import rows
+import pytest
 from rt_api import KIT, ROOT, program
+from tables import MEMORY, rows, topics
 
 # At most this many of the rows of one line are taken.
 OF_A_LINE = 20
@@ -49,12 +50,12 @@ class Ran:
         return b"-" in self.told
 
 
-def build_shim(room):
-    """Builds the shim before the allocator."""
-    clang, shim = f"{KIT}/toolchain/bin/clang", f"{room}/refuse.so"
-    flags = ["-O1", "-shared", "-fPIC", "-nostdlib", "-fuse-ld=lld"]
-    subprocess.run([clang, *flags, "-o", shim, f"{ROOT}/tools/refuse_memory.c"], check=True)
-    return shim
+@pytest.fixture(scope="module")
+def shim(tmp_path_factory):
+    """Before the allocator."""
+    clang, made = f"{KIT}/toolchain/bin/clang", tmp_path_factory.mktemp("shim") / "refuse.so"
+    subprocess.run([clang, "-O1", "-shared", "-fPIC", "-nostdlib", "-fuse-ld=lld", "-o", made, f"{ROOT}/tests/hostile/refuse_memory.c"], check=True)
+    return str(made)
 
 
 def sampled(table):
@@ -70,12 +71,12 @@ def refused_outcome(row):
     """The required result of the call of a row if its memory is refused: that error, otherwise the row's expectation."""
     call = row.members["call"]
     if call == "expand_path::with":
-        return [rows.MEMORY, row.expected[1]]
+        return [MEMORY, row.expected[1]]
     if call == "Url::canonicalized":
-        return [[rows.MEMORY, 0], row.expected[1]]
+        return [[MEMORY, 0], row.expected[1]]
     if call == "lines::run":
-        return {"outcome": rows.MEMORY, "status": 2, "out": ""}
-    return rows.MEMORY
+        return {"outcome": MEMORY, "status": 2, "out": ""}
+    return MEMORY
 
 
 def tells_memory(row, ran):
@@ -144,35 +145,25 @@ class Calls:
             yield f"{row.place}: with request {number} refused it returns {ran.out!r}: {row.order()}"
 
 
-def starved_program(shim):
-    """The faults if the program `locations` is refused each of its requests, and their number."""
-    path, faults = program("locations"), []
-    for number in itertools.count(1):
-        ran = Ran([path], shim, LINES, number)
-        want = (2, b"", b"locations: out of memory\n", 0) if ran.is_refused() else (1, ANSWER, b"", 0)
-        if (ran.status, ran.out, ran.err, ran.held) != want:
-            faults.append(f"locations, with request {number} refused: status {ran.status}, {ran.out!r}, {ran.err!r}, {ran.held} bytes held")
-        if not ran.is_refused():
-            return faults, number - 1
-
-
-def lower(row, faults, made):
-    """Reports that a call makes fewer requests than its row expects."""
-    if faults or row.requests is None or made >= row.requests:
-        return []
-    return [f"{row.place}: makes {made} requests, and the row says {row.requests}"]
-
-
-def check(room):
-    """Counts and refuses; returns the faults and a summary."""
-    table, shim = [*sampled(rows.rows())], build_shim(room)
+@pytest.mark.parametrize("topic", topics())
+def test_calls(topic, shim):
+    table = [*sampled(rows(topic))]
     with concurrent.futures.ThreadPoolExecutor(2 * os.cpu_count()) as lanes:
-        found = list(lanes.map(Calls(shim).faults, table))
-    faults, refused = starved_program(shim)
-    faults = [it for told, _ in found for it in told] + faults
-    told = [it for row, (bad, made) in zip(table, found) for it in lower(row, bad, made)]
-    counted, calls = sum(made for _, made in found), {it.members["call"] for it in table}
-    if not counted:
-        faults.append("no request was counted: the program's memory doesn't come by the shim")
-    said = f"{len(table)} rows of {len(calls)} calls, {counted} requests counted and each refused"
-    return faults, [*told, f"{said}; `locations` refused {refused} times"]
+        found = [*lanes.map(Calls(shim).faults, table)]
+    assert not [it for faults, _ in found for it in faults]
+    for row, (_, made) in zip(table, found):
+        if row.requests is not None and made < row.requests:
+            print(f"{row.place}: makes {made} requests, and the row says {row.requests}")
+    # Otherwise the program's memory doesn't come by the shim.
+    assert any(made for _, made in found) or not any(it.requests for it in table)
+
+
+def test_locations(shim):
+    """The program, with each of its requests refused."""
+    for number in itertools.count(1):
+        ran = Ran([program("locations")], shim, LINES, number)
+        wanted = (2, b"", b"locations: out of memory\n", 0) if ran.is_refused() else (1, ANSWER, b"", 0)
+        assert (ran.status, ran.out, ran.err, ran.held) == wanted, f"with request {number} refused"
+        if not ran.is_refused():
+            assert number > 1
+            return

@@ -3,6 +3,7 @@ import os
 import pty
 import subprocess
 
+import pytest
 from rt_api import program
 
 LINES = b"a::b://c\n/srv/repo.git\nhttp://h:0/\n"
@@ -25,25 +26,20 @@ ENDS = [
 ]
 
 
-def end_of_a_terminal(path):
+@pytest.mark.parametrize("name, command, status, shown, reported", ENDS)
+def test_stream(name, command, status, shown, reported):
+    ran = subprocess.run(["bash", "-o", "pipefail", "-c", command, program(name)], input=LINES, capture_output=True, timeout=60)
+    assert (ran.returncode, ran.stdout, ran.stderr) == (status, shown, reported)
+
+
+def test_end_of_a_terminal():
     """The end of input on a terminal, typed after an unended line, ends the run: the shell gets everything typed later."""
     terminal, other = pty.openpty()
-    started = subprocess.Popen([path], stdin=other, stdout=subprocess.PIPE, stderr=subprocess.DEVNULL)
+    started = subprocess.Popen([program("explain")], stdin=other, stdout=subprocess.PIPE, stderr=subprocess.DEVNULL)
     os.write(terminal, b"h:p\x04\x04next\n")
     try:
         said = started.communicate(timeout=20)[0]
-    except subprocess.TimeoutExpired:
+    finally:
         started.kill()
-        return "it reads on"
-    found = (started.returncode, said.startswith(b"line 1: scp form, settled\n"), b"line 2" in said, os.read(other, 100))
-    return "" if found == (0, True, False, b"next\n") else f"{found}"
-
-
-def check(_room):
-    faults = []
-    for name, command, *wanted in ENDS:
-        ran = subprocess.run(["bash", "-o", "pipefail", "-c", command, program(name)], input=LINES, capture_output=True, timeout=60)
-        if [ran.returncode, ran.stdout, ran.stderr] != wanted:
-            faults.append(f"{name}, {command}: {ran.returncode, ran.stdout, ran.stderr}, and not {wanted}")
-    ended = end_of_a_terminal(program("explain"))
-    return faults + [f"explain on a terminal: {ended}"] * bool(ended), [f"`locations` and `explain` at {len(ENDS) + 1} real ends"]
+    assert (started.returncode, said.startswith(b"line 1: scp form, settled\n"), b"line 2" in said) == (0, True, False)
+    assert os.read(other, 100) == b"next\n"

@@ -9,8 +9,11 @@ import itertools
 import os
 import subprocess
 
+import pytest
+from git_runs import put
 from rt_api import program
 
+pytestmark = pytest.mark.needs("git")
 # Names of programs in a folder of the test's own, which is the first in which programs are looked for.
 NAMES = ("ssh", "plink", "tortoiseplink", "other", "my ssh")
 # Shows its arguments; with -G, by which Git detects its variant, only that.
@@ -59,8 +62,7 @@ def of_git(line, entries, variables, room):
 
 def of_explain(line, entries, variables, room):
     """The start of the command for a line, and the run that printed it. If there is none, the run reports the reason and has a status."""
-    with open(f"{room}/config", "wb") as it:
-        it.write(b"".join(f"{it.key}\n{it.value}\0".encode() for it in entries))
+    put(f"{room}/config", "".join(f"{it.key}\n{it.value}\0" for it in entries))
     given = ["--config", f"{room}/config"] if entries or variables else []
     ran, nothing = shown_by([program("explain"), "--ssh", *given], room, variables=variables, input=line + b"\n")
     is_line = ran.stdout not in (b"", b"\n") and ran.stdout.count(b"\n") == 1
@@ -72,18 +74,18 @@ def of_explain(line, entries, variables, room):
     return shown_by(["bash", "-c", ran.stdout], room)[1], ran
 
 
-def faults_of(line, entries, variables, room):
+@pytest.fixture(scope="module")
+def room(tmp_path_factory):
+    folder = tmp_path_factory.mktemp("ssh")
+    os.makedirs(folder / "bin")
+    for name in NAMES:
+        put(f"{folder}/bin/{name}", SHOW, 0o755)
+    return str(folder)
+
+
+@pytest.mark.parametrize("line, entries, variables", [
+    *itertools.product(LINES, CONFIGURATIONS, [{}]), *itertools.product(LINES[:3], CONFIGURATIONS, VARIABLES), *((it, (), {}) for it in WITHOUT)])
+def test_command(line, entries, variables, room):
     wanted = of_git(line, entries, variables, room)
     found, ran = of_explain(line, entries, variables, room)
-    if found != (b"" if line in WITHOUT else wanted):
-        yield f"explain --ssh {line!r} with {entries}, {variables}: {ran.returncode}, {ran.stdout!r}, {ran.stderr!r}: {found!r}, and Git {wanted!r}"
-
-
-def check(room):
-    os.makedirs(f"{room}/bin")
-    for name in NAMES:
-        with open(f"{room}/bin/{name}", "w", encoding="utf-8", opener=lambda path, flags: os.open(path, flags, 0o755)) as it:
-            it.write(SHOW)
-    cases = [*itertools.product(LINES, CONFIGURATIONS, [{}]), *itertools.product(LINES[:3], CONFIGURATIONS, VARIABLES), *((it, (), {}) for it in WITHOUT)]
-    faults = [fault for it in cases for fault in faults_of(*it, room)]
-    return faults, [f"{len(cases)} commands that `explain --ssh` prints, each run by a shell, beside what Git runs"]
+    assert found == (b"" if line in WITHOUT else wanted), ran

@@ -5,7 +5,11 @@ import os
 import re
 import subprocess
 
-from rt_api import ROOT, program
+import pytest
+from git_runs import put
+from rt_api import program, read
+
+pytestmark = pytest.mark.needs("git")
 
 GOOD = '[submodule "a"]\n\tpath = a\n\turl = https://github.com/a/b.git\n'
 BAD = '[submodule "a"]\n\tpath = a\n\turl = -u./payload\n'
@@ -15,10 +19,12 @@ REMOTE = '[core]\n\tbare = false\n[remote "origin"]\n\turl = {}\n\tfetch = +refs
 
 def recipes():
     """The blocks of the page: a hook, the lines that the step runs, and a script."""
-    with open(f"{ROOT}/docs/AUDIT.md", encoding="utf-8") as it:
-        hook, step, clones = re.findall(r"^```(?:sh|yaml)\n(.*?)^```$", it.read(), re.M | re.S)
+    hook, step, clones = re.findall(r"^```(?:sh|yaml)\n(.*?)^```$", read("docs/AUDIT.md"), re.M | re.S)
     lines = step.partition("run: |\n")[2].splitlines()
     return hook, "\n".join(line.removeprefix("    ") for line in lines), clones
+
+
+HOOK, STEP, CLONES = recipes()
 
 
 class Place:
@@ -38,15 +44,12 @@ class Place:
 
     def git(self, *words, folder="work"):
         ran = self.run("git", *words, folder=folder)
-        if ran.returncode:
-            raise ValueError(f"git {words}: {ran.stdout}")
+        assert ran.returncode == 0, f"git {words}: {ran.stdout}"
         return ran.stdout
 
     def write(self, name, text, mode=0o644):
         os.makedirs(os.path.dirname(f"{self.room}/{name}"), exist_ok=True)
-        with open(f"{self.room}/{name}", "w", encoding="utf-8") as it:
-            it.write(text)
-        os.chmod(f"{self.room}/{name}", mode)
+        put(f"{self.room}/{name}", text, mode)
 
     def commit(self, text):
         """A commit with this .gitmodules, or without one."""
@@ -58,42 +61,41 @@ class Place:
         self.git("commit", "-q", "-m", "a")
 
 
-def hook_faults(place, hook):
-    """Whether pushes are refused and accepted as they should be."""
+@pytest.fixture
+def place(tmp_path):
+    return Place(tmp_path)
+
+
+def test_the_hook(place):
+    """Consecutive commits, and whether a push with all that are new is accepted."""
     place.git("init", "-q", "--bare", "-b", "main", "server.git", folder=".")
-    place.write("server.git/hooks/pre-receive", hook, 0o755)
+    place.write("server.git/hooks/pre-receive", HOOK, 0o755)
     place.git("init", "-q", "-b", "main", "work", folder=".")
-    push = ("git", "push", "-q", f"{place.room}/server.git", "HEAD:main")
-    # Consecutive commits, and whether a push with all that are new is accepted.
     for texts, accepted in (((GOOD,), True), ((BAD,), False), ((BAD, GOOD), False), ((BAD, None), False),
                             (("no configuration",), False), ((None,), True), ((GOOD, GOOD + "# a"), True)):
         before = place.git("rev-parse", "-q", "--verify", "HEAD").strip() if os.path.exists(f"{place.room}/work/.gitmodules") else None
         for text in texts:
             place.commit(text)
-        ran = place.run(*push, folder="work")
-        if (ran.returncode == 0) != accepted:
-            yield f"the hook: a push of {texts} ends with {ran.returncode}: {ran.stdout}"
+        ran = place.run("git", "push", "-q", f"{place.room}/server.git", "HEAD:main", folder="work")
+        assert (ran.returncode == 0) == accepted, f"{texts}: {ran.stdout}"
         if not accepted:
             place.git("reset", "-q", "--hard", before)
 
 
-def step_faults(place, step):
+@pytest.mark.parametrize("text, status", [(None, 0), (GOOD, 0), (BAD, 1), (CLIMBS, 1), ("[x", 2)])
+def test_the_step(text, status, place):
     """Whether the step ends as it should, with a log."""
-    for text, status in ((None, 0), (GOOD, 0), (BAD, 1), (CLIMBS, 1), ("[x", 2)):
-        folder = f"step{status}{text is None}{text == CLIMBS}"
-        place.git("init", "-q", folder, folder=".")
-        place.git("remote", "add", "origin", "https://example.com/group/super.git", folder=folder)
-        if text is not None:
-            place.write(f"{folder}/.gitmodules", text)
-        ran = place.run("sh", "-c", step, folder=folder)
-        if ran.returncode != status:
-            yield f"the step: {text!r} ends with {ran.returncode}: {ran.stdout}"
-        if text is not None and status < 2 and not os.path.getsize(f"{place.room}/{folder}/audit.sarif"):
-            yield f"the step: {text!r} has no log"
+    place.git("init", "-q", "step", folder=".")
+    place.git("remote", "add", "origin", "https://example.com/group/super.git", folder="step")
+    if text is not None:
+        place.write("step/.gitmodules", text)
+    ran = place.run("sh", "-c", STEP, folder="step")
+    assert ran.returncode == status, ran.stdout
+    assert text is None or status == 2 or os.path.getsize(f"{place.room}/step/audit.sarif")
 
 
-def clone_faults(place, script):
-    """Whether exactly the files with a finding are named."""
+def test_all_clones(place):
+    """Exactly the files with a finding are named."""
     files = {
         "clones/a/.git/config": (REMOTE.format("https://github.com/a/b.git"), False), "clones/a/.gitmodules": (GOOD, False),
         "clones/b c/.git/config": (REMOTE.format("ext::sh -c x"), True), "clones/b c/.gitmodules": (BAD, True),
@@ -101,16 +103,7 @@ def clone_faults(place, script):
         "clones/f/.git/modules/g/config": (REMOTE.format("git@github.com:a/b.git"), False), "clones/config": ("[x", False)}
     for name, (text, _) in files.items():
         place.write(name, text)
-    place.write("clones.sh", script, 0o755)
+    place.write("clones.sh", CLONES, 0o755)
     ran = place.run("./clones.sh", "clones")
-    named = {it for it in ran.stdout.splitlines() if it in files}
-    if named != {name for name, (_, found) in files.items() if found} or ran.returncode == 0:
-        yield f"the clones: {sorted(named)} are named, with status {ran.returncode}: {ran.stdout}"
-
-
-def check(room):
-    """The faults, and a summary of the runs."""
-    hook, step, clones = recipes()
-    place = Place(room)
-    faults = [*hook_faults(place, hook), *step_faults(place, step), *clone_faults(place, clones)]
-    return faults, ["three recipes, with 7 pushes, 5 steps and 8 files"]
+    assert {it for it in ran.stdout.splitlines() if it in files} == {name for name, (_, found) in files.items() if found}
+    assert ran.returncode != 0
