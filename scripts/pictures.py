@@ -16,7 +16,7 @@ from html import escape
 sys.dont_write_bytecode = True
 sys.path.append(f"{sys.path[0]}/../tools")
 import terminal
-from rt_api import ROOT
+from rt_api import ROOT, read
 
 FOLDER = f"{ROOT}/docs/pictures"
 TERMINAL = "../explain"
@@ -136,8 +136,7 @@ def diagram(terms):
 
 def rows():
     """The rows of the grammar, by their names."""
-    with open(f"{ROOT}/docs/GRAMMAR.md", encoding="utf-8") as it:
-        block = re.search(r"(?ms)^```text\n(helper = .*?)^```$", it.read())[1]
+    block = re.search(r"(?ms)^```text\n(helper = .*?)^```$", read("docs/GRAMMAR.md"))[1]
     return dict(re.findall(r"(?m)^([\w-]+) += (.*)$", block))
 
 
@@ -182,21 +181,16 @@ def pictures():
 def faults():
     """The pictures that differ from the output of this script, and those that no document shows."""
     wanted = {f"{name}.svg": text for name, text in pictures().items()}
-    for name in sorted({*wanted, *(os.listdir(FOLDER) if os.path.isdir(FOLDER) else [])}):
-        path = f"{FOLDER}/{name}"
-        if name.endswith(".svg"):
-            stored = None
-            if os.path.exists(path):
-                with open(path, encoding="utf-8") as it:
-                    stored = it.read()
-            if stored != wanted.get(name):
-                yield f"{os.path.normpath(f'docs/pictures/{name}')} isn't what scripts/pictures.py draws"
+    for name in sorted({*wanted, *(it for it in os.listdir(FOLDER) if it.endswith(".svg"))}):
+        path = os.path.normpath(f"docs/pictures/{name}")
+        if not os.path.exists(f"{ROOT}/{path}") or read(path) != wanted.get(name):
+            yield f"{path} isn't what scripts/pictures.py draws"
 
 
 def main():
     if sys.argv[1:] == ["--terminal"]:
         output = terminal.printed()
-        with open(terminal.STORED, "wb") as stored:
+        with open(f"{ROOT}/{terminal.STORED}", "wb") as stored:
             stored.write(output)
     elif sys.argv[1:]:
         sys.exit(__doc__)

@@ -18,18 +18,13 @@ from definitions import named_in
 from doc_comments import documented, of_module, own_words, parted, sentence
 from public_items import DOC, documented_items, sources_of
 from reference_names import PASSED, anchors, by_last_name, crates, link, module_of, modules, name_for_programs, target
-from rt_api import LAYERS, LIBRARIES, ROOT
+from rt_api import LAYERS, LIBRARIES, ROOT, read
 
 FOLDER = "docs/reference"
 INDEX, HEAD = f"{FOLDER}/README.md", "<!-- Written by `scripts/reference.py --write`. -->\n"
 # What begins a clause, or what an implementation of a trait states; and a documented field, variant or member.
 STATED = re.compile(r"(?m)^ *(?:(ensures|requires)(?: (\w+))?|ghost (\w+) =) (?=\{)")
 MEMBER = re.compile(r"(?m)((?:^( +)///.*\n)+)(?: +#\[.*\n)* *(?:pub )?(?:fn |type |const )?(\w+)")
-
-
-def read(name):
-    with open(f"{ROOT}/{name}", encoding="utf-8") as it:
-        return it.read()
 
 
 def stated(text):

@@ -7,7 +7,6 @@ sources, which `scripts/built` proves and builds first. A test whose command or 
 import importlib.util
 import os
 import shutil
-import subprocess
 import sys
 
 import pytest
@@ -26,6 +25,11 @@ def pytest_runtest_setup(item):
     missing = [name for mark in item.iter_markers("needs") for name in mark.args if not has(name)]
     if missing:
         (pytest.fail if os.environ.get("CI") == "true" else pytest.skip)(f"{', '.join(missing)} is missing: scripts/needs installs it")
+
+
+def pytest_addoption(parser):
+    parser.addoption("--record", action="store_true", help="write what is found into the stored tables, pages and pictures that a test compares")
+    parser.addoption("--remotes", action="append", default=[], help="a file with a remote in each line, in place of those of the repository, for readers")
 
 
 def pytest_configure(config):

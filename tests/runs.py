@@ -1,12 +1,9 @@
 """Runs of the built programs: over lines, and over orders for calls of the library."""
-import collections
 import json
 import subprocess
 
 from rt_api import program
 
-# The number of times that each call of the library was made.
-ASKED: collections.Counter[str] = collections.Counter()
 
 # The numbers in a summary: lines, URLs, scp forms, local paths, remote helpers; settled, not settled, refused, dangerous.
 SUMMARY = (b"lines: %d\nform\n%8d  URL\n%8d  scp form\n%8d  local path\n%8d  remote helper\n"
@@ -46,8 +43,7 @@ def outcomes(command, orders):
 
 def answers(orders):
     """The outcomes of orders, by one run of the program `answers`: a call and its inputs, in the form of the rows of docs/VECTORS.md."""
-    ASKED.update(it["call"] for it in orders)
-    return [*map(json.loads, outcomes(program("answers"), [*map(json.dumps, orders)]))] if orders else []
+    return [*map(json.loads, outcomes(program("answers"), [*map(json.dumps, orders)]))]
 
 
 def together(readings):

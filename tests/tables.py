@@ -174,8 +174,8 @@ def in_texts(value):
 
 def random_rows(members, number):
     """The rows over random paths, with their plain readings."""
-    for given, outcome in plain_paths.cases(members["call"], number):
-        yield {**members, **in_texts(given), "is": in_texts(outcome)}
+    for given, found in plain_paths.cases(members["call"], number):
+        yield {**members, **in_texts(given), "is": in_texts(found)}
 
 
 WAYS = {"in_order": pairs, "over": choices, "fronts": fronts, "each": each, "texts_of": texts_of, "random": random_rows}

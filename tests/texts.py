@@ -3,6 +3,7 @@
 A maker chooses by the draws of a strategy, so an example that fails is made smaller by other choices. `examples` makes this many
 different ones, the same each time; `compare` asks about all of them at once, and shrinks one for which a fault is found.
 """
+import functools
 import re
 from collections import namedtuple
 
@@ -38,6 +39,7 @@ class Maker:
         return b"".join(self.one_of(some) for _ in range(self.below(most + 1)))
 
 
+@functools.cache
 def made(maker, what="text"):
     """The strategy of what a maker makes."""
     return strategies.composite(lambda draw: getattr(maker(draw), what)())()
@@ -50,6 +52,7 @@ def drawn(strategy, number, take, phases=(Phase.generate,)):
     seed(number)(how(given(strategy)(take)))()
 
 
+@functools.cache
 def examples(strategy, count):
     """This many different examples of a strategy."""
     found = {}
@@ -83,16 +86,27 @@ def shrink(strategy, count, bad, faults):
         drawn(strategy, number, take, (Phase.generate, Phase.shrink))
 
 
+def culprit(every, faults):
+    """One example that has a fault alone, or the smallest group that has one."""
+    while len(every) > 1:
+        halves = every[: len(every) // 2], every[len(every) // 2 :]
+        bad = next((it for it in halves if [*faults(it)]), None)
+        if bad is None:
+            break
+        every = bad
+    return every[0]
+
+
 def compare(strategy, count, faults, others=()):
-    """Fails if `faults` finds pairs of an example and its fault among this many examples and the others; returns all of them."""
+    """Fails if `faults` finds any among this many examples and the others: pairs of an example, or None if it isn't known, and words.
+    Returns all examples."""
     every = [*{repr(it): it for it in (*others, *examples(strategy, count))}.values()]
     found = [*faults(every)]
     if found:
-        try:
-            shrink(strategy, count, {repr(it) for it, _ in found}, faults)
-        finally:
-            print(*(fault for _, fault in found[:SHOWN]), sep="\n")
-        pytest.fail(f"{len(found)} faults, none of which an example has alone")
+        bad = [it for it, _ in found if it is not None] or [culprit(every, faults)]
+        print(*(fault for _, fault in found[:SHOWN]), sep="\n")
+        shrink(strategy, count, {*map(repr, bad)}, faults)
+        pytest.fail(f"{len(found)} faults, which no example has alone")
     return every
 
 
@@ -772,11 +786,12 @@ class Policies(Maker):
         entries = [self.entry(name) for _ in range(self.below(5))]
         return entries, self.allow_list(name), self.one_of(self.FROM_USER), name
 
-    def text_of(self, name):
-        """A text that uses a transport. No URL has the scheme `git+ssh` as a helper's name, and none an empty one. If a helper
+    @classmethod
+    def texts_of(cls, name):
+        """Texts that use a transport. No URL has the scheme `git+ssh` as a helper's name, and none an empty one. If a helper
         is installed all the same, it has no target."""
         of_helper = (name + b"::/x",) if name in (b"", b"git+ssh") else (name + b"://127.0.0.1:1/p", name + b"::/x")
-        return self.one_of(self.OF.get(name, of_helper))
+        return cls.OF.get(name, of_helper)
 
 
 class Programs(Maker):

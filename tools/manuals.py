@@ -9,7 +9,7 @@ import re
 import sys
 
 sys.dont_write_bytecode = True
-from rt_api import ROOT
+from rt_api import read
 
 PROGRAMS = {"locations": "docs/locations.txt", "explain": "crates/explain/help"}
 # The pages that each page names, except itself.
@@ -19,11 +19,6 @@ LIBRARIES = {
     "gix_url": "parses, writes and compares Git remote locations, by proved code",
     "gix_url_rules": "what Git does with a remote by its configuration, by proved code",
 }
-
-
-def read(name):
-    with open(f"{ROOT}/{name}", encoding="utf-8") as it:
-        return it.read()
 
 
 def plain(line):

@@ -2,7 +2,7 @@
 in the text of an HTTP location (`crates/git_reads/specs/Credentials.antt`, `crates/git_laws/specs/GitWeb.antt`).
 
 Each function is a relation of the definitions, and returns everything that it relates to its arguments: it tries every split of
-a text, and checks the condition of each case. It doesn't call Git or libcurl: `scripts/web_witness` compares.
+a text, and checks the condition of each case. It doesn't call Git or libcurl: `tests/witnesses` compares.
 """
 import re
 from collections import namedtuple

@@ -81,7 +81,7 @@ def test_colours():
 
 def test_the_picture_of_a_terminal():
     """`scripts/pictures.py --terminal` draws docs/explain.svg again."""
-    assert terminal.printed() == terminal.stored()
+    assert terminal.printed() == stored(terminal.STORED)
 
 
 def test_alarms():
