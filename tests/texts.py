@@ -104,9 +104,10 @@ def compare(strategy, count, faults, others=()):
     found = [*faults(every)]
     if found:
         bad = [it for it, _ in found if it is not None] or [culprit(every, faults)]
-        print(*(fault for _, fault in found[:SHOWN]), sep="\n")
+        words = "\n".join([f"{len(found)} faults", *(fault for _, fault in found[:SHOWN])])
+        print(words)
         shrink(strategy, count, {*map(repr, bad)}, faults)
-        pytest.fail(f"{len(found)} faults, which no example has alone")
+        pytest.fail(words)
     return every
 
 

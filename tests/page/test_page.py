@@ -13,6 +13,7 @@
   faults   faults which are put into a page are found
 """
 import hashlib
+import io
 import json
 import os
 import re
@@ -24,13 +25,14 @@ from second_reading import explain_lines, explain_tables, short_inputs, stored_r
 from texts import realistic
 
 pytest.importorskip("selenium")
+pytest.importorskip("PIL")
 import page_answers
 import page_filter
 import page_hostile
 import page_look
 import page_rules
-import png_text
 from page_browser import Browser
+from PIL import Image, PngImagePlugin
 from selenium.common.exceptions import WebDriverException
 
 pytestmark = pytest.mark.needs("chromium", "chromedriver")
@@ -101,8 +103,9 @@ def record(page):
         page.open(written(page, PICTURED), 1152, dark=dark)
         page.ask("document.querySelector('#l2 a').click()")
         page.settle()
-        with open(f"{ROOT}/{name}", "wb") as it:
-            it.write(png_text.with_text(page.get_screenshot_as_png(), DIGEST, digest(page)))
+        text = PngImagePlugin.PngInfo()
+        text.add_text(DIGEST, digest(page))
+        Image.open(io.BytesIO(page.get_screenshot_as_png())).save(f"{ROOT}/{name}", pnginfo=text)
 
 
 # ---- tests
@@ -130,7 +133,7 @@ def test_stored(page, request):
     lines = texts_that_surprise()
     assert not shown_faults(page, f"{ROOT}/{SURPRISES}", lines, second_reading(lines), TITLE)
     assert stored_at(written(page, lines, TITLE)) == stored(SURPRISES)
-    assert {png_text.text_of(stored(it), DIGEST) for it in PICTURES} == {digest(page)}
+    assert {Image.open(f"{ROOT}/{it}").text[DIGEST] for it in PICTURES} == {digest(page)}
 
 
 @pytest.mark.parametrize("is_whole", SCALES)

@@ -125,7 +125,7 @@ def condition_line(name, example, cases, readers, found, beside):
 def group_lines(readers):
     """A line for each program of a group."""
     for (group, program), found in counts(readers).items():
-        shapes = [words_of(it) for it in PROGRAMS[group][program]]
+        shapes = [it.words for it in PROGRAMS[group][program]]
         yield {"group": group, "words": words_of(READER_GROUPS[group]), "program": program, **found, "shapes": shapes}
 
 

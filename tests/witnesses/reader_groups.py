@@ -5,7 +5,7 @@ the location either. `file` texts don't count, since Git finds no host in them. 
 If a program finds a host that isn't the group's, the text has a shape that is listed for this program.
 """
 import re
-from collections import Counter
+from collections import Counter, namedtuple
 
 from reader_places import REFUSED, SILENT, plain_host
 from second_reading import grammar
@@ -16,96 +16,48 @@ from second_reading.groups import GROUPS, host_by, is_own
 MEMBERS = ("differs", "takes", "misread", "same", "none", "gits", "another")
 
 
-# ---- shapes of texts in which a program finds another host than its group: the behaviour in each
-
-def tab(text, host):
-    """It drops a tab."""
-    return b"\t" in text
+# A shape of texts in which a program finds another host than its group: what the program does, and whether a text, and the host of the
+# group in it, have the shape.
+Shape = namedtuple("Shape", "words has")
 
 
-def escape(text, host):
-    """It decodes escapes in a host."""
-    return b"%" in host
+def text_with(words, pattern):
+    return Shape(words, lambda text, host: re.search(pattern, text, re.S))
 
 
-def bracket(text, host):
-    """It ends a host at the last `]`."""
-    return re.search(rb"\[[^]/?#]*\][^/?#]*\]", text)
+def text_without(words, pattern):
+    return Shape(words, lambda text, host: not re.match(pattern, text, re.S))
 
 
-def number(text, host):
-    """It reads a host whose last label begins with a digit as an IPv4 address."""
-    return re.search(rb"(?:\A|\.)[0-9][^.]*\.?\Z", host)
+def host_with(words, pattern):
+    return Shape(words, lambda text, host: re.search(pattern, host))
 
 
-def not_ascii(text, host):
-    """It writes a host that isn't ASCII in Punycode."""
-    return not host.isascii()
-
-
-def empty_punycode(text, host):
-    """It takes `xn--` alone for an empty label."""
-    return re.search(rb"(?:\A|\.)xn--(?:\.|\Z)", host)
-
-
-def scheme_word(text, host):
-    """It takes the word of a scheme before a single colon for a scheme."""
-    return host in (b"http", b"https", b"ssh", b"git")
-
-
-def blank(text, host):
-    """It takes no host with a blank."""
-    return re.search(rb"\s", host)
-
-
-def no_user(text, host):
-    """It takes no empty user."""
-    return text.startswith(b"@")
-
-
-def no_inner_slash(text, host):
-    r"""It takes no path without a `/` between two bytes, nor one with a `\` at the front or behind that `/`."""
-    return not re.match(rb"[^\\].*/[^\\]", text.partition(b"@")[2].partition(b":")[2], re.S)
-
-
-def no_slash_behind_port(text, host):
-    r"""It takes no port before a path without a `/` between two bytes, nor before one with a `\` at the front or behind that `/`."""
-    return not re.match(rb"[^:]*:[0-9]+[/:][^\\].*/[^\\]", text, re.S)
-
-
-def long_port(text, host):
-    """It takes no port of six digits or more."""
-    return re.search(rb":[0-9]{6,}\Z", host)
-
-
-def port_zero(text, host):
-    """It takes port 0 for none."""
-    return re.search(rb":0+\Z", host)
-
-
-def port_alone(text, host):
-    """It takes no empty host."""
-    return host.startswith(b":")
-
-
-def user_first(text, host):
-    """It ends a user at the first `@`, with a `:` before it or not."""
-    return b"@" in text.partition(b":")[2] or text.count(b"@") > 1
-
-
-def no_octet(text, host):
-    """It takes numbers to 255 without leading zeros."""
-    return any(int(it) > 255 or it != b"%d" % int(it) for it in host.split(b"."))
-
-
+TAB, ESCAPE = text_with("It drops a tab.", b"\t"), host_with("It decodes escapes in a host.", b"%")
+BRACKET = text_with("It ends a host at the last `]`.", rb"\[[^]/?#]*\][^/?#]*\]")
+NUMBER = host_with("It reads a host whose last label begins with a digit as an IPv4 address.", rb"(?:\A|\.)[0-9][^.]*\.?\Z")
+NOT_ASCII = host_with("It writes a host that isn't ASCII in Punycode.", rb"[\x80-\xff]")
+EMPTY_PUNYCODE = host_with("It takes `xn--` alone for an empty label.", rb"(?:\A|\.)xn--(?:\.|\Z)")
+SCHEME_WORD = host_with("It takes the word of a scheme before a single colon for a scheme.", rb"(?i)\A(?:https?|ssh|git)\Z")
+BLANK, NO_USER = host_with("It takes no host with a blank.", rb"\s"), text_with("It takes no empty user.", rb"\A@")
+NO_INNER_SLASH = text_without(
+    r"It takes no path without a `/` between two bytes, nor one with a `\` at the front or behind that `/`.", rb"[^@]*@[^:]*:[^\\].*/[^\\]")
+NO_SLASH_BEHIND_PORT = text_without(
+    r"It takes no port before a path without a `/` between two bytes, nor before one with a `\` at the front or behind that `/`.",
+    rb"[^:]*:[0-9]+[/:][^\\].*/[^\\]")
+LONG_PORT = host_with("It takes no port of six digits or more.", rb":[0-9]{6,}\Z")
+PORT_ZERO, PORT_ALONE = host_with("It takes port 0 for none.", rb":0+\Z"), host_with("It takes no empty host.", rb"\A:")
+USER_FIRST = text_with("It ends a user at the first `@`, with a `:` before it or not.", rb":.*@|@.*@")
+NO_OCTET = Shape("It takes numbers to 255 without leading zeros.",
+                 lambda text, host: any(int(it) > 255 or it != b"%d" % int(it) for it in host.split(b".")))
 PROGRAMS = {
-    "urls": {"Go net/url": (escape, bracket), "Python urllib": (tab,)},
-    "url_standard": {"WHATWG (Node)": (tab, escape, not_ascii, number), "Rust url": (tab, escape, not_ascii, number, empty_punycode)},
-    "made_urls": {"gh": (escape, bracket), "pip": (tab,)},
-    "first_colon": {"dulwich": (scheme_word,)},
-    "first_at": {"go-git": (blank, no_user, no_inner_slash)},
-    "digits_are_port": {"go-git": (user_first, long_port, port_zero, port_alone, no_slash_behind_port)},
-    "four_numbers": {"Boost.URL": (no_octet,)},
+    "urls": {"Go net/url": (ESCAPE, BRACKET), "Python urllib": (TAB,)},
+    "url_standard": {"WHATWG (Node)": (TAB, ESCAPE, NOT_ASCII, NUMBER), "Rust url": (TAB, ESCAPE, NOT_ASCII, NUMBER, EMPTY_PUNYCODE)},
+    "made_urls": {"gh": (ESCAPE, BRACKET), "pip": (TAB,)},
+    "first_colon": {"dulwich": (SCHEME_WORD,)},
+    "first_at": {"go-git": (BLANK, NO_USER, NO_INNER_SLASH)},
+    "digits_are_port": {"go-git": (USER_FIRST, LONG_PORT, PORT_ZERO, PORT_ALONE, NO_SLASH_BEHIND_PORT)},
+    "four_numbers": {"Boost.URL": (NO_OCTET,)},
 }
 
 
@@ -155,7 +107,7 @@ class Seen:
         return any(self.has(shape) for shape in PROGRAMS[self.group][program])
 
     def has(self, shape):
-        return shape(self.case.text, self.case.hosts[self.group])
+        return shape.has(self.case.text, self.case.hosts[self.group])
 
     def members(self):
         """The counts that it belongs to."""
@@ -202,4 +154,4 @@ def shape_faults(readers):
             wrong = [it for it in reader.seen if it.group == group and it.is_wrong]
             for shape in PROGRAMS[group][reader.name]:
                 if not any(it.has(shape) for it in wrong):
-                    yield f"in no text {reader.name} takes another host than {group} by the shape {shape.__name__}"
+                    yield f"in no text {reader.name} takes another host than {group} by the shape: {shape.words}"
