@@ -40,8 +40,7 @@ class Box:
         self.width, self.up, self.down = COLUMN * len(self.word) + 2 * GAP, HEIGHT // 2, HEIGHT // 2
 
     def draw(self, x, y):
-        kind = ' class="text"' if self.is_text else ' rx="10"'
-        yield f'<rect x="{x}" y="{y - self.up}" width="{self.width}" height="{HEIGHT}"{kind}/>'
+        yield f'<rect x="{x}" y="{y - self.up}" width="{self.width}" height="{HEIGHT}"' + (' class="text"/>' if self.is_text else ' rx="10"/>')
         yield f'<text x="{x + self.width / 2:g}" y="{y}">{escape(self.word)}</text>'
 
 
@@ -49,9 +48,7 @@ class Line:
     """An empty part: only the line."""
 
     width = up = down = 0
-
-    def draw(self, x, y):
-        yield from ()
+    draw = staticmethod(lambda x, y: ())
 
 
 class Sequence:
@@ -136,8 +133,7 @@ def diagram(terms):
 
 def rows():
     """The rows of the grammar, by their names."""
-    block = re.search(r"(?ms)^```text\n(helper = .*?)^```$", read("docs/GRAMMAR.md"))[1]
-    return dict(re.findall(r"(?m)^([\w-]+) += (.*)$", block))
+    return dict(re.findall(r"(?m)^([\w-]+) += (.*)$", re.search(r"(?ms)^```text\n(helper = .*?)^```$", read("docs/GRAMMAR.md"))[1]))
 
 
 # Locations, each text with the name of its field, or None for a separator.
@@ -146,8 +142,8 @@ LOCATIONS = (
     (("https", "scheme"), ("://", ""), ("user", "user"), (":", ""), ("secret", "password"), ("@", ""), ("example.com", "host"),
      ("/path?query#fragment", "path")),
 )
+# The colours of fields, and the columns of a character of a location.
 COLOURS = {"scheme": "#8e44ad", "user": "#c0392b", "password": "#148f8f", "host": "#1f6fb2", "port": "#b9770e", "path": "#1e8449"}
-# The columns of a character of a location.
 WIDE = 12
 
 
@@ -189,12 +185,11 @@ def faults():
 
 def main():
     if sys.argv[1:] == ["--terminal"]:
-        output = terminal.printed()
-        with open(f"{ROOT}/{terminal.STORED}", "wb") as stored:
-            stored.write(output)
+        printed = terminal.printed()
+        with open(f"{ROOT}/{terminal.STORED}", "wb") as it:
+            it.write(printed)
     elif sys.argv[1:]:
         sys.exit(__doc__)
-    os.makedirs(FOLDER, exist_ok=True)
     for name, text in pictures().items():
         with open(f"{FOLDER}/{name}.svg", "w", encoding="utf-8") as it:
             it.write(text)

@@ -3,42 +3,28 @@ import re
 import shutil
 import subprocess
 
-from git_reads import decoded, git_port, hosts_and_ports
-from git_runs import ask_loop
+from git_classes import HOME, SECURE_URL
+from git_reads import decoded
 from reader_places import REFUSED, place
 from second_reading.unambiguous import pieces
 from texts import can_be_a_line
-from transports import ask_git
+from transports import NO_USER, ask_git, ask_secure_shell, diagnosed
 from web_asked import Curl, ask_credential, library_of_git
 from web_reads import Web
 
-ASK_SECURE_SHELL = r"""
-for text; do ssh -F "$SETTINGS" -G "$text" 2>&1; printf '\0'; done
-"""
-NO_USER = b"not-named"
-SECURE = re.compile(rb"\nDiag: userandhost=(.*)\nDiag: port=(.*)\nDiag: path=(.*)\n\Z", re.S)
-PLAIN = re.compile(rb"\nDiag: protocol=(git|file)\nDiag: hostandport=(.*)\nDiag: path=(.*)\n\Z", re.S)
 
-
-def port_text(port):
-    return None if port is None else b"%d" % port
-
-
-def diagnosed(said):
-    """The place that `git fetch-pack --diag-url` shows."""
-    found = SECURE.search(said)
-    if found:
-        user, _, host = found[1].rpartition(b"@")
-        return place(b"ssh", user, None, host, port_text(git_port(found[2])), found[3])
-    found = PLAIN.search(said)
-    if found is None:
+def git_place(said):
+    """The place that `git fetch-pack --diag-url` shows. A path below a home folder, and a word that OpenSSH reads as a URL, are compared as
+    Git has them."""
+    it = diagnosed(said)
+    if it is None:
         return REFUSED
-    host, port = hosts_and_ports(found[2])[0] if found[1] == b"git" else (None, None)
-    return place(found[1], None, None, host, port_text(port), found[3])
+    protocol = {HOME: "file", SECURE_URL: "ssh"}.get(it.protocol, it.protocol)
+    return place(protocol.encode(), it.user, None, it.host, None if it.port is None else b"%d" % it.port, it.path)
 
 
 def git_places(texts):
-    return [diagnosed(said) for _, said in ask_git(texts)]
+    return [git_place(said) for _, said in ask_git(texts)]
 
 
 def credential_places(texts):
@@ -62,8 +48,7 @@ def secure_place(text, said):
 def secure_places(texts):
     """OpenSSH gets the URL without its path, which it refuses."""
     fronts = [b"ssh://" + it.removeprefix(b"ssh://").partition(b"/")[0] for it in texts]
-    said = ask_loop(ASK_SECURE_SHELL, fronts, {"SETTINGS": f"User {NO_USER.decode()}\n"})
-    return [*map(secure_place, texts, said)]
+    return [*map(secure_place, texts, ask_secure_shell([(it, None) for it in fronts]))]
 
 
 def first_line(*command):

@@ -12,6 +12,7 @@ import subprocess
 import tempfile
 
 from git_classes import HOME, SECURE_URL, Reading
+from git_reads import git_port
 from git_runs import alone, ask_loop, git
 
 OWN = ("ssh", "git", "file")
@@ -59,6 +60,37 @@ def ask_git(texts):
     """Git's results for texts: for each the transport with the words for Secure Shell, and the reading."""
     said = ask_loop(ASK_GIT, texts, {"GIT_SSH": SHOW}, answers=2, GIT_ALLOW_PROTOCOL="ssh", GIT_SSH_VARIANT="ssh")
     return list(zip(said[::2], said[1::2]))
+
+
+def host_and_port(text):
+    """Host and port of `git://`, split as Git's `get_host_and_port` does: around brackets, then at the first colon."""
+    start = text.find(b"@[") + 1
+    close = text.find(b"]", start) if text[start : start + 1] == b"[" else -1
+    name, colon, digits = text[close + 1 :].partition(b":")
+    port = git_port(digits)
+    if close >= 0:
+        return text[:start] + text[start + 1 : close], port
+    return text if port is None and (digits or not colon) else name, port
+
+
+def secure_reading(said):
+    found = re.search(rb"\nDiag: userandhost=(.*)\nDiag: port=(.*)\nDiag: path=(.*)\n\Z", said, re.S)
+    user, at, host = found[1].rpartition(b"@")
+    return Reading("ssh", user if at else None, None, host or None, None if found[2] == b"NONE" else int(found[2]), found[3])
+
+
+def diagnosed(said):
+    """The reading that `git fetch-pack --diag-url` shows; None if it shows none."""
+    if b"\nDiag: protocol=ssh\n" in said:
+        found = secure_reading(said)
+        return found._replace(protocol=SECURE_URL) if (found.user or found.host or b"").startswith(b"ssh://") else found
+    shown = re.search(rb"\nDiag: protocol=(git|file)\nDiag: hostandport=(.*)\nDiag: path=(.*)\n\Z", said, re.S)
+    if shown is None:
+        return None
+    # Git opens the path of a file URL on this machine, whatever its host.
+    host, port = host_and_port(shown[2]) if shown[1] == b"git" else (None, None)
+    protocol = HOME if shown[1] == b"file" and shown[3].startswith(b"~") else shown[1].decode()
+    return Reading(protocol, None, None, host or None, port, shown[3])
 
 
 def quoted(text):
@@ -118,6 +150,12 @@ def program_faults(readings, answers):
 
 # ---- OpenSSH
 
+def ask_secure_shell(pairs):
+    """OpenSSH's answers to words, each with its port or None."""
+    words = [it for word, port in pairs for it in (word, b"" if port is None else b"%d" % port)]
+    return ask_loop(ASK_SECURE_SHELL, words, {"SETTINGS": f"User {NO_USER.decode()}\n"}, each=2)
+
+
 def is_heard(answer, reading):
     """Whether OpenSSH reads a word as the reading. Its host is the one that it shows itself, not the host that it would look
     up, which is in lower case."""
@@ -154,8 +192,7 @@ def secure_faults(readings, answers):
     named = [text for text, it in readings.items() if it == "empty user" or isinstance(it, Reading) and it.protocol in ("ssh", SECURE_URL)]
     pairs = {text: words_got("ssh", shown(answers[text]))[:2] for text in named}
     asked = chosen(dict.fromkeys(pairs.values()))
-    words = [it for word, port in asked for it in (word, b"" if port is None else b"%d" % port)]
-    heard = dict(zip(asked, ask_loop(ASK_SECURE_SHELL, words, {"SETTINGS": f"User {NO_USER.decode()}\n"}, each=2)))
+    heard = dict(zip(asked, ask_secure_shell(asked)))
     faults = ((text, heard_fault(heard[pair], readings[text])) for text, pair in pairs.items() if pair in heard)
     return [(text, fault) for text, fault in faults if fault]
 
