@@ -64,10 +64,12 @@ def examples(strategy, count):
             if len(found) >= wanted:
                 raise Enough
 
+        before = len(found)
         try:
-            drawn(strategy, len(found), take)
+            drawn(strategy, before, take)
         except Enough:
-            pass
+            continue
+        assert len(found) > before, f"only {before} different examples can be made"
     return [*found.values()]
 
 

@@ -97,14 +97,14 @@ def test_urls_of_submodules(count):
 def test_words_for_secure_shell(count):
     """Git has the library's words, or the difference is in a class, each of which is needed. For an address family Git has no words either."""
     def judge(texts):
-        cases = rules_ssh.commands([*rules_ssh.runs_of([it for it in texts if rules_ssh.FOR_SECURE_SHELL.match(it)])])
+        cases = rules_ssh.commands([*rules_ssh.runs_of(texts)])
         found.update(name for name, _ in rules_ssh.judged(cases))
         yield from ((None, fault) for name, fault in rules_ssh.judged(cases) if name is None)
         yield from ((None, fault) for fault in rules_ssh.misread(cases))
 
     found = Counter()
     strategy = strategies.one_of(OF_TEXTS.filter(rules_ssh.FOR_SECURE_SHELL.match), made(SecureMaker))
-    compare(strategy, count, judge, [*rules_ssh.GIVEN, *(remotes() if count == 10_000 else [])])
+    compare(strategy, count, judge, [*rules_ssh.GIVEN, *filter(rules_ssh.FOR_SECURE_SHELL.match, remotes() if count == 10_000 else [])])
     assert count < 10_000 or {*rules_ssh.CLASSES} <= found.keys()
 
 
