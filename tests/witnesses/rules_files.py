@@ -16,60 +16,39 @@ it no longer stops: by the program that `git submodule init` starts, which takes
 import os
 import re
 import tempfile
-from collections import defaultdict, namedtuple
+from collections import defaultdict
 from concurrent.futures import ThreadPoolExecutor
 
-from git_runs import alone, answers_of, entry_of, file_of, git, listed, put, quoted, rooms
+from git_runs import Entry, alone, answers_of, entry_of, file_of, git, listed, put, quoted, rooms
 from row_text import text_of
 
 ASK = r"""
 for file; do git config -f "$file" --list -z 2>&1 | tr '\000' '\001'; printf '\0'; done
 """
 REFUSED = re.compile(rb"fatal: bad config line (\d+) in file ")
-
 # Texts with a byte 0 that is read differently from Git, Git's result, and the offset of the byte.
 CUT = ((b"[a \"b\0c\"]\nd = 1\n", b"a.b\n1\1", 5), (b"[a \"b\\\0c\"]\nd = 1\n", b"a.b\n1\1", 6), (b"[a]b=x\0y", b"a.b\nx\1", 6), (b"[a]\nb = \"\0\"\n", b"a.b\n\1", 9),
        (b"[a]\r\nb = x\\\n\0 z\r\n", b"a.b\nx\1", 12))
 
 
-def read(said):
-    """Git's result for a file: its entries, or the line that it refuses."""
-    refused = REFUSED.match(said)
+def outcome(text, said):
+    """The required result of the library for Git's: a refused line, or entries, in which a key without a dot is a name without a section."""
+    zero, refused = next((at for it, _, at in CUT if it == text), None), REFUSED.match(said)
+    if zero is not None:
+        return {"error": "ZeroByte", "at": zero, "line": 1 + text[:zero].count(b"\n")}
     if refused:
-        return int(refused[1])
-    return [entry_of(*it.split(b"\n", 1)) for it in said.split(b"\1")[:-1]]
+        return {"error": "Refused", "line": int(refused[1])}
+    entries = (entry_of(*it.split(b"\n", 1)) for it in said.split(b"\1")[:-1])
+    parts = (it if it.name else Entry(b"", None, it.section, it.value) for it in entries)
+    return [{name: text_of(one) for name, one in zip(("section", "subsection", "name", "value"), it) if one is not None} for it in parts]
 
 
 def files(texts):
-    """Each file with Git's result."""
+    """The calls of the library for files, each with Git's outcome."""
     with rooms([]) as (room, environment, _):
         os.makedirs(f"{room}/files")
-        names = [f"{room}/files/{at}".encode() for at, _ in enumerate(texts)]
-        for name, text in zip(names, texts):
-            put(name, text)
-        said = answers_of(ASK, room, environment, names)
-    return [(text, read(it)) for text, it in zip(texts, said)]
-
-
-def outcome(text, said):
-    """The required result of the library for this result of Git: a key without a dot is a name without a section."""
-    zero = next((at for it, _, at in CUT if it == text), None)
-    if zero is not None:
-        return {"error": "ZeroByte", "at": zero, "line": 1 + text[:zero].count(b"\n")}
-    if isinstance(said, int):
-        return {"error": "Refused", "line": said}
-    return [members(it.section, it.place, it.name, it.value) if it.name else members(b"", None, it.section, it.value) for it in said]
-
-
-def members(*parts):
-    """The parts of an entry that are present."""
-    return {name: text_of(it) for name, it in zip(("section", "subsection", "name", "value"), parts) if it is not None}
-
-
-def file_orders(cases):
-    """The calls of the library for the files, each with Git's outcome."""
-    for text, said in cases:
-        yield {"call": "config_file::entries", "file": text_of(text)}, outcome(text, said)
+        said = answers_of(ASK, room, environment, [put(f"{room}/files/{at}", text).encode() for at, text in enumerate(texts)])
+    return [({"call": "config_file::entries", "file": text_of(text)}, outcome(text, it)) for text, it in zip(texts, said)]
 
 
 # ---- submodules
@@ -77,8 +56,9 @@ def file_orders(cases):
 REFUSED_BY_FSCK = re.compile(rb"error in blob ([0-9a-f]{40}): (gitmodules(?:Name|Url|Path|Update)): ")
 
 
-def refused(texts):
-    """The refusals of fsck for each file, by Git's names and in the order of the entries."""
+def checks(configurations):
+    """The calls of the library for files, each with the refusals of fsck, by Git's names and in the order of the entries."""
+    texts = [*map(file_of, configurations)]
     with tempfile.TemporaryDirectory(prefix="rules-") as room:
         os.makedirs(f"{room}/home")
         environment = alone(room, GIT_DIR=f"{room}/git")
@@ -92,7 +72,7 @@ def refused(texts):
         said = defaultdict(list)
         for oid, reason in REFUSED_BY_FSCK.findall(git(room, environment, "fsck", "--no-dangling").stdout):
             said[oid].append(reason.decode())
-        return [said[marks[b":%d" % (at + 1)]] for at in range(len(texts))]
+        return [({"call": "refusal::check", "config": text_of(listed(it))}, said[marks[b":%d" % (at + 1)]]) for at, it in enumerate(configurations)]
 
 
 ASK_SUBMODULES = r"""
@@ -109,7 +89,8 @@ def paths_of(entries):
 
 
 def used(configurations):
-    """The values that `git submodule init` writes for each file: the URL of each submodule with a path, and its way to update."""
+    """The calls of the library for files, each with the values that `git submodule init` writes: the URL of each submodule with a path, and
+    its way to update."""
     with tempfile.TemporaryDirectory(prefix="rules-") as room:
         os.makedirs(f"{room}/home")
         folders = [f"{room}/{at}" for at in range(len(configurations))]
@@ -118,7 +99,7 @@ def used(configurations):
             put(f"{folder}/.gitmodules", file_of(entries))
             put(f"{room}/links-{os.path.basename(folder)}", b"".join(b"160000 %s\t%s\n" % (b"1" * 40, path) for path in paths_of(entries)))
         said = answers_of(ASK_SUBMODULES, room, alone(room), folders)
-    return [settings(one) for one in said]
+    return [({"call": "submodules::submodules", "config": text_of(listed(it))}, settings(one)) for it, one in zip(configurations, said)]
 
 
 def settings(said):
@@ -132,25 +113,11 @@ def settings(said):
     return dict(found)
 
 
-def check_orders(some):
-    """The calls of the library for files, each with the refusals of fsck."""
-    for entries, found in zip(some, refused([file_of(it) for it in some])):
-        yield {"call": "refusal::check", "config": text_of(listed(entries))}, found
-
-
-def submodule_orders(some):
-    """The calls of the library for files, each with the values that Git uses."""
-    for entries, found in zip(some, used(some)):
-        yield {"call": "submodules::submodules", "config": text_of(listed(entries))}, found
-
-
 # ---- their URLs
 
 LINK = b"160000 " + b"1" * 40 + b" 0\t%06d\n"
 # Git's messages when it stops, and the library's reasons.
 SAID = {b"cannot strip one component off url": "NothingLeft", b"invalid empty remote_url": "EmptyParent"}
-# The outcome is the URL that is stored, or the name of a reason.
-Resolved = namedtuple("Resolved", "parent url outcome")
 
 
 def quoted_tab(text):
@@ -171,8 +138,7 @@ def prepare(folder, environment, parent, urls):
 def stored(folder, environment):
     """The URLs that Git has stored, by the numbers of their submodules."""
     said = git(folder, environment, "config", "--local", "-z", "--get-regexp", r"^submodule\..*\.url$").stdout
-    pairs = (it.split(b"\n", 1) for it in said.split(b"\0")[:-1])
-    return {int(key.split(b".")[1]): value for key, value in pairs}
+    return {int(key.split(b".")[1]): text_of(value) for key, value in (it.split(b"\n", 1) for it in said.split(b"\0")[:-1])}
 
 
 def outcomes(folder, environment, count):
@@ -183,27 +149,21 @@ def outcomes(folder, environment, count):
         if ran.returncode == 0:
             return [found[at] for at in range(count)]
         stopped = min({*range(count)} - {*found})
-        reasons[stopped] = next(name for words, name in SAID.items() if words in ran.stdout)
+        reasons[stopped] = {"error": next(name for words, name in SAID.items() if words in ran.stdout)}
         git(folder, environment, "update-index", "--force-remove", "%06d" % stopped)
         ran = git(folder, environment, "submodule--helper", "init")
 
 
 def asked(pair):
-    """The cases of one parent."""
+    """The calls of the library for the URLs of one parent, each with Git's outcome."""
     parent, urls = pair
     with tempfile.TemporaryDirectory(prefix="submodules-") as room:
         environment = alone(room)
         prepare(room, environment, parent, urls)
-        return [Resolved(parent, *it) for it in zip(urls, outcomes(room, environment, len(urls)))]
+        found = outcomes(room, environment, len(urls))
+    return [({"call": "resolve::resolve", "parent": text_of(parent), "url": text_of(url)}, it) for url, it in zip(urls, found)]
 
 
 def resolved(pairs):
     with ThreadPoolExecutor(os.cpu_count()) as lanes:
-        return [it for cases in lanes.map(asked, pairs) for it in cases]
-
-
-def resolve_orders(cases):
-    """The calls of the library for the cases, each with Git's outcome."""
-    for it in cases:
-        outcome = {"error": it.outcome} if isinstance(it.outcome, str) else text_of(it.outcome)
-        yield {"call": "resolve::resolve", "parent": text_of(it.parent), "url": text_of(it.url)}, outcome
+        return [it for orders in lanes.map(asked, pairs) for it in orders]

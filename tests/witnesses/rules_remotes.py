@@ -26,8 +26,6 @@ done
 """
 # Entries, a text, the push URL of its remote or None, and Git's rewritten texts: None if it ends.
 Rewritten = namedtuple("Rewritten", "entries text push_url fetch push")
-# Entries, the name of a remote, and its two lists: each None if Git ends.
-Remote = namedtuple("Remote", "entries name urls push_urls")
 READ = (b"url", b"pushurl", b"vcs", b"proxy", b"uploadpack", b"receivepack")
 
 
@@ -75,16 +73,7 @@ def rewritten_orders(cases):
 def urls(said):
     """The URLs that Git prints, None if it ends for an entry without a value. For an entry that it ignores it writes a line."""
     said = b"".join(it for it in said.splitlines(True) if not it.startswith(b"warning: config remote shorthand"))
-    return None if NO_VALUE in said else [] if NO_URL in said else said.split(b"\n")[:-1]
-
-
-def remotes(configurations):
-    """The remotes, with Git's results."""
-    with rooms([entries for entries, _ in configurations]) as (room, environment, folders):
-        words = [word for folder, (_, names) in zip(folders, configurations) for name in names for word in (folder, name)]
-        said = [*map(urls, answers_of(ASK_REMOTES, room, environment, words, each=2, answers=2))]
-    asked = [(entries, name) for entries, names in configurations for name in names]
-    return [Remote(*it, *both) for it, *both in zip(asked, said[::2], said[1::2])]
+    return None if NO_VALUE in said else [] if NO_URL in said else [*map(text_of, said.split(b"\n")[:-1])]
 
 
 def ends_git(entry):
@@ -92,14 +81,20 @@ def ends_git(entry):
     return is_named(entry, b"remote", *READ) and entry.place is not None and not entry.place.startswith(b"/") and entry.value is None
 
 
-def remote_orders(cases):
-    """The calls of the library for the remotes, each with Git's outcome. It reports that it ends; the byte offset follows from the entries
-    before it. Of the names that don't affect URLs the cases have only `vcs`."""
-    for it in cases:
-        if None in (it.urls, it.push_urls):
-            at = next(at for at, one in enumerate(it.entries) if ends_git(one))
-            found = {"error": "NoValue", "at": len(listed(it.entries[:at]))}
-        else:
-            helpers = [one.value for one in it.entries if is_named(one, b"remote", b"vcs") and one.place == it.name]
-            found = {"urls": [*map(text_of, it.urls)], "push_urls": [*map(text_of, it.push_urls)], **({"vcs": text_of(helpers[-1])} if helpers else {})}
-        yield {"call": "Remote::of", "config": text_of(listed(it.entries)), "name": text_of(it.name)}, found
+def outcome_of(entries, name, fetched, pushed):
+    """Git's outcome for a remote. It reports that it ends; the byte offset follows from the entries before it. Of the names that don't affect
+    URLs the cases have only `vcs`."""
+    if None in (fetched, pushed):
+        return {"error": "NoValue", "at": len(listed(entries[: next(at for at, it in enumerate(entries) if ends_git(it))]))}
+    helpers = [it.value for it in entries if is_named(it, b"remote", b"vcs") and it.place == name]
+    return {"urls": fetched, "push_urls": pushed, **({"vcs": text_of(helpers[-1])} if helpers else {})}
+
+
+def remotes(configurations):
+    """The calls of the library for remotes, each with Git's outcome."""
+    with rooms([entries for entries, _ in configurations]) as (room, environment, folders):
+        words = [word for folder, (_, names) in zip(folders, configurations) for name in names for word in (folder, name)]
+        said = [*map(urls, answers_of(ASK_REMOTES, room, environment, words, each=2, answers=2))]
+    asked = [(entries, name) for entries, names in configurations for name in names]
+    return [({"call": "Remote::of", "config": text_of(listed(it[0])), "name": text_of(it[1])}, outcome_of(*it, *both))
+            for it, *both in zip(asked, said[::2], said[1::2])]

@@ -12,9 +12,9 @@ have different options; if Git starts nothing, as for `simple`, it is run again 
 words, so the setting decides between the two.
 """
 import json
-import os
 import random
 import re
+import tempfile
 from collections import namedtuple
 
 import git_classes
@@ -224,9 +224,9 @@ def misread(cases):
             yield f"a shell reads {words!r}: {it}"
 
 
-def command_orders(cases):
-    """The calls of the library for the cases, each with Git's words."""
-    for it in cases:
+def orders(asked):
+    """The calls of the library for texts, each with its run, and Git's words."""
+    for it in commands(asked):
         outcome = {"refused": True} if isinstance(it.git, str) else [*map(text_of, it.git[1:])]
         yield order_of(call_of(it.run), it.text, it.run), outcome
 
@@ -254,11 +254,6 @@ exit 1
 """
 # The input of Git: the entries, the variables, None if they aren't set, and the status that a program has for `-G`.
 Setting = namedtuple("Setting", "entries command path variant status")
-
-
-def settings(configurations):
-    """The settings of configurations with variables and a status."""
-    return [Setting(entries, *it) for entries, some in configurations for it in some]
 
 
 def placed(case, folder):
@@ -327,31 +322,20 @@ def outcome(case, said, more):
     return {"text": text_of(text), "is_command_line": started["use_shell"], "variant": variant_of(case, found)}
 
 
-def put_programs(folder):
-    os.makedirs(folder)
-    for name in Programs.NAMES:
-        put(f"{folder}/{name}", FAKE, 0o700)
-
-
-def programs(some):
-    """Each case with Git's outcome."""
-    configurations = [*{id(it.entries): it.entries for it in some}.values()]
-    with rooms([]) as (room, _, _):
-        folder = f"{room}/programs".encode()
-        own = [placed(it, folder) for it in some]
-        files = {id(it): at for at, it in enumerate(configurations)}
-        with rooms([placed(Setting(it, None, None, None, "0"), folder).entries for it in configurations]) as (_, environment, folders):
-            put_programs(folder.decode())
-            environment["PATH"] = f"{folder.decode()}:{environment['PATH']}"
-            words = [word for it, case in zip(some, own)
-                     for word in (folders[files[id(it.entries)]], set_word(case.command), set_word(case.path), set_word(case.variant), case.status)]
-            said = answers_of(ASK_PROGRAM, room, environment, words, each=5, answers=2)
-    return [(it, outcome(it, *said[2 * at : 2 * at + 2])) for at, it in enumerate(own)]
-
-
-def program_orders(cases):
-    """The calls of the library for the settings, each with Git's outcome."""
-    for it, found in cases:
+def programs(configurations):
+    """The calls of the library for settings, each with Git's outcome."""
+    with tempfile.TemporaryDirectory(prefix="programs-") as room:
+        folder = room.encode()
+        some = [placed(Setting(entries, *it), folder) for entries, settings in configurations for it in settings]
+        for name in Programs.NAMES:
+            put(f"{room}/{name}", FAKE, 0o700)
+        with rooms([placed(Setting(entries, None, None, None, "0"), folder).entries for entries, _ in configurations]) as (place, environment, folders):
+            environment["PATH"] = f"{room}:{environment['PATH']}"
+            owners = [it for it, (_, settings) in zip(folders, configurations) for _ in settings]
+            words = [word for owner, it in zip(owners, some)
+                     for word in (owner, set_word(it.command), set_word(it.path), set_word(it.variant), it.status)]
+            said = answers_of(ASK_PROGRAM, place, environment, words, each=5, answers=2)
+    for it, *both in zip(some, said[::2], said[1::2]):
         given = {"git_ssh_command": it.command, "git_ssh": it.path, "git_ssh_variant": it.variant}
         values = {name: text_of(value) for name, value in given.items() if value is not None}
-        yield {"call": "SshProgram::of", "config": text_of(listed(it.entries)), **values}, found
+        yield {"call": "SshProgram::of", "config": text_of(listed(it.entries)), **values}, outcome(it, *both)

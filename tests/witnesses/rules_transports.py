@@ -6,7 +6,6 @@ repositories are commands that fail, and remote helpers aren't found. `git confi
 is asked of a command that reads the entry: `ls-remote` over HTTP, and for a text of the transport, `credential fill`, and `remote`.
 """
 import re
-from collections import namedtuple
 
 from git_runs import Entry, answers_of, listed, rooms
 from row_text import text_of
@@ -45,8 +44,6 @@ ENDS = {b"unknown value for config": "UnknownAllowance", b"bad config variable":
 # Git's refusals before it looks at the transport: of a text that has none, by the library's names, or of a text whose form has one.
 REASONS = {b"git-over-rsync": "Rsync", b"is not supported": "UnknownScheme"}
 REFUSALS = (b"no path specified", b"strange pathname", b"newline is forbidden")
-# The entries, both variables (None if they aren't set), the name of the transport, and Git's decision by the library's names.
-Permission = namedtuple("Permission", "entries allow_list from_user name outcome")
 
 
 def ask(asked):
@@ -70,18 +67,13 @@ def decision(said, name):
 
 
 def permissions(policies):
-    """The cases, with Git's results for texts that use a transport: each of its texts in turn."""
+    """The calls of the library for policies, each with Git's outcome for a text that uses the transport: each of its texts in turn."""
     texts = [Policies.texts_of(name) for *_, name in policies]
     said = ask([(*it[:-1], some[at % len(some)]) for at, (it, some) in enumerate(zip(policies, texts))])
-    return [Permission(*it, decision(found, it[-1])) for it, found in zip(policies, said)]
-
-
-def permission_orders(cases):
-    """The calls of the library for the cases, each with Git's outcome."""
-    for it in cases:
-        variables = {"allow_list": it.allow_list, "from_user": it.from_user}
-        given = {name: text_of(value) for name, value in variables.items() if value is not None}
-        yield {"call": "Protocols::permission", "config": text_of(listed(it.entries)), "name": text_of(it.name), **given}, it.outcome
+    for (entries, allow_list, from_user, name), found in zip(policies, said):
+        variables = {"allow_list": allow_list, "from_user": from_user}
+        given = {key: text_of(it) for key, it in variables.items() if it is not None}
+        yield {"call": "Protocols::permission", "config": text_of(listed(entries)), "name": text_of(name), **given}, decision(found, name)
 
 
 # ---- names
@@ -98,13 +90,9 @@ def name_of(said):
 
 
 def names(texts):
-    """Each text with the transport that Git names. After `--` a text that begins with `-` isn't an option."""
-    return [*zip(texts, map(name_of, ask([([], b"none-of-these", None, it) for it in texts])))]
-
-
-def name_orders(cases):
-    """The calls of the library for the texts, and for those that it reads as locations, with the transports that Git names."""
-    for text, found in cases:
+    """The calls of the library for the texts, and for those that it reads as locations, each with the transport that Git names. After `--` a
+    text that begins with `-` isn't an option."""
+    for text, found in zip(texts, map(name_of, ask([([], b"none-of-these", None, it) for it in texts]))):
         if found is not None and not text.startswith(b"-"):
             yield {"call": "text::transport_of", "text": text_of(text)}, found
         if isinstance(found, str) and grammar.spells(text) is not None:
@@ -114,15 +102,12 @@ def name_orders(cases):
 # ---- values
 
 def booleans(texts):
-    """Each text with its value by Git, None if Git refuses it."""
+    """The calls of the library for texts, each with its value by Git, None if Git refuses it."""
     values = {b"true\n": True, b"false\n": False}
     with rooms([]) as (room, environment, _):
         said = answers_of(ASK_BOOLEAN, room, environment, texts)
-    return [(text, None if it.startswith(b"fatal: bad boolean config value") else values[it]) for text, it in zip(texts, said)]
-
-
-def boolean_orders(cases):
-    return (({"call": "boolean::read_boolean", "text": text_of(text)}, value) for text, value in cases)
+    return [({"call": "boolean::read_boolean", "text": text_of(text)}, None if it.startswith(b"fatal: bad boolean config value") else values[it])
+            for text, it in zip(texts, said)]
 
 
 # Git's messages when it stops, and the library's reasons.
@@ -158,14 +143,11 @@ def entries():
 
 
 def stops(some):
-    """Each entry with the reason for which Git stops, None if it doesn't stop for it."""
+    """The calls of the library for entries, each with the reason for which Git stops, None if it doesn't stop for it."""
     commands = {b"http": b"http://127.0.0.1:1/", b"protocol": b"/none"}
     with rooms([[it] for it in some], GIT_EXEC_PATH="") as (room, environment, folders):
         del environment["GIT_EXEC_PATH"]
         words = [word for folder, it in zip(folders, some) for word in (folder, commands.get(it.section, it.section))]
         said = answers_of(ASK_STOPS, room, environment, words, each=2)
-    return [(it, next((name for words, name in SAID.items() if words in one), None)) for it, one in zip(some, said)]
-
-
-def stop_orders(cases):
-    return (({"call": "stops::stop_at", "config": text_of(listed([entry]))}, outcome) for entry, outcome in cases)
+    return [({"call": "stops::stop_at", "config": text_of(listed([it]))}, next((name for words, name in SAID.items() if words in one), None))
+            for it, one in zip(some, said)]

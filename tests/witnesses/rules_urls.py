@@ -41,12 +41,6 @@ SHOW = b"!sed -n -e 's/^username=/\x03/p' -e 's/^path=/\x04/p' >&2; :"
 REFUSALS = (b"invalid URL scheme name", b"invalid %XX escape sequence", b"missing host", b"invalid characters in host name",
             b"may not have a port", b"invalid port number", b"port number not in range", b"invalid '..' path segment")
 REFUSED = {"refused": True}
-# The entries of a name, the URL, and the value that Git uses as a text: None without one, and `REFUSED` if it refuses the URL.
-Match = namedtuple("Match", "entries url outcome")
-# The entries, the URL, and the numbers of the headers that arrive, None if no request does.
-Sent = namedtuple("Sent", "entries url sent")
-# The entries, the URL, and Git's result: the numbers of the helpers, the user, and the path; or None, if it refuses the URL.
-Asked = namedtuple("Asked", "entries url asked")
 
 
 def asked_of(configurations, folders):
@@ -66,26 +60,22 @@ def used(said):
 
 
 def matches(configurations):
-    """The cases of sets of entries and URLs, with Git's results."""
+    """The calls of the library for sets of entries and URLs, each with Git's outcome, and for the normal forms of the URLs."""
     with rooms([[it for entries in sets for it in entries] for sets, _ in configurations]) as (room, environment, folders):
         asked = asked_of(configurations, folders)
         said = answers_of(ASK, room, environment, [word for folder, _, url in asked for word in (folder, url)], each=2)
-    return [Match([it for it in entries if it.section.lower() == b"http"], url, REFUSED if found is None else found.get(entries[0].name))
-            for (_, sets, url), found in zip(asked, map(used, said)) for entries in sets]
-
-
-def match_orders(cases):
-    """The calls of the library for the cases, each with Git's outcome, and for the normal forms of the URLs."""
-    for it in cases:
-        text = {"text": text_of(it.url)}
-        if it.entries:
-            config = {"config": text_of(listed(it.entries)), "section": "http", "name": text_of(it.entries[0].name)}
-            yield {"call": "entries::best_entry", **config, **text}, it.outcome
-        if len(it.entries) == 1 and it.entries[0].place is not None:
-            pattern, is_used = {"pattern": text_of(it.entries[0].place), **text}, it.outcome is not None
-            yield {"call": "UrlPattern::matches", **pattern}, REFUSED if it.outcome == REFUSED else is_used
-            yield {"call": "pattern::best", **pattern}, REFUSED if it.outcome == REFUSED else 0 if is_used else None
-    for url in sorted({it.url for it in cases}):
+    for (_, sets, url), found in zip(asked, map(used, said)):
+        for every in sets:
+            # The entries of a name, and the value that Git uses as a text: None without one.
+            entries, outcome = [it for it in every if it.section.lower() == b"http"], REFUSED if found is None else found.get(every[0].name)
+            if entries:
+                config = {"config": text_of(listed(entries)), "section": "http", "name": text_of(entries[0].name)}
+                yield {"call": "entries::best_entry", **config, "text": text_of(url)}, outcome
+            if len(entries) == 1 and entries[0].place is not None:
+                pattern, is_used = {"pattern": text_of(entries[0].place), "text": text_of(url)}, outcome is not None
+                yield {"call": "UrlPattern::matches", **pattern}, REFUSED if outcome == REFUSED else is_used
+                yield {"call": "pattern::best", **pattern}, REFUSED if outcome == REFUSED else 0 if is_used else None
+    for url in sorted({url for _, _, url in asked}):
         found = normal(url)
         parts = {name: int(one) if name == "port" else text_of(one) for name, one in found._asdict().items() if one is not None} if found else REFUSED
         yield {"call": "NormalUrl::parse_in", "text": text_of(url)}, parts
@@ -159,7 +149,7 @@ class Recorder(BaseHTTPRequestHandler):
 
 
 def headers(configurations):
-    """The cases, with the headers that arrive."""
+    """The calls of the library for URLs, each with the headers that arrive. Git compares a URL with a `/` at its end (`remote-curl.c`)."""
     proxy = ThreadingHTTPServer(("127.0.0.1", 0), Recorder)
     proxy.seen = {}
     threading.Thread(target=proxy.serve_forever, daemon=True).start()
@@ -169,17 +159,11 @@ def headers(configurations):
         words = [word for at, (folder, _, url) in enumerate(asked) for word in (folder, url, str(at).encode())]
         answers_of(ASK_HEADERS, room, environment, words, each=3)
     proxy.shutdown()
-    return [Sent(entries, url, proxy.seen.get(str(at))) for at, (_, entries, url) in enumerate(asked)]
-
-
-def header_orders(cases):
-    """The calls of the library for the URLs, each with the headers that arrive. Git compares a URL with a `/` at its end (`remote-curl.c`)."""
-    for it in cases:
-        text, about = it.url.removesuffix(b"/") + b"/", {"config": text_of(listed(it.entries)), "name": "extraHeader"}
-        if it.sent is not None and normal(text):
-            yield {"call": "settings::settings_for", **about, "text": text_of(text)}, it.sent
-        elif it.sent is not None:
-            yield {"call": "settings::settings_without_place", **about}, it.sent
+    for at, (_, entries, url) in enumerate(asked):
+        text, about = url.removesuffix(b"/") + b"/", {"config": text_of(listed(entries)), "name": "extraHeader"}
+        call = {"call": "settings::settings_for", **about, "text": text_of(text)} if normal(text) else {"call": "settings::settings_without_place", **about}
+        if str(at) in proxy.seen:
+            yield call, proxy.seen[str(at)]
 
 
 # ---- credentials
@@ -193,23 +177,19 @@ def filled(said):
 
 
 def credentials(configurations):
-    """The cases, with Git's results."""
+    """The calls of the library for URLs, each with Git's outcome. Helpers only get the path of HTTP by a setting, and always that of another
+    protocol; so a case is left out that has such a setting, and a URL without a path or of another protocol. Only Git accepts a carriage
+    return in a path that helpers don't get."""
     last = Entry(b"credential", None, b"helper", SHOW)
     with rooms([[*entries, last] for entries, _ in configurations]) as (room, environment, folders):
         asked = asked_of(configurations, folders)
         said = answers_of(ASK_CREDENTIALS, room, environment, [word for folder, _, url in asked for word in (folder, url)], each=2)
-    return [Asked(entries, url, filled(found)) for (_, entries, url), found in zip(asked, said)]
-
-
-def credential_orders(cases):
-    """The calls of the library for the URLs, each with Git's result. Helpers only get the path of HTTP by a setting, and always
-    that of another protocol; so a case is left out that has such a setting, and a URL without a path or of another protocol.
-    Only Git accepts a carriage return in a path that helpers don't get."""
-    for it in cases:
-        if it.asked is None or b"\r" in b"".join(one or b"" for one in pieces_of(it.url)):
+    for (_, entries, url), found in zip(asked, map(filled, said)):
+        pieces = pieces_of(url)
+        if found is None or b"\r" in b"".join(it or b"" for it in pieces):
             continue
-        helpers, user, path = it.asked
-        is_shown = it.url.startswith((b"http://", b"https://")) and pieces_of(it.url)[3]
-        if is_shown or not any(one.name.lower() == b"usehttppath" for one in it.entries):
-            found = {"helpers": helpers, **({} if user is None else {"user": text_of(user)}), "use_http_path": bool(is_shown) and path is not None}
-            yield {"call": "credentials::credentials_for", "config": text_of(listed(it.entries)), "text": text_of(it.url)}, found
+        helpers, user, path = found
+        is_shown = url.startswith((b"http://", b"https://")) and pieces[3]
+        if is_shown or not any(it.name.lower() == b"usehttppath" for it in entries):
+            outcome = {"helpers": helpers, **({} if user is None else {"user": text_of(user)}), "use_http_path": bool(is_shown) and path is not None}
+            yield {"call": "credentials::credentials_for", "config": text_of(listed(entries)), "text": text_of(url)}, outcome

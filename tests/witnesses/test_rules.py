@@ -30,16 +30,16 @@ CONFIGURATION = "configuration"
 OF_TEXTS = strategies.one_of([made(LocationMaker)] * 10 + [made(LocationMaker, "addressed").map(str.encode)])
 # The number of configurations that each topic makes: of all, and of a sample.
 TOPICS = {
-    "remotes": (made(Remotes, CONFIGURATION), 1_200, 150, rules_remotes.remotes, rules_remotes.remote_orders),
-    "matches": (made(Places, CONFIGURATION), 240, 80, rules_urls.matches, rules_urls.match_orders),
-    "headers": (made(Headers, CONFIGURATION), 300, 40, rules_urls.headers, rules_urls.header_orders),
-    "credentials": (made(Contexts, CONFIGURATION), 600, 100, rules_urls.credentials, rules_urls.credential_orders),
-    "booleans": (made(Booleans), 6_000, 600, rules_transports.booleans, rules_transports.boolean_orders),
-    "permissions": (made(Policies, "case"), 4_000, 600, rules_transports.permissions, rules_transports.permission_orders),
-    "programs": (made(Programs, CONFIGURATION), 1_500, 150, lambda it: rules_ssh.programs(rules_ssh.settings(it)), rules_ssh.program_orders),
-    "files": (made(Files), 24_000, 1_500, rules_files.files, rules_files.file_orders),
-    "modules": (made(Modules, "file"), 24_000, 2_000, lambda it: it, rules_files.check_orders),
-    "used modules": (made(Modules, "used"), 1_500, 125, lambda it: it, rules_files.submodule_orders),
+    "remotes": (made(Remotes, CONFIGURATION), 1_200, 150, rules_remotes.remotes),
+    "matches": (made(Places, CONFIGURATION), 240, 80, rules_urls.matches),
+    "headers": (made(Headers, CONFIGURATION), 300, 40, rules_urls.headers),
+    "credentials": (made(Contexts, CONFIGURATION), 600, 100, rules_urls.credentials),
+    "booleans": (made(Booleans), 6_000, 600, rules_transports.booleans),
+    "permissions": (made(Policies, "case"), 4_000, 600, rules_transports.permissions),
+    "programs": (made(Programs, CONFIGURATION), 1_500, 150, rules_ssh.programs),
+    "files": (made(Files), 24_000, 1_500, rules_files.files),
+    "modules": (made(Modules, "file"), 24_000, 2_000, rules_files.checks),
+    "used modules": (made(Modules, "used"), 1_500, 125, rules_files.used),
 }
 OTHERS = {"files": [text for text, _, _ in rules_files.CUT]}
 
@@ -52,8 +52,8 @@ def scales(whole, sample):
     pytest.param(topic, count, marks=mark, id=f"{topic}-{mark.name}") for topic, it in TOPICS.items()
     for count, mark in ((it[1], pytest.mark.whole), (it[2], pytest.mark.sample))])
 def test_topic(topic, count):
-    strategy, _, _, ask, orders = TOPICS[topic]
-    compare(strategy, count, lambda some: library_faults(orders(ask(some))), OTHERS.get(topic, ()))
+    strategy, _, _, ask = TOPICS[topic]
+    compare(strategy, count, lambda some: library_faults(ask(some)), OTHERS.get(topic, ()))
 
 
 @pytest.mark.parametrize("count", scales(1_200, 150))
@@ -77,12 +77,12 @@ def test_lists_of_entries(maker):
 
 @pytest.mark.parametrize("step", scales(1, 9))
 def test_values_at_which_git_stops(step):
-    assert not [*library_faults(rules_transports.stop_orders(rules_transports.stops(rules_transports.entries()[::step])))]
+    assert not [*library_faults(rules_transports.stops(rules_transports.entries()[::step]))]
 
 
 @pytest.mark.parametrize("count", scales(4_400, 1_100))
 def test_names_of_transports(count):
-    compare(OF_TEXTS, count, lambda some: library_faults(rules_transports.name_orders(rules_transports.names(some))), remotes() if count > 4_000 else ())
+    compare(OF_TEXTS, count, lambda some: library_faults(rules_transports.names(some)), remotes() if count > 4_000 else ())
 
 
 @pytest.mark.parametrize("count", scales(150, 12))
@@ -90,7 +90,7 @@ def test_urls_of_submodules(count):
     """The parents that are written out come first."""
     parents = [*Pairs.PARENTS, *examples(made(Pairs, "parent"), 150 - len(Pairs.PARENTS))]
     pairs = [*zip(parents, examples(made(Pairs, "urls"), 150))][:: 150 // count]
-    assert not [*library_faults(rules_files.resolve_orders(rules_files.resolved(pairs)))]
+    assert not [*library_faults(rules_files.resolved(pairs))]
 
 
 @pytest.mark.parametrize("count", scales(10_000, 1_500))
@@ -152,22 +152,23 @@ def reporting(entries):
     return [it._replace(value=Contexts.REPORT % at) if it.name == b"helper" and it.value else it for at, it in enumerate(entries)]
 
 
-# For each call how Git is asked, the orders for its answers, and the case for a row: one of the orders has the row's outcome.
-REWRITING = (rules_remotes.rewritten, rules_remotes.rewritten_orders)
-MATCHING, NAMING = (rules_urls.matches, rules_urls.match_orders), (rules_transports.names, rules_transports.name_orders)
+def rewritten(some):
+    return rules_remotes.rewritten_orders(rules_remotes.rewritten(some))
+
+
+# For each call the orders with Git's outcomes, one of which has the row's, and the case for a row.
 CALLS = {
-    "Rewrites::rewrite_fetch": (*REWRITING, lambda it: (entries_of(it), [(*given(it, "text"), None)])),
-    "Rewrites::rewrite_push": (*REWRITING, lambda it: (entries_of(it), [pushed(it)])),
-    "Remote::of": (rules_remotes.remotes, rules_remotes.remote_orders, lambda it: (entries_of(it), given(it, "name"))),
-    "UrlPattern::matches": (*MATCHING, lambda it: ([[Entry(b"http", given(it, "pattern")[0], b"k", b"x")]], given(it, "text"))),
-    "entries::best_entry": (*MATCHING, lambda it: ([entries_of(it)], given(it, "text"))),
-    "protocols::transport": (*NAMING, lambda it: given(it, "url")[0]),
-    "text::transport_of": (*NAMING, lambda it: given(it, "text")[0]),
-    "credentials::credentials_for": (rules_urls.credentials, rules_urls.credential_orders, lambda it: (reporting(entries_of(it)), given(it, "text"))),
-    "stops::stop_at": (rules_transports.stops, rules_transports.stop_orders, lambda it: entries_of(it)[0]),
-    "Protocols::permission": (rules_transports.permissions, rules_transports.permission_orders,
-                              lambda it: (entries_of(it), *given(it, "allow_list", "from_user", "name"))),
-    "ssh::ssh_command": (rules_ssh.commands, rules_ssh.command_orders, lambda it: (*given(it, "url"), rules_ssh.Run(it["variant"], it["version"], it["service"]))),
+    "Rewrites::rewrite_fetch": (rewritten, lambda it: (entries_of(it), [(*given(it, "text"), None)])),
+    "Rewrites::rewrite_push": (rewritten, lambda it: (entries_of(it), [pushed(it)])),
+    "Remote::of": (rules_remotes.remotes, lambda it: (entries_of(it), given(it, "name"))),
+    "UrlPattern::matches": (rules_urls.matches, lambda it: ([[Entry(b"http", given(it, "pattern")[0], b"k", b"x")]], given(it, "text"))),
+    "entries::best_entry": (rules_urls.matches, lambda it: ([entries_of(it)], given(it, "text"))),
+    "protocols::transport": (rules_transports.names, lambda it: given(it, "url")[0]),
+    "text::transport_of": (rules_transports.names, lambda it: given(it, "text")[0]),
+    "credentials::credentials_for": (rules_urls.credentials, lambda it: (reporting(entries_of(it)), given(it, "text"))),
+    "stops::stop_at": (rules_transports.stops, lambda it: entries_of(it)[0]),
+    "Protocols::permission": (rules_transports.permissions, lambda it: (entries_of(it), *given(it, "allow_list", "from_user", "name"))),
+    "ssh::ssh_command": (rules_ssh.orders, lambda it: (*given(it, "url"), rules_ssh.Run(it["variant"], it["version"], it["service"]))),
 }
 FILE = f"{ROOT}/vectors/rules/git.jsonl"
 
@@ -182,9 +183,9 @@ def line_of(row, outcome):
 def test_rows(request):
     lines = [json.loads(it) if it.startswith("{") else it for it in read("vectors/rules/git.jsonl").removesuffix("\n").split("\n")]
     rows, found = [it for it in lines if isinstance(it, dict)], {}
-    for call, (ask, orders, case) in CALLS.items():
+    for call, (orders, case) in CALLS.items():
         own = [it for it in rows if it["call"] == call]
-        outcomes = (outcome for order, outcome in orders(ask([*map(case, own)])) if order["call"] == call)
+        outcomes = (outcome for order, outcome in orders([*map(case, own)]) if order["call"] == call)
         found.update((id(row), outcome) for row, outcome in zip(own, outcomes, strict=True))
     if request.config.getoption("record"):
         with open(FILE, "w", encoding="utf-8") as it:
