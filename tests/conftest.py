@@ -29,7 +29,7 @@ def pytest_runtest_setup(item):
 
 def pytest_addoption(parser):
     parser.addoption("--record", action="store_true", help="write what is found into the stored tables, pages and pictures that a test compares")
-    parser.addoption("--remotes", action="append", default=[], help="a file with a remote in each line, in place of those of the repository, for readers")
+    parser.addoption("--remotes", action="append", default=[], help="a file with a remote in each line, for readers in place of the repository's")
 
 
 def pytest_configure(config):

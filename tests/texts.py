@@ -852,8 +852,10 @@ class Programs(Maker):
     def configuration(self):
         """Entries, and with them four sets of the three variables, None if they aren't set, and a status that a program has for `-G`:
         so each kind of setting both overrides others and is overridden."""
-        return self.entries(), [(self.some(3, self.line), self.some(2, self.path), self.some(3, lambda: self.one_of(self.VARIANTS)), str(self.below(2)))
-                                for _ in range(4)]
+        def setting():
+            return self.some(3, self.line), self.some(2, self.path), self.some(3, lambda: self.one_of(self.VARIANTS)), str(self.below(2))
+
+        return self.entries(), [setting() for _ in range(4)]
 
 
 class Pairs(Maker):

@@ -36,7 +36,8 @@ def test_headers_in_cpp(compiler):
     run(compiler, "-x", "c++", "-std=c++11", "-pedantic", *warnings, "-Ibindings/c/include", "-fsyntax-only", "bindings/tests/header.cc")
 
 
-@pytest.mark.parametrize("library, flag, words", [("libgix_url.so", "--dynamic", "declared"), ("libgix_url.a", "--extern-only", "declared; called_by_rust")])
+@pytest.mark.parametrize("library, flag, words", [
+    ("libgix_url.so", "--dynamic", "declared"), ("libgix_url.a", "--extern-only", "declared; called_by_rust")])
 def test_exported_symbols(library, flag, words):
     """Only the calls of the headers, and for Rust also those that the crate makes."""
     found = re.findall(r"(?m)^\w+ \w (\S+)$", run("nm", "--defined-only", flag, f"{PREFIX}/lib/{library}").decode())
@@ -56,7 +57,8 @@ def test_versions():
     ("3", "gix_url_permission_of", "gix_url_policy"), ("1", "locations", "unsettled"), ("1", "explain", "--json")])
 def test_manual_page(section, name, word):
     """It shows without a warning, and contains this word."""
-    shown = sh(f"man --warnings {section} {name} 2>{OUT}/warnings; [ ! -s {OUT}/warnings ]", LC_ALL="C.UTF-8", MANWIDTH="120", MANPATH=f"{PREFIX}/share/man")
+    shown = sh(f"man --warnings {section} {name} 2>{OUT}/warnings; [ ! -s {OUT}/warnings ]",
+               LC_ALL="C.UTF-8", MANWIDTH="120", MANPATH=f"{PREFIX}/share/man")
     assert word in shown.decode()
 
 
@@ -80,4 +82,5 @@ def test_package_for_rust(monkeypatch):
     sh(f"rm -rf {folder}; mkdir -p {folder}; cd {CRATE} && cp -L --parents -t {folder} {' '.join(files)}")
     monkeypatch.setattr("test_rust.built", lambda: f"{PREFIX}/lib")
     cargo("test --no-default-features --tests", f"{folder}/Cargo.toml", f"{OUT}/cargo-package")
-    assert cargo("run --example hosts", f"{folder}/Cargo.toml", f"{OUT}/cargo-package", stored("examples/remotes")) == stored("examples/c/hosts.wanted")
+    shown = cargo("run --example hosts", f"{folder}/Cargo.toml", f"{OUT}/cargo-package", stored("examples/remotes"))
+    assert shown == stored("examples/c/hosts.wanted")

@@ -53,8 +53,8 @@ def test_answers():
     assert python("-m", "gix_url", given=given, statuses=(0, 1)) == wanted
     sh(f"rm -rf {OUT}/prefix-python; install_library {OUT}/prefix-python")
     given, wanted = inputs()["remotes"]
-    found = run("python3", "-W", "error", "-m", "gix_url", given=given, statuses=(0, 1), PYTHONPATH=f"{OUT}/prefix-python/share/gix_url/python", **FOUND)
-    assert found == wanted
+    where = {"PYTHONPATH": f"{OUT}/prefix-python/share/gix_url/python", **FOUND}
+    assert run("python3", "-W", "error", "-m", "gix_url", given=given, statuses=(0, 1), **where) == wanted
 
 
 @pytest.mark.parametrize("fault", plants.PYTHON)

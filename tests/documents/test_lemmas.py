@@ -177,8 +177,8 @@ def upward(files, layer):
 @functools.cache
 def files():
     """The files of proofs and definitions of all layers."""
-    paths = ((it, path) for it in LAYERS for part in ("proofs", "specs") for path in glob.glob(f"crates/{it}/{part}/**/*.antt", root_dir=ROOT, recursive=True))
-    return [File(*it) for it in sorted(paths, key=lambda it: (LAYERS.index(it[0]), it[1]))]
+    found = {it: glob.glob(f"crates/{it}/[ps][rp]*/**/*.antt", root_dir=ROOT, recursive=True) for it in LAYERS}
+    return [File(it, path) for it, paths in found.items() for path in sorted(paths)]
 
 
 def test_each_lemma_is_cited():

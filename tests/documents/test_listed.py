@@ -103,7 +103,8 @@ def enumerations(crate):
 def deciders():
     for crate in sorted(glob.glob("explain*", root_dir=f"{ROOT}/crates")):
         decides = re.compile(rf"-> (?:Result<)?(?:bool|Option<|(?:\w+::)*(?:{'|'.join(enumerations(crate))})\b)")
-        yield from (f"{path} {it.name}" for path, code in sources(crate) for it in functions(code) if decides.search(it.head) and "ensures" not in it.clauses)
+        yield from (f"{path} {it.name}" for path, code in sources(crate) for it in functions(code)
+                    if decides.search(it.head) and "ensures" not in it.clauses)
 
 
 @pytest.mark.quick

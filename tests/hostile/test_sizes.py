@@ -129,7 +129,8 @@ class Ran:
     def __init__(self, words, folder, text, answer=None):
         given, right, out = (f"{folder}/{it}" for it in ("given", "right", "out"))
         self.size = put(given, text)
-        said = subprocess.run([sys.executable, "-I", "-S", "-c", LAUNCHER, given, out, str(MOST_SECONDS), *words], stdout=subprocess.PIPE, check=True).stdout
+        started = [sys.executable, "-I", "-S", "-c", LAUNCHER, given, out, str(MOST_SECONDS), *words]
+        said = subprocess.run(started, stdout=subprocess.PIPE, check=True).stdout
         self.status, self.seconds, self.bytes, self.reads = json.loads(said)
         if answer is None:
             self.is_right = self.status in (0, 1) and os.path.getsize(out) > self.size
@@ -203,7 +204,7 @@ def compare(words, folder, make, small, large, most_bytes=None, most_seconds=MOS
     size = (whole.bytes - OWN_BYTES) / whole.size
     # The memory for each byte that only the larger size has.
     more = (whole.bytes - tenths[-1].bytes) / (whole.size - tenths[-1].size)
-    print(f"{whole.seconds:.1f} s, {growth:.2f} times as long for each byte as a tenth of it, {size:.2f} bytes of memory for each byte, {whole.reads} reads")
+    print(f"{whole.seconds:.1f} s, {growth:.2f} times as long for each byte as a tenth of it, {size:.2f} bytes of memory, {whole.reads} reads")
     assert growth <= MOST_GROWTH, "that isn't linear"
     assert whole.seconds <= most_seconds
     assert not most_bytes or size <= most_bytes
@@ -235,7 +236,8 @@ def test_a_rewrite_by_many_rules(tmp_path):
 
 
 def test_a_large_configuration(tmp_path):
-    compare([program("explain"), "--json", "--config", "-", "https://h/p"], tmp_path, configuration_of, RULES // 10, RULES, most_seconds=MOST_RULES_SECONDS)
+    words = [program("explain"), "--json", "--config", "-", "https://h/p"]
+    compare(words, tmp_path, configuration_of, RULES // 10, RULES, most_seconds=MOST_RULES_SECONDS)
 
 
 def test_many_submodules(tmp_path):

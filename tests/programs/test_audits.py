@@ -110,7 +110,8 @@ def test_a_bad_file(tmp_path):
     found = [*results(log(words, status=1))]
     assert sorted(found) == sorted(placed(f"file://{file}"))
     reports = objects(words, status=1)
-    assert [(it["name"], it["line"], it["column"], it["end_column"]) for report in reports for it in report["places"]] == [(it[0], *it[2:]) for it in found]
+    of_json = [(it["name"], it["line"], it["column"], it["end_column"]) for report in reports for it in report["places"]]
+    assert of_json == [(it[0], *it[2:]) for it in found]
     for it in reports:
         names = {place["name"] for place in it["places"]}
         assert names <= {*it["findings"]} and bool(names) == bool(it["findings"])

@@ -153,7 +153,8 @@ def test_reading_a_terminal_is_reported():
 
 
 @pytest.mark.parametrize("variables, wanted", [
-    ({"TERM": "xterm"}, True), ({"TERM": "xterm", "NO_COLOR": ""}, True), ({}, False), ({"TERM": "dumb"}, False), ({"TERM": "xterm", "NO_COLOR": "1"}, False)], ids=str)
+    ({"TERM": "xterm"}, True), ({"TERM": "xterm", "NO_COLOR": ""}, True), ({}, False), ({"TERM": "dumb"}, False),
+    ({"TERM": "xterm", "NO_COLOR": "1"}, False)], ids=str)
 def test_colours_on_a_terminal(variables, wanted):
     """Answers are coloured on a terminal that can show colours, unless NO_COLOR says otherwise."""
     terminal, streams = pty.openpty()

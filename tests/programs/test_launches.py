@@ -158,8 +158,9 @@ def tree():
 
 
 # In this order: later ones begin with what is built.
-@pytest.mark.parametrize("launch", [first_call, by_a_link, another_crate, changed_source, interrupted, without_the_command, broken_command, read_only, little_disk, on_a_terminal],
-                         ids=lambda it: it.__name__)
+@pytest.mark.parametrize("launch", [
+    first_call, by_a_link, another_crate, changed_source, interrupted, without_the_command, broken_command, read_only, little_disk, on_a_terminal],
+    ids=lambda it: it.__name__)
 def test_launch(launch, tree):
     found, wanted = launch(tree)
     assert found == wanted

@@ -100,10 +100,6 @@ def kind(case, it):
     return "refused" if it == REFUSED else "other" if it.host == case.wanted.host else "host"
 
 
-def strongest(found):
-    return next(name for name in KINDS if name in {kind(*it) for it in found})
-
-
 def place_of(text, cases, readers):
     """The part of a line about its text: whether Git connects, the host, and the hosts of readers."""
     wanted = next((it.wanted for it in cases if it.text == text), None)
@@ -114,12 +110,16 @@ def words_of(function):
     return " ".join((function.__doc__ or "").split())
 
 
-def condition_line(name, example, cases, readers, found, beside):
-    by_kind = {it: [] for it in KINDS}
+def condition_line(line, same, cases, readers, found, beside):
+    """A line with what is found, and with what it had of readers of the same versions."""
+    name, by_kind, example = line["name"], {it: [] for it in KINDS}, bytes_of(line["example"])
     for reader in readers:
-        if found[name][reader.name]:
-            by_kind[strongest(found[name][reader.name])].append(reader.name)
-    return {"name": name, "words": words_of(CONDITIONS[name]), "example": text_of(example), **place_of(example, cases, readers), **by_kind, "beside": beside[name]}
+        kinds = {kind(*it) for it in found[name][reader.name]} | {it for it in KINDS if reader.name in same and reader.name in line[it]}
+        if kinds:
+            by_kind[next(it for it in KINDS if it in kinds)].append(reader.name)
+    more = dict.fromkeys([*(it for it in line["beside"] if it in same), *beside[name]])
+    more = [it for it in more if not any(it in of_kind for of_kind in by_kind.values())]
+    return {"name": name, "words": words_of(CONDITIONS[name]), "example": line["example"], **place_of(example, cases, readers), **by_kind, "beside": more}
 
 
 def group_lines(readers):
@@ -145,9 +145,10 @@ def group(reader):
 def record(cases, readers, found, beside):
     """Writes the tables and the document. The examples and the texts stay."""
     bases = {reader.name: reader.packages for reader in READERS} | OWN
+    same = {it.name for it in readers if versions().get(it.name) == it.version}
     write("readers", [{"reader": it.name, "version": it.version, "group": group(it.name), "packages": bases[it.name]} for it in readers])
-    examples = {it["name"]: bytes_of(it["example"]) for it in lines("conditions")}
-    write("conditions", [condition_line(name, examples[name], cases, readers, found, beside) for name in CONDITIONS])
+    before = conditions()
+    write("conditions", [condition_line(before[name], same, cases, readers, found, beside) for name in CONDITIONS])
     singles = [bytes_of(it["text"]) for it in lines("confusions")]
     write("confusions", [{"text": text_of(it), "conditions": broken(it), **place_of(it, cases, readers)} for it in singles])
     write("groups", group_lines(readers))

@@ -329,7 +329,8 @@ def programs(configurations):
         some = [placed(Setting(entries, *it), folder) for entries, settings in configurations for it in settings]
         for name in Programs.NAMES:
             put(f"{room}/{name}", FAKE, 0o700)
-        with rooms([placed(Setting(entries, None, None, None, "0"), folder).entries for entries, _ in configurations]) as (place, environment, folders):
+        files = [placed(Setting(entries, None, None, None, "0"), folder).entries for entries, _ in configurations]
+        with rooms(files) as (place, environment, folders):
             environment["PATH"] = f"{room}:{environment['PATH']}"
             owners = [it for it, (_, settings) in zip(folders, configurations) for _ in settings]
             words = [word for owner, it in zip(owners, some)

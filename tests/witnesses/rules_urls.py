@@ -161,9 +161,9 @@ def headers(configurations):
     proxy.shutdown()
     for at, (_, entries, url) in enumerate(asked):
         text, about = url.removesuffix(b"/") + b"/", {"config": text_of(listed(entries)), "name": "extraHeader"}
-        call = {"call": "settings::settings_for", **about, "text": text_of(text)} if normal(text) else {"call": "settings::settings_without_place", **about}
         if str(at) in proxy.seen:
-            yield call, proxy.seen[str(at)]
+            own = {"call": "settings::settings_for", "text": text_of(text)} if normal(text) else {"call": "settings::settings_without_place"}
+            yield {**own, **about}, proxy.seen[str(at)]
 
 
 # ---- credentials

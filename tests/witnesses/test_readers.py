@@ -45,6 +45,8 @@ TEXTS = strategies.one_of([made(NearMaker)] * 4 + [made(WebMaker), made(Location
 SCALES = {"sample": (30_000, 1_500), "whole": (50_000, 12_000)}
 # Longer texts of rows are left out.
 LONGEST = 4096
+# Of shapes and conditions for which texts are rarely made.
+GIVEN = (b"[h]]:a/b", b"git@[h]]:p", b"https://github.com/a%20b/c:d", b"https://github.com/a%C3%A9b/c:d")
 
 
 class Case:
@@ -83,7 +85,7 @@ def ask_program(reader, cases):
 def ask_own(own, cases, count):
     """Runs a reader that is started for each text: on this many texts of the class, on this many others, and on those that are shown."""
     name, found, takes, places = own
-    fitting, shown = [it for it in cases if takes(it.text, it.form)], {*facts.texts()}
+    fitting, shown = [it for it in cases if takes(it.text, it.form)], {*facts.texts(), *GIVEN}
     if name != "libcurl":
         inside = [it for it in fitting if not it.broken]
         outside = [it for it in fitting if it.broken and it.wanted is not None and not it.text.startswith(b"-")]
@@ -128,7 +130,7 @@ class Run:
         self.is_whole, self.is_own = name == "whole", not given
         given = [it for file in given for it in open(file, "rb").read().splitlines()] or remotes()
         more = changed_texts() if self.is_whole else []
-        others = filter(can_be_an_argument, [*facts.texts(), *given, *texts_of_rows(LONGEST), *more])
+        others = filter(can_be_an_argument, [*facts.texts(), *GIVEN, *given, *texts_of_rows(LONGEST), *more])
         self.texts = lambda: compare(TEXTS, count, lambda texts: faults(texts, self.started), others)
 
     @functools.cached_property

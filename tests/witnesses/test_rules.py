@@ -22,8 +22,8 @@ from row_text import bytes_of
 from rt_api import ROOT, read
 from rules_ssh import RUNS, USUAL
 from texts import (
-    Booleans, Contexts, Files, Headers, LocationMaker, Modules, Pairs, Places, Policies, Programs, Remotes, Rules, SecureMaker, compare, examples, made,
-    remotes)
+    Booleans, Contexts, Files, Headers, LocationMaker, Modules, Pairs, Places, Policies, Programs, Remotes, Rules, SecureMaker, compare, examples,
+    made, remotes)
 
 pytestmark = pytest.mark.needs("git")
 CONFIGURATION = "configuration"

@@ -141,7 +141,8 @@ def test_requests(count, sent):
     for it in all_cases():
         by_class.setdefault(class_of(it, CLASSES) if it.differing else None, []).append(it)
     groups = [*by_class.values(), alike, alike]
-    chosen = dict.fromkeys([*(it.encode() for it in SHOWN.findall(DOCUMENT)), *(it.text for cases in groups for it in some(cases, sent // len(groups)))])
+    shown = [it.encode() for it in SHOWN.findall(DOCUMENT)]
+    chosen = dict.fromkeys([*shown, *(it.text for cases in groups for it in some(cases, sent // len(groups)))])
     more = some([it for it in (*given(), *examples(TEXTS, COUNT)) if it not in chosen], max(0, sent - len(chosen)))
     careful = some([it.text for it, _ in unmet() if git_class.agrees_with_git(it.location)], sent)
     assert not [*wire_faults([*chosen, *more, *careful], curl())]

@@ -232,8 +232,8 @@ class Room:
         self.commit = self.said("commit-tree", "-m", "pushed", self.tree)
 
     def said(self, *words):
-        ran = subprocess.run(["git", *words], cwd=self.here, env=self.environment, stdin=subprocess.DEVNULL, stdout=subprocess.PIPE, stderr=subprocess.DEVNULL)
-        return ran.stdout.decode().strip()
+        quiet = {"stdin": subprocess.DEVNULL, "stderr": subprocess.DEVNULL}
+        return subprocess.run(["git", *words], cwd=self.here, env=self.environment, stdout=subprocess.PIPE, check=False, **quiet).stdout.decode().strip()
 
     def name(self, path):
         """The repository at a path; None if there is none."""
