@@ -22,8 +22,9 @@ RULE_TABLES = ("git_readings", "rules/calls", "rules/dangers", "rules/git", "rul
 
 
 def run(*words, given=b"", statuses=(0,), **environment):
-    """What a command writes; it must end with one of these statuses."""
-    ran = subprocess.run(words, cwd=ROOT, env={**os.environ, **environment}, input=given, capture_output=True, check=False)
+    """What a command writes; it must end with one of these statuses. A variable that is None isn't set."""
+    variables = {name: it for name, it in {**os.environ, **environment}.items() if it is not None}
+    ran = subprocess.run(words, cwd=ROOT, env=variables, input=given, capture_output=True, check=False)
     assert ran.returncode in statuses, f"{words}: {ran.returncode}\n{(ran.stdout + ran.stderr)[-4000:].decode(errors='replace')}"
     return ran.stdout
 

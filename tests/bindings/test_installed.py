@@ -72,7 +72,7 @@ def test_example(source, library):
 
 
 @pytest.mark.needs("cargo")
-def test_package_for_rust(monkeypatch):
+def test_package_for_rust():
     """The package that cargo makes of the crate has the licences, and its tests pass without the repository, over the installed library; and
     so does an example in a program of its own."""
     listed = sh(f"cd {CRATE} && cargo package --offline --quiet --allow-dirty --list").decode().split()
@@ -80,7 +80,7 @@ def test_package_for_rust(monkeypatch):
     assert {"LICENSE-APACHE", "LICENSE-MIT", "NOTICE", "README.md"} <= {*files}
     folder = f"{OUT}/rust-package"
     sh(f"rm -rf {folder}; mkdir -p {folder}; cd {CRATE} && cp -L --parents -t {folder} {' '.join(files)}")
-    monkeypatch.setattr("test_rust.built", lambda: f"{PREFIX}/lib")
-    cargo("test --no-default-features --tests", f"{folder}/Cargo.toml", f"{OUT}/cargo-package")
-    shown = cargo("run --example hosts", f"{folder}/Cargo.toml", f"{OUT}/cargo-package", stored("examples/remotes"))
+    where = {"GIX_URL_LIB": f"{PREFIX}/lib", "GIX_URL_REPOSITORY": None}
+    cargo("test --no-default-features --tests", f"{folder}/Cargo.toml", f"{OUT}/cargo-package", **where)
+    shown = cargo("run --example hosts", f"{folder}/Cargo.toml", f"{OUT}/cargo-package", stored("examples/remotes"), **where)
     assert shown == stored("examples/c/hosts.wanted")

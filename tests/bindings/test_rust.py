@@ -17,10 +17,11 @@ pytestmark = needs_cargo
 TABLES = ("git", "parts", "reading", "shown", "unambiguous")
 
 
-def cargo(words, manifest=f"{CRATE}/Cargo.toml", target=f"{OUT}/cargo", given=b"", more=()):
+def cargo(words, manifest=f"{CRATE}/Cargo.toml", target=f"{OUT}/cargo", given=b"", more=(), **where):
+    """What cargo writes, over the built library and with the repository, unless these are elsewhere."""
     verb, *options = words.split()
-    return run("cargo", verb, "--offline", "--quiet", *options, "--manifest-path", manifest, *more, given=given,
-               GIX_URL_LIB=built(), CARGO_TARGET_DIR=target, GIX_URL_REPOSITORY=ROOT)
+    found = {"GIX_URL_LIB": built(), "GIX_URL_REPOSITORY": ROOT, **where}
+    return run("cargo", verb, "--offline", "--quiet", *options, "--manifest-path", manifest, *more, given=given, CARGO_TARGET_DIR=target, **found)
 
 
 @functools.cache
