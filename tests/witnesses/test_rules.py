@@ -68,7 +68,6 @@ def test_rewriting(count):
     assert count < 1_000 or any(map(rules_remotes.is_ended, rules_remotes.rewritten(configurations)))
 
 
-@pytest.mark.sample
 @pytest.mark.parametrize("maker", [Rules, Remotes], ids=lambda it: it.__name__)
 def test_lists_of_entries(maker):
     """`git config --list -z` writes the entries as the calls of the library get them."""

@@ -148,12 +148,10 @@ def test_requests(count, sent):
     assert not [*wire_faults([*chosen, *more, *careful], curl())]
 
 
-@pytest.mark.sample
 def test_each_class_is_needed():
     assert not needless(all_cases(), CLASSES)
 
 
-@pytest.mark.sample
 @pytest.mark.parametrize("name", [*CONDITIONS][1:])
 def test_each_condition_is_needed(name):
     """A text that misses it alone is read differently, or it is listed as a stricter one. The text of an unsettled location spells another one,
