@@ -62,7 +62,6 @@ def code(html):
 
 
 def template_faults(html):
-    """What is wrong with the template."""
     found = set(SLOT.findall(html))
     yield from (f"no slot {it}" for it in ("policy", *SLOTS) if it not in found)
     yield from (f"an unknown slot {it}" for it in sorted(found - {"policy", *SLOTS}))

@@ -132,7 +132,6 @@ def diagram(terms):
 
 
 def rows():
-    """The rows of the grammar, by their names."""
     return dict(re.findall(r"(?m)^([\w-]+) += (.*)$", re.search(r"(?ms)^```text\n(helper = .*?)^```$", read("docs/GRAMMAR.md"))[1]))
 
 
@@ -165,7 +164,6 @@ def fields(location, y):
 
 
 def locations():
-    """The locations, each below the other."""
     width = WIDE * max(sum(len(text) for text, _ in it) for it in LOCATIONS)
     return framed(width + 4 * GAP, 188, [mark for number, it in enumerate(LOCATIONS) for mark in fields(it, 24 + 114 * number)])
 

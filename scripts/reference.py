@@ -76,7 +76,6 @@ def origin(crate, path, file):
 
 
 def item(crate, path):
-    """The section of an item."""
     module, text = documented_items(crate)[path]
     public, file = module_of(crate, path), f"crates/{crate}/src/{'/'.join(module) or 'lib'}.rt"
     head = f'<a id="{anchors(crate)[path]}"></a>\n\n{"#" * (2 + bool(public) + order(crate, path)[2])} `{path}`\n'
@@ -113,7 +112,6 @@ def contents(crate):
 
 
 def page(crate):
-    """The page of a crate."""
     yield f"{HEAD}\n# {crate}\n\n{of_module(crate, ())}\n"
     yield from contents(crate)
     items = sorted(documented_items(crate), key=lambda it: order(crate, it))

@@ -16,7 +16,6 @@ ROOT = os.path.dirname(os.path.dirname(os.path.realpath(__file__)))
 
 
 def has(name):
-    """Whether a command is on the PATH, or Python has the module."""
     return bool(shutil.which(name) or importlib.util.find_spec(name))
 
 

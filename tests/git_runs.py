@@ -22,7 +22,6 @@ def alone(room, **more):
 
 
 def git(folder, environment, *words, given=b""):
-    """What Git writes."""
     return subprocess.run(["git", *words], cwd=folder, env=environment, input=given, stdout=subprocess.PIPE, stderr=subprocess.STDOUT, check=False)
 
 
@@ -70,7 +69,6 @@ def rooms(configurations, **more):
 
 
 def repository(folder, entries):
-    """A repository without commits, with these entries."""
     os.makedirs(f"{folder}/objects")
     os.makedirs(f"{folder}/refs")
     put(f"{folder}/HEAD", "ref: refs/heads/main\n")

@@ -11,7 +11,6 @@ SUMMARY = (b"lines: %d\nform\n%8d  URL\n%8d  scp form\n%8d  local path\n%8d  rem
 
 
 def ended(texts, end=b"\n"):
-    """Texts as lines, each with its end."""
     return b"".join(it + end for it in texts)
 
 

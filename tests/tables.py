@@ -101,7 +101,6 @@ COMPARED = {"Url:Ord": "url", "Scheme:Ord": "scheme", "ForUser:Ord": "user"}
 
 
 def pairs(members, values):
-    """The rows of all pairs of values in order."""
     name = COMPARED[members["call"]]
     for one, other in itertools.product(range(len(values)), repeat=2):
         word = "Less" if one < other else "Greater" if one > other else "Equal"
@@ -125,7 +124,6 @@ def choices(members, over):
 
 
 def fronts(members, name):
-    """The rows of a truncated text."""
     whole = joined(members[name])
     return ({**members, name: whole[:size]} for size in range(len(whole)))
 
@@ -173,7 +171,6 @@ def in_texts(value):
 
 
 def random_rows(members, number):
-    """The rows over random paths, with their plain readings."""
     for given, found in plain_paths.cases(members["call"], number):
         yield {**members, **in_texts(given), "is": in_texts(found)}
 
@@ -205,7 +202,6 @@ def topics(folders=(".", "rules")):
 
 @functools.cache
 def rows(*named):
-    """All rows of the tables, or of those that are named."""
     return [Row(place, it) for topic in named or topics() for place, members in lines(topic) for it in expanded(members)]
 
 

@@ -41,7 +41,6 @@ class Maker:
 
 @functools.cache
 def made(maker, what="text"):
-    """The strategy of what a maker makes."""
     return strategies.composite(lambda draw: getattr(maker(draw), what)())()
 
 
@@ -116,7 +115,6 @@ def compare(strategy, count, faults, others=()):
 # ---- remotes
 
 def remotes():
-    """Remotes as people write them."""
     return stored("crates/url_bench/remotes.txt").splitlines()
 
 
@@ -142,7 +140,6 @@ def realistic():
 
 
 def plain():
-    """10,000 remotes without findings."""
     return [f"{PLAIN_FORMS[n % 7].format(h=PLAIN_HOSTS[n // 7 % 7], p=PLAIN_PATHS[n // 49 % 5])}{n}".encode() for n in range(10_000)]
 
 
@@ -208,7 +205,6 @@ class LocationMaker(Maker):
         return self.one_of(self.LOCALS)
 
     def addressed(self):
-        """A host in brackets, which `git://` may have as escapes."""
         user, host = self.one_of(self.BEFORE_ADDRESSES), f"[{self.one_of(self.ADDRESSES)}]"
         if self.below(2) == 0:
             return f"{user}{host}:{self.one_of(self.SCP_PATHS)}"
@@ -275,7 +271,6 @@ class WebMaker(LocationMaker):
         return self.one_of(self.USERS) + "@" if self.below(3) == 0 else ""
 
     def plain(self):
-        """A text with a plain host, so that most differences are in only one part."""
         return f"{self.one_of(self.SCHEMES)}://{self.one_user()}{self.one_of(self.HOSTS[:6])}{self.one_of(self.PORTS[:8])}{self.one_of(self.PATHS)}"
 
     def address(self):
@@ -292,7 +287,6 @@ class WebMaker(LocationMaker):
         return f"{self.one_of(self.SCHEMES[:2])}://{user}{self.one_of(self.NEAR_HOSTS)}{self.one_of(self.PORTS[:8])}/{path.removeprefix('/')}"
 
     def number_host(self):
-        """A host of numbers, in the forms that C's `strtoul` reads."""
         forms = ("{}", "0x{:x}", "0X{:X}", "0{:o}", "00{}")
         limits = (0, 1, 8, 9, 127, 255, 256, 65535, 65536, 16777216, 4294967295, 4294967296)
         numbers = [self.one_of(limits) for _ in range(1 + self.below(5))]
@@ -524,7 +518,6 @@ class Booleans(Maker):
     EDGES = (0, 1, 7, 8, 9, 255, 2**10, 2**11, 2**20, 2**21, 2**31, 2**32, 2**63, 2**64)
 
     def digits(self):
-        """Digits of a number at an edge, or none."""
         front, how = self.one_of(self.FRONTS)
         return front + (format(max(0, self.one_of(self.EDGES) + self.below(3) - 1), how) if self.below(12) else "")
 
@@ -588,7 +581,6 @@ class Remotes(Rules):
         return Entry(self.one_of(self.OF_REMOTES).encode(), place, name, b"main" if name == b"fetch" else value)
 
     def mixed(self, texts, names):
-        """Rules that have values, and entries of remotes, in any order."""
         bases = [b"%d>" % it for it in range(3)]
         made = [it for it in (self.entry(texts, bases) for _ in range(self.below(7))) if not lacks_value(it)]
         return self.draw(strategies.permutations(made + [self.setting(texts, names) for _ in range(self.below(9))]))
@@ -695,7 +687,6 @@ class Places(Maker):
         return it._replace(host=b"", user=None, port=self.one_of((b"", b"", b":", b":1", b":0"))) if it.scheme == b"file" and self.below(2) else it
 
     def bases(self):
-        """One to three places, from which others are made."""
         usual = self.usual()
         return [usual, self.other(usual), self.place()][: 1 + self.below(3)]
 
@@ -732,7 +723,6 @@ class Contexts(Places):
     REPORT = b"!printf '\\001%d\\002' >&2; cat >/dev/null; :"
 
     def partial(self, base):
-        """Some parts of a place, spelled alike or differently."""
         it = pieces_of(joined(self.other(base)))
         protocol, user, host, path = ((one or b"") if self.below(3) else b"" for one in it)
         mark = b"://" if protocol or self.below(4) == 0 else b""

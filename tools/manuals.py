@@ -52,7 +52,6 @@ def also(own):
 
 
 def comment(text):
-    """The lines of a comment, without its marks."""
     return [re.sub(r"^ \* ?", "", it) for it in text.strip().removeprefix("/* ").removesuffix("*/").split("\n")]
 
 
@@ -69,13 +68,11 @@ def is_call(declared):
 
 
 def title(declared):
-    """The declared name."""
     found = re.findall(r"\b(gix_url_\w+)\(|^#define (\w+)|^} (\w+);", declared, re.M)
     return ", ".join("".join(it) for it in found)
 
 
 def library_page(name, header):
-    """The page of a header, its lines."""
     version = re.search(r'GIX_URL_VERSION "(.*)"', read("bindings/c/include/gix_url.h"))[1]
     yield from [*heading(name, 3, version), f"{name} \\- {plain(LIBRARIES[name])}"]
     yield from [".SH SYNOPSIS", ".nf", f".B #include <{name}.h>", ".PP", "cc program.c $(pkg\\-config \\-\\-cflags \\-\\-libs gix_url)", ".fi"]

@@ -16,13 +16,11 @@ KIT = os.path.dirname(os.path.dirname(os.path.realpath(shutil.which("rt") or "/n
 
 
 def read(name):
-    """The text of a file of the repository."""
     with open(f"{ROOT}/{name}", encoding="utf-8") as it:
         return it.read()
 
 
 def stored(name):
-    """The bytes of a file of the repository."""
     with open(f"{ROOT}/{name}", "rb") as it:
         return it.read()
 

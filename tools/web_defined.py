@@ -53,7 +53,6 @@ def credential_paths(behind):
 
 
 def credential_readings(text):
-    """All readings of Git's credential code."""
     found = [
         CredentialReading(protocol, user, password, host, path)
         for protocol, rest in cuts(text, b"://") if protocol and b"://" not in protocol and b"\0" not in text
@@ -97,7 +96,6 @@ def has_uri_bytes(r):
 
 
 def uri_readings(text):
-    """All readings of a text as a URI with an authority."""
     found = {
         UriReading(scheme, information, host, port, path, query, fragment)
         for scheme, rest in cuts(text, b"://")

@@ -63,12 +63,10 @@ LONE = {0xEF00 + byte: 0xDC00 + byte for byte in range(0x80, 0x100)}
 
 
 def escaped(text):
-    """A text of an order in the flat form."""
     return re.sub(r"[\0-\x1f\x7f\\\uef80-\uefff]", lambda it: f"\\x{ord(it[0]) & 0xFF:02x}", text)
 
 
 def flat(members, front=""):
-    """The members of an order in the flat form."""
     for name, value in members.items():
         if isinstance(value, dict):
             yield from flat(value, f"{front}{name}.")

@@ -68,7 +68,6 @@ def of_page(language, word):
 
 
 def copied(source, folder):
-    """A new copy of a folder."""
     shutil.rmtree(folder, ignore_errors=True)
     return shutil.copytree(source, folder, symlinks=True)
 
@@ -95,7 +94,6 @@ def is_caught(*tests):
 
 
 def check(faults):
-    """Fails at faults."""
     assert not faults, f"{len(faults)} faults\n" + "\n".join(faults[:10])
 
 

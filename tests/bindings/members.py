@@ -11,7 +11,6 @@ from second_reading.seen import seen
 
 
 def text(word):
-    """The text of a word, or none."""
     return None if word == "-" else bytes.fromhex(word[1:]).decode(errors="replace")
 
 
@@ -41,7 +40,6 @@ def of_explain(said, line):
 
 
 def of_binding(line):
-    """The results of a binding for a line, in the same form."""
     outcome, *words = line.split(" ")
     if outcome == "refused":
         error, fault, kind, *place, reason = (None if it == "-" else it for it in words)
@@ -54,7 +52,6 @@ def of_binding(line):
 
 
 def faults(lines, answers, explained):
-    """The lines that are answered otherwise."""
     compared = 0
     for line, answer, said in zip(lines, answers, explained, strict=True):
         if seen(line) == line:

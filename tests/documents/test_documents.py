@@ -78,7 +78,6 @@ def blocks(name):
 
 
 def is_proved(language, text):
-    """Whether a block is what is proved, stored or run."""
     if language in ("text", "c", "python", "yaml") or "gix_url_proved" in text:
         return True
     if language == "sh":
@@ -158,7 +157,6 @@ def anchors(name):
 
 
 def broken_links(name):
-    """The links of a document that lead nowhere."""
     prose = re.sub(r"(?ms)^```.*?^```$|`[^`\n]*`", "", read(name))
     for link in sorted({found[1] or found[2] for found in LINK.finditer(prose)}):
         address, _, anchor = link.partition("#")

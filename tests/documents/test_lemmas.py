@@ -35,7 +35,6 @@ class Declaration:
         return " : goal." in self.lines[0]
 
     def parts(self):
-        """The statement, and the text after it."""
         at = next((n for n, it in enumerate(self.lines) if n and it.startswith((f"{self.name} ", "unfolding "))), len(self.lines))
         return " ".join(self.lines[:at]).partition(" : ")[2], " ".join(self.lines[at:])
 
@@ -48,7 +47,6 @@ class Declaration:
         return {it[0] for part in bound for it in WORD.finditer(part) if part[it.end() : it.end() + 1] != "."}
 
     def cited(self, known):
-        """The declarations that the text names."""
         text = "\n".join(self.lines)
         words = {it[0] for it in WORD.finditer(text) if text[it.start() - 1] != "." and text[it.end() : it.end() + 3] != " = "}
         return [known[found] for found in map(self.file.names.get, words - self.variables) if found in known]
@@ -103,7 +101,6 @@ class File:
         self.names.update({it.name: f"{self.module}.{it.name}" for it in self.declared})
 
     def take(self, is_passed_on, module, names, other):
-        """Records the names that a `use` imports."""
         self.names.update({} if names else {other or module.rpartition(".")[2]: module})
         for name in names.split(", ") if names else []:
             name, _, short = name.partition(" as ")
@@ -135,7 +132,6 @@ def elsewhere():
 
 
 def uncited(files):
-    """Lemmas that nothing counted cites."""
     known, found = known_names(files), set()
     todo = [known[it] for it in elsewhere() if it in known]
     todo += [it for file in files for it in file.declared if file.path.startswith("specs/") or it.is_answer()]
@@ -164,7 +160,6 @@ def listed(layer, path="Lib"):
 
 
 def upward(files, layer):
-    """Lemmas of a layer that cite a later lemma of the layer."""
     proofs = f"Rattle.{layer}.proofs."
     order = [proofs + it.replace("/", ".") for it in listed(layer)]
     for file in (it for it in files if it.module in order):
@@ -176,7 +171,6 @@ def upward(files, layer):
 
 @functools.cache
 def files():
-    """The files of proofs and definitions of all layers."""
     found = {it: glob.glob(f"crates/{it}/[ps][rp]*/**/*.antt", root_dir=ROOT, recursive=True) for it in LAYERS}
     return [File(it, path) for it, paths in found.items() for path in sorted(paths)]
 

@@ -112,8 +112,6 @@ def kept_fault(row, prepared, ran):
 
 
 class Calls:
-    """Runs the program of the calls."""
-
     def __init__(self, shim):
         self.shim, self.path = shim, program("answers")
 

@@ -89,7 +89,6 @@ CALLS = [
 
 
 def record(path, spelling):
-    """The fields of an HTTP location."""
     return {"scheme": "Http", "host": "h", "path": path, "spelling": spelling}
 
 
@@ -168,7 +167,6 @@ def remotes_of(size):
 
 
 def rules_of(size):
-    """This many rules, each with another base and another front."""
     return "".join(f"url.https://h{n}/.insteadof\na{n}:\0" for n in range(size))
 
 
@@ -185,12 +183,10 @@ def configuration_of(size):
 
 
 def modules_of(size):
-    """A file with this many submodules, without findings."""
     return [b'[submodule "m%d"]\n\tpath = p/%d\n\turl = https://h%d.example/m.git\n' % (n, n, n) for n in range(size)], None
 
 
 def summed(size):
-    """This many lines with one host, and their summary."""
     shown = SUMMARY % (size, 0, size, 0, 0, size, 0, 0, 0) + b'host\n%8d  "example.com"\n' % size
     return chunks(b"", b"git@example.com:group/repo.git\n", size, b""), [shown]
 

@@ -55,7 +55,6 @@ script-src 'sha256-%s'; base-uri 'none'; form-action 'none'">"""
 
 
 def run(words, lines, end=b"\n"):
-    """What the program writes for the lines."""
     return explain(words, ended(lines, end))
 
 
@@ -89,7 +88,6 @@ def words_of_verdict(answer):
 
 
 def words_of_dangers(answer):
-    """The cell of the dangers."""
     return ", ".join(dangers.WORDS[it] for it in answer["dangers"]) or REWRITTEN * ("danger" in answer["findings"])
 
 
@@ -104,7 +102,6 @@ def text_of(shown):
 
 
 def row_faults(row, answer):
-    """What a row shows otherwise than the object of its line."""
     number, text, *cells, at_host = row
     wanted = [str(answer["line"]), words_of_verdict(answer), words_of_dangers(answer)]
     if cells != wanted or text_of(text.replace("\0", "")) != answer["input"] or text_of(at_host) != (host(answer) or ""):
@@ -141,7 +138,6 @@ def piece_faults(pieces, text, answer, line):
 
 
 def detail_faults(found, row, answer, line):
-    """What the details of a line show otherwise than its object."""
     _, opens, values, pieces = found
     hints = [name.removeprefix("hints.") for name, _ in values if name.startswith("hints.")]
     shown = {name: text_of(it) for name, it in values if not name.startswith("hints.")}
@@ -196,7 +192,6 @@ def made_faults(page, title):
 
 
 def faults_of(page, lines, wanted, title=None, script=True):
-    """What a page shows otherwise than these answers."""
     data, rows = json.loads(page.ask(ROWS))
     if json.loads(data) != wanted:
         yield from (f"line {it['line']}: the object is {found}" for found, it in zip(json.loads(data), wanted) if found != it)

@@ -55,7 +55,6 @@ class Browser(webdriver.Chrome):
         return self.execute_script(f"return {expression}", *given)
 
     def press(self, keys):
-        """Presses keys and lets them go, wherever the focus is."""
         webdriver.ActionChains(self).send_keys(keys).perform()
 
     def settle(self):

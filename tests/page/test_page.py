@@ -61,7 +61,6 @@ def texts_that_surprise():
 
 
 def second_reading(lines):
-    """What the second reading of the grammar answers."""
     return [json.loads(stored_run.answer(number, line)) for number, line in enumerate(lines, 1)]
 
 
@@ -86,7 +85,6 @@ def shown_faults(page, file, lines, wanted, title=None, widths=page_look.WIDTHS,
 
 
 def digest(page):
-    """The digest of the page that the pictures show."""
     return hashlib.sha256(stored_at(written(page, PICTURED))).hexdigest()
 
 

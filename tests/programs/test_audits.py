@@ -63,7 +63,6 @@ CONTROLS = {*map(chr, range(32)), "\x7f"}
 
 
 def run(words, given=b"", status=0):
-    """The output of the program, whose status is this one."""
     ran = runs.run("explain", words, given, timeout=120)
     assert ran.returncode == status, ran
     return ran.stdout

@@ -58,7 +58,6 @@ def placed(entries):
 
 
 def setting(at, it):
-    """An entry as it is shown."""
     place = b"" if it.place is None else redacted(it.place) + b"."
     return {"at": at, "key": lossy(it.section.lower() + b"." + place + it.name.lower()), "value": shown_value(it)}
 
@@ -121,7 +120,6 @@ def of_http(case, text):
 
 
 def rules(case, line):
-    """The report on a line."""
     texts = yield [{"call": "Rewrites::add_entry", "config": text_of(listed(case.entries)), "text": text_of(line)}]
     fetched, pushed = map(bytes_of, texts[0])
     fetch = yield from route(case, line, fetched, b"insteadof")
@@ -257,7 +255,6 @@ def cases_of_git():
 
 
 def run(case, *words):
-    """The program over a case."""
     variables = {"GIT_ALLOW_PROTOCOL": case.allow_list, "GIT_PROTOCOL_FROM_USER": case.from_user}
     environment = {name: value for name, value in os.environ.items() if name not in variables}
     environment.update({name: os.fsdecode(value) for name, value in variables.items() if value is not None})
@@ -266,7 +263,6 @@ def run(case, *words):
 
 @pytest.fixture
 def given(tmp_path):
-    """Writes the configuration of a case, and returns its words."""
     def write(case):
         (tmp_path / "config").write_bytes(listed(case.entries))
         return "--config", str(tmp_path / "config")

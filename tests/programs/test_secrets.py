@@ -37,7 +37,6 @@ def is_secret(line):
 
 
 def faults_of(line, told, answer):
-    """The faults of the answers to a line."""
     v, other = grammar.spells(line), seen(line)
     if CONTROL.search(answer):
         yield "a control character is shown"
@@ -53,7 +52,6 @@ def faults_of(line, told, answer):
 
 
 def faults_of_lines(lines):
-    """The lines with a fault, each with the fault."""
     told = explain(["--json"], ended(lines)).decode().split("\n")[:-1]
     shown = re.split(r"(?m)^(?=line \d+: )", explain((), ended(lines)).decode())[1:]
     for line, *answers in zip(lines, told, shown, strict=True):

@@ -44,7 +44,6 @@ VARIABLES = ({"GIT_SSH": "my ssh", "GIT_SSH_VARIANT": "putty"}, {"GIT_SSH_COMMAN
 
 
 def shown_by(words, room, **how):
-    """The output of the programs that a command starts."""
     shown = f"{room}/shown"
     open(shown, "wb").close()
     environment = {"PATH": f"{room}/bin:/usr/bin:/bin", "HOME": room, "SHOWN": shown, "GIT_CONFIG_NOSYSTEM": "1", **how.pop("variables", {})}

@@ -10,7 +10,6 @@ NAMED = {"tab": 9, "newline": 10}
 
 
 def text_of_term(term):
-    """The bytes of a term: texts and bytes concatenated."""
     pieces = re.findall(rf"{TEXT}|\b(\w+) ∷", term)
     return b"".join(bytes([NAMED[byte] if byte in NAMED else int(byte)]) if byte else text.encode() for text, byte in pieces)
 

@@ -53,7 +53,6 @@ def versions():
 
 
 def texts():
-    """The texts of the tables."""
     return [bytes_of(it[name]) for topic, name in (("conditions", "example"), ("confusions", "text")) for it in lines(topic)]
 
 
@@ -123,14 +122,12 @@ def condition_line(line, same, cases, readers, found, beside):
 
 
 def group_lines(readers):
-    """A line for each program of a group."""
     for (group, program), found in counts(readers).items():
         shapes = [it.words for it in PROGRAMS[group][program]]
         yield {"group": group, "words": words_of(READER_GROUPS[group]), "program": program, **found, "shapes": shapes}
 
 
 def count_faults(readers):
-    """The counts of a program that differ from the table."""
     named = {(it["group"], it["program"]): it for it in lines("groups")}
     for it in group_lines(readers):
         listed = named.get((it["group"], it["program"]))

@@ -103,14 +103,12 @@ class Seen:
         self.is_wrong = self.has_host and not self.is_same and (self.is_misread or self.differs)
 
     def is_listed(self, program):
-        """Whether the text has a shape that is listed for the program."""
         return any(self.has(shape) for shape in PROGRAMS[self.group][program])
 
     def has(self, shape):
         return shape.has(self.case.text, self.case.hosts[self.group])
 
     def members(self):
-        """The counts that it belongs to."""
         if self.differs:
             yield from ("differs", "takes") if self.is_same else ("differs",)
         if self.is_misread:
@@ -127,7 +125,6 @@ def seen(name, cases, places):
 
 
 def counts(readers):
-    """By groups and programs, the number of texts of each member."""
     asked = {it.name: it for it in readers}
     out = {}
     for group, program in ((group, it) for group, named in PROGRAMS.items() for it in named if it in asked):
@@ -148,7 +145,6 @@ def group_faults(readers):
 
 
 def shape_faults(readers):
-    """Shapes that are listed for a program, and that no text needs."""
     for reader in readers:
         for group in (it for it in PROGRAMS if reader.name in PROGRAMS[it]):
             wrong = [it for it in reader.seen if it.group == group and it.is_wrong]

@@ -37,7 +37,6 @@ def port_of(scheme, port):
 
 
 def place(scheme, user, password, host, port, path):
-    """A place with its parts in comparable form."""
     scheme = ALIASES.get(scheme, scheme)
     if scheme in (b"ssh", b"git") and path.startswith(b"/~"):
         path = path[1:]

@@ -122,13 +122,11 @@ def build(reader):
 
 
 def said_of(line):
-    """The parts of an answer, as bytes."""
     found = json.loads(line.decode("utf-8", "surrogateescape"), strict=False)
     return {name: str(it).encode("utf-8", "surrogateescape") for name, it in found.items() if it is not None}
 
 
 def ask(reader, texts):
-    """A reader's answer for each text."""
     given = b"".join(it + b"\n" for it in texts)
     ran = subprocess.run(reader.command, input=given, env=DEBIAN, stdout=subprocess.PIPE, stderr=subprocess.PIPE)
     lines = ran.stdout.split(b"\n")[:-1]

@@ -103,7 +103,6 @@ def used(configurations):
 
 
 def settings(said):
-    """The URL and the update of each submodule in a configuration."""
     found = defaultdict(dict)
     for line in said.split(b"\1"):
         key, _, value = line.partition(b"\n")
@@ -126,7 +125,6 @@ def quoted_tab(text):
 
 
 def prepare(folder, environment, parent, urls):
-    """Makes a repository with a remote and submodules."""
     git(folder, environment, "init", "--quiet")
     with open(f"{folder}/.git/config", "ab") as it:
         it.write(b'[remote "origin"]\n\turl = ' + quoted_tab(parent) + b"\n")

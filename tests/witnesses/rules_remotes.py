@@ -38,7 +38,6 @@ def of_texts(asked):
 
 
 def rewritten(configurations):
-    """The texts, with Git's results."""
     with rooms([[*entries, *of_texts(asked)] for entries, asked in configurations]) as (room, environment, folders):
         words = [word for folder, (_, asked) in zip(folders, configurations)
                  for at, (text, _) in enumerate(asked) for word in (folder, b"r%d" % at, text)]

@@ -124,17 +124,14 @@ def asked_of_git(asked):
 
 
 def words_of(run):
-    """A run of Secure Shell, in five words."""
     return run.variant, str(run.version), run.service, str(run.family or ""), b"" if run.program is None else b"=" + run.program
 
 
 def call_of(run):
-    """The call that makes a command."""
     return CALLS[0] if (run.family, run.program) == (None, None) else CALLS[1]
 
 
 def order_of(call, text, run):
-    """The order of a call for a text."""
     more = {**({} if run.family is None else {"family": run.family}), **({} if run.program is None else {"program": text_of(run.program)})}
     return {"call": call, "url": text_of(text), "variant": run.variant, "version": run.version, "service": run.service, **more}
 
@@ -149,7 +146,6 @@ def asked_of_library(asked):
 
 
 def commands(asked):
-    """The cases of texts, each with its run."""
     return [Case(*it, git, own) for it, git, own in zip(asked, asked_of_git(asked), asked_of_library(asked))]
 
 
@@ -257,7 +253,6 @@ Setting = namedtuple("Setting", "entries command path variant status")
 
 
 def placed(case, folder):
-    """The case with the folder of the programs instead of `@`."""
     entries = [it._replace(value=it.value and it.value.replace(b"@", folder)) for it in case.entries]
     return case._replace(entries=entries, command=case.command and case.command.replace(b"@", folder), path=case.path and case.path.replace(b"@", folder))
 
@@ -285,7 +280,6 @@ def stopped(case, said):
 
 
 def kept_variant(case):
-    """The name of a variant that decides."""
     own = [it.value for it in case.entries if it.place is None and is_named(it, b"ssh", b"variant")]
     return case.variant if case.variant is not None else own[-1] if own else None
 

@@ -58,7 +58,6 @@ def ask(asked):
 
 
 def decision(said, name):
-    """Git's decision about the transport."""
     ends = next((word for words, word in ENDS.items() if words in said), None)
     refused = NAMED.search(said)
     if refused and refused[1] != name:
@@ -126,7 +125,6 @@ ALLOWANCES = (None, "", "always", "USER", "Never", "never ", "maybe")
 
 
 def values():
-    """One entry for each name and value."""
     for named, some in ((TEXTS, WORDS[:4]), (BOOLEANS, WORDS), (NUMBERS, WORDS + SIZES)):
         yield from (("http", place, name, value) for name in named for value in some for place in (None, "http://127.0.0.1:1"))
     yield from (("http", None, "POSTbuffer", value) for value in SIZES)

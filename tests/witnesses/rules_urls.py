@@ -44,7 +44,6 @@ REFUSED = {"refused": True}
 
 
 def asked_of(configurations, folders):
-    """The folder, the entries and the URL of each case."""
     return [(folder, entries, url) for folder, (entries, urls) in zip(folders, configurations) for url in urls]
 
 
@@ -122,7 +121,6 @@ def host_and_port(scheme, named):
 
 @functools.lru_cache(1 << 17)
 def normal(text):
-    """The normal form of a text, None if it has none."""
     found = URL.fullmatch(text)
     if found is None or BROKEN_ESCAPE.search(text):
         return None

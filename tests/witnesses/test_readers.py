@@ -70,7 +70,6 @@ class Asked:
 
 
 def some(cases, count):
-    """This many of the cases, at even distances."""
     return cases[:: max(1, len(cases) // count)][:count]
 
 
@@ -143,7 +142,6 @@ class Run:
 
     @property
     def known(self):
-        """The readers of the versions of the tables."""
         return [it for it in self.readers if facts.versions().get(it.name) == it.version]
 
     def alone(self):

@@ -165,7 +165,6 @@ def is_heard(answer, reading):
 
 
 def is_refused(answer):
-    """Whether OpenSSH refuses a word."""
     return not re.search(rb"\nport [0-9]+\n", answer)
 
 
@@ -236,12 +235,10 @@ class Room:
         return subprocess.run(["git", *words], cwd=self.here, env=self.environment, stdout=subprocess.PIPE, check=False, **quiet).stdout.decode().strip()
 
     def name(self, path):
-        """The repository at a path; None if there is none."""
         found = os.path.relpath(os.path.realpath(os.path.join(self.here, path.decode())), self.room)
         return found if found in REPOSITORIES else None
 
     def made(self, name):
-        """Makes a repository and returns its commit."""
         path = f"{self.room}/{name}"
         commit = self.said("commit-tree", "-m", name, self.tree)
         self.said("init", "--quiet", "--bare", "--initial-branch=main", path)

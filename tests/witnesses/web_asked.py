@@ -44,7 +44,6 @@ def asked(answer):
 
 
 def ask_credential(texts):
-    """The result of Git's credential code for each text."""
     return [*map(asked, ask_loop(ASK_CREDENTIAL, texts, {"GIT_CONFIG_GLOBAL": SETTINGS}, GIT_TERMINAL_PROMPT="0"))]
 
 
@@ -62,8 +61,6 @@ def library_of_git():
 
 
 class Curl:
-    """The calls of libcurl on URLs."""
-
     def __init__(self, file):
         self.calls = ctypes.CDLL(file)
         self.calls.curl_version.restype = ctypes.c_char_p
@@ -75,7 +72,6 @@ class Curl:
         self.version = self.calls.curl_version().decode().split()[0]
 
     def part(self, url, name):
-        """A part of a URL, None if it has none."""
         place = ctypes.c_void_p()
         if self.calls.curl_url_get(url, ALL[name], ctypes.byref(place), URLENCODE if name == "path" else 0):
             return None
@@ -93,7 +89,6 @@ class Curl:
             self.calls.curl_url_cleanup(url)
 
     def reads(self, text):
-        """libcurl's reading for a transfer; None if it refuses."""
         parts = self.parts(text)
         _, scheme, user, password, host, port, path, query, zone = parts or [None] * len(ALL)
         if parts is None or user and password is None and b"%00" in user:

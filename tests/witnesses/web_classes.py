@@ -56,7 +56,6 @@ class WebCase:
 
 
 def cases_of(texts):
-    """The cases of the texts that this library reads as HTTP."""
     return [WebCase(text, it) for text, it in ((it, located(it)) for it in texts) if it is not None]
 
 
