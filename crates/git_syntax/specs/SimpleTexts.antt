@@ -4,7 +4,7 @@ use Rattle.git_syntax.specs.Location.{Scheme, Location, path_alone}
 use Rattle.git_syntax.specs.Location.Scheme.{file, git, ssh, http, https}
 use Rattle.git_syntax.specs.Bytes.{slash, colon, at_sign, FreeOf, begins_with}
 use Rattle.git_syntax.specs.Schemes.{scheme_text}
-use Rattle.git_syntax.specs.Grammar.{SpellsHelper, SpellsLocal}
+use Rattle.git_syntax.specs.Grammar.{SpellsHelper, SpellsLocal, begins_at_home}
 use Rattle.git_syntax.specs.Internal.HostPieces.{IsSimpleHost}
 use Rattle.git_syntax.specs.Internal.Masks.{is_common}
 
@@ -21,12 +21,13 @@ before_host None = []
 before_host (Some user) = user ++ at_sign ∷ []
 
 -- each byte of the text is common, the user and the host consist of lower-case letters, digits, `-` and `.`, and
--- neither they nor the path are empty
+-- neither they nor the path are empty; the path doesn't begin at a home folder
 pub record HasSimpleParts (b : List ℕ) (user : Option (List ℕ)) (host path : List ℕ) : Type 0 where
   pub common : is_common b ≡ true
   pub simple_user : IfSome user IsSimpleHost
   pub simple_host : IsSimpleHost host
   pub pathed : 0 < length path
+  pub not_home : begins_at_home path ≡ false
 
 -- the authority is a simple host, perhaps after a simple user
 abbrev pub HasSimpleHost : List ℕ → Type 0

@@ -27,7 +27,7 @@ pub(crate) struct Masks {
     pub(crate) slash: u64,
     /// `@`.
     pub(crate) at: u64,
-    /// Letters, digits, and `+`, `,`, `-`, `.`, `/`, `:`, `@` and `_`.
+    /// Letters, digits, and `+`, `,`, `-`, `.`, `/`, `:`, `@`, `_` and `~`.
     pub(crate) common: u64,
     /// Bytes of a simple host.
     pub(crate) host: u64,

@@ -11,11 +11,12 @@ ghost use Rattle.git_syntax.specs.Schemes.{scheme_text};
 ghost use Rattle.git_syntax.specs.SimpleTexts.{HasSimpleHost, IsRemoteScheme, IsSimpleText};
 
 use crate::bytes::{is_helper_name, starts_with_byte};
+use crate::home::begins_at_home;
 use crate::masks::marked::{Marked, mark};
 use crate::scheme::is_named;
 
 /// Whether the text is known to be a simple one: a text of 16 to 64 bytes that are letters, digits, or one of `+`, `,`,
-/// `-`, `.`, `/`, `:`, `@` and `_`, with a simple host and no port. Such a text spells a settled location whose text
+/// `-`, `.`, `/`, `:`, `@`, `_` and `~`, with a simple host and no port. Such a text spells a settled location whose text
 /// it is. `false` says nothing.
 pub fn is_simple_text(bytes: &[u8]) -> bool
     ensures { IsTrue result → (v : Location) × IsSimpleText bytes.now v }
@@ -54,6 +55,9 @@ fn is_simple_url(input: &[u8], scheme: &[u8], rest: Marked<'_>) -> bool
 {
     let (authority, path) = rest.cut_at_slash();
     if path.text.is_empty() {
+        return false;
+    }
+    if begins_at_home(path.text) {
         return false;
     }
     if is_remote_scheme(scheme) {
@@ -118,6 +122,9 @@ fn is_simple_path(input: &[u8], front: Marked<'_>, rest: Marked<'_>) -> bool
         return true;
     }
     if rest.text.is_empty() {
+        return false;
+    }
+    if begins_at_home(rest.text) {
         return false;
     }
     has_simple_host(front)

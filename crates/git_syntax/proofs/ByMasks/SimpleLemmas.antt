@@ -2,7 +2,7 @@
 use Rattle.std.proofs.Common.{◌≡◌, ◌∙◌, ◌<◌, ◌≤◌, ◌++◌, ◌∷◌, ℕ, true, false, List, [], Some, length, codes, refl, ap, subst, append_assoc}
 use Rattle.git_syntax.specs.Bytes.{FreeOf, begins_with, colon, is_helper_name, slash}
 use Rattle.git_syntax.specs.Flaws.{UrlForm}
-use Rattle.git_syntax.specs.Grammar.{SpellsLocal, helper_scheme}
+use Rattle.git_syntax.specs.Grammar.{SpellsLocal, begins_at_home, helper_scheme}
 use Rattle.git_syntax.specs.Location.{Location, Scheme, path_alone}
 use Rattle.git_syntax.specs.Location.Scheme.{file, ssh}
 use Rattle.git_syntax.specs.Schemes.{scheme_text}
@@ -41,18 +41,18 @@ simple_helper b front rest cut begins named =
 
 -- a simple host before the only colon makes the scp form
 pub simple_scp : (b front rest : List ℕ) → is_common b ≡ true → ColonCut b front rest → ((behind : List ℕ) → ¬ (rest ≡ slash ∷ (slash ∷ behind)))
-    → FreeOf colon rest → 0 < length rest → HasSimpleHost front → (v : Location) × IsSimpleText b v
-simple_scp b front rest common cut no_mark free some (user, host, simple_user, simple_host, joined) =
-    let parts : HasSimpleParts b user host rest = record { common = common; simple_user = simple_user; simple_host = simple_host; pathed = some } in (
+    → FreeOf colon rest → 0 < length rest → begins_at_home rest ≡ false → HasSimpleHost front → (v : Location) × IsSimpleText b v
+simple_scp b front rest common cut no_mark free some not_home (user, host, simple_user, simple_host, joined) =
+    let parts : HasSimpleParts b user host rest = record { common = common; simple_user = simple_user; simple_host = simple_host; pathed = some; not_home = not_home } in (
       record (path_alone ssh true rest) { user = user; host = Some host },
       scp_text user host rest parts free no_mark (cut.joined ∙ ap (λ f. f ++ colon ∷ rest) joined ∙ append_assoc (before_host user) host (colon ∷ rest)) refl,
     )
 
 -- a remote scheme and a simple host make a URL
 pub simple_url : (b scheme rest authority path : List ℕ) → UrlForm b scheme rest → is_common b ≡ true → length b ≤ 64 → rest ≡ authority ++ path
-    → 0 < length path → begins_with slash path ≡ true → (p : Scheme) × IsRemoteScheme p × (scheme ≡ scheme_text p) → HasSimpleHost authority → (v : Location) × IsSimpleText b v
-simple_url b scheme rest authority path form common short cut some begins (p, remote, named) (user, host, simple_user, simple_host, joined) =
-    let parts : HasSimpleParts b user host path = record { common = common; simple_user = simple_user; simple_host = simple_host; pathed = some } in
+    → 0 < length path → begins_with slash path ≡ true → begins_at_home path ≡ false → (p : Scheme) × IsRemoteScheme p × (scheme ≡ scheme_text p) → HasSimpleHost authority → (v : Location) × IsSimpleText b v
+simple_url b scheme rest authority path form common short cut some begins not_home (p, remote, named) (user, host, simple_user, simple_host, joined) =
+    let parts : HasSimpleParts b user host path = record { common = common; simple_user = simple_user; simple_host = simple_host; pathed = some; not_home = not_home } in
     let whole = cut ∙ ap (λ a. a ++ path) joined ∙ append_assoc (before_host user) host path in (
       record (path_alone p false path) { user = user; host = Some host },
       url_text p user host path remote parts begins short (form.joined ∙ ap (λ s. s ++ (codes "://" ++ rest)) named ∙ ap (λ r. scheme_text p ++ (codes "://" ++ r)) whole) refl,

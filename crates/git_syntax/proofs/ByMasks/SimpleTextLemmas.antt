@@ -7,7 +7,7 @@ use Rattle.percent_encoding.specs.Percent.{percent_decode}
 use Rattle.git_syntax.specs.Authority.Authority.{host_alone, with_user}
 use Rattle.git_syntax.specs.Authority.Credentials.{user_alone}
 use Rattle.git_syntax.specs.Bytes.{FreeOf, at_sign, begins_with, colon, is_scheme_text, left_bracket, slash, tilde}
-use Rattle.git_syntax.specs.Grammar.{HasUrlSyntax, HostFor, IsSshHost, DenotesByScheme, ScpFront, ScpUser, Spells, UrlSyntax, from_home, or_root, path_for}
+use Rattle.git_syntax.specs.Grammar.{begins_at_home, HasUrlSyntax, HostFor, IsSshHost, DenotesByScheme, ScpFront, ScpUser, Spells, UrlSyntax, from_home, or_root, path_for}
 use Rattle.git_syntax.specs.Grammar.Spells.{file_url, local_path, remote_helper, scp_form, url}
 use Rattle.git_syntax.specs.Hosts.{HostSyntax}
 use Rattle.git_syntax.specs.Location.{Location, Scheme, path_alone}
@@ -40,16 +40,11 @@ front_free c None host simple_user simple_host other apart = simple_free c host 
 front_free c (Some user) host simple_user simple_host other apart =
     free-append c (user ++ at_sign ∷ []) host (free-append c user (at_sign ∷ []) (simple_free c user simple_user other) (free-cons c at_sign [] apart refl)) (simple_free c host simple_host other)
 
--- a path of common bytes has no `~`, so it is below no home folder
-pub common_home : (path : List ℕ) → is_common path ≡ true → from_home path ≡ path
-common_home [] common = refl
-common_home (a ∷ []) common = refl
-common_home (a ∷ b ∷ rest) common =
-    let more = (and_parts (is_common_byte a) (is_common (b ∷ rest)) common).1 in
-    kept (and_parts (is_common_byte b) (is_common rest) more).0
-  where
-    kept : is_common_byte b ≡ true → from_home (a ∷ b ∷ rest) ≡ a ∷ b ∷ rest
-    kept byte = let no_tilde : (a == slash && b == tilde) ≡ false = grind (arith, nat_tests) in rw no_tilde refl
+-- a path that doesn't begin at a home folder stays as it is
+pub home_kept : (path : List ℕ) → begins_at_home path ≡ false → from_home path ≡ path
+home_kept [] away = refl
+home_kept (a ∷ []) away = refl
+home_kept (a ∷ b ∷ rest) away = rw away refl
 
 -- ---- the scp form
 
@@ -67,7 +62,7 @@ scp_spelled b user host path parts free no_slashes joined =
     let whole = joined ∙ sym (append_assoc (before_host user) host (colon ∷ path)) in
     let lacks = λ (c : ℕ) (other : is_simple_byte c ≡ false) (apart : (at_sign == c) ≡ false). front_free c user host parts.simple_user parts.simple_host other apart in
     let cut : ColonCut b front path = record { joined = whole; no_colon = lacks colon refl refl } in
-    let home = common_home path (common_around b front path colon parts.common whole).1 in
+    let home = home_kept path parts.not_home in
     scp_form (inl (record {
       front = front;
       path = path;
@@ -120,68 +115,77 @@ pub kept_root : (path : List ℕ) → 0 < length path → or_root path ≡ path
 kept_root [] some = absurd (omega arith)
 kept_root (b ∷ path) some = refl
 
--- the path of a URL of common bytes stays as it is
-path_stays : (p : Scheme) (path : List ℕ) → IsRemoteScheme p → is_common path ≡ true → 0 < length path → path_for p (percent_decode path) ≡ path
-path_stays p path of_git common some = ap from_home (decode_kept path (common_free_of_percent path common)) ∙ common_home path common
-path_stays p path of_ssh common some = ap from_home (decode_kept path (common_free_of_percent path common)) ∙ common_home path common
-path_stays p path of_http common some = ap or_root (decode_kept path (common_free_of_percent path common)) ∙ kept_root path some
-path_stays p path of_https common some = ap or_root (decode_kept path (common_free_of_percent path common)) ∙ kept_root path some
+-- the path of a URL of common bytes decodes to itself
+path_decoded : (p : Scheme) (path : List ℕ) → IsRemoteScheme p → is_common path ≡ true → path_for p (percent_decode path) ≡ path_for p path
+path_decoded p path remote common = ap (path_for p) (decode_kept path (common_free_of_percent path common))
 
--- the location of a URL of simple parts
-abbrev simple_fields : List ℕ → Option (List ℕ) → List ℕ → List ℕ → UrlSyntax
-simple_fields scheme user host path = record { scheme = scheme; user = user; password = None; host = Some host; port = None; path = path }
+-- it stays as it is, if it isn't empty and doesn't begin at a home folder
+path_stays : (p : Scheme) (path : List ℕ) → IsRemoteScheme p → 0 < length path → begins_at_home path ≡ false → path_for p path ≡ path
+path_stays p path of_git some away = home_kept path away
+path_stays p path of_ssh some away = home_kept path away
+path_stays p path of_http some away = kept_root path some
+path_stays p path of_https some away = kept_root path some
 
--- the fields mean the location, by a remote scheme
-simple_means : (p : Scheme) (user : Option (List ℕ)) (host path : List ℕ) → IsRemoteScheme p → IsSimpleHost host → is_common path ≡ true → 0 < length path
-    → HostFor p (Some host) (Some host) → DenotesByScheme p (simple_fields (scheme_text p) user host path) (record (path_alone p false path) { user = user; host = Some host })
-simple_means p user host path remote simple common some hosted = record {
+-- a remote scheme takes a simple host as it is
+remote_host : (p : Scheme) (host : List ℕ) → IsRemoteScheme p → IsSimpleHost host → HostFor p (Some host) (Some host)
+remote_host p host of_git simple = refl
+remote_host p host of_ssh simple = (host, simple_ssh_host host simple, refl)
+remote_host p host of_http simple = refl
+remote_host p host of_https simple = refl
+
+-- the fields of a URL with a remote scheme and a simple host
+abbrev remote_fields : Scheme → Option (List ℕ) → Option (List ℕ) → List ℕ → Option ℕ → List ℕ → UrlSyntax
+remote_fields p user password host port path = record { scheme = scheme_text p; user = user; password = password; host = Some host; port = port; path = path }
+
+-- the location that they denote
+abbrev pub remote_location : Scheme → Option (List ℕ) → Option (List ℕ) → List ℕ → Option ℕ → List ℕ → Location
+remote_location p user password host port path = record (path_alone p false (path_for p path)) { user = user; password = password; host = Some host; port = port }
+
+remote_means : (p : Scheme) (user password : Option (List ℕ)) (host path : List ℕ) (port : Option ℕ) → IsRemoteScheme p → IsSimpleHost host → is_common path ≡ true → 0 < length path
+    → DenotesByScheme p (remote_fields p user password host port path) (remote_location p user password host port path)
+remote_means p user password host path port remote simple common some = record {
   host = Some host;
   pathed = λ need. some;
-  hosted = hosted;
-  value = rw (path_stays p path remote common some, common_free_of_percent path common) refl;
+  hosted = remote_host p host remote simple;
+  value = rw (path_decoded p path remote common, common_free_of_percent path common) refl;
 }
+
+-- a text with a remote scheme and a simple host is a URL
+pub remote_spelled : (b rest authority path : List ℕ) (p : Scheme) (user password : Option (List ℕ)) (host : List ℕ) (port : Option ℕ) → IsRemoteScheme p
+    → b ≡ scheme_text p ++ (codes "://" ++ rest) → is_common b ≡ true → length b ≤ 64 → rest ≡ authority ++ path → FreeOf slash authority → 0 < length path → begins_with slash path ≡ true
+    → HoldsHosted (host_syntax_of (scheme_text p)) (requires_host (scheme_text p)) authority user password (Some host) port → IsSimpleHost host
+    → Spells b (remote_location p user password host port path)
+remote_spelled b rest authority path p user password host port remote joined common short cut free some begins held simple = by_scheme p remote joined held
+  where
+    path_common : (scheme : List ℕ) → b ≡ scheme ++ (codes "://" ++ rest) → is_common path ≡ true
+    path_common scheme e =
+        let behind = (common_parts scheme (codes "://" ++ rest) (subst (λ s. is_common s ≡ true) e common)).1 in
+        let after_mark = (common_parts (codes "://") rest behind).1 in
+        (common_parts authority path (subst (λ s. is_common s ≡ true) cut after_mark)).1
+
+    syntax : (scheme : List ℕ) → FreeOf colon scheme → bytes_eq scheme (codes "file") ≡ false → true ≡ is_scheme_text scheme → b ≡ scheme ++ (codes "://" ++ rest)
+        → HoldsHosted (host_syntax_of scheme) (requires_host scheme) authority user password (Some host) port
+        → HasUrlSyntax b (record { scheme = scheme; user = user; password = password; host = Some host; port = port; path = path })
+    syntax scheme no_colon other named e holds =
+        url_of_common b scheme rest authority path user password (Some host) port (is_web_scheme scheme)
+        (record { form = url_has_form b scheme rest no_colon e; not_file = other }) refl common short named cut free (inr begins) holds
+
+    by_scheme : (p : Scheme) → IsRemoteScheme p → b ≡ scheme_text p ++ (codes "://" ++ rest) → HoldsHosted (host_syntax_of (scheme_text p)) (requires_host (scheme_text p)) authority user password (Some host) port
+        → Spells b (remote_location p user password host port path)
+    by_scheme p of_git e holds = url (record { parts = remote_fields git user password host port path; spelled = syntax (codes "git") refl refl refl e holds; means = remote_means git user password host path port of_git simple (path_common (codes "git") e) some })
+    by_scheme p of_ssh e holds = url (record { parts = remote_fields ssh user password host port path; spelled = syntax (codes "ssh") refl refl refl e holds; means = remote_means ssh user password host path port of_ssh simple (path_common (codes "ssh") e) some })
+    by_scheme p of_http e holds = url (record { parts = remote_fields http user password host port path; spelled = syntax (codes "http") refl refl refl e holds; means = remote_means http user password host path port of_http simple (path_common (codes "http") e) some })
+    by_scheme p of_https e holds = url (record { parts = remote_fields https user password host port path; spelled = syntax (codes "https") refl refl refl e holds; means = remote_means https user password host path port of_https simple (path_common (codes "https") e) some })
 
 -- a text of simple parts after a remote scheme is a URL
 url_spelled : (b : List ℕ) (p : Scheme) (user : Option (List ℕ)) (host path : List ℕ) → IsRemoteScheme p → HasSimpleParts b user host path → begins_with slash path ≡ true → length b ≤ 64
     → b ≡ scheme_text p ++ (codes "://" ++ (before_host user ++ (host ++ path))) → Spells b (record (path_alone p false path) { user = user; host = Some host })
 url_spelled b p user host path remote parts begins short joined =
+    let authority = before_host user ++ host in
     let whole = joined ∙ ap (λ r. scheme_text p ++ (codes "://" ++ r)) (sym (append_assoc (before_host user) host path)) in
-    by_scheme p remote whole
-  where
-    path_common : (scheme authority : List ℕ) → b ≡ scheme ++ (codes "://" ++ (authority ++ path)) → is_common path ≡ true
-    path_common scheme authority e =
-        let behind = (common_parts scheme (codes "://" ++ (authority ++ path)) (subst (λ s. is_common s ≡ true) e parts.common)).1 in
-        (common_parts authority path (common_parts (codes "://") (authority ++ path) behind).1).1
-
-    syntax : (scheme : List ℕ) → FreeOf colon scheme → bytes_eq scheme (codes "file") ≡ false → true ≡ is_scheme_text scheme → b ≡ scheme ++ (codes "://" ++ ((before_host user ++ host) ++ path))
-        → HasUrlSyntax b (simple_fields scheme user host path)
-    syntax scheme free other named e =
-        url_of_common b scheme ((before_host user ++ host) ++ path) (before_host user ++ host) path user None (Some host) None (is_web_scheme scheme)
-        (record { form = url_has_form b scheme ((before_host user ++ host) ++ path) free e; not_file = other }) refl parts.common short named refl
-        (front_free slash user host parts.simple_user parts.simple_host refl refl) (inr begins)
-        (simple_authority (host_syntax_of scheme) (requires_host scheme) user host parts.simple_user parts.simple_host)
-
-    by_scheme : (p : Scheme) → IsRemoteScheme p → b ≡ scheme_text p ++ (codes "://" ++ ((before_host user ++ host) ++ path)) → Spells b (record (path_alone p false path) { user = user; host = Some host })
-    by_scheme p of_git e = url (record {
-      parts = simple_fields (codes "git") user host path;
-      spelled = syntax (codes "git") refl refl refl e;
-      means = simple_means git user host path of_git parts.simple_host (path_common (codes "git") (before_host user ++ host) e) parts.pathed refl;
-    })
-    by_scheme p of_ssh e = url (record {
-      parts = simple_fields (codes "ssh") user host path;
-      spelled = syntax (codes "ssh") refl refl refl e;
-      means = simple_means ssh user host path of_ssh parts.simple_host (path_common (codes "ssh") (before_host user ++ host) e) parts.pathed (host, simple_ssh_host host parts.simple_host, refl);
-    })
-    by_scheme p of_http e = url (record {
-      parts = simple_fields (codes "http") user host path;
-      spelled = syntax (codes "http") refl refl refl e;
-      means = simple_means http user host path of_http parts.simple_host (path_common (codes "http") (before_host user ++ host) e) parts.pathed refl;
-    })
-    by_scheme p of_https e = url (record {
-      parts = simple_fields (codes "https") user host path;
-      spelled = syntax (codes "https") refl refl refl e;
-      means = simple_means https user host path of_https parts.simple_host (path_common (codes "https") (before_host user ++ host) e) parts.pathed refl;
-    })
+    let held = simple_authority (host_syntax_of (scheme_text p)) (requires_host (scheme_text p)) user host parts.simple_user parts.simple_host in
+    let found = remote_spelled b (authority ++ path) authority path p user None host None remote whole parts.common short refl (front_free slash user host parts.simple_user parts.simple_host refl refl) parts.pathed begins held parts.simple_host in
+    subst (λ t. Spells b (record (path_alone p false t) { user = user; host = Some host })) (path_stays p path remote parts.pathed parts.not_home) found
 
 -- ---- all kinds
 

@@ -7,7 +7,7 @@ use Rattle.std.specs.List.{list_all}
 use Rattle.std.specs.Simd.Lanes.{mask_l}
 use Rattle.git_syntax.specs.declared.masks.Masks.{Masks}
 use Rattle.git_syntax.specs.declared.masks.marked.Marked.{Marked}
-use Rattle.git_syntax.specs.Bytes.{colon, slash, at_sign}
+use Rattle.git_syntax.specs.Bytes.{colon, slash, at_sign, tilde}
 use Rattle.git_syntax.specs.Internal.HostPieces.{is_simple_byte}
 
 -- the mask of a class in a text: bit i is set exactly if byte i passes the test, and bits after the text are not
@@ -18,9 +18,9 @@ mask_of test text = mask_l (map test text)
 abbrev pub HasBit : (ℕ → Bool) → List ℕ → ℕ → Type 0
 HasBit test text i = (bit_at (mask_of test text) i ≡ 1) ↔ ((i < length text) × (test (slice_index text i) ≡ true))
 
--- a letter, a digit, or one of `+`, `,`, `-`, `.`, `/`, `:`, `@` and `_`
+-- a letter, a digit, or one of `+`, `,`, `-`, `.`, `/`, `:`, `@`, `_` and `~`
 abbrev pub is_common_byte : ℕ → Bool
-is_common_byte b = is_ascii_alphabetic b || ((nat_le 43 b && nat_le b 58) || (b == at_sign || b == 95))
+is_common_byte b = is_ascii_alphabetic b || ((nat_le 43 b && nat_le b 58) || (b == at_sign || (b == 95 || b == tilde)))
 
 -- each byte of the text is one of those
 abbrev pub is_common : List ℕ → Bool

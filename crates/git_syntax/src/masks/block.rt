@@ -38,7 +38,7 @@ fn equal_to(bytes: u8x16, byte: u8) -> u64
     bytes.simd_eq(u8x16::splat(byte)).to_bitmask()
 }
 
-/// Which bytes are a letter, a digit, or one of `+`, `,`, `-`, `.`, `/`, `:`, `@` and `_`.
+/// Which bytes are a letter, a digit, or one of `+`, `,`, `-`, `.`, `/`, `:`, `@`, `_` and `~`.
 #[inline(always)]
 fn commons(bytes: u8x16) -> u64
     ensures { result ≡ mask_of is_common_byte bytes }
@@ -47,7 +47,8 @@ fn commons(bytes: u8x16) -> u64
     let lower = (bytes - u8x16::splat(b'a')).simd_le(u8x16::splat(LETTER_SPAN));
     let upper = (bytes - u8x16::splat(b'A')).simd_le(u8x16::splat(LETTER_SPAN));
     let sign = (bytes - u8x16::splat(b'+')).simd_le(u8x16::splat(SIGN_SPAN));
-    let other = bytes.simd_eq(u8x16::splat(b'@')) | bytes.simd_eq(u8x16::splat(b'_'));
+    let line = bytes.simd_eq(u8x16::splat(b'_')) | bytes.simd_eq(u8x16::splat(b'~'));
+    let other = bytes.simd_eq(u8x16::splat(b'@')) | line;
     ((lower | upper) | (sign | other)).to_bitmask()
 }
 

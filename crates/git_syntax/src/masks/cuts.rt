@@ -63,7 +63,7 @@ pub(super) fn lacks_slashes(text: &[u8], masks: &Masks) -> bool
     none(masks.slash)
 }
 
-/// Whether each byte is a letter, a digit, or one of `+`, `,`, `-`, `.`, `/`, `:`, `@` and `_`.
+/// Whether each byte is a letter, a digit, or one of `+`, `,`, `-`, `.`, `/`, `:`, `@`, `_` and `~`.
 #[inline(always)]
 pub(super) fn are_common_bytes(text: &[u8], masks: &Masks) -> bool
     requires { AreMasksOf text.now masks.now }

@@ -102,7 +102,7 @@ impl<'a> Marked<'a> {
         cuts::lacks_slashes(self.text, &self.masks)
     }
 
-    /// Whether each byte is a letter, a digit, or one of `+`, `,`, `-`, `.`, `/`, `:`, `@` and `_`.
+    /// Whether each byte is a letter, a digit, or one of `+`, `,`, `-`, `.`, `/`, `:`, `@`, `_` and `~`.
     #[inline(always)]
     pub(crate) fn are_common_bytes(&self) -> bool
         requires { IsMarked self.now }

@@ -20,4 +20,4 @@ returns-then-not-lacks_slashes c = λ _. (
 pub returns : goal.returns
 returns c = λ yes.
     let rest = c.args.rest.text.now in
-    simple_scp c.args.input.now c.args.front.text.now rest c.requires.common c.requires.cut c.requires.no_mark (c.if-not-lacks_colons.ensures.0 refl) (some_tested rest c.if-is_empty.ensures) (c.has_simple_host.ensures yes)
+    simple_scp c.args.input.now c.args.front.text.now rest c.requires.common c.requires.cut c.requires.no_mark (c.if-not-lacks_colons.ensures.0 refl) (some_tested rest c.if-is_empty.ensures) (sym c.if-begins_at_home.ensures) (c.has_simple_host.ensures yes)

@@ -13,7 +13,7 @@ returns-then-is_remote_scheme c = λ yes.
     let path = c.cut_at_slash.result.1.text.now in
     let some = some_tested path c.if-is_empty.ensures in
     simple_url c.args.input.now c.args.scheme.now c.args.rest.text.now authority path c.requires.form c.requires.common c.requires.short c.cut_at_slash.ensures.joined some
-    (rooted path some c.cut_at_slash.ensures.rest) (c.if-is_remote_scheme.ensures refl) (c.has_simple_host.ensures yes)
+    (rooted path some c.cut_at_slash.ensures.rest) (sym c.if-begins_at_home.ensures) (c.if-is_remote_scheme.ensures refl) (c.has_simple_host.ensures yes)
 
 pub returns : goal.returns
 returns c = λ yes.
