@@ -13,6 +13,7 @@ ghost use Rattle.git_syntax.specs.Schemes.{scheme_text};
 ghost use Rattle.git_location.specs.Text.{text};
 
 use git_location::parse_error::ParseError;
+use git_location::read::read_any_in;
 use git_location::url_ref::UrlRef;
 use git_location::writer::piece::Pieces;
 use git_location::writer::sink::Output;
@@ -218,7 +219,7 @@ fn answer(line: &[u8], line_buffer: &mut [u8], out: &mut Vec<u8>) -> Result<bool
         put_settled(out, line)?;
         return Ok(true);
     }
-    match UrlRef::parse_in(line, line_buffer) {
+    match read_any_in(line, line_buffer) {
         Ok(url) => report(url, out),
         Err(ParseError::Refused(refusal)) => refuse(&refusal, out),
         Err(ParseError::NoRoom) => unreachable!(),

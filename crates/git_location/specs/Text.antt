@@ -1,5 +1,5 @@
 -- The text of a location: the choice of its form, then one concatenation for each form.
-use Rattle.std.specs.Prelude.{ℕ, Bool, true, false, not, ◌&&◌, ◌||◌, ◌==◌, List, [], ◌∷◌, ◌++◌, codes, decimal, Option, Some, None, is_some, is_none, Result, Ok, Err, if◌then◌else◌}
+use Rattle.std.specs.Prelude.{ℕ, Bool, true, false, not, ◌&&◌, ◌||◌, ◌==◌, List, [], ◌∷◌, ◌++◌, codes, Option, Some, None, is_some, is_none, Result, Ok, Err, if◌then◌else◌}
 use Rattle.std.specs.List.{list_any}
 use Rattle.percent_encoding.specs.Percent.{percent_encode}
 use Rattle.git_location.specs.declared.write_error.WriteFault.{WriteFault}
@@ -10,6 +10,7 @@ use Rattle.git_syntax.specs.Bytes.{slash, colon, at_sign, left_bracket, right_br
 use Rattle.git_syntax.specs.Escapes.{matches, has_percent, path_set, password_set, user_set, escaped_percents}
 use Rattle.git_syntax.specs.AddressTest.{is_ipv6_text}
 use Rattle.git_syntax.specs.Schemes.{scheme_text, requires_path}
+use Rattle.git_syntax.specs.Hosts.{port_part}
 
 -- the forms of a text
 pub data Form : Type 0 where
@@ -134,11 +135,6 @@ canonical_host v host = if needs_brackets v.port host
 abbrev pub host_part : Location → Option (List ℕ) → List ℕ
 host_part v None = []
 host_part v (Some host) = canonical_host v host
-
--- the port after its colon
-abbrev pub port_part : Option ℕ → List ℕ
-port_part None = []
-port_part (Some port) = colon ∷ decimal port
 
 -- the `/` before a path that lacks it, if one is needed
 abbrev pub root_part : Location → List ℕ

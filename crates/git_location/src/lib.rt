@@ -12,7 +12,7 @@ pub mod display;
 mod error_text;
 pub mod git;
 pub mod parse_error;
-mod read;
+pub mod read;
 mod settled;
 mod to_url_ref;
 pub mod url_ref;

@@ -1,13 +1,15 @@
 //! Reads a location into a caller's buffer.
 
-ghost use Rattle.std.specs.Prelude.{length};
+ghost use Rattle.std.specs.Prelude.{◌≡◌, length};
 ghost use Rattle.git_location.specs.Readings.{ReadsIn};
+ghost use Rattle.git_syntax.specs.Internal.SimplePieces.{simple_location};
 
 use crate::parse_error::ParseError;
 use crate::to_url_ref::to_url_ref;
 use crate::url_ref::UrlRef;
 use git_refusals::read::refusal;
 use git_syntax::find::find;
+use git_syntax::simple::{SimplePieces, simple_pieces};
 
 impl<'a> UrlRef<'a> {
     /// Reads the one location that the bytes spell, like [`parse`]. Allocates nothing. The fields of the result
@@ -35,14 +37,48 @@ impl<'a> UrlRef<'a> {
     pub fn parse_in(text: &'a [u8], buffer: &'a mut [u8]) -> Result<UrlRef<'a>, ParseError>
         ensures { ReadsIn text.now (length buffer.old) result }
     {
-        match find(text) {
-            Err(_) => Err(ParseError::Refused(refusal(text))),
-            Ok(found) => {
+        match simple_pieces(text) {
+            Some(pieces) => {
                 if buffer.len() < text.len() {
                     return Err(ParseError::NoRoom);
                 }
-                Ok(to_url_ref(found, buffer))
+                Ok(simple_url_ref(pieces))
             }
+            None => read_any_in(text, buffer),
         }
+    }
+}
+
+/// Reads the one location that the bytes spell, like [`UrlRef::parse_in`], by the general search alone, which is slower
+/// for simple texts.
+#[inline(never)]
+pub fn read_any_in<'a>(text: &'a [u8], buffer: &'a mut [u8]) -> Result<UrlRef<'a>, ParseError>
+    ensures { ReadsIn text.now (length buffer.old) result }
+{
+    match find(text) {
+        Err(_) => Err(ParseError::Refused(refusal(text))),
+        Ok(found) => {
+            if buffer.len() < text.len() {
+                return Err(ParseError::NoRoom);
+            }
+            Ok(to_url_ref(found, buffer))
+        }
+    }
+}
+
+/// The location that the pieces of a simple text denote.
+#[inline(always)]
+fn simple_url_ref(pieces: SimplePieces<'_>) -> UrlRef<'_>
+    ensures { result ≡ simple_location pieces.entry }
+{
+    UrlRef {
+        scheme: pieces.scheme,
+        user: pieces.user,
+        password: None,
+        host: pieces.host,
+        serialize_alternative_form: pieces.flag,
+        port: pieces.port,
+        path: pieces.path,
+        spelling: None,
     }
 }

@@ -7,7 +7,7 @@ ghost use Rattle.git_syntax.specs.Authority.{unless_empty};
 ghost use Rattle.git_syntax.specs.Internal.FoundPieces.{AreScpTexts, IsReady, IsReadyUrl, host_for, denoted, parts_length, buffer_length_for, scp_host_of, scp_slice, url_location};
 ghost use Rattle.percent_encoding.specs.Percent.{percent_decode};
 ghost use Rattle.git_syntax.specs.Escapes.{has_percent};
-ghost use Rattle.git_syntax.specs.Grammar.{helper_scheme, path_for, retained_spelling, scp_location};
+ghost use Rattle.git_syntax.specs.Grammar.{path_for, retained_spelling, scp_location};
 ghost use Rattle.git_syntax.specs.Internal.SchemeRules.{AreRulesOf, scheme_named};
 ghost use Rattle.git_syntax.specs.Schemes.{scheme_of};
 ghost use Rattle.git_syntax.specs.Internal.UrlPieces.{syntax_of};
@@ -21,7 +21,7 @@ use git_syntax::found::{Found, ScpHost};
 use git_syntax::home::{from_home, or_root};
 use git_syntax::host::port_of;
 use git_syntax::rules::Rules;
-use git_syntax::scheme::{KnownScheme, SchemeRef};
+use git_syntax::scheme::{KnownScheme, SchemeRef, helper_scheme};
 use git_syntax::ssh_host::ssh_host_text;
 use git_syntax::text::as_text;
 use git_syntax::url_syntax::ParsedUrl;
@@ -56,17 +56,6 @@ fn path_alone<'a>(scheme: SchemeRef<'a>, flag: bool, path: &'a [u8]) -> UrlRef<'
         path,
         spelling: None,
     }
-}
-
-/// The scheme of a helper with this name.
-fn helper_scheme(name: &[u8]) -> SchemeRef<'_>
-    requires { IsUtf8 name.now }
-    ensures { borrowed_scheme result ≡ helper_scheme name.now }
-{
-    if name == b"ext".as_slice() {
-        return SchemeRef::Ext;
-    }
-    SchemeRef::Helper(as_text(name))
 }
 
 /// The location of a file URL.

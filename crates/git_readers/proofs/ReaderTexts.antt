@@ -10,8 +10,9 @@ use Rattle.git_syntax.specs.Bytes.{slash, colon, at_sign, begins_by, begins_with
 use Rattle.git_syntax.specs.Escapes.{matches, password_set, user_set}
 use Rattle.git_syntax.specs.Schemes.{requires_path, scheme_text}
 use Rattle.git_syntax.specs.AddressTest.{is_ipv6_text}
+use Rattle.git_syntax.specs.Hosts.{port_part}
 use Rattle.git_syntax.proofs.Texts.CutLemmas.{free_of_all}
-use Rattle.git_location.specs.Text.{canonical_path, canonical_text, host_part, keeps_host, needs_brackets, plain_path, port_part, text, user_information, root_part}
+use Rattle.git_location.specs.Text.{canonical_path, canonical_text, host_part, keeps_host, needs_brackets, plain_path, text, user_information, root_part}
 use Rattle.git_location.specs.Settled.{HasCredentials, IsHosted, IsSettledBy, IsSettledFile, IsSettledGit, IsSettledSecure, IsSettledUrl, IsValue, IsWeb, IsTransportPath}
 use Rattle.git_location.specs.GitClass.{AgreesBy, SuitsTransport}
 use Rattle.git_location.specs.WebClass.{AgreesOverWeb}

@@ -3,7 +3,8 @@ use Rattle.std.specs.Prelude.{◌≡◌, ℕ, false, ◌⊎◌, List, [], ◌∷
 use Rattle.git_syntax.specs.Location.{Location}
 use Rattle.git_syntax.specs.Bytes.{dot, FreeOf}
 use Rattle.git_syntax.specs.Schemes.{default_port_of, scheme_of}
-use Rattle.git_location.specs.Text.{port_part, text}
+use Rattle.git_syntax.specs.Hosts.{port_part}
+use Rattle.git_location.specs.Text.{text}
 use Rattle.git_location.specs.Settled.{IsValue, IsWeb}
 use Rattle.git_location.specs.GitClass.{AgreesWithGit}
 use Rattle.git_reads.specs.Credentials.{CredentialReading, CredentialReads}

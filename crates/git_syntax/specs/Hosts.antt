@@ -1,5 +1,5 @@
 -- Hosts and ports, which follow the user information of an authority, in three syntaxes.
-use Rattle.std.specs.Prelude.{◌≡◌, ℕ, ◌<◌, ◌≤◌, Bool, true, false, ◌||◌, nat_le, ◌&&◌, ◌⊎◌, List, [], ◌∷◌, ◌++◌, length, codes, Option, Some, None, IsUtf8, if◌then◌else◌}
+use Rattle.std.specs.Prelude.{◌≡◌, ℕ, ◌<◌, ◌≤◌, Bool, true, false, ◌||◌, nat_le, ◌&&◌, ◌⊎◌, List, [], ◌∷◌, ◌++◌, length, codes, decimal, Option, Some, None, IsUtf8, if◌then◌else◌}
 use Rattle.std.specs.List.{list_all}
 use Rattle.std.specs.Char.{is_ascii_alphanumeric, is_ascii_digit}
 use Rattle.std.specs.Str.Parse.{digits_value}
@@ -131,3 +131,8 @@ pub data SpellsHostPort (syntax : HostSyntax) (piece : List ℕ) (host : Option 
   colons : (named : List ℕ) → ¬ (syntax ≡ http_hosts) → ¬ ReadsAddress syntax piece
       → begins_with left_bracket piece ≡ false → IsManyColoned piece → HostText syntax piece named
       → host ≡ Some named → port ≡ None → SpellsHostPort syntax piece host port
+
+-- the port after its colon, if there is one
+abbrev pub port_part : Option ℕ → List ℕ
+port_part None = []
+port_part (Some port) = colon ∷ decimal port

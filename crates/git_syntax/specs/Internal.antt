@@ -10,5 +10,6 @@ pub mod FoundPieces
 pub mod ScpPieces
 pub mod Forms
 pub mod Masks
+pub mod SimplePieces
 pub mod WhiteSpace
 pub mod Runs

@@ -4,6 +4,7 @@ use Rattle.git_syntax.specs.Location.{Scheme, Location, path_alone}
 use Rattle.git_syntax.specs.Location.Scheme.{file, git, ssh, http, https}
 use Rattle.git_syntax.specs.Bytes.{slash, colon, at_sign, FreeOf, begins_with}
 use Rattle.git_syntax.specs.Schemes.{scheme_text}
+use Rattle.git_syntax.specs.Hosts.{port_part}
 use Rattle.git_syntax.specs.Grammar.{SpellsHelper, SpellsLocal, begins_at_home}
 use Rattle.git_syntax.specs.Internal.HostPieces.{IsSimpleHost}
 use Rattle.git_syntax.specs.Internal.Masks.{is_common}
@@ -29,10 +30,9 @@ pub record HasSimpleParts (b : List ℕ) (user : Option (List ℕ)) (host path :
   pub pathed : 0 < length path
   pub not_home : begins_at_home path ≡ false
 
--- the authority is a simple host, perhaps after a simple user
-abbrev pub HasSimpleHost : List ℕ → Type 0
-HasSimpleHost authority = (user : Option (List ℕ)) × (host : List ℕ) × IfSome user IsSimpleHost × IsSimpleHost host
-    × (authority ≡ before_host user ++ host)
+-- a port that is written as it was read
+abbrev pub IsSimplePort : ℕ → Type 0
+IsSimplePort port = (0 < port) × (port ≤ 65535)
 
 -- the text is a simple one, and spells this location
 pub data IsSimpleText (b : List ℕ) (v : Location) : Type 0 where
@@ -47,8 +47,10 @@ pub data IsSimpleText (b : List ℕ) (v : Location) : Type 0 where
   scp_text : (user : Option (List ℕ)) (host path : List ℕ) → HasSimpleParts b user host path → FreeOf colon path
       → ((rest : List ℕ) → ¬ (path ≡ slash ∷ (slash ∷ rest))) → b ≡ before_host user ++ (host ++ colon ∷ path)
       → v ≡ record (path_alone ssh true path) { user = user; host = Some host } → IsSimpleText b v
-  -- a URL without a port
-  url_text : (scheme : Scheme) (user : Option (List ℕ)) (host path : List ℕ) → IsRemoteScheme scheme
-      → HasSimpleParts b user host path → begins_with slash path ≡ true → length b ≤ 64
-      → b ≡ scheme_text scheme ++ (codes "://" ++ (before_host user ++ (host ++ path)))
-      → v ≡ record (path_alone scheme false path) { user = user; host = Some host } → IsSimpleText b v
+  -- a URL
+  url_text : (scheme : Scheme) (user : Option (List ℕ)) (host path : List ℕ) (port : Option ℕ)
+      → IsRemoteScheme scheme → HasSimpleParts b user host path → IfSome port IsSimplePort
+      → begins_with slash path ≡ true → length b ≤ 64
+      → b ≡ scheme_text scheme ++ (codes "://" ++ (before_host user ++ (host ++ (port_part port ++ path))))
+      → v ≡ record (path_alone scheme false path) { user = user; host = Some host; port = port }
+      → IsSimpleText b v

@@ -12,7 +12,7 @@ ghost use Rattle.git_syntax.specs.Internal.HostPieces.{IsInner, IsSimpleHost, Re
 
 pub mod build;
 pub mod bytes;
-mod port;
+pub(crate) mod port;
 
 use crate::bytes::{after, before, cut, is_free_of};
 use crate::escape::decodes_to_utf8;

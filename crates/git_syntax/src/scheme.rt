@@ -1,10 +1,13 @@
 //! Schemes: the known ones, and all others by name. Names are compared exactly.
 
-ghost use Rattle.std.specs.Prelude.{◌≡◌, bytes_eq};
+ghost use Rattle.std.specs.Prelude.{◌≡◌, IsUtf8, bytes_eq};
+ghost use Rattle.git_syntax.specs.Grammar.{helper_scheme};
 ghost use Rattle.git_syntax.specs.Internal.SchemeRules.{scheme_named};
 ghost use Rattle.git_syntax.specs.Schemes.{scheme_of, scheme_text, default_port_of, is_known_scheme, is_ssh_scheme, is_web_scheme};
 ghost use Rattle.git_syntax.specs.Schemes.{is_ftp};
 ghost use Rattle.git_syntax.specs.Views.{borrowed_scheme};
+
+use crate::text::as_text;
 
 /// The scheme of a borrowed location: a [`Scheme`] whose name is a slice. Copying it allocates nothing.
 ///
@@ -93,6 +96,17 @@ impl<'a> SchemeRef<'a> {
                 None,
         }
     }
+}
+
+/// The scheme of a remote helper with this name.
+pub fn helper_scheme(name: &[u8]) -> SchemeRef<'_>
+    requires { IsUtf8 name.now }
+    ensures { borrowed_scheme result ≡ helper_scheme name.now }
+{
+    if name == b"ext".as_slice() {
+        return SchemeRef::Ext;
+    }
+    SchemeRef::Helper(as_text(name))
 }
 
 /// A known scheme, which a text names exactly.

@@ -1,133 +1,258 @@
-//! The test for simple texts, which most remotes are.
+//! The reader of simple texts, which most remotes are.
 
-ghost use Rattle.std.specs.Prelude.{◌≡◌, ◌≤◌, ◌∷◌, IsTrue, List, length, true, ℕ};
-ghost use Rattle.git_syntax.specs.Bytes.{slash};
+ghost use Rattle.std.specs.Prelude.{◌≡◌, ◌≤◌, ◌∷◌, IfSome, IsTrue, IsUtf8, List, decimal, length, option_map, true, ℕ};
+ghost use Rattle.git_syntax.specs.Bytes.{is_helper_name, slash};
 ghost use Rattle.git_syntax.specs.Flaws.{UrlForm};
-ghost use Rattle.git_syntax.specs.Grammar.{Spells};
+ghost use Rattle.git_syntax.specs.Grammar.{Spells, helper_scheme};
 ghost use Rattle.git_syntax.specs.Internal.Forms.{ColonCut};
+ghost use Rattle.git_syntax.specs.Internal.HostPieces.{IsSimpleHost};
 ghost use Rattle.git_syntax.specs.Internal.Masks.{IsMarked, is_common};
-ghost use Rattle.git_syntax.specs.Location.{Location, Scheme};
+ghost use Rattle.git_syntax.specs.Internal.SimplePieces.{CutsSimpleUser, IsSimplePlace, simple_location};
+ghost use Rattle.git_syntax.specs.Location.{Location, path_alone};
 ghost use Rattle.git_syntax.specs.Schemes.{scheme_text};
-ghost use Rattle.git_syntax.specs.SimpleTexts.{HasSimpleHost, IsRemoteScheme, IsSimpleText};
+ghost use Rattle.git_syntax.specs.SimpleTexts.{IsRemoteScheme, IsSimplePort, IsSimpleText};
+ghost use Rattle.git_syntax.specs.Views.{borrowed_scheme};
 
-use crate::bytes::{is_helper_name, starts_with_byte};
+use crate::bytes::{after, is_helper_name, starts_with_byte};
 use crate::home::begins_at_home;
+use crate::host::HostSyntax;
+use crate::host::port::read_port;
 use crate::masks::marked::{Marked, mark};
-use crate::scheme::is_named;
+use crate::scheme::{SchemeRef, helper_scheme, is_named};
+use crate::text::as_text;
 
-/// Whether the text is known to be a simple one: a text of 16 to 64 bytes that are letters, digits, or one of `+`, `,`,
-/// `-`, `.`, `/`, `:`, `@`, `_` and `~`, with a simple host and no port. Such a text spells a settled location whose text
-/// it is. `false` says nothing.
+/// The fields of the location that a simple text spells, as slices of the text. There is no password and no spelling.
+#[derive(Clone, Copy)]
+pub struct SimplePieces<'a> {
+    /// The scheme.
+    pub scheme: SchemeRef<'a>,
+    /// The user.
+    pub user: Option<&'a str>,
+    /// The host.
+    pub host: Option<&'a str>,
+    /// Whether the text is not a URL.
+    pub flag: bool,
+    /// The port.
+    pub port: Option<u16>,
+    /// The path.
+    pub path: &'a [u8],
+}
+
+/// Whether the text is known to be a simple one, like [`simple_pieces`]. `false` says nothing.
 pub fn is_simple_text(bytes: &[u8]) -> bool
     ensures { IsTrue result → (v : Location) × IsSimpleText bytes.now v }
 {
-    match mark(bytes) {
-        Some(text) => text.are_common_bytes() && is_simple(text),
-        None => false,
-    }
+    matches!(simple_pieces(bytes), Some(_))
 }
 
-/// Whether such a text is simple.
+/// The fields of the location that the text spells, if the text is known to be a simple one: a text of 16 to 64 bytes
+/// that are letters, digits, or one of `+`, `,`, `-`, `.`, `/`, `:`, `@`, `_` and `~`, with a simple host. Such a
+/// location is settled, and the text is its own. `None` says nothing.
 #[inline(always)]
-fn is_simple(text: Marked<'_>) -> bool
+pub fn simple_pieces(bytes: &[u8]) -> Option<SimplePieces<'_>>
+    ensures { IfSome result (λ pieces. IsSimpleText bytes.now (simple_location pieces)) }
+{
+    let text = mark(bytes)?;
+    if !text.are_common_bytes() {
+        return None;
+    }
+    cut_simple(text)
+}
+
+/// The fields of the location that such a text spells.
+#[inline(always)]
+fn cut_simple(text: Marked<'_>) -> Option<SimplePieces<'_>>
     requires marked { IsMarked text }
     requires long { 16 ≤ length text.text.now }
     requires common { is_common text.text.now ≡ true }
-    ensures { IsTrue result → (v : Location) × IsSimpleText text.entry.text.now v }
+    ensures { IfSome result (λ pieces. IsSimpleText text.entry.text.now (simple_location pieces)) }
 {
     let Some((front, rest)) = text.cut_at_colon() else {
-        return true;
+        return Some(path_pieces(SchemeRef::File, true, text.text));
     };
     match rest.after_slashes() {
-        Some(behind) => is_simple_url(text.text, front.text, behind),
-        None => is_simple_path(text.text, front, rest),
+        Some(behind) => url_pieces(text.text, front.text, behind),
+        None => other_pieces(text.text, front, rest),
     }
 }
 
-/// Whether a URL is simple. The text is only for the contract.
+/// The fields of a location of a scheme, the flag and a path only.
 #[inline(always)]
-fn is_simple_url(input: &[u8], scheme: &[u8], rest: Marked<'_>) -> bool
+fn path_pieces<'a>(scheme: SchemeRef<'a>, flag: bool, path: &'a [u8]) -> SimplePieces<'a>
+    ensures { simple_location result ≡ path_alone (borrowed_scheme scheme.entry) flag path.now }
+{
+    SimplePieces {
+        scheme,
+        user: None,
+        host: None,
+        flag,
+        port: None,
+        path,
+    }
+}
+
+/// The fields of a URL. The text is only for the contract.
+#[inline(always)]
+fn url_pieces<'a>(input: &[u8], scheme: &[u8], rest: Marked<'a>) -> Option<SimplePieces<'a>>
     requires form { UrlForm input.now scheme.now rest.text.now }
     requires marked { IsMarked rest }
     requires short { length input.now ≤ 64 }
     requires common { is_common input.now ≡ true }
-    ensures { IsTrue result → (v : Location) × IsSimpleText input.now v }
+    ensures { IfSome result (λ pieces. IsSimpleText input.now (simple_location pieces)) }
 {
     let (authority, path) = rest.cut_at_slash();
     if path.text.is_empty() {
-        return false;
+        return None;
     }
-    if begins_at_home(path.text) {
-        return false;
-    }
-    if is_remote_scheme(scheme) {
-        return has_simple_host(authority);
+    if let Some(scheme) = remote_scheme(scheme) {
+        if begins_at_home(path.text) {
+            return None;
+        }
+        let (user, piece) = cut_simple_user(authority)?;
+        let (host, port) = simple_place(piece)?;
+        return Some(SimplePieces {
+            scheme,
+            user,
+            host: Some(host),
+            flag: false,
+            port,
+            path: path.text,
+        });
     }
     if !authority.text.is_empty() {
-        return false;
+        return None;
     }
-    is_named(scheme, "file")
+    if is_named(scheme, "file") {
+        Some(path_pieces(SchemeRef::File, false, path.text))
+    } else {
+        None
+    }
 }
 
-/// Whether the scheme is one of HTTP, Secure Shell or Git's own protocol.
+/// The scheme, if it is one of HTTP, Secure Shell or Git's own protocol.
 #[inline(always)]
-fn is_remote_scheme(scheme: &[u8]) -> bool
-    ensures { IsTrue result → (p : Scheme) × IsRemoteScheme p × (scheme.now ≡ scheme_text p) }
+fn remote_scheme<'a>(scheme: &[u8]) -> Option<SchemeRef<'a>>
+    ensures remote { IfSome result (λ known. IsRemoteScheme (borrowed_scheme known)) }
+    ensures text { IfSome result (λ known. scheme.now ≡ scheme_text (borrowed_scheme known)) }
 {
     if is_named(scheme, "https") {
-        return true;
+        return Some(SchemeRef::Https);
     }
     if is_named(scheme, "ssh") {
-        return true;
+        return Some(SchemeRef::Ssh);
     }
     if is_named(scheme, "http") {
-        return true;
+        return Some(SchemeRef::Http);
     }
-    is_named(scheme, "git")
+    if is_named(scheme, "git") {
+        return Some(SchemeRef::Git);
+    }
+    None
 }
 
-/// Whether an authority is a simple host, perhaps after a simple user.
+/// Cuts a simple user and `@` off the front, if there is an `@`.
 #[inline(always)]
-fn has_simple_host(authority: Marked<'_>) -> bool
-    requires { IsMarked authority }
-    ensures { IsTrue result → HasSimpleHost authority.entry.text.now }
+fn cut_simple_user(text: Marked<'_>) -> Option<(Option<&str>, Marked<'_>)>
+    requires { IsMarked text }
+    ensures cut { IfSome result (λ p. CutsSimpleUser text.entry.text.now (option_map (λ t. t.now) p.0) p.1.text.now) }
+    ensures masks { IfSome result (λ p. IsMarked p.1) }
 {
-    let Some((user, host)) = authority.cut_at_last_at() else {
-        return authority.is_simple_host();
+    let Some((user, rest)) = text.cut_at_last_at() else {
+        return Some((None, text));
     };
-    if !user.is_simple_host() {
-        return false;
-    }
-    host.is_simple_host()
+    let user = simple_name(user)?;
+    Some((Some(user), rest))
 }
 
-/// Whether a remote helper, a local path or the scp form is simple, by the texts before and after the first colon. The
-/// whole text is only for the contract.
+/// The text, if it is a simple host.
 #[inline(always)]
-fn is_simple_path(input: &[u8], front: Marked<'_>, rest: Marked<'_>) -> bool
+fn simple_name(text: Marked<'_>) -> Option<&str>
+    requires { IsMarked text }
+    ensures same { IfSome result (λ name. name.now ≡ text.entry.text.now) }
+    ensures simple { IfSome result (λ name. IsSimpleHost name.now) }
+{
+    if text.is_simple_host() {
+        Some(as_text(text.text))
+    } else {
+        None
+    }
+}
+
+/// The host and the port of a text that is a simple host, perhaps before a port.
+#[inline(always)]
+fn simple_place(text: Marked<'_>) -> Option<(&str, Option<u16>)>
+    requires { IsMarked text }
+    ensures { IfSome result (λ p. IsSimplePlace text.entry.text.now p.0.now p.1) }
+{
+    let Some((host, digits)) = text.cut_at_colon() else {
+        return Some((simple_name(text)?, None));
+    };
+    let host = simple_name(host)?;
+    let port = simple_port(digits.text)?;
+    Some((host, Some(port)))
+}
+
+/// The port that the digits spell, if it is written with these digits and isn't 0.
+fn simple_port(digits: &[u8]) -> Option<u16>
+    ensures allowed { IfSome result IsSimplePort }
+    ensures digits { IfSome result (λ port. digits.now ≡ decimal port) }
+{
+    if starts_with_byte(digits, b'0') {
+        return None;
+    }
+    read_port(HostSyntax::Http, digits)
+}
+
+/// The fields of a remote helper, a local path or the scp form, by the texts before and after the first colon.
+#[inline(always)]
+fn other_pieces<'a>(
+    input: &'a [u8],
+    front: Marked<'a>,
+    rest: Marked<'a>,
+) -> Option<SimplePieces<'a>>
     requires cut { ColonCut input.now front.text.now rest.text.now }
     requires no_mark { (behind : List ℕ) → ¬ (rest.text.now ≡ slash ∷ (slash ∷ behind)) }
     requires front { IsMarked front }
     requires rest { IsMarked rest }
     requires common { is_common input.now ≡ true }
-    ensures { IsTrue result → (v : Location) × IsSimpleText input.now v }
+    ensures { IfSome result (λ pieces. IsSimpleText input.now (simple_location pieces)) }
 {
-    if starts_with_byte(rest.text, b':') {
-        return is_helper_name(front.text);
+    if let Some(address) = after(rest.text, b':') {
+        return helper_pieces(front.text, address);
     }
     if !rest.lacks_colons() {
-        return false;
+        return None;
     }
     if !front.lacks_slashes() {
-        return true;
+        return Some(path_pieces(SchemeRef::File, true, input));
     }
-    if rest.text.is_empty() {
-        return false;
+    if rest.text.is_empty() || begins_at_home(rest.text) {
+        return None;
     }
-    if begins_at_home(rest.text) {
-        return false;
+    let (user, piece) = cut_simple_user(front)?;
+    let host = simple_name(piece)?;
+    Some(SimplePieces {
+        scheme: SchemeRef::Ssh,
+        user,
+        host: Some(host),
+        flag: true,
+        port: None,
+        path: rest.text,
+    })
+}
+
+/// The fields of a remote helper with this name and this address.
+#[inline(always)]
+fn helper_pieces<'a>(name: &'a [u8], address: &'a [u8]) -> Option<SimplePieces<'a>>
+    requires { IsUtf8 name.now }
+    ensures { IfSome result (λ pieces. (is_helper_name name.now ≡ true)
+        × (simple_location pieces ≡ path_alone (helper_scheme name.now) true address.now)) }
+{
+    if is_helper_name(name) {
+        Some(path_pieces(helper_scheme(name), true, address))
+    } else {
+        None
     }
-    has_simple_host(front)
 }
 
 /// A simple text spells the location that its definition names.

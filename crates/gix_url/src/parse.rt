@@ -15,9 +15,10 @@ mod to_location;
 use crate::error::Error;
 use crate::location::Url;
 use bstr::BStr;
-use build::build;
+use build::{build, build_simple};
 use git_refusals::read;
 use git_syntax::find::find;
+use git_syntax::simple::simple_pieces;
 pub use git_syntax::refusal::UrlKind;
 use refusal::error_of;
 use std::alloc::Global;
@@ -91,6 +92,20 @@ impl Url {
 
 /// Reads the one location that the bytes spell: the slices that are found in them, copied.
 fn read(alloc: Global, bytes: &[u8]) -> Result<Url, Error>
+    ensures found { IfOk result (λ v. Spells bytes.now v) }
+    ensures refused { IfErr result (λ e. Refuses bytes.now e) }
+    ensures flaw { IfErr result (λ e. Flaw bytes.now e) }
+    ensures empty { bytes.now ≡ [] → result ≡ Err Error.EmptyLocal }
+{
+    match simple_pieces(bytes) {
+        Some(pieces) => Ok(build_simple(alloc, pieces)?),
+        None => read_any(alloc, bytes),
+    }
+}
+
+/// Reads any location by the general search.
+#[inline(never)]
+fn read_any(alloc: Global, bytes: &[u8]) -> Result<Url, Error>
     ensures found { IfOk result (λ v. Spells bytes.now v) }
     ensures refused { IfErr result (λ e. Refuses bytes.now e) }
     ensures flaw { IfErr result (λ e. Flaw bytes.now e) }

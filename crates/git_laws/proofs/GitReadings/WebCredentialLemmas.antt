@@ -10,7 +10,8 @@ use Rattle.git_syntax.specs.declared.escape.TheConstants.{PASSWORD, USER}
 use Rattle.git_syntax.specs.Location.{Location}
 use Rattle.git_syntax.specs.Bytes.{newline, percent_sign, slash, colon, at_sign, right_bracket, Lacks, FreeOf, begins_with}
 use Rattle.git_syntax.specs.Schemes.{scheme_text}
-use Rattle.git_location.specs.Text.{user_information, port_part, canonical_path, canonical_text}
+use Rattle.git_syntax.specs.Hosts.{port_part}
+use Rattle.git_location.specs.Text.{user_information, canonical_path, canonical_text}
 use Rattle.git_location.specs.Settled.{begins_with_slashes, first_byte, IsValue, IsWeb}
 use Rattle.git_location.specs.WebClass.{is_control, is_uri_byte, IsDecodedWhole, is_plain_host_byte, IsUnambiguousUser, IsUnambiguousPassword, AgreesOverWeb}
 use Rattle.git_reads.specs.Git.{escaped_byte, git_decode}

@@ -6,7 +6,8 @@ use Rattle.git_syntax.specs.Location.{Location}
 use Rattle.git_syntax.specs.Bytes.{at_sign, Lacks, FreeOf, IsLowercase, is_scheme_text, is_path_start}
 use Rattle.git_syntax.specs.Hosts.HostSyntax.{http_hosts}
 use Rattle.git_syntax.specs.Schemes.{scheme_text}
-use Rattle.git_location.specs.Text.{user_information, host_part, port_part, canonical_text, text}
+use Rattle.git_syntax.specs.Hosts.{port_part}
+use Rattle.git_location.specs.Text.{user_information, host_part, canonical_text, text}
 use Rattle.git_location.specs.Settled.{IsValue, IsWeb, IsWebHost}
 use Rattle.git_location.specs.WebClass.{IsUnambiguousHost, AgreesOverWeb}
 use Rattle.git_reads.specs.Credentials.{IsOneLine}

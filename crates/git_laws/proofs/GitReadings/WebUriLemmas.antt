@@ -17,7 +17,8 @@ use Rattle.git_syntax.specs.Location.{Location}
 use Rattle.git_syntax.specs.Bytes.{number_sign, percent_sign, slash, colon, question_mark, at_sign, left_bracket, right_bracket, FreeOf, begins_by, begins_with, IsLowercase}
 use Rattle.git_syntax.specs.Escapes.{is_sound, has_percent, is_password_escaped}
 use Rattle.git_syntax.specs.Schemes.{scheme_text}
-use Rattle.git_location.specs.Text.{user_information, port_part, canonical_path, canonical_text}
+use Rattle.git_syntax.specs.Hosts.{port_part}
+use Rattle.git_location.specs.Text.{user_information, canonical_path, canonical_text}
 use Rattle.git_location.specs.Settled.{IsValue, IsBracketedAddress, IsWeb}
 use Rattle.git_location.specs.WebClass.{is_plain_host_byte, is_uri_byte, is_segment_end, HasDotSegment, AgreesOverWeb}
 use Rattle.git_laws.specs.Components.{CutsPath}

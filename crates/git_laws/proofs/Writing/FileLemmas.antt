@@ -16,11 +16,12 @@ use Rattle.git_syntax.specs.Bytes.{slash, colon, left_bracket, FreeOf, begins_wi
 use Rattle.git_syntax.specs.Escapes.{has_percent}
 use Rattle.git_syntax.specs.Authority.{unless_empty}
 use Rattle.git_syntax.specs.Grammar.{SpellsFile, Spells}
-use Rattle.git_location.specs.Text.{has_colon, needs_brackets, user_information, host_part, port_part, matching_or, canonical_path, canonical_text, in_form, text}
+use Rattle.git_location.specs.Text.{has_colon, needs_brackets, user_information, host_part, matching_or, canonical_path, canonical_text, in_form, text}
 use Rattle.git_location.specs.Text.Form.{canonical_form}
 use Rattle.git_location.specs.Settled.{IsValue, HasMatch, IsFileHost, IsSettledFile, IsSettled}
 use Rattle.git_laws.specs.Laws.{ComesBack}
 use Rattle.git_syntax.specs.Flaws.{UrlForm}
+use Rattle.git_syntax.specs.Hosts.{port_part}
 use Rattle.git_syntax.proofs.Texts.CutLemmas.{different_bytes, begins_cut}
 use Rattle.git_syntax.proofs.Texts.EscapeLemmas.{utf8_behind, utf8_seam}
 use Rattle.git_syntax.proofs.Parsing.UrlLemmas.{some_kept}

@@ -13,7 +13,7 @@ use Rattle.git_syntax.specs.declared.escape.TheConstants.{PASSWORD, USER}
 use Rattle.git_syntax.specs.Bytes.{percent_sign, colon, at_sign, left_bracket, backslash, FreeOf, is_name_byte, is_scheme_text, is_path_start}
 use Rattle.git_syntax.specs.Escapes.{is_sound, is_password_escaped}
 use Rattle.git_syntax.specs.Addresses.{IsIpv6Text}
-use Rattle.git_location.specs.Text.{port_part}
+use Rattle.git_syntax.specs.Hosts.{port_part}
 use Rattle.git_laws.proofs.Writing.WrittenPieces.{IsEscapedPiece, IsAuthorityPiece}
 use Rattle.git_syntax.proofs.Texts.CutLemmas.{all_weaker, free-append, free_of_all, helper_name_bytes, lacks-append, lacks_of_all, scheme_helper_name}
 use Rattle.git_syntax.proofs.Texts.EscapeLemmas.{ascii_class, decode_encode_utf8, encode_free, encode_lacks, encode_sound, sound-append, sound_free, utf8_encode, white_space-append, white_space_ascii, white_space_encode}

@@ -12,7 +12,8 @@ use Rattle.git_syntax.specs.Escapes.{has_percent}
 use Rattle.git_syntax.specs.Schemes.{is_web_scheme, scheme_text}
 use Rattle.git_syntax.specs.Authority.{FitsText}
 use Rattle.git_syntax.specs.Grammar.{path_for}
-use Rattle.git_location.specs.Text.{user_information, host_part, port_part, root_part, plain_path, canonical_path, canonical_text}
+use Rattle.git_syntax.specs.Hosts.{port_part}
+use Rattle.git_location.specs.Text.{user_information, host_part, root_part, plain_path, canonical_path, canonical_text}
 use Rattle.git_location.specs.Settled.{IsValue, HasMatch, HasFittingText, IsSettledUrl, IsTransportPath, IsSettledWeb, IsSettledSecure, IsSettledGit, IsSettledHelperUrl, IsSettledBy, IsWeb, HasUrlPath}
 use Rattle.git_location.specs.Internal.SettledPieces.{IsWrittenAsUrl}
 use Rattle.git_laws.specs.Safeguards.{WebSettledWithoutSpelling, SettledWithoutSpelling, is_raw_url}

@@ -14,10 +14,10 @@ use Rattle.git_syntax.specs.Bytes.{percent_sign, colon, left_bracket, right_brac
 use Rattle.git_syntax.specs.Escapes.{has_percent, is_password_escaped, escaped_percents}
 use Rattle.git_syntax.specs.Addresses.{IsIpv6Text, Literal}
 use Rattle.git_syntax.specs.AddressTest.{is_ipv6_text}
-use Rattle.git_syntax.specs.Hosts.{HostSyntax, normal_host, HostText, AllowsPort, Bracketed, IsPlainHost, SpellsHostPort}
+use Rattle.git_syntax.specs.Hosts.{HostSyntax, normal_host, HostText, AllowsPort, Bracketed, IsPlainHost, SpellsHostPort, port_part}
 use Rattle.git_syntax.specs.Hosts.HostSyntax.{http_hosts, git_hosts}
 use Rattle.git_syntax.specs.Grammar.{IsSshHost}
-use Rattle.git_location.specs.Text.{has_colon, wants_brackets, keeps_host, open_host, needs_brackets, port_part}
+use Rattle.git_location.specs.Text.{has_colon, wants_brackets, keeps_host, open_host, needs_brackets}
 use Rattle.git_location.specs.Settled.{IsNormalName, IsNormalAddress, IsBareHost, IsBracketedHost}
 use Rattle.git_laws.proofs.Writing.WrittenPieces.{WritesHost}
 use Rattle.git_syntax.proofs.Texts.CutLemmas.{free_begins, free_head_tail, free_or_cut, cut_unique, not_free}

@@ -4,11 +4,11 @@ use Rattle.percent_encoding.specs.Percent.{percent_decode}
 use Rattle.git_syntax.specs.Location.{Location}
 use Rattle.git_syntax.specs.Bytes.{at_sign, backslash, Lacks, FreeOf, LacksWhiteSpace, is_path_start, StartsPath}
 use Rattle.git_syntax.specs.Escapes.{is_sound}
-use Rattle.git_syntax.specs.Hosts.{HostSyntax, SpellsHostPort}
+use Rattle.git_syntax.specs.Hosts.{HostSyntax, SpellsHostPort, port_part}
 use Rattle.git_syntax.specs.Schemes.{requires_path}
 use Rattle.git_syntax.specs.Authority.{Credentials}
 use Rattle.git_syntax.specs.Grammar.{path_for, retained_spelling}
-use Rattle.git_location.specs.Text.{user_information, canonical_host, port_part, canonical_path}
+use Rattle.git_location.specs.Text.{user_information, canonical_host, canonical_path}
 use Rattle.git_location.specs.Settled.{HasFairSpelling}
 
 -- text without white space, in which every escape is sound

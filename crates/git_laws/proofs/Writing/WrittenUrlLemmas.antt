@@ -7,12 +7,12 @@ use Rattle.git_syntax.proofs.Texts.CutLemmas.{scheme_text_free, lacks_weaker}
 use Rattle.git_syntax.specs.Location.{Scheme, Location}
 use Rattle.git_syntax.specs.Location.Scheme.{ext}
 use Rattle.git_syntax.specs.Bytes.{colon, at_sign, is_scheme_text, is_path_start}
-use Rattle.git_syntax.specs.Hosts.{HostSyntax}
+use Rattle.git_syntax.specs.Hosts.{HostSyntax, port_part}
 use Rattle.git_syntax.specs.Schemes.{is_web_scheme, scheme_of, scheme_text, host_syntax_of, requires_host}
 use Rattle.git_syntax.specs.Authority.{Authority, FitsText}
 use Rattle.git_syntax.specs.Authority.Authority.{host_alone, with_user}
 use Rattle.git_syntax.specs.Grammar.{UrlSyntax, HasUrlSyntax, HostFor, Spells}
-use Rattle.git_location.specs.Text.{user_information, host_part, port_part, canonical_path, canonical_text, text}
+use Rattle.git_location.specs.Text.{user_information, host_part, canonical_path, canonical_text, text}
 use Rattle.git_location.specs.Settled.{IsValue, IsSettledUrl, IsSettledBy, IsSettled, HasFairSpelling}
 use Rattle.git_location.specs.Internal.SettledPieces.{IsWrittenAsUrl}
 use Rattle.std.proofs.lemmas.Option.{IfSome_then}

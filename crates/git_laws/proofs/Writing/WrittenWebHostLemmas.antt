@@ -9,9 +9,9 @@ use Rattle.git_syntax.specs.Bytes.{colon, at_sign, left_bracket, right_bracket, 
 use Rattle.git_syntax.specs.Escapes.{has_percent}
 use Rattle.git_syntax.specs.Addresses.{IsZone, is_zone_byte, Literal}
 use Rattle.git_syntax.specs.Addresses.Literal.{address, zoned}
-use Rattle.git_syntax.specs.Hosts.{Number, SpellsHostPort, IsPlainHost, HostText, is_http_host_byte}
+use Rattle.git_syntax.specs.Hosts.{Number, SpellsHostPort, IsPlainHost, HostText, is_http_host_byte, port_part}
 use Rattle.git_syntax.specs.Hosts.HostSyntax.{http_hosts}
-use Rattle.git_location.specs.Text.{has_colon, open_host, canonical_host, needs_brackets, wants_brackets, port_part}
+use Rattle.git_location.specs.Text.{has_colon, open_host, canonical_host, needs_brackets, wants_brackets}
 use Rattle.git_location.specs.Settled.{IsWebName, IsWebHost, IsWeb}
 use Rattle.git_location.specs.Settled.IsWebHost.{literal, literal_colon, named, named_colon}
 use Rattle.git_laws.proofs.Writing.WrittenPieces.{IsAuthorityPiece, WritesHost}

@@ -10,13 +10,13 @@ use Rattle.git_syntax.specs.Bytes.{slash, colon, left_bracket, right_bracket, pe
 use Rattle.git_syntax.specs.Escapes.{has_percent, is_plain}
 use Rattle.git_syntax.specs.Addresses.{Literal, IsIpv6Text}
 use Rattle.git_syntax.specs.Addresses.Literal.{address, zoned}
-use Rattle.git_syntax.specs.Hosts.{is_http_host_byte}
+use Rattle.git_syntax.specs.Hosts.{is_http_host_byte, port_part}
 use Rattle.git_syntax.specs.Internal.HostPieces.{IsEscapedZone, IsSimpleHost, is_simple_byte}
 use Rattle.git_location.specs.Settled.{HasFittingText, HasUrlPath, IsNormalAddress, IsNormalName, IsScpName, IsSettled, IsSettledBy, IsSettledRaw, IsSettledUrl, IsSettledWeb, IsWeb, IsWebName, IsWebHost}
 use Rattle.git_location.specs.Settled.IsWebHost.{literal, literal_colon, named, named_colon}
 use Rattle.git_location.specs.Internal.SettledPieces.{IsNormalLiteral, IsBracketedLiteral, IsClosedHost, HasRawPath, IsSettledBesidePath, IsPiecesShort}
 use Rattle.git_syntax.specs.Schemes.{scheme_text}
-use Rattle.git_location.specs.Text.{text, canonical_text, user_information, host_part, port_part, canonical_path}
+use Rattle.git_location.specs.Text.{text, canonical_text, user_information, host_part, canonical_path}
 use Rattle.git_syntax.specs.Authority.{FitsText}
 use Rattle.git_syntax.proofs.Parsing.LengthLemmas.{fits_text, fits_tested}
 use Rattle.git_syntax.proofs.Addresses.AddressLemmas.{address_free}

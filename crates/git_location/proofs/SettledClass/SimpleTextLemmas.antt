@@ -10,18 +10,18 @@ use Rattle.git_syntax.specs.AddressTest.{is_ipv6_text}
 use Rattle.git_syntax.specs.Authority.{FitsText}
 use Rattle.git_syntax.specs.Escapes.{password_set, user_set}
 use Rattle.git_syntax.specs.Bytes.{FreeOf, at_sign, begins_with, colon, left_bracket, slash}
-use Rattle.git_syntax.specs.Grammar.{begins_at_home}
 use Rattle.git_syntax.specs.Location.{Location, Scheme, path_alone}
 use Rattle.git_syntax.specs.Location.Scheme.{file, git, ssh, http, https}
 use Rattle.git_syntax.specs.Schemes.{requires_path, scheme_text}
-use Rattle.git_syntax.specs.SimpleTexts.{HasSimpleParts, IsRemoteScheme, IsSimpleText, before_host}
+use Rattle.git_syntax.specs.SimpleTexts.{HasSimpleParts, IsRemoteScheme, IsSimplePort, IsSimpleText, before_host}
+use Rattle.git_syntax.specs.Hosts.{port_part}
 use Rattle.git_syntax.specs.SimpleTexts.IsRemoteScheme.{of_git, of_ssh, of_http, of_https}
 use Rattle.git_syntax.specs.SimpleTexts.IsSimpleText.{file_text, helper_text, local_text, scp_text, url_text}
 use Rattle.git_syntax.specs.Internal.HostPieces.{IsSimpleHost, is_simple_byte}
-use Rattle.git_syntax.specs.Internal.Masks.{is_common, is_common_byte}
+use Rattle.git_syntax.specs.Internal.Masks.{is_common}
 use Rattle.git_location.specs.Text.{canonical_text, is_relative, open_host, plain_path, text, user_information}
-use Rattle.git_location.specs.Settled.{IsHomeless, IsScpUser, IsSettled, IsSettledRaw, begins_with_slashes}
-use Rattle.git_location.specs.Internal.KeptBytes.{is_unescaped_in_path, is_unescaped_in_user}
+use Rattle.git_location.specs.Settled.{IsScpUser, IsSettled, IsSettledRaw, begins_with_slashes}
+use Rattle.git_location.specs.Internal.KeptBytes.{is_unescaped_in_user}
 use Rattle.git_syntax.proofs.ByMasks.CommonLemmas.{common_around, common_parts, common_plain, short_fits}
 use Rattle.git_syntax.proofs.ByMasks.SimpleTextLemmas.{simple_free}
 use Rattle.git_syntax.proofs.Parsing.ClassifierLemmas.{file_mark_utf8}
@@ -31,7 +31,7 @@ use Rattle.git_syntax.proofs.Texts.PlainLemmas.{plain_utf8}
 use Rattle.git_location.proofs.SettledClass.SettledLemmas.{plain_raw_path, simple_normal_name, simple_scp_name, simple_web_host}
 use Rattle.git_location.proofs.SettledClass.WebClassLemmas.{rooted_starts}
 use Rattle.git_location.proofs.SettledClass.UnchangedLemmas.{helper_unchanged, local_unchanged}
-use Rattle.git_location.proofs.Texts.UnescapedLemmas.{ready_password, ready_path, ready_user}
+use Rattle.git_location.proofs.Texts.UnescapedLemmas.{common_path, ready_password, ready_user}
 use Rattle.git_location.proofs.Writing.WrittenAsUrlLemmas.{written_git, written_secure, written_web}
 
 -- ---- bytes that are written as they are
@@ -42,22 +42,7 @@ simple_ready (b ∷ t) all =
     let (byte, more) = and_parts (is_simple_byte b) (list_all is_simple_byte t) all in
     let ready : is_unescaped_in_user b ≡ true = grind (arith, nat_tests) in rw ready (simple_ready t more)
 
-common_ready : (t : List ℕ) → is_common t ≡ true → list_all is_unescaped_in_path t ≡ true
-common_ready [] all = refl
-common_ready (b ∷ t) all =
-    let (byte, more) = and_parts (is_common_byte b) (is_common t) all in
-    let ready : is_unescaped_in_path b ≡ true = grind (arith, nat_tests) in rw ready (common_ready t more)
-
 -- ---- paths
-
--- a path of common bytes isn't below a home folder
-common_homeless : (path : List ℕ) → is_common path ≡ true → begins_at_home path ≡ false
-common_homeless [] common = refl
-common_homeless (a ∷ []) common = refl
-common_homeless (a ∷ b ∷ rest) common =
-    let more = (and_parts (is_common_byte a) (is_common (b ∷ rest)) common).1 in
-    let byte = (and_parts (is_common_byte b) (is_common rest) more).0 in
-    grind (arith, nat_tests)
 
 no_slashes : (path : List ℕ) → ((rest : List ℕ) → ¬ (path ≡ slash ∷ (slash ∷ rest))) → begins_with_slashes path ≡ false
 no_slashes [] other = refl
@@ -72,12 +57,12 @@ no_slashes (a ∷ b ∷ rest) other = elim (cases_Bool (a == slash && b == slash
 -- ---- the text of a URL
 
 -- the location of simple parts
-abbrev simple_value : Scheme → Bool → Option (List ℕ) → List ℕ → List ℕ → Location
-simple_value p flag user host path = record (path_alone p flag path) { user = user; host = Some host }
+abbrev simple_value : Scheme → Bool → Option (List ℕ) → List ℕ → Option ℕ → List ℕ → Location
+simple_value p flag user host port path = record (path_alone p flag path) { user = user; host = Some host; port = port }
 
 -- the text of a URL of simple parts
-abbrev simple_url : Scheme → Option (List ℕ) → List ℕ → List ℕ → List ℕ
-simple_url p user host path = scheme_text p ++ (codes "://" ++ (before_host user ++ (host ++ path)))
+abbrev simple_url : Scheme → Option (List ℕ) → List ℕ → Option ℕ → List ℕ → List ℕ
+simple_url p user host port path = scheme_text p ++ (codes "://" ++ (before_host user ++ (host ++ (port_part port ++ path))))
 
 user_kept : (user : Option (List ℕ)) → IfSome user IsSimpleHost → user_information user None ≡ before_host user
 user_kept None simple = refl
@@ -95,8 +80,8 @@ host_kept p host of_git simple = encoded_host host simple
 host_kept p host of_ssh simple = encoded_host host simple
 
 path_kept : (p : Scheme) (path : List ℕ) → IsRemoteScheme p → is_common path ≡ true → plain_path p path ≡ path
-path_kept p path of_http common = ready_path path (common_ready path common)
-path_kept p path of_https common = ready_path path (common_ready path common)
+path_kept p path of_http common = common_path path common
+path_kept p path of_https common = common_path path common
 path_kept p path of_git common = refl
 path_kept p path of_ssh common = refl
 
@@ -108,9 +93,9 @@ no_root p path begins = rw begins (and_false (requires_path p))
     and_false false = refl
 
 -- the text of such a URL
-simple_canonical : (p : Scheme) (user : Option (List ℕ)) (host path : List ℕ) → IsRemoteScheme p → IfSome user IsSimpleHost → IsSimpleHost host → is_common path ≡ true → begins_with slash path ≡ true
-    → canonical_text (simple_value p false user host path) ≡ simple_url p user host path
-simple_canonical p user host path remote simple_user simple_host common begins =
+simple_canonical : (p : Scheme) (user : Option (List ℕ)) (host path : List ℕ) (port : Option ℕ) → IsRemoteScheme p → IfSome user IsSimpleHost → IsSimpleHost host → is_common path ≡ true → begins_with slash path ≡ true
+    → canonical_text (simple_value p false user host port path) ≡ simple_url p user host port path
+simple_canonical p user host path port remote simple_user simple_host common begins =
     rw (user_kept user simple_user, simple_free colon host simple_host refl, host_kept p host remote simple_host, no_root p path begins, path_kept p path remote common) refl
 
 -- ---- URLs are settled
@@ -120,59 +105,62 @@ no_empty_user None simple e = absurd cc
 no_empty_user (Some user) simple e = let same : user ≡ [] = cc in absurd (omega (arith, simple.nonempty, ap length same))
 
 -- what settled URLs have in common
-url_common : (b : List ℕ) (p : Scheme) (user : Option (List ℕ)) (host path : List ℕ) → IsRemoteScheme p → IfSome user IsSimpleHost → is_common path ≡ true
-    → text (simple_value p false user host path) ≡ Ok b → FitsText b → IsSettledRaw (simple_value p false user host path)
-url_common b p user host path remote simple_user common is fits =
-    let v = simple_value p false user host path in
+url_common : (b : List ℕ) (p : Scheme) (user : Option (List ℕ)) (host path : List ℕ) (port : Option ℕ) → IsRemoteScheme p → IfSome user IsSimpleHost → is_common path ≡ true
+    → text (simple_value p false user host port path) ≡ Ok b → FitsText b → IsSettledRaw (simple_value p false user host port path)
+url_common b p user host path port remote simple_user common is fits =
+    let v = simple_value p false user host port path in
     let raw = plain_raw_path v refl (common_plain path common) in
     record {
       common = record { unflagged = refl; credentials = (tt, λ e. no_empty_user user simple_user e); hosted = (λ _. refl, λ _. refl); path = raw.0; fits = (b, is, fits) };
       raw = raw.1;
     }
 
-homeless : (path : List ℕ) → is_common path ≡ true → begins_with slash path ≡ true → IsHomeless path
-homeless path common begins = (begins, common_homeless path common)
+-- a port that isn't 0
+no_zero : (port : Option ℕ) → IfSome port IsSimplePort → ¬ (port ≡ Some 0)
+no_zero None allowed e = absurd cc
+no_zero (Some port) allowed e = let same : port ≡ 0 = cc in absurd (omega (arith, allowed.0, same))
 
 -- a URL of simple parts is settled, and its text is as it was read
-url_unchanged : (b : List ℕ) (p : Scheme) (user : Option (List ℕ)) (host path : List ℕ) → IsRemoteScheme p → HasSimpleParts b user host path → begins_with slash path ≡ true → length b ≤ 64
-    → b ≡ simple_url p user host path → IsSettled (simple_value p false user host path) × (text (simple_value p false user host path) ≡ Ok b)
-url_unchanged b p user host path remote parts begins short joined = by_scheme p remote joined
+url_unchanged : (b : List ℕ) (p : Scheme) (user : Option (List ℕ)) (host path : List ℕ) (port : Option ℕ) → IsRemoteScheme p → HasSimpleParts b user host path → IfSome port IsSimplePort → begins_with slash path ≡ true → length b ≤ 64
+    → b ≡ simple_url p user host port path → IsSettled (simple_value p false user host port path) × (text (simple_value p false user host port path) ≡ Ok b)
+url_unchanged b p user host path port remote parts allowed begins short joined = by_scheme p remote joined
   where
-    path_common : (front : List ℕ) → b ≡ front ++ (codes "://" ++ (before_host user ++ (host ++ path))) → is_common path ≡ true
+    path_common : (front : List ℕ) → b ≡ front ++ (codes "://" ++ (before_host user ++ (host ++ (port_part port ++ path)))) → is_common path ≡ true
     path_common front e =
-        let behind = (common_parts front (codes "://" ++ (before_host user ++ (host ++ path))) (subst (λ s. is_common s ≡ true) e parts.common)).1 in
-        let rest = (common_parts (codes "://") (before_host user ++ (host ++ path)) behind).1 in
-        (common_parts host path (common_parts (before_host user) (host ++ path) rest).1).1
+        let behind = (common_parts front (codes "://" ++ (before_host user ++ (host ++ (port_part port ++ path)))) (subst (λ s. is_common s ≡ true) e parts.common)).1 in
+        let rest = (common_parts (codes "://") (before_host user ++ (host ++ (port_part port ++ path))) behind).1 in
+        let place = (common_parts (before_host user) (host ++ (port_part port ++ path)) rest).1 in
+        (common_parts (port_part port) path (common_parts host (port_part port ++ path) place).1).1
 
-    fits : (front : List ℕ) → FreeOf colon front → b ≡ front ++ (codes "://" ++ (before_host user ++ (host ++ path))) → FitsText b
-    fits front free e = record { scheme = front; rest = before_host user ++ (host ++ path); no_colon = free; joined = e; fits = short_fits b front (before_host user ++ (host ++ path)) e short }
+    fits : (front : List ℕ) → FreeOf colon front → b ≡ front ++ (codes "://" ++ (before_host user ++ (host ++ (port_part port ++ path)))) → FitsText b
+    fits front free e = record { scheme = front; rest = before_host user ++ (host ++ (port_part port ++ path)); no_colon = free; joined = e; fits = short_fits b front (before_host user ++ (host ++ (port_part port ++ path))) e short }
 
-    by_scheme : (p : Scheme) → IsRemoteScheme p → b ≡ simple_url p user host path → IsSettled (simple_value p false user host path) × (text (simple_value p false user host path) ≡ Ok b)
+    by_scheme : (p : Scheme) → IsRemoteScheme p → b ≡ simple_url p user host port path → IsSettled (simple_value p false user host port path) × (text (simple_value p false user host port path) ≡ Ok b)
     by_scheme p of_git e =
-        let v = simple_value git false user host path in
+        let v = simple_value git false user host port path in
         let common = path_common (codes "git") e in
-        let is = (written_git v refl).canonical refl (λ _. refl, λ _. refl) ∙ ap Ok (simple_canonical git user host path of_git parts.simple_user parts.simple_host common begins ∙ sym e) in
-        (record { url = url_common b git user host path of_git parts.simple_user common is (fits (codes "git") refl e); host = (host, refl, inl (simple_normal_name host parts.simple_host)); path = inl (homeless path common begins) }, is)
+        let is = (written_git v refl).canonical refl (λ _. refl, λ _. refl) ∙ ap Ok (simple_canonical git user host path port of_git parts.simple_user parts.simple_host common begins ∙ sym e) in
+        (record { url = url_common b git user host path port of_git parts.simple_user common is (fits (codes "git") refl e); host = (host, refl, inl (simple_normal_name host parts.simple_host)); path = inl (begins, parts.not_home) }, is)
     by_scheme p of_ssh e =
-        let v = simple_value ssh false user host path in
+        let v = simple_value ssh false user host port path in
         let common = path_common (codes "ssh") e in
-        let is = (written_secure v refl (inl (homeless path common begins))).canonical refl (λ _. refl, λ _. refl) ∙ ap Ok (simple_canonical ssh user host path of_ssh parts.simple_user parts.simple_host common begins ∙ sym e) in
-        (inr (record { url = url_common b ssh user host path of_ssh parts.simple_user common is (fits (codes "ssh") refl e); host = (host, refl, inl (simple_normal_name host parts.simple_host)); path = inl (homeless path common begins) }), is)
+        let is = (written_secure v refl (inl (begins, parts.not_home))).canonical refl (λ _. refl, λ _. refl) ∙ ap Ok (simple_canonical ssh user host path port of_ssh parts.simple_user parts.simple_host common begins ∙ sym e) in
+        (inr (record { url = url_common b ssh user host path port of_ssh parts.simple_user common is (fits (codes "ssh") refl e); host = (host, refl, inl (simple_normal_name host parts.simple_host)); path = inl (begins, parts.not_home) }), is)
     by_scheme p of_http e =
-        let v = simple_value http false user host path in
+        let v = simple_value http false user host port path in
         let common = path_common (codes "http") e in
-        let is = (written_web v (inl refl)).canonical refl (λ _. refl, λ _. refl) ∙ ap Ok (simple_canonical http user host path of_http parts.simple_user parts.simple_host common begins ∙ sym e) in
-        (record { common = (url_common b http user host path of_http parts.simple_user common is (fits (codes "http") refl e)).common; host = (host, refl, simple_web_host None host parts.simple_host); port = λ e. let wrong : None ≡ Some 0 = e in cc; path = rooted_starts path begins }, is)
+        let is = (written_web v (inl refl)).canonical refl (λ _. refl, λ _. refl) ∙ ap Ok (simple_canonical http user host path port of_http parts.simple_user parts.simple_host common begins ∙ sym e) in
+        (record { common = (url_common b http user host path port of_http parts.simple_user common is (fits (codes "http") refl e)).common; host = (host, refl, simple_web_host port host parts.simple_host); port = no_zero port allowed; path = rooted_starts path begins }, is)
     by_scheme p of_https e =
-        let v = simple_value https false user host path in
+        let v = simple_value https false user host port path in
         let common = path_common (codes "https") e in
-        let is = (written_web v (inr refl)).canonical refl (λ _. refl, λ _. refl) ∙ ap Ok (simple_canonical https user host path of_https parts.simple_user parts.simple_host common begins ∙ sym e) in
-        (record { common = (url_common b https user host path of_https parts.simple_user common is (fits (codes "https") refl e)).common; host = (host, refl, simple_web_host None host parts.simple_host); port = λ e. let wrong : None ≡ Some 0 = e in cc; path = rooted_starts path begins }, is)
+        let is = (written_web v (inr refl)).canonical refl (λ _. refl, λ _. refl) ∙ ap Ok (simple_canonical https user host path port of_https parts.simple_user parts.simple_host common begins ∙ sym e) in
+        (record { common = (url_common b https user host path port of_https parts.simple_user common is (fits (codes "https") refl e)).common; host = (host, refl, simple_web_host port host parts.simple_host); port = no_zero port allowed; path = rooted_starts path begins }, is)
 
 -- ---- the scp form
 
 -- the text of the scp form
-scp_written : (user : Option (List ℕ)) (host path : List ℕ) → IsSimpleHost host → text (simple_value ssh true user host path) ≡ Ok (before_host user ++ (host ++ colon ∷ path))
+scp_written : (user : Option (List ℕ)) (host path : List ℕ) → IsSimpleHost host → text (simple_value ssh true user host None path) ≡ Ok (before_host user ++ (host ++ colon ∷ path))
 scp_written None host path simple = elim (cases_Bool (is_relative path)) [
   | inl relative ↦ rw (relative, simple_free colon host simple refl) refl
   | inr other ↦ rw (other, simple_free colon host simple refl) refl
@@ -188,7 +176,7 @@ scp_user (Some user) simple = record { no_colon = simple_free colon user simple 
 
 -- a text of simple parts in the scp form is settled
 scp_unchanged : (b : List ℕ) (user : Option (List ℕ)) (host path : List ℕ) → HasSimpleParts b user host path → FreeOf colon path → ((rest : List ℕ) → ¬ (path ≡ slash ∷ (slash ∷ rest)))
-    → b ≡ before_host user ++ (host ++ colon ∷ path) → IsSettled (simple_value ssh true user host path) × (text (simple_value ssh true user host path) ≡ Ok b)
+    → b ≡ before_host user ++ (host ++ colon ∷ path) → IsSettled (simple_value ssh true user host None path) × (text (simple_value ssh true user host None path) ≡ Ok b)
 scp_unchanged b user host path parts free other joined =
     let behind = (common_parts (before_host user) (host ++ colon ∷ path) (subst (λ s. is_common s ≡ true) joined parts.common)).1 in
     let common = (common_around (host ++ colon ∷ path) host path colon behind refl).1 in (
@@ -196,7 +184,7 @@ scp_unchanged b user host path parts free other joined =
         flagged = refl;
         no_password = refl;
         no_port = refl;
-        path = record { path_text = plain_utf8 path (common_plain path common); nonempty = parts.pathed; not_home = common_homeless path common; not_slashes = no_slashes path other; no_mark = held_free path free };
+        path = record { path_text = plain_utf8 path (common_plain path common); nonempty = parts.pathed; not_home = parts.not_home; not_slashes = no_slashes path other; no_mark = held_free path free };
         user = scp_user user parts.simple_user;
         host = (host, refl, inl (simple_scp_name host parts.simple_host), λ (none, named, begins). both_ways (begins_with colon path) (free_begins colon path free) begins);
       }),
@@ -217,4 +205,4 @@ simple_unchanged b v (helper_text h) = helper_unchanged b v h
 simple_unchanged b v (local_text h) = local_unchanged b v h
 simple_unchanged b v (file_text path utf8 begins joined value) = rw value (file_unchanged b path utf8 begins joined)
 simple_unchanged b v (scp_text user host path parts free other joined value) = rw value (scp_unchanged b user host path parts free other joined)
-simple_unchanged b v (url_text p user host path remote parts begins short joined value) = rw value (url_unchanged b p user host path remote parts begins short joined)
+simple_unchanged b v (url_text p user host path port remote parts allowed begins short joined value) = rw value (url_unchanged b p user host path port remote parts allowed begins short joined)

@@ -9,6 +9,7 @@ use Rattle.percent_encoding.specs.Percent.{percent_encode}
 use Rattle.percent_encoding.proofs.PercentLemmas.{percent_encode-nil, percent_encode_kept}
 use Rattle.git_syntax.specs.declared.escape.TheConstants.{PATH, PASSWORD, USER}
 use Rattle.git_location.specs.Internal.KeptBytes.{is_unescaped_in_path, is_unescaped_in_user}
+use Rattle.git_syntax.specs.Internal.Masks.{is_common, is_common_byte}
 use Rattle.percent_encoding.proofs.AsciiSetLemmas.{kept_from_outside}
 
 -- a text of which each byte passes a test that no escaped byte passes is written as it is
@@ -41,6 +42,16 @@ password_outside b ascii = agree_below_at (λ d. is_unescaped_in_user d && conta
 -- a path of bytes that need no escape
 pub ready_path : (bs : List ℕ) → list_all is_unescaped_in_path bs ≡ true → percent_encode PATH bs ≡ bs
 ready_path bs all = kept_by PATH is_unescaped_in_path (λ b ready. kept_from_outside PATH b (path_ascii b ready) (other_fails _ _ (path_outside b (path_ascii b ready)) ready)) bs all
+
+common_outside : (b : ℕ) → b < 128 → (is_common_byte b && contains PATH b) ≡ false
+common_outside b ascii = agree_below_at (λ d. is_common_byte d && contains PATH d) (λ d. false) 128 b refl ascii
+
+common_ascii : (b : ℕ) → is_common_byte b ≡ true → b < 128
+common_ascii b common = grind (arith, nat_tests)
+
+-- a path of common bytes
+pub common_path : (bs : List ℕ) → is_common bs ≡ true → percent_encode PATH bs ≡ bs
+common_path bs all = kept_by PATH is_common_byte (λ b common. kept_from_outside PATH b (common_ascii b common) (other_fails _ _ (common_outside b (common_ascii b common)) common)) bs all
 
 -- a user of bytes that need no escape
 pub ready_user : (bs : List ℕ) → list_all is_unescaped_in_user bs ≡ true → percent_encode USER bs ≡ bs

@@ -14,7 +14,8 @@ use Rattle.git_syntax.specs.Escapes.{matches, path_set, password_set, user_set, 
 use Rattle.git_syntax.specs.AddressTest.{is_ipv6_text}
 use Rattle.git_syntax.specs.Schemes.{scheme_text, requires_path}
 use Rattle.git_syntax.specs.Internal.FoundPieces.{optional_length}
-use Rattle.git_location.specs.Text.{escaped_password, user_information, keeps_host, open_host, needs_brackets, host_part, port_part, root_part, plain_path, matching_or, canonical_path, canonical_text}
+use Rattle.git_syntax.specs.Hosts.{port_part}
+use Rattle.git_location.specs.Text.{escaped_password, user_information, keeps_host, open_host, needs_brackets, host_part, root_part, plain_path, matching_or, canonical_path, canonical_text}
 use Rattle.git_location.proofs.Writing.PieceLemmas.{length_escapes, length_percents}
 
 -- an escaped text is at most three times as long as the text

@@ -16,13 +16,14 @@ use Rattle.std.specs.Char.{to_ascii_lowercase}
 use Rattle.git_syntax.specs.Escapes.{is_sound}
 use Rattle.git_syntax.specs.Hosts.HostSyntax.{http_hosts}
 use Rattle.git_syntax.specs.Schemes.{scheme_text}
+use Rattle.git_syntax.specs.Hosts.{port_part}
 use Rattle.git_syntax.proofs.Texts.CutLemmas.{tails, all_weaker, free-append, free-cons, free_of_all, not_free}
 use Rattle.git_syntax.proofs.Texts.EscapeLemmas.{encode_sound, sound-append, sound_kept}
 use Rattle.git_syntax.proofs.Texts.EscapeSets.{password_holds, user_holds}
 use Rattle.git_syntax.proofs.Addresses.AddressLemmas.{is_address_byte, address_bytes}
 use Rattle.git_syntax.proofs.Parsing.HostLemmas.{decimal_digits, number_written}
 use Rattle.git_location.specs.declared.write_error.WriteFault.{WriteFault}
-use Rattle.git_location.specs.Text.{user_information, port_part, canonical_path, canonical_text, text}
+use Rattle.git_location.specs.Text.{user_information, canonical_path, canonical_text, text}
 use Rattle.git_location.specs.Settled.{IsValue, IsWeb, IsBracketedAddress}
 use Rattle.git_location.specs.WebClass.{IsUnambiguousHost, is_plain_host_byte, AgreesOverWeb}
 use Rattle.git_location.proofs.SettledClass.SettledLemmas.{settled_as_web}

@@ -1,19 +1,22 @@
 -- Simple texts, by the pieces that masks cut.
-use Rattle.std.proofs.Common.{◌≡◌, ◌∙◌, ◌<◌, ◌≤◌, ◌++◌, ◌∷◌, ℕ, true, false, List, [], Some, length, codes, refl, ap, subst, append_assoc}
+use Rattle.std.proofs.Common.{◌≡◌, ◌∙◌, ◌<◌, ◌≤◌, ◌++◌, ◌∷◌, ℕ, true, false, List, [], Option, Some, length, codes, refl, ap, subst, append_assoc}
 use Rattle.git_syntax.specs.Bytes.{FreeOf, begins_with, colon, is_helper_name, slash}
 use Rattle.git_syntax.specs.Flaws.{UrlForm}
 use Rattle.git_syntax.specs.Grammar.{SpellsLocal, begins_at_home, helper_scheme}
 use Rattle.git_syntax.specs.Location.{Location, Scheme, path_alone}
 use Rattle.git_syntax.specs.Location.Scheme.{file, ssh}
 use Rattle.git_syntax.specs.Schemes.{scheme_text}
-use Rattle.git_syntax.specs.SimpleTexts.{HasSimpleHost, HasSimpleParts, IsRemoteScheme, IsSimpleText, before_host}
+use Rattle.git_syntax.specs.SimpleTexts.{HasSimpleParts, IsRemoteScheme, IsSimpleText, before_host}
+use Rattle.git_syntax.specs.Hosts.{port_part}
+use Rattle.git_syntax.specs.Internal.HostPieces.{IsSimpleHost}
+use Rattle.git_syntax.specs.Internal.SimplePieces.{CutsSimpleUser, IsSimplePlace}
 use Rattle.git_syntax.specs.SimpleTexts.IsSimpleText.{file_text, helper_text, scp_text, url_text}
 use Rattle.git_syntax.specs.Internal.Forms.{ColonCut}
 use Rattle.git_syntax.specs.Internal.Masks.{is_common}
 use Rattle.git_syntax.proofs.ByMasks.CommonLemmas.{around_colon, common_utf8, neither_by_colon, not_addressed}
 use Rattle.git_syntax.proofs.Parsing.ClassifierLemmas.{colon_nonempty, local_form, no_helper_free, no_scp_cut}
 use Rattle.git_syntax.proofs.Parsing.FormLemmas.{not_scp}
-use Rattle.git_syntax.proofs.Texts.CutLemmas.{begins_cut, held_free, not_free}
+use Rattle.git_syntax.proofs.Texts.CutLemmas.{held_free, not_free}
 
 -- a text without a colon is a local path
 pub free_local : (b : List ℕ) → 0 < length b → FreeOf colon b → SpellsLocal b (path_alone file true b)
@@ -34,34 +37,32 @@ slashed_local b front rest common cut no_mark free slashed =
     record { nonempty = form.nonempty; neither = form.neither; no_scp = form.no_scp; value = refl }
 
 -- a name before two colons makes a remote helper
-pub simple_helper : (b front rest : List ℕ) → ColonCut b front rest → begins_with colon rest ≡ true → is_helper_name front ≡ true → (v : Location) × IsSimpleText b v
-simple_helper b front rest cut begins named =
-    let (address, same) = begins_cut colon rest begins in
-    (path_alone (helper_scheme front) true address, helper_text (record { name = front; address = address; parts = record { named = named; joined = cut.joined ∙ ap (λ r. front ++ colon ∷ r) same }; value = refl }))
+pub simple_helper : (b front rest address : List ℕ) → ColonCut b front rest → rest ≡ colon ∷ address → is_helper_name front ≡ true
+    → IsSimpleText b (path_alone (helper_scheme front) true address)
+simple_helper b front rest address cut marked named =
+    helper_text (record { name = front; address = address; parts = record { named = named; joined = cut.joined ∙ ap (λ r. front ++ colon ∷ r) marked }; value = refl })
 
 -- a simple host before the only colon makes the scp form
-pub simple_scp : (b front rest : List ℕ) → is_common b ≡ true → ColonCut b front rest → ((behind : List ℕ) → ¬ (rest ≡ slash ∷ (slash ∷ behind)))
-    → FreeOf colon rest → 0 < length rest → begins_at_home rest ≡ false → HasSimpleHost front → (v : Location) × IsSimpleText b v
-simple_scp b front rest common cut no_mark free some not_home (user, host, simple_user, simple_host, joined) =
-    let parts : HasSimpleParts b user host rest = record { common = common; simple_user = simple_user; simple_host = simple_host; pathed = some; not_home = not_home } in (
-      record (path_alone ssh true rest) { user = user; host = Some host },
-      scp_text user host rest parts free no_mark (cut.joined ∙ ap (λ f. f ++ colon ∷ rest) joined ∙ append_assoc (before_host user) host (colon ∷ rest)) refl,
-    )
+pub simple_scp : (b front rest : List ℕ) (user : Option (List ℕ)) (host : List ℕ) → is_common b ≡ true → ColonCut b front rest → ((behind : List ℕ) → ¬ (rest ≡ slash ∷ (slash ∷ behind)))
+    → FreeOf colon rest → 0 < length rest → begins_at_home rest ≡ false → CutsSimpleUser front user host → IsSimpleHost host
+    → IsSimpleText b (record (path_alone ssh true rest) { user = user; host = Some host })
+simple_scp b front rest user host common cut no_mark free some not_home split simple =
+    let parts : HasSimpleParts b user host rest = record { common = common; simple_user = split.simple; simple_host = simple; pathed = some; not_home = not_home } in
+    scp_text user host rest parts free no_mark (cut.joined ∙ ap (λ f. f ++ colon ∷ rest) split.joined ∙ append_assoc (before_host user) host (colon ∷ rest)) refl
 
 -- a remote scheme and a simple host make a URL
-pub simple_url : (b scheme rest authority path : List ℕ) → UrlForm b scheme rest → is_common b ≡ true → length b ≤ 64 → rest ≡ authority ++ path
-    → 0 < length path → begins_with slash path ≡ true → begins_at_home path ≡ false → (p : Scheme) × IsRemoteScheme p × (scheme ≡ scheme_text p) → HasSimpleHost authority → (v : Location) × IsSimpleText b v
-simple_url b scheme rest authority path form common short cut some begins not_home (p, remote, named) (user, host, simple_user, simple_host, joined) =
-    let parts : HasSimpleParts b user host path = record { common = common; simple_user = simple_user; simple_host = simple_host; pathed = some; not_home = not_home } in
-    let whole = cut ∙ ap (λ a. a ++ path) joined ∙ append_assoc (before_host user) host path in (
-      record (path_alone p false path) { user = user; host = Some host },
-      url_text p user host path remote parts begins short (form.joined ∙ ap (λ s. s ++ (codes "://" ++ rest)) named ∙ ap (λ r. scheme_text p ++ (codes "://" ++ r)) whole) refl,
-    )
+pub simple_url : (b scheme rest authority path piece : List ℕ) (p : Scheme) (user : Option (List ℕ)) (host : List ℕ) (port : Option ℕ) → UrlForm b scheme rest → is_common b ≡ true → length b ≤ 64
+    → rest ≡ authority ++ path → 0 < length path → begins_with slash path ≡ true → begins_at_home path ≡ false → IsRemoteScheme p → scheme ≡ scheme_text p
+    → CutsSimpleUser authority user piece → IsSimplePlace piece host port
+    → IsSimpleText b (record (path_alone p false path) { user = user; host = Some host; port = port })
+simple_url b scheme rest authority path piece p user host port form common short cut some begins not_home remote named split place =
+    let parts : HasSimpleParts b user host path = record { common = common; simple_user = split.simple; simple_host = place.simple; pathed = some; not_home = not_home } in
+    let placed = ap (λ q. q ++ path) place.joined ∙ append_assoc host (port_part port) path in
+    let whole = cut ∙ ap (λ a. a ++ path) split.joined ∙ append_assoc (before_host user) piece path ∙ ap (λ t. before_host user ++ t) placed in
+    url_text p user host path port remote parts place.allowed begins short (form.joined ∙ ap (λ s. s ++ (codes "://" ++ rest)) named ∙ ap (λ r. scheme_text p ++ (codes "://" ++ r)) whole) refl
 
 -- `file://` and a path make a file URL without a host
 pub simple_file : (b scheme rest authority path : List ℕ) → UrlForm b scheme rest → is_common b ≡ true → scheme ≡ codes "file" → rest ≡ authority ++ path → authority ≡ []
-    → begins_with slash path ≡ true → (v : Location) × IsSimpleText b v
-simple_file b scheme rest authority path form common named cut none begins = (
-  path_alone file false path,
-  file_text path (common_utf8 b common) begins (form.joined ∙ ap (λ s. s ++ (codes "://" ++ rest)) named ∙ ap (λ r. codes "file://" ++ r) (cut ∙ ap (λ a. a ++ path) none)) refl,
-)
+    → begins_with slash path ≡ true → IsSimpleText b (path_alone file false path)
+simple_file b scheme rest authority path form common named cut none begins =
+    file_text path (common_utf8 b common) begins (form.joined ∙ ap (λ s. s ++ (codes "://" ++ rest)) named ∙ ap (λ r. codes "file://" ++ r) (cut ∙ ap (λ a. a ++ path) none)) refl

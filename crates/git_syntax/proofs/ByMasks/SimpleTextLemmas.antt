@@ -1,5 +1,5 @@
 -- A simple text spells its location.
-use Rattle.std.proofs.Common.{◌≡◌, ◌∙◌, ◌<◌, ◌≤◌, ◌++◌, ◌∷◌, ◌==◌, ◌&&◌, ℕ, Bool, bytes_eq, true, false, List, [], Option, Some, None, length, codes, refl, sym, ap, subst, inl, inr, arith, append_assoc}
+use Rattle.std.proofs.Common.{◌≡◌, ◌∙◌, ◌<◌, ◌≤◌, ◌++◌, ◌∷◌, ◌==◌, ◌&&◌, ℕ, Bool, bytes_eq, true, false, List, [], Option, Some, None, length, codes, refl, sym, ap, subst, inl, inr, arith, append_assoc, append-nil}
 use Rattle.std.specs.Prelude.{IfSome}
 use Rattle.std.proofs.lemmas.Bool.{and_parts, false≢true}
 use Rattle.std.proofs.lemmas.Bool.Decides.{nat_tests}
@@ -9,11 +9,15 @@ use Rattle.git_syntax.specs.Authority.Credentials.{user_alone}
 use Rattle.git_syntax.specs.Bytes.{FreeOf, at_sign, begins_with, colon, is_scheme_text, left_bracket, slash, tilde}
 use Rattle.git_syntax.specs.Grammar.{begins_at_home, HasUrlSyntax, HostFor, IsSshHost, DenotesByScheme, ScpFront, ScpUser, Spells, UrlSyntax, from_home, or_root, path_for}
 use Rattle.git_syntax.specs.Grammar.Spells.{file_url, local_path, remote_helper, scp_form, url}
-use Rattle.git_syntax.specs.Hosts.{HostSyntax}
+use Rattle.git_syntax.specs.Hosts.{AllowsPort, HostSyntax, IsPlainHost, SpellsHostPort, port_part}
+use Rattle.git_syntax.specs.Hosts.HostSyntax.{git_hosts, http_hosts, other_hosts}
+use Rattle.git_syntax.specs.Hosts.SpellsHostPort.{plain_port}
+use Rattle.std.specs.Char.{is_ascii_digit}
+use Rattle.std.specs.Prelude.{decimal}
 use Rattle.git_syntax.specs.Location.{Location, Scheme, path_alone}
 use Rattle.git_syntax.specs.Location.Scheme.{git, ssh, http, https}
 use Rattle.git_syntax.specs.Schemes.{host_syntax_of, is_web_scheme, requires_host, scheme_text}
-use Rattle.git_syntax.specs.SimpleTexts.{HasSimpleParts, IsRemoteScheme, IsSimpleText, before_host}
+use Rattle.git_syntax.specs.SimpleTexts.{HasSimpleParts, IsRemoteScheme, IsSimplePort, IsSimpleText, before_host}
 use Rattle.git_syntax.specs.SimpleTexts.IsRemoteScheme.{of_git, of_ssh, of_http, of_https}
 use Rattle.git_syntax.specs.SimpleTexts.IsSimpleText.{file_text, helper_text, local_text, scp_text, url_text}
 use Rattle.git_syntax.specs.Internal.HostPieces.{IsSimpleHost, is_simple_byte}
@@ -22,7 +26,7 @@ use Rattle.git_syntax.specs.Internal.Forms.{ColonCut}
 use Rattle.git_syntax.specs.Internal.UrlPieces.{HoldsHosted}
 use Rattle.git_syntax.proofs.ByMasks.CommonLemmas.{common_around, common_free_of_percent, common_parts, common_utf8, neither_by_colon, url_of_common}
 use Rattle.git_syntax.proofs.Parsing.ClassifierLemmas.{url_has_form}
-use Rattle.git_syntax.proofs.Parsing.HostLemmas.{simple_decoded, simple_named, simple_utf8}
+use Rattle.git_syntax.proofs.Parsing.HostLemmas.{decimal_digits, number_written, simple_decoded, simple_named, simple_text, simple_utf8}
 use Rattle.git_syntax.proofs.Parsing.ScpLemmas.{simple_scp_host}
 use Rattle.git_syntax.proofs.Parsing.UrlLemmas.{some_kept}
 use Rattle.git_syntax.proofs.Texts.CutLemmas.{free-append, free-cons, free_begins, free_of_all, not_free}
@@ -34,11 +38,19 @@ use Rattle.git_syntax.proofs.Texts.EscapeLemmas.{decode_kept}
 pub simple_free : (c : ℕ) (t : List ℕ) → IsSimpleHost t → is_simple_byte c ≡ false → FreeOf c t
 simple_free c t simple other = free_of_all is_simple_byte c t simple.bytes other
 
--- so does an authority of simple parts, except for `@`
-pub front_free : (c : ℕ) (user : Option (List ℕ)) (host : List ℕ) → IfSome user IsSimpleHost → IsSimpleHost host → is_simple_byte c ≡ false → (at_sign == c) ≡ false → FreeOf c (before_host user ++ host)
-front_free c None host simple_user simple_host other apart = simple_free c host simple_host other
-front_free c (Some user) host simple_user simple_host other apart =
-    free-append c (user ++ at_sign ∷ []) host (free-append c user (at_sign ∷ []) (simple_free c user simple_user other) (free-cons c at_sign [] apart refl)) (simple_free c host simple_host other)
+-- so does a text after a simple user, except for `@`
+pub front_free : (c : ℕ) (user : Option (List ℕ)) (rest : List ℕ) → IfSome user IsSimpleHost → FreeOf c rest → is_simple_byte c ≡ false → (at_sign == c) ≡ false → FreeOf c (before_host user ++ rest)
+front_free c None rest simple_user free other apart = free
+front_free c (Some user) rest simple_user free other apart =
+    free-append c (user ++ at_sign ∷ []) rest (free-append c user (at_sign ∷ []) (simple_free c user simple_user other) (free-cons c at_sign [] apart refl)) free
+
+-- so does a simple host before a port, except for `:`
+place_free : (c : ℕ) (host : List ℕ) (port : Option ℕ) → IsSimpleHost host → IfSome port IsSimplePort → is_simple_byte c ≡ false → is_ascii_digit c ≡ false → (colon == c) ≡ false
+    → FreeOf c (host ++ port_part port)
+place_free c host None simple allowed other no_digit apart = free-append c host [] (simple_free c host simple other) refl
+place_free c host (Some port) simple allowed other no_digit apart =
+    let digits = free_of_all is_ascii_digit c (decimal port) (decimal_digits port (omega (arith, allowed.1))).1 no_digit in
+    free-append c host (colon ∷ decimal port) (simple_free c host simple other) (free-cons c colon (decimal port) apart digits)
 
 -- a path that doesn't begin at a home folder stays as it is
 pub home_kept : (path : List ℕ) → begins_at_home path ≡ false → from_home path ≡ path
@@ -60,7 +72,7 @@ scp_spelled : (b : List ℕ) (user : Option (List ℕ)) (host path : List ℕ) �
 scp_spelled b user host path parts free no_slashes joined =
     let front = before_host user ++ host in
     let whole = joined ∙ sym (append_assoc (before_host user) host (colon ∷ path)) in
-    let lacks = λ (c : ℕ) (other : is_simple_byte c ≡ false) (apart : (at_sign == c) ≡ false). front_free c user host parts.simple_user parts.simple_host other apart in
+    let lacks = λ (c : ℕ) (other : is_simple_byte c ≡ false) (apart : (at_sign == c) ≡ false). front_free c user host parts.simple_user (simple_free c host parts.simple_host other) other apart in
     let cut : ColonCut b front path = record { joined = whole; no_colon = lacks colon refl refl } in
     let home = home_kept path parts.not_home in
     scp_form (inl (record {
@@ -84,19 +96,32 @@ scp_spelled b user host path parts free no_slashes joined =
 
 -- ---- URLs
 
+-- a port that isn't 0 is allowed in every syntax
+allows_port : (syntax : HostSyntax) (port : ℕ) → 0 < port → AllowsPort syntax port
+allows_port http_hosts port some = some
+allows_port git_hosts port some = tt
+allows_port other_hosts port some = tt
+
+-- a simple host and a port name themselves in every syntax
+place_named : (syntax : HostSyntax) (host : List ℕ) (port : Option ℕ) → IsSimpleHost host → IfSome port IsSimplePort → SpellsHostPort syntax (host ++ port_part port) (Some host) port
+place_named syntax host None simple allowed = subst (λ t. SpellsHostPort syntax t (Some host) None) (sym (append-nil host)) (simple_named syntax host simple)
+place_named syntax host (Some port) simple allowed =
+    let plain : IsPlainHost host = record { nonempty = simple.nonempty; no_colon = simple_free colon host simple refl; no_bracket = free_begins left_bracket host (simple_free left_bracket host simple refl) } in
+    plain_port host host (decimal port) port plain (simple_text syntax host simple.bytes) (number_written syntax port (omega (arith, allowed.1)) (allows_port syntax port allowed.0)) refl refl refl
+
 -- the authority of simple parts
-simple_authority : (syntax : HostSyntax) (needed : Bool) (user : Option (List ℕ)) (host : List ℕ) → IfSome user IsSimpleHost → IsSimpleHost host
-    → HoldsHosted syntax needed (before_host user ++ host) user None (Some host) None
-simple_authority syntax needed None host simple_user simple_host = record {
-  named = host_alone (simple_free at_sign host simple_host refl) (simple_named syntax host simple_host) refl refl;
+simple_authority : (syntax : HostSyntax) (needed : Bool) (user : Option (List ℕ)) (host : List ℕ) (port : Option ℕ) → IfSome user IsSimpleHost → IsSimpleHost host → IfSome port IsSimplePort
+    → HoldsHosted syntax needed (before_host user ++ (host ++ port_part port)) user None (Some host) port
+simple_authority syntax needed None host port simple_user simple_host allowed = record {
+  named = host_alone (place_free at_sign host port simple_host allowed refl refl refl) (place_named syntax host port simple_host allowed) refl refl;
   hosted = λ need. refl;
 }
-simple_authority syntax needed (Some user) host simple_user simple_host =
+simple_authority syntax needed (Some user) host port simple_user simple_host allowed =
     let decoded = simple_decoded user simple_user.bytes in
     record {
-      named = with_user user host (simple_free at_sign host simple_host refl) (append_assoc user (at_sign ∷ []) host)
+      named = with_user user (host ++ port_part port) (place_free at_sign host port simple_host allowed refl refl refl) (append_assoc user (at_sign ∷ []) (host ++ port_part port))
           (user_alone (simple_free colon user simple_user refl) (rw decoded (simple_utf8 user simple_user.bytes)) refl (rw decoded (sym (some_kept user (λ e. absurd (omega (arith, simple_user.nonempty, ap length e)))))))
-          (simple_named syntax host simple_host) refl;
+          (place_named syntax host port simple_host allowed) refl;
       hosted = λ need. refl;
     }
 
@@ -178,14 +203,18 @@ remote_spelled b rest authority path p user password host port remote joined com
     by_scheme p of_https e holds = url (record { parts = remote_fields https user password host port path; spelled = syntax (codes "https") refl refl refl e holds; means = remote_means https user password host path port of_https simple (path_common (codes "https") e) some })
 
 -- a text of simple parts after a remote scheme is a URL
-url_spelled : (b : List ℕ) (p : Scheme) (user : Option (List ℕ)) (host path : List ℕ) → IsRemoteScheme p → HasSimpleParts b user host path → begins_with slash path ≡ true → length b ≤ 64
-    → b ≡ scheme_text p ++ (codes "://" ++ (before_host user ++ (host ++ path))) → Spells b (record (path_alone p false path) { user = user; host = Some host })
-url_spelled b p user host path remote parts begins short joined =
-    let authority = before_host user ++ host in
-    let whole = joined ∙ ap (λ r. scheme_text p ++ (codes "://" ++ r)) (sym (append_assoc (before_host user) host path)) in
-    let held = simple_authority (host_syntax_of (scheme_text p)) (requires_host (scheme_text p)) user host parts.simple_user parts.simple_host in
-    let found = remote_spelled b (authority ++ path) authority path p user None host None remote whole parts.common short refl (front_free slash user host parts.simple_user parts.simple_host refl refl) parts.pathed begins held parts.simple_host in
-    subst (λ t. Spells b (record (path_alone p false t) { user = user; host = Some host })) (path_stays p path remote parts.pathed parts.not_home) found
+url_spelled : (b : List ℕ) (p : Scheme) (user : Option (List ℕ)) (host path : List ℕ) (port : Option ℕ) → IsRemoteScheme p → HasSimpleParts b user host path → IfSome port IsSimplePort
+    → begins_with slash path ≡ true → length b ≤ 64 → b ≡ scheme_text p ++ (codes "://" ++ (before_host user ++ (host ++ (port_part port ++ path))))
+    → Spells b (record (path_alone p false path) { user = user; host = Some host; port = port })
+url_spelled b p user host path port remote parts allowed begins short joined =
+    let place = host ++ port_part port in
+    let authority = before_host user ++ place in
+    let cut = append_assoc (before_host user) place path ∙ ap (λ t. before_host user ++ t) (append_assoc host (port_part port) path) in
+    let whole = joined ∙ ap (λ r. scheme_text p ++ (codes "://" ++ r)) (sym cut) in
+    let held = simple_authority (host_syntax_of (scheme_text p)) (requires_host (scheme_text p)) user host port parts.simple_user parts.simple_host allowed in
+    let free = front_free slash user place parts.simple_user (place_free slash host port parts.simple_host allowed refl refl refl) refl refl in
+    let found = remote_spelled b (authority ++ path) authority path p user None host port remote whole parts.common short refl free parts.pathed begins held parts.simple_host in
+    subst (λ t. Spells b (record (path_alone p false t) { user = user; host = Some host; port = port })) (path_stays p path remote parts.pathed parts.not_home) found
 
 -- ---- all kinds
 
@@ -196,4 +225,4 @@ simple_spelled b v (local_text h) = local_path h
 simple_spelled b v (file_text path text begins joined value) =
     file_url (record { host = []; path = path; joined = joined; text = text; no_slash = refl; rooted = begins; value = value })
 simple_spelled b v (scp_text user host path parts free no_slashes joined value) = rw value (scp_spelled b user host path parts free no_slashes joined)
-simple_spelled b v (url_text p user host path remote parts begins short joined value) = rw value (url_spelled b p user host path remote parts begins short joined)
+simple_spelled b v (url_text p user host path port remote parts allowed begins short joined value) = rw value (url_spelled b p user host path port remote parts allowed begins short joined)

@@ -63,7 +63,7 @@ pub(super) fn with_port<'a>(
 }
 
 /// The port that the digits spell.
-fn read_port(syntax: HostSyntax, digits: &[u8]) -> Option<u16>
+pub(crate) fn read_port(syntax: HostSyntax, digits: &[u8]) -> Option<u16>
     ensures { MatchOption result ((port : ℕ) → ¬ Number (host_syntax syntax) digits.now port)
         (λ port. Number (host_syntax syntax) digits.now port) }
 {

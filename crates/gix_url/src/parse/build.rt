@@ -4,18 +4,22 @@ ghost use Rattle.std.specs.Prelude.{◌≡◌, IfOk, IfSome, IsUtf8, option_map,
 ghost use Rattle.std.specs.Option.{option_copied};
 ghost use Rattle.git_syntax.specs.Internal.FoundPieces.{AreScpTexts, IsReady, denoted, scp_host_of};
 ghost use Rattle.git_syntax.specs.Grammar.{helper_scheme, scp_location};
+ghost use Rattle.git_syntax.specs.Internal.SimplePieces.{simple_location};
 ghost use Rattle.git_syntax.specs.Location.{path_alone};
+ghost use Rattle.git_syntax.specs.Views.{borrowed_scheme};
 ghost use Rattle.gix_url.specs.Views.{owned_scheme};
 
 use crate::location::Url;
 use crate::parse::copies::{copy, copy_text, copy_unless_empty};
-use crate::parse::from_fields::{path_alone, plain_location};
+use crate::parse::from_fields::{from_fields, path_alone, plain_location};
 use crate::parse::to_location::url_location;
 use crate::scheme::Scheme;
 use git_syntax::bytes::append_within;
 use git_syntax::found::{Found, ScpHost};
 use git_syntax::home::from_home;
 use git_syntax::host::build::{lowercase_address, normalize};
+use git_syntax::scheme::SchemeRef;
+use git_syntax::simple::SimplePieces;
 use git_syntax::text::into_text;
 use std::alloc::{AllocError, Global};
 
@@ -38,6 +42,44 @@ pub(super) fn build(alloc: Global, found: Found<'_>) -> Result<Url, AllocError>
         Found::Ext { text } => Ok(path_alone(Scheme::Ext, true, copy(alloc, text)?)),
         Found::Url { rules, url } => url_location(alloc, rules, url),
         Found::Scp { user, host, path } => scp_location(alloc, user, host, path),
+    }
+}
+
+/// The location that the pieces of a simple text denote.
+pub(super) fn build_simple(alloc: Global, pieces: SimplePieces<'_>) -> Result<Url, AllocError>
+    ensures { IfOk result (λ v. v ≡ simple_location pieces.entry) }
+{
+    let scheme = copy_scheme(alloc, pieces.scheme)?;
+    let user = copy_if_some(alloc, pieces.user)?;
+    let host = copy_if_some(alloc, pieces.host)?;
+    let path = copy(alloc, pieces.path)?;
+    Ok(from_fields(scheme, user, None, host, pieces.flag, pieces.port, path, None))
+}
+
+/// A copy of the scheme.
+fn copy_scheme(alloc: Global, scheme: SchemeRef<'_>) -> Result<Scheme, AllocError>
+    ensures { IfOk result (λ copy. owned_scheme copy ≡ borrowed_scheme scheme.entry) }
+{
+    match scheme {
+        SchemeRef::File => Ok(Scheme::File),
+        SchemeRef::Git => Ok(Scheme::Git),
+        SchemeRef::Ssh => Ok(Scheme::Ssh),
+        SchemeRef::Http => Ok(Scheme::Http),
+        SchemeRef::Https => Ok(Scheme::Https),
+        SchemeRef::Ext => Ok(Scheme::Ext),
+        SchemeRef::Helper(name) => Ok(Scheme::Helper(String::from_str(alloc, name)?)),
+        SchemeRef::HelperUrl(name) => Ok(Scheme::HelperUrl(String::from_str(alloc, name)?)),
+    }
+}
+
+/// A copy of the text, if there is one.
+fn copy_if_some(alloc: Global, text: Option<&str>) -> Result<Option<String>, AllocError>
+    ensures { IfOk result
+        (λ copy. option_map string_bytes copy ≡ option_map (λ t. t.now) text.entry) }
+{
+    match text {
+        None => Ok(None),
+        Some(text) => Ok(Some(String::from_str(alloc, text)?)),
     }
 }
 

@@ -1,0 +1,13 @@
+-- A local path, or a URL, by its first colon.
+use Rattle.std.proofs.Common.{arith}
+use Rattle.git_syntax.proofs.Parsing.ClassifierLemmas.{mark_at_colon, url_has_form}
+use Rattle.git_syntax.proofs.simple.cut_simple.Goals as goal
+
+pub url_pieces-requires-clause-form : goal.url_pieces-requires-clause-form
+url_pieces-requires-clause-form c =
+    let b = c.args.text.text.now in
+    let front = c.in-Some.front.text.now in
+    let rest = c.in-Some.rest.text.now in
+    let behind = c.in-Some-after_slashes.behind.text.now in
+    url_has_form b front behind c.in-Some.ensures.cut.0
+    (mark_at_colon b front rest behind (record { joined = c.in-Some.ensures.cut.1; no_colon = c.in-Some.ensures.cut.0 }) c.in-Some-after_slashes.ensures.cut).1
