@@ -6,7 +6,7 @@ ghost use Rattle.git_syntax.specs.Schemes.{scheme_of, scheme_text, default_port_
 ghost use Rattle.git_syntax.specs.Schemes.{is_ftp};
 ghost use Rattle.git_syntax.specs.Views.{borrowed_scheme};
 
-/// The scheme of a borrowed location: a [`Scheme`] whose name is a slice. Copying it allocates nothing.
+/// The scheme of a borrowed location: a [`Scheme`] whose name is a slice.
 ///
 /// ```
 /// fn is_encrypted(scheme: SchemeRef<'_>) -> bool {
@@ -49,7 +49,7 @@ impl<'a> SchemeRef<'a> {
         }
     }
 
-    /// The text that the scheme is written with, like [`Scheme::as_str`]. Allocates nothing.
+    /// The text that the scheme is written with, like [`Scheme::as_str`].
     ///
     /// ```
     /// /// The protocol of a location, for as long as what lends it.
@@ -72,8 +72,7 @@ impl<'a> SchemeRef<'a> {
         }
     }
 
-    /// The port of a location with this scheme that names none, like [`Scheme::default_port`]. Allocates
-    /// nothing.
+    /// The default port of the scheme, if it has one, like [`Scheme::default_port`].
     ///
     /// ```
     /// fn port_of(scheme: SchemeRef<'_>) -> u16 {
@@ -95,7 +94,7 @@ impl<'a> SchemeRef<'a> {
     }
 }
 
-/// A known scheme, which a text names exactly.
+/// The known schemes, and one variant for all others. Names are compared byte for byte.
 #[derive(Clone, Copy)]
 pub enum KnownScheme {
     /// The local file system.
@@ -110,11 +109,11 @@ pub enum KnownScheme {
     Https,
     /// The remote helper `ext`.
     Ext,
-    /// Any other scheme, which has no name except its text.
+    /// Any other scheme: its text is its name.
     Other,
 }
 
-/// The scheme that a text names.
+/// The known scheme of which the text is the name, or `Other`.
 pub fn scheme_of(text: &[u8]) -> KnownScheme
     ensures { scheme_named result text.now ≡ scheme_of text.now }
 {
@@ -139,7 +138,7 @@ pub fn scheme_of(text: &[u8]) -> KnownScheme
     KnownScheme::Other
 }
 
-/// Whether the text is a known scheme.
+/// Whether the text is the name of a known scheme.
 pub fn is_known_scheme(text: &[u8]) -> bool
     ensures { result ≡ is_known_scheme text.now }
 {

@@ -14,9 +14,10 @@ use crate::bytes::{is_helper_name, starts_with_byte};
 use crate::masks::marked::{Marked, mark};
 use crate::scheme::is_named;
 
-/// Whether the text is known to be a simple one: a text of 16 to 64 bytes that are letters, digits, or one of `+`, `,`,
-/// `-`, `.`, `/`, `:`, `@` and `_`, with a simple host and no port. Such a text spells a settled location whose text
-/// it is. `false` says nothing.
+/// Whether the text is known to be a simple one, which spells the location of `IsSimpleText`.
+///
+/// The code accepts only texts of 16 to 64 bytes, each of which is a letter, a digit, or one of `+`, `,`,
+/// `-`, `.`, `/`, `:`, `@` and `_`. If the result is `false`, nothing is known.
 pub fn is_simple_text(bytes: &[u8]) -> bool
     ensures { IsTrue result → (v : Location) × IsSimpleText bytes.now v }
 {
@@ -97,8 +98,8 @@ fn has_simple_host(authority: Marked<'_>) -> bool
     host.is_simple_host()
 }
 
-/// Whether a remote helper, a local path or the scp form is simple, by the texts before and after the first colon. The
-/// whole text is only for the contract.
+/// Whether a remote helper, a local path or the scp form is simple, by the texts before and after the first
+/// colon. The whole text is only for the contract.
 #[inline(always)]
 fn is_simple_path(input: &[u8], front: Marked<'_>, rest: Marked<'_>) -> bool
     requires cut { ColonCut input.now front.text.now rest.text.now }
@@ -123,7 +124,7 @@ fn is_simple_path(input: &[u8], front: Marked<'_>, rest: Marked<'_>) -> bool
     has_simple_host(front)
 }
 
-/// A simple text spells the location that its definition names.
+/// A simple text spells the location that `IsSimpleText` names.
 pub fn law_simple_texts()
     ensures spelled { (b : List ℕ) (v : Location) → IsSimpleText b v → Spells b v }
 {}
