@@ -36,7 +36,7 @@ pub record IsAgain (v again : Location) : Type 0 where
   pub same_text : text again ≡ text v
   pub settled : IsSettled again
 
--- the bytes spell the location again
+-- the bytes spell a location that is `IsAgain`
 pub record SpellsAgain (v : Location) (b : List ℕ) : Type 0 where
   pub back : Location
   pub spelled : Spells b back
