@@ -51,7 +51,7 @@ impl From<AllocError> for RunError {
     }
 }
 
-/// The maximal number of reads. A reader that hasn't ended by then is given up.
+/// The maximal number of reads. If a reader hasn't ended by then, the run fails.
 const MOST_READS: u64 = 1 << 40;
 
 /// The message of the program `locations` for a fault, without the line end, which goes to standard error.
