@@ -99,7 +99,7 @@ rooted_written v none plain no_dots rooted =
       plain = subst IsPlainPath (sym same) record { bytes = plain; no_dots = no_dots };
     }
 
--- no segment is `.` or `..` where a `/` is before the path
+-- no segment is `.` or `..` if a `/` is before the path
 no_dots_behind : (path : List ℕ) → ¬ HasDots path → ¬ HasDots (slash ∷ path)
 no_dots_behind path none has = ⊎_elim (λ dots. no_empty_dots dots) none (dots_cut (slash ∷ path) [] path refl refl has)
 

@@ -23,7 +23,7 @@ abbrev pub with_at : Option (List ℕ) → List ℕ
 with_at None = []
 with_at (Some t) = t ++ at_sign ∷ []
 
--- the port behind its colon
+-- the port after its colon
 abbrev pub port_text : Option ℕ → List ℕ
 port_text None = []
 port_text (Some n) = colon ∷ decimal n

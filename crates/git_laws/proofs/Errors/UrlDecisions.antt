@@ -29,7 +29,7 @@ use Rattle.git_laws.proofs.Errors.HostDecisions.{named_or_flawed}
 
 -- ---- authorities
 
--- user information holds a user and a password, or what isn't text
+-- user information holds a user and a password, or a text that isn't text
 credentials_or_not : (text : List ℕ) → ((user : Option (List ℕ)) × (password : Option (List ℕ)) × Credentials text user password) ⊎ HasNoText text
 credentials_or_not text =
     elim (free_or_cut colon text) [
@@ -46,7 +46,7 @@ credentials_or_not text =
           ]
     ]
 
--- an authority holds these, and a host where one is needed, or is flawed
+-- an authority holds these, and a host if one is needed, or is flawed
 abbrev pub HeldOrFlawed : HostSyntax → Bool → List ℕ → Type 0
 HeldOrFlawed syntax needed authority =
     ((user : Option (List ℕ)) × (password : Option (List ℕ)) × (host : Option (List ℕ)) × (port : Option ℕ) × HoldsHosted syntax needed authority user password host port)

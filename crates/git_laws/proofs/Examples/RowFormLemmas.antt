@@ -40,7 +40,7 @@ held (b ∷ front) mark rest = or_right _ _ (held front mark rest)
 pub not_held : (mark bs : List ℕ) → holds mark bs ≡ false → ¬ Holds mark bs
 not_held mark bs h (front, rest, e) = both_ways _ h (ap (holds mark) e ∙ held front mark rest)
 
--- a text has no helper form where no helper's name comes before its first colon, or no colon behind that
+-- a text has no helper form if no helper's name comes before its first colon, or no colon after that
 pub no_helper_at : (bs front rest : List ℕ) → bs ≡ front ++ colon ∷ rest → FreeOf colon front → (is_helper_name front && begins_with colon rest) ≡ false → ¬ HasHelperForm bs
 no_helper_at bs front rest e free other (name, address, parts) =
     let same = cut_unique colon front name rest (colon ∷ address) free (helper_name_free name colon parts.named refl) (sym e ∙ parts.joined) in

@@ -128,7 +128,7 @@ scp_user_free v h1 h2 c h4 h5 = grind (arith, nat_tests, IfSome, user_free, free
 scp_plain_host : (v : Location) (host : List ℕ) → v.flag ≡ true → v.scheme ≡ ssh → HasPlainParts v → v.host ≡ Some host → Lacks is_contested host
 scp_plain_host v host h2 h3 h4 h5 = grind (arith, nat_tests, IfSome)
 
--- the text is free of such a byte, where the host is a name
+-- the text is free of such a byte, if the host is a name
 scp_free : (v : Location) (host : List ℕ) → v.flag ≡ true → HasPlainParts v → v.scheme ≡ ssh → v.host ≡ Some host → (c : ℕ) → is_contested c ≡ true → (at_sign == c) ≡ false → (colon == c) ≡ false → FreeOf c (word_of v.user host ++ colon ∷ v.path)
 scp_free v host h2 h3 h4 h5 c h7 h8 h9 = grind (arith, nat_tests, scp_plain_host, free-append, word_of, scp_user_free, free_of_lacked, free-cons, path_free)
 
@@ -166,7 +166,7 @@ scp_reads v host h t a second other named free =
     let reached = secure_reached v.user host None word v.path (HostAndPort.none (lacks_brackets word front) portless.before) portless.secure t.no_slash t.name.no_at t.name.normal.unbracketed.nonempty named a.no_option.user (host_safe v host t.there a.no_option) a.no_option.path in
     ReadsInput.scp_form word v.path (scp_no_url v host h t other) record { front = word; rest = v.path; joined = refl; no_slash = t.no_slash } (place_cut colon (word ++ colon ∷ v.path) word v.path free t.no_colon refl) (subst (λ p. ReachesSecure word p (secure_reading v.user (Some host) None v.path)) (sym (from_tilde_kept v.path second)) reached)
 
--- with a path behind it a word isn't an option where it isn't one itself
+-- with a path after it a word isn't an option if it isn't one itself
 word_option : (user : Option (List ℕ)) (host path : List ℕ) → 0 < length host → IfSome user (λ u. is_option_like u ≡ false) → is_option_like host ≡ false → is_option_like (word_of user host ++ colon ∷ path) ≡ false
 word_option user host path h3 h4 h5 = grind (arith, nat_tests)
 
@@ -245,7 +245,7 @@ addressed_reads v host t a second named =
     let reached = secure_reached v.user host None place v.path read.cut read.secure (free-append slash (raw_user v.user) host t.no_slash (free slash refl)) (free at_sign refl) (address_nonempty host t.address) named a.no_option.user (host_safe v host t.there a.no_option) a.no_option.path in
     ReadsInput.scp_form place v.path (addressed_no_url v host t) record { front = place; rest = v.path; joined = refl; no_slash = addressed_free v host t slash refl refl refl t.no_slash } (bracketed_cut colon v.user host [] v.path t.no_left (closed (colon ∷ v.path) (path_free v a.plain left_bracket refl)) (free right_bracket refl) refl) (subst (λ p. ReachesSecure place p (secure_reading v.user (Some host) None v.path)) (sym (from_tilde_kept v.path second)) reached)
 
--- a bracket or a user comes first, so the text isn't an option where the user isn't
+-- a bracket or a user comes first, so the text isn't an option if the user isn't
 addressed_option : (user : Option (List ℕ)) (inside path : List ℕ) → IfSome user (λ u. is_option_like u ≡ false) → is_option_like (bracketed_place user inside [] ++ colon ∷ path) ≡ false
 addressed_option user inside path h3 = grind (arith, nat_tests)
 

@@ -36,7 +36,7 @@ use Rattle.git_location.proofs.Writing.WrittenAsUrlLemmas.{written_git, written_
 abbrev pub IsReadBy : Scheme → Location → Type 0
 IsReadBy p v = (t : List ℕ) × (text v ≡ Ok t) × ReadsOwnBy p t v
 
--- of Git's own transports, where they are what Git reads in it
+-- of Git's own transports, if they are what Git reads in it
 pub own_read : (v : Location) (host : Option (List ℕ)) (whole : List ℕ) (reading : GitReading) → HostForGit v.scheme v.host host → own_reading v host ≡ reading → text v ≡ Ok whole → FreeOf 0 whole → is_option_like whole ≡ false → ReadsInput whole reading → (t : List ℕ) × (text v ≡ Ok t) × ReadsOwnPlace t v
 own_read v host whole reading own value has zero_free safe reads = (
   whole,
@@ -62,11 +62,11 @@ secure_reading name place number whole = record { protocol = ssh; user = name; h
 abbrev pub word_of : Option (List ℕ) → List ℕ → List ℕ
 word_of user host = raw_user user ++ host
 
--- the word isn't an option where user and host aren't
+-- the word isn't an option if user and host aren't
 word_safe : (user : Option (List ℕ)) (host : List ℕ) → IfSome user (λ u. is_option_like u ≡ false) → is_option_like host ≡ false → is_option_like (word_of user host) ≡ false
 word_safe user host h2 h3 = grind (arith, nat_tests)
 
--- it is cut at its last `@`, where a user isn't empty
+-- it is cut at its last `@`, if a user isn't empty
 word_split : (user : Option (List ℕ)) (host : List ℕ) → ¬ (user ≡ Some []) → FreeOf at_sign host → UserCut (word_of user host) user host
 word_split None host named free = UserCut.host_alone free refl refl
 word_split (Some []) host named free = absurd (named refl)
@@ -80,7 +80,7 @@ nonempty_kept t some = some_kept t (λ e. absurd (omega (arith, ap length e, som
 no_secure_url : (word : List ℕ) → FreeOf slash word → (rest : List ℕ) → ¬ (word ≡ codes "ssh://" ++ rest)
 no_secure_url word free rest e = not_free slash (codes "ssh:") (slash ∷ rest) (subst (λ t. FreeOf slash t) e free)
 
--- it is reached where user and host are one word
+-- it is reached if user and host are one word
 pub secure_reached : (user : Option (List ℕ)) (host : List ℕ) (port : Option ℕ) (place path : List ℕ) → HostAndPort place (word_of user host) port → SecurePort (word_of user host) port (word_of user host) port → FreeOf slash (word_of user host) → FreeOf at_sign host → 0 < length host → ¬ (user ≡ Some []) → IfSome user (λ u. is_option_like u ≡ false) → is_option_like host ≡ false → is_option_like path ≡ false → ReachesSecure place path (secure_reading user (Some host) port path)
 secure_reached user host port place path cut secure no_slash free some named user_safe host_safe path_safe = record {
   named = word_of user host;
@@ -100,7 +100,7 @@ secure_reached user host port place path cut secure no_slash free some named use
 
 -- ---- written places
 
--- the word names itself and the port that is written behind it
+-- the word names itself and the port that is written after it
 word_read : (word : List ℕ) (port : Option ℕ) → IfSome port (λ p. p < 65536) → (IsSome port → FreeOf colon word) → IsPortless word → FreeOf left_bracket (word ++ port_part port) → ReadsPlace (word ++ port_part port) word port
 word_read word None small marked portless free = place_without_port word portless (free_parts left_bracket word [] free).0
 word_read word (Some p) small marked portless free = place_with_port word p small (marked refl) free
@@ -120,7 +120,7 @@ pub record HasPlace (v : Location) (word : List ℕ) : Type 0 where
   pub cut : (rest : List ℕ) → FreeOf left_bracket rest → CutsPlace slash (place ++ slash ∷ rest) place rest
   pub read : ReadsPlace place word v.port
 
--- what the text of a location holds behind `://`: it is decoded to the place and a path
+-- what the text of a location holds after `://`: it is decoded to the place and a path
 record IsTransportText (v : Location) (place : List ℕ) : Type 0 where
   pathed : IsPathRaw v
   behind : git_decode (authority_text v ++ canonical_path v) ≡ place ++ slash ∷ pathed.rest
@@ -168,7 +168,7 @@ place_free : (v : Location) (host : List ℕ) → IfSome v.port (λ p. p < 65536
 place_free v host small user hosted c in_user in_host other mark digit =
     free-append c (word_of v.user host) (port_part v.port) (free-append c (raw_user v.user) host (user.free c in_user other) (hosted.free c in_host)) (port_free c v.port digit mark small)
 
--- a host that is written as it is, beside no port where it has a colon, is read as it is
+-- a host that is written as it is, beside no port if it has a colon, is read as it is
 open_place : (v : Location) (host : List ℕ) → IsValue v → HasHostGiven v host → IsHostRaw v host → (IsSome v.port → FreeOf colon host) → IsPortless (word_of v.user host) → HasPlace v (word_of v.user host)
 open_place v host is h hosted beside portless =
     let user = user_raw v.user h.user in
@@ -198,12 +198,12 @@ address_free_place : (user : Option (List ℕ)) (address : List ℕ) (port : Opt
 address_free_place user address port h small raw c in_user other mark left right separator digit =
     free-append c (raw_user user) (left_bracket ∷ (address ++ right_bracket ∷ port_part port)) (raw.free c in_user mark) (free-cons c left_bracket (address ++ right_bracket ∷ port_part port) left (free-append c address (right_bracket ∷ port_part port) (address_free c address other h) (free-cons c right_bracket (port_part port) right (port_free c port digit separator small))))
 
--- behind its bracket nothing opens another
+-- after its bracket nothing opens another
 address_closed : (address behind : List ℕ) → IsIpv6Text address → FreeOf left_bracket behind → FreeOf left_bracket (address ++ right_bracket ∷ behind)
 address_closed address behind h free =
     free-append left_bracket address (right_bracket ∷ behind) (address_free left_bracket address refl h) (free-cons left_bracket right_bracket behind refl free)
 
--- with a port, an address is read so where it is decoded to itself in brackets
+-- with a port, an address is read so if it is decoded to itself in brackets
 address_place : (v : Location) (address : List ℕ) → IsValue v → IsIpv6Text address → IsUserRaw v.user → ((t : List ℕ) → percent_decode (authority_text v ++ t) ≡ bracketed_place v.user address (port_part v.port) ++ percent_decode t) → HasPlace v (word_of v.user address)
 address_place v address is h user decoded =
     let place = bracketed_place v.user address (port_part v.port) in
@@ -220,11 +220,11 @@ address_place v address is h user decoded =
       read = place_in_brackets v.user address v.port is.port front (address_closed address (port_part v.port) h ported) right (portless_coloned (raw_user v.user) address (user.free colon refl refl) (address_two_colons address h));
     }
 
--- a host in brackets and the text behind it, joined
+-- a host in brackets and the text after it, joined
 brackets_joined : (address behind : List ℕ) → (left_bracket ∷ (address ++ right_bracket ∷ [])) ++ behind ≡ left_bracket ∷ (address ++ right_bracket ∷ behind)
 brackets_joined address behind = ap (λ t. left_bracket ∷ t) (append_assoc address (right_bracket ∷ []) behind)
 
--- so is one of Secure Shell beside a port, where it is written in brackets
+-- so is one of Secure Shell beside a port, if it is written in brackets
 marked_place : (v : Location) (host : List ℕ) (p : ℕ) → v.port ≡ Some p → IsValue v → HasHostGiven v host → IsIpv6Text host → HasPlace v (word_of v.user host)
 marked_place v host p ported is h address =
     let user = user_raw v.user h.user in
@@ -247,7 +247,7 @@ address_place_by v host (Some p) e is h kept address = marked_place v host p e i
 
 -- ---- texts of URLs
 
--- this is the text, where its place is read
+-- this is the text, if its place is read
 transport_text : (v : Location) (host word : List ℕ) → HasHostGiven v host → (p : HasPlace v word) → IsTransportText v p.place
 transport_text v host word h p =
     let pathed = path_raw v h.transport h.raw h.path in

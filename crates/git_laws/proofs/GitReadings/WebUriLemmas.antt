@@ -127,7 +127,7 @@ bracketed_host host (address, normal, e) = record {
   read = λ behind. UriHost.bracketed address normal.address e refl;
 }
 
--- the port is read behind its colon
+-- the port is read after its colon
 port_read : (port : Option ℕ) → IfSome port (λ p. p < 65536) → UriPort (port_part port) (option_map decimal port)
 port_read None small = UriPort.absent refl refl
 port_read (Some p) small = UriPort.there (decimal p) refl (decimal_digits p small).1 refl
@@ -158,7 +158,7 @@ uri_path t h =
 query_decoded : (path : List ℕ) (query : Option (List ℕ)) → is_sound path ≡ true → percent_decode (with_query path query) ≡ with_query (percent_decode path) (option_map percent_decode query)
 query_decoded path query sound = grind (arith, nat_tests, decode_byte, decodes_in_parts)
 
--- what ends a segment of a path ends it before a query, too
+-- a text that ends a segment of a path ends it before a query, too
 end_joined : (behind query : List ℕ) → (behind ≡ []) ⊎ (begins_by is_segment_end behind ≡ true) → begins_by is_segment_end (behind ++ question_mark ∷ query) ≡ true
 end_joined behind query end = grind arith
 
@@ -166,7 +166,7 @@ end_joined behind query end = grind arith
 dots_joined : (path : List ℕ) (query : Option (List ℕ)) → HasDotSegment path → HasDotSegment (with_query path query)
 dots_joined path query h = grind (arith, nat_tests, end_joined, append_assoc)
 
--- what ends a segment ends it in the decoded text
+-- a text that ends a segment ends it in the decoded text
 end_decoded : (behind : List ℕ) → (behind ≡ []) ⊎ (begins_by is_segment_end behind ≡ true) → (percent_decode behind ≡ []) ⊎ (begins_by is_segment_end (percent_decode behind) ≡ true)
 end_decoded behind h = grind (arith, nat_tests, decode_byte, nothing_decoded)
 

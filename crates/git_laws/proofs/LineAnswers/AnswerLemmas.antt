@@ -47,7 +47,7 @@ user_line user password = grind (arith, nat_tests, free-append, encode_free, use
 open_line : (p : Scheme) (host : List ℕ) → keeps_host p ≡ false → FreeOf newline (open_host p host)
 open_line p host h2 = grind (arith, nat_tests, cond-false, cond-true, encode_free, password_holds, user_holds, cases_Bool)
 
--- brackets hold no line's end where neither what they enclose nor what follows does
+-- brackets hold no line's end if neither what they enclose nor the rest does
 bracketed_line : (inner rest : List ℕ) → FreeOf newline inner → FreeOf newline rest → FreeOf newline (left_bracket ∷ (inner ++ right_bracket ∷ rest))
 bracketed_line inner rest free behind =
     free-cons newline left_bracket (inner ++ right_bracket ∷ rest) refl (free-append newline inner (right_bracket ∷ rest) free (free-cons newline right_bracket rest refl behind))
@@ -184,16 +184,16 @@ parts_line b parts v t free spelled is =
 
 -- ---- the other forms
 
--- an optional text behind its mark
+-- an optional text after its mark
 unless_empty_line : (v : Location) (host : List ℕ) → FreeOf newline host → FreeOf newline (host_part v (unless_empty host))
 unless_empty_line v [] free = refl
 unless_empty_line v (b ∷ bs) free = host_line v (b ∷ bs) free
 
--- a file URL is written without a line's end where it was read without one
+-- a file URL is written without a line's end if it was read without one
 file_line : (b : List ℕ) (v : Location) (t : List ℕ) → FreeOf newline b → SpellsFile b v → text v ≡ Ok t → FreeOf newline t
 file_line b v t h3 h4 h5 = grind (arith, nat_tests, free_parts, codes, one_text, free-append, unless_empty_line)
 
--- a path below a home folder holds none where the path that it is read from holds none
+-- a path below a home folder holds none if the path that it is read from holds none
 from_home_line : (path : List ℕ) → FreeOf newline path → FreeOf newline (from_home path)
 from_home_line path h1 = grind (arith, nat_tests, cond-true, free_head_tail, cond-false, cases_Bool)
 
@@ -201,7 +201,7 @@ from_home_line path h1 = grind (arith, nat_tests, cond-true, free_head_tail, con
 raw_host_line : (host : List ℕ) → FreeOf newline host → FreeOf newline (raw_host (Some host))
 raw_host_line host h1 = grind (arith, nat_tests, cond-true, bracketed_line, cond-false, cases_Bool)
 
--- a location in the scp form is written without a line's end where its parts hold none
+-- a location in the scp form is written without a line's end if its parts hold none
 scp_line : (v : Location) (t : List ℕ) (user : Option (List ℕ)) (host path : List ℕ) → v ≡ scp_location user host path → FreeOf newline (raw_user user) → FreeOf newline host → FreeOf newline path → text v ≡ Ok t → FreeOf newline t
 scp_line v t user host path h5 h6 h7 h8 h9 = grind (arith, nat_tests, scp_written, one_text, free-append, raw_host_line, free-cons, from_home_line)
 

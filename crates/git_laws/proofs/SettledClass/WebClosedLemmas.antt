@@ -43,7 +43,7 @@ normal_bytes : (text : List ℕ) (is_domain : Bool) → list_all is_dns_byte tex
 normal_bytes text true domain bytes = ap (list_all is_http_host_byte) (cond-true _ _ _ domain) ∙ all_lowercase is_http_host_byte http_byte_lowercase text bytes
 normal_bytes text false other bytes = ap (list_all is_http_host_byte) (cond-false _ _ _ other) ∙ bytes
 
--- what a text stands for in HTTP is made of such bytes
+-- what a text denotes in HTTP is made of such bytes
 pub meant_bytes : (text name : List ℕ) → HostText http_hosts text name → list_all is_http_host_byte name ≡ true
 meant_bytes text name denoted = ap (list_all is_http_host_byte) denoted.1 ∙ normal_bytes text (list_all is_dns_byte text) refl denoted.0
 
@@ -56,14 +56,14 @@ normal_facts text false other some sound =
     let same : normal_host text ≡ text = cond-false _ _ _ other in
     (subst (λ t. 0 < length t) (sym same) some, ap is_sound same ∙ sound)
 
--- what a sound text stands for in HTTP is a name that stays as it is
+-- what a sound text denotes in HTTP is a name that stays as it is
 web_name_of : (text name : List ℕ) → 0 < length text → is_sound text ≡ true → HostText http_hosts text name → IsWebName name
 web_name_of text name some sound denoted =
     let facts = normal_facts text (list_all is_dns_byte text) refl some sound in
     let is : name ≡ normal_host text = denoted.1 in
     record { nonempty = subst (λ t. 0 < length t) (sym is) facts.0; bytes = meant_bytes text name denoted; sound = ap is_sound is ∙ facts.1; normal = ap normal_host is ∙ normal_again text ∙ sym is }
 
--- a name of HTTP with a colon behind it has no bracket at its front
+-- a name of HTTP with a colon after it has no bracket at its front
 no_bracket_before_colon : (name : List ℕ) → IsWebName name → begins_with left_bracket (name ++ colon ∷ []) ≡ false
 no_bracket_before_colon name h =
     free_begins left_bracket (name ++ colon ∷ []) (free-append left_bracket name (colon ∷ []) (free_of_all is_http_host_byte left_bracket name h.bytes refl) refl)
@@ -90,7 +90,7 @@ port_not_zero : (port : Option ℕ) (number : ℕ) → port ≡ Some number → 
 port_not_zero port number is some zero = omega (arith, some, same_Some number 0 (sym is ∙ zero))
 
 -- a host and a port that a sound piece names in HTTP are settled,
--- except a name with `%` and a colon behind it
+-- except a name with `%` and a colon after it
 pub web_host_closed : (piece host : List ℕ) (port : Option ℕ) → is_sound piece ≡ true → SpellsHostPort http_hosts piece (Some host) port → IsApart host → IsWebHost port host × (port ≢ Some 0)
 web_host_closed piece host port sound (nothing e named_as at) apart = absurd (none-some host (sym named_as))
 web_host_closed piece host port sound (bracketed x inner free spelled e named_as at) apart =
@@ -138,7 +138,7 @@ web_meant scheme parts = record {
   spelling = retained_spelling parts.path;
 }
 
--- a URL that is read as a location of HTTP has such a scheme, and its parts mean that
+-- a URL that is read as a location of HTTP has such a scheme, and its parts denote that
 pub web_read : (b : List ℕ) (v : Location) → (h : SpellsUrl b v) → IsWeb v → (is_web_scheme h.parts.scheme ≡ true) × (v ≡ web_meant (scheme_of h.parts.scheme) h.parts)
 web_read b v h web =
     let parts = h.parts in
@@ -200,7 +200,7 @@ pub retained_by : (path s : List ℕ) (escaped : Bool) → has_percent path ≡ 
 retained_by path s true holds e = (same_Some path s (sym (cond-true _ _ _ holds) ∙ e), holds)
 retained_by path s false lacks e = absurd (none-some s (sym (cond-false _ _ _ lacks) ∙ e))
 
--- a path of a URL of HTTP, behind a sound front, and what it means
+-- a path of a URL of HTTP, after a sound front, and what it means
 pub record IsWebPath (front path : List ℕ) : Type 0 where
   pub front_sound : is_sound front ≡ true
   pub meant_text : IsUtf8 (or_root (percent_decode path))
@@ -288,8 +288,8 @@ parts_closed {b} {parts} scheme web h apart fits =
       path = way.meant_starts;
     }
 
--- a location of HTTP that is read is settled where its text is short
--- enough, except for a host with `%` and a colon behind it
+-- a location of HTTP that is read is settled if its text is short
+-- enough, except for a host with `%` and a colon after it
 pub web_closed : (b : List ℕ) (v : Location) → SpellsUrl b v → IsWeb v → ((h : List ℕ) → v.host ≡ Some h → IsApart h) → HasFittingText v → IsSettledWeb v
 web_closed b v h web apart fits =
     let (is_web, value) = web_read b v h web in

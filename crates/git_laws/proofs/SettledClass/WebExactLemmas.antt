@@ -48,7 +48,7 @@ no_colon_behind : {A : Type 0} (host front named : List ℕ) → list_all is_htt
 no_colon_behind host front named bytes same ends =
     absurd (not_free colon front [] (subst (λ t. FreeOf colon t) (sym same ∙ ends) (free_of_all is_http_host_byte colon named bytes refl)))
 
--- with a colon behind it a text still has neither `@` nor a path start
+-- with a colon after it a text still has neither `@` nor a path start
 lacks_before_colon : (host named : List ℕ) → host ≡ named ++ colon ∷ [] → Lacks ends_host named → Lacks ends_host host
 lacks_before_colon host named e lacks = subst (λ t. Lacks ends_host t) (sym e) (lacks-append ends_host named (colon ∷ []) lacks refl)
 
@@ -87,7 +87,7 @@ bracket_named piece host port h3 h4 = grind (arith, nat_tests, none-some, same_S
 abbrev in_brackets : List ℕ → List ℕ
 in_brackets host = left_bracket ∷ (escaped_percents host ++ right_bracket ∷ [])
 
--- it has neither `@` nor a path start where the host has none
+-- it has neither `@` nor a path start if the host has none
 brackets_lack : (host : List ℕ) → Lacks ends_host host → Lacks ends_host (in_brackets host)
 brackets_lack host h1 = grind (arith, nat_tests, lacks-cons, lacks-append, lacks_escaped_percents)
 
@@ -112,7 +112,7 @@ user_written : (user password : Option (List ℕ)) → IfSome user IsUtf8 → If
 user_written user password user_text password_text credentials u e =
     information_written u password (subst (λ o. IfSome o IsUtf8) e user_text) password_text (IfSome_then password credentials.0 (λ p parts. parts.0)) (λ empty. credentials.1 (e ∙ ap Some empty))
 
--- the user information and a host in brackets behind it
+-- the user information and a host in brackets after it
 abbrev bracketed_text : Option (List ℕ) → Option (List ℕ) → List ℕ → List ℕ
 bracketed_text user password host = user_information user password ++ in_brackets host
 
@@ -194,7 +194,7 @@ spelled_by_url t w web (Spells.scp_form (inl h)) = not_web ssh w refl (ap (λ l.
 spelled_by_url t w web (Spells.scp_form (inr h)) = not_web ssh w refl (ap (λ l. l.scheme) h.value) web
 spelled_by_url t w web (Spells.local_path h) = not_web file w refl (ap (λ l. l.scheme) h.value) web
 
--- one of two tests passes, where they don't fail together
+-- one of two tests passes, if they don't fail together
 either_by : (bracket escaped : Bool) → (bracket ≡ false → escaped ≡ true → ⊥) → (bracket ≡ true) ⊎ (escaped ≡ false)
 either_by bracket escaped h2 = grind (arith, nat_tests)
 

@@ -118,7 +118,7 @@ other_scheme name h = grind arith
 other_mode : (name : List ℕ) → IsOther name → host_syntax_of name ≡ other_hosts
 other_mode name h = cond-false _ _ _ h.not_web ∙ cond-false _ _ _ (or_from _ _ h.not_ssh h.not_git)
 
--- it needs a host where it is one of FTP
+-- it needs a host if it is one of FTP
 other_hosted : (name : List ℕ) → IsOther name → requires_host name ≡ is_ftp name
 other_hosted name h = grind arith
 

@@ -40,7 +40,7 @@ file_value : (v : Location) → v.scheme ≡ file → IsSettledFile v → v ≡ 
 file_value v scheme h =
     value_of v file false scheme h.unflagged h.alone.1 h.alone.2 ∙ ap (λ user. record (at_file v.host v.path v.spelling) { user = user }) h.alone.0
 
--- such a value is settled where its host and its path are, and no spelling matches
+-- such a value is settled if its host and its path are, and no spelling matches
 settled_at : (host : Option (List ℕ)) (path : List ℕ) (spelling : Option (List ℕ)) → ¬ HasMatch (at_file host path spelling) → IfSome host IsFileHost → IsUtf8 path → begins_with slash path ≡ true → IsSettledFile (at_file host path spelling)
 settled_at host path spelling apart hosted is_text rooted = record {
   unflagged = refl;
@@ -165,7 +165,7 @@ file_closed b v h stays =
 
 -- ---- nothing else comes back
 
--- the text that is written, where there is one, is that of a URL
+-- the text that is written, if there is one, is that of a URL
 canonical_by : (v : Location) (t : List ℕ) (fault : Bool) → in_form (if fault then Err UserWithoutHost else Ok canonical_form) v ≡ Ok t → canonical_text v ≡ t
 canonical_by v t true e = absurd (false≢true (ap is_ok e))
 canonical_by v t false e = one_text refl e
@@ -174,7 +174,7 @@ canonical_by v t false e = one_text refl e
 file_canonical : (v : Location) (t : List ℕ) → v.scheme ≡ file → v.flag ≡ false → text v ≡ Ok t → canonical_text v ≡ t
 file_canonical v t h2 h3 h4 = grind (arith, nat_tests, cond-false, and_left, canonical_by)
 
--- the text behind `://` in the text of a URL
+-- the text after `://` in the text of a URL
 abbrev behind_mark : Location → List ℕ
 behind_mark v = user_information v.user v.password ++ (host_part v v.host ++ (port_part v.port ++ canonical_path v))
 
@@ -203,7 +203,7 @@ host_stays host path h2 h h4 = grind (arith, nat_tests, none-some, append_cancel
 spelling_is_path : (host : Option (List ℕ)) (path s t : List ℕ) → percent_decode s ≡ path → text (at_file host path (Some s)) ≡ Ok t → text (at_file host path None) ≡ Ok t → s ≡ path
 spelling_is_path host path s t h4 h5 h6 = grind (arith, nat_tests, matched, codes, one_text, append_cancel_left)
 
--- what is read from the text of a location is settled where it has that text too
+-- what is read from the text of a location is settled if it has that text too
 reread_settled : (w : Location) (t : List ℕ) → SpellsFile t w → text w ≡ Ok t → IsSettledFile w
 reread_settled w t k written =
     let again : text (at_file (unless_empty k.host) k.path None) ≡ Ok (codes "file://" ++ (k.host ++ k.path)) = ap (λ l. text l) (sym k.value) ∙ written ∙ ap (λ b. Ok b) k.joined in

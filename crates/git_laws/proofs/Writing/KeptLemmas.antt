@@ -61,7 +61,7 @@ kept_closed b v (Spells.local_path h) keeps = (local_unchanged b v h).0
 pub settled_by_fields : (scheme : Scheme) (v w : Location) → fields w ≡ fields v → keeps_bytes scheme v.flag ≡ true → IsSettledBy scheme w → IsSettledBy scheme v
 settled_by_fields scheme v w same keeps h = grind arith
 
--- a location that keeps its bytes is settled where bytes spell its fields
+-- a location that keeps its bytes is settled if bytes spell its fields
 pub kept_exact : (v : Location) → KeepsBytes v → (b : List ℕ) (w : Location) → Spells b w → fields w ≡ fields v → IsSettled v
 kept_exact v keeps b w spelled same =
     let scheme : w.scheme ≡ v.scheme = ap (λ l. l.scheme) same in

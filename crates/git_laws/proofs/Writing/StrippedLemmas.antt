@@ -93,7 +93,7 @@ pub record IsFront (web : Bool) (a : List ℕ) : Type 0 where
   pub before_path : Lacks (is_path_start web) a
   pub some : 0 < length (without_white_space a)
 
--- the front is no longer than the limit, and where no path is behind it, nor is the whole
+-- the front is no longer than the limit, and if no path is after it, nor is the whole
 pub record IsShortFront (a p : List ℕ) : Type 0 where
   pub front : length (without_white_space a) ≤ 1024
   pub whole : p ≡ [] → length a ≤ 1024
@@ -107,7 +107,7 @@ no_slashes (b ∷ a) rest (s ∷ slashes) back lacks some all e =
     let same : b ≡ s = cc in
     absurd (both_ways _ other (ap is_any_slash same ∙ (and_parts (is_any_slash s) (list_all is_any_slash slashes) all).0))
 
--- the limit holds for the front, and where nothing is behind it, for the whole
+-- the limit holds for the front, and if nothing is after it, for the whole
 limit_front : (front back whole : List ℕ) → IsWithinLimit front back whole → length front ≤ length whole → length front ≤ 1024
 limit_front front [] whole h shorter = omega (arith, h, shorter)
 limit_front front (b ∷ back) whole h shorter = h
@@ -273,7 +273,7 @@ stripped_fits v user password named known secret r =
     let short : IsShortFront (with_secret u [] host) (canonical_path v) = short_stripped u s host (canonical_path v) (subst (λ a. IsShortFront a (canonical_path v)) whole (authority_short v named r)) in
     text_fits (stripped v) r.scheme.scheme_text (scheme_short v named r) (subst (λ a. IsFront web a) (sym less) front) r.path.starts (subst (λ a. IsShortFront a (canonical_path v)) (sym less) short)
 
--- what settled URLs have in common stays, where the user isn't empty
+-- what settled URLs have in common stays, if the user isn't empty
 url_stripped : (v : Location) → IsSettledUrl v → ¬ (v.user ≡ Some []) → IsWrittenAsUrl (stripped v) → FitsText (canonical_text (stripped v)) → IsSettledUrl (stripped v)
 url_stripped v h some written fits = record {
   unflagged = h.unflagged;
@@ -289,7 +289,7 @@ web_stripped v user password web known secret some is h =
     let (named, r) = web_readable v web is h in
     record { common = url_stripped v h.common some (written_web (stripped v) web) (stripped_fits v user password named known secret r); host = h.host; port = h.port; path = h.path }
 
--- a URL of another scheme has a host, where it has a user
+-- a URL of another scheme has a host, if it has a user
 other_stripped : (name : List ℕ) (v : Location) (user password : List ℕ) (host : Option (List ℕ)) → v.host ≡ host → v.scheme ≡ helper_url name → v.user ≡ Some user → v.password ≡ Some password → ¬ (v.user ≡ Some []) → IsValue v → IsSettledHelperUrl name v → IsSettledHelperUrl name (stripped v)
 other_stripped name v user password None there e known secret some is h =
     absurd (false≢true (subst (λ o. IsSome o) there (h.url.common.hosted.0 (ap is_some known))))
@@ -341,7 +341,7 @@ without_password_by v None user secret known is h (inr some) = subst IsSettled (
 without_password_by v (Some password) None secret known is h (inr some) = absurd (false≢true (subst (λ o. IsSome o) known (user_beside v.scheme v password secret h)))
 without_password_by v (Some password) (Some user) secret known is h (inr some) = stripped_by v.scheme v user password refl known secret some is h
 
--- an empty user comes with a password, where the location is settled as a URL
+-- an empty user comes with a password, if the location is settled as a URL
 empty_user : (p : Scheme) (v : Location) → v.flag ≡ false → v.user ≡ Some [] → IsSettledBy p v → IsSome v.password
 empty_user p v h2 h3 h4 = grind (arith, nat_tests, url_or_plain, none-some)
 

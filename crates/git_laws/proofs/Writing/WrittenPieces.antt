@@ -44,7 +44,7 @@ pub record WritesHost (syntax : HostSyntax) (v : Location) (host named : List â„
 abbrev pub as_read : Location â†’ Location
 as_read v = record v { spelling = retained_spelling (canonical_path v) }
 
--- the written path means the path, and is written the same again
+-- the written path denotes the path, and is written the same again
 pub record WritesPath (web : Bool) (v : Location) : Type 0 where
   pub starts : StartsPath web (canonical_path v)
   pub escaped : IsEscapedPiece (canonical_path v)

@@ -41,7 +41,7 @@ ended_push (l ∷ ls) line rest =
     ∙ ap (λ t. (l ++ newline ∷ []) ++ t) (ended_push ls line rest)
     ∙ sym (append_assoc (l ++ newline ∷ []) (ended_lines ls) (line ++ newline ∷ rest))
 
--- what follows some lines: the lines that are done, and their answers
+-- the text after some lines: the lines that are done, and their answers
 pub record Done (whole rest out : List ℕ) (good : Bool) : Type 0 where
   pub lines : List (List ℕ)
   pub each : All (FreeOf newline) lines
@@ -124,30 +124,30 @@ within_cut most (l ∷ ls) behind short others (b ∷ bs) other rest free joined
     let shorter : length ls ≤ most = omega arith in
     within_cut most ls behind shorter others bs other rest free (tails joined)
 
--- the lines behind a cut are lines of the text
+-- the lines after a cut are lines of the text
 within_behind : (most : ℕ) (line behind : List ℕ) → HasLinesWithin most (line ++ newline ∷ behind) → HasLinesWithin most behind
 within_behind most line behind within before other rest free joined =
     within (line ++ newline ∷ before) other rest free (ap (λ t. line ++ newline ∷ t) joined ∙ sym (append_assoc line (newline ∷ before) (other ++ rest)))
 
--- a text has lines within a length exactly where its first line and those behind it are
+-- a text has lines within a length exactly if its first line and those after it are
 pub lines_cut : (most : ℕ) (b line behind : List ℕ) → FreeOf newline line → b ≡ line ++ newline ∷ behind → HasLinesWithin most b ↔ ((length line ≤ most) × HasLinesWithin most behind)
 lines_cut most b line behind free cut = (
   λ within. (within [] line (newline ∷ behind) free cut, within_behind most line behind (subst (HasLinesWithin most) cut within)),
   λ (short, others). subst (HasLinesWithin most) (sym cut) (within_cut most line behind short others),
 )
 
--- one line alone is within a length exactly where it is no longer
+-- one line alone is within a length exactly if it is no longer
 pub line_alone : (most : ℕ) (b : List ℕ) → FreeOf newline b → HasLinesWithin most b ↔ (length b ≤ most)
 line_alone most b free = (
   λ within. within [] b [] free (sym (append-nil b)),
   λ short before line rest whole joined. omega (arith, ap length joined, length-append {A = ℕ}),
 )
 
--- so the lines behind a cut are within it
+-- so the lines after a cut are within it
 pub within_next : (most buffer_len : ℕ) (b line behind : List ℕ) → HasLinesWithin most b → FreeOf newline line × (b ≡ line ++ newline ∷ behind) → buffer_len ≡ most → HasLinesWithin buffer_len behind
 within_next most buffer_len b line behind within (free, cut) same = subst (λ n. HasLinesWithin n behind) (sym same) ((lines_cut most b line behind free cut).0 within).1
 
--- what the lines in front of the rest say of the whole: its lines are within a length exactly where that is
+-- what the lines in front of the rest say of the whole: its lines are within a length exactly if that is
 -- no shorter than the longest of those in front, and the lines of the rest are within it
 abbrev pub Measured : List ℕ → List ℕ → ℕ → Type 0
 Measured whole rest longest = (most : ℕ) → HasLinesWithin most whole ↔ ((longest ≤ most) × HasLinesWithin most rest)

@@ -33,7 +33,7 @@ encoded_more set bs i within =
     let one : encode_byte set (get_or bs i 0) ≡ percent_encode set (get_or bs i 0 ∷ []) = sym (append-nil (encode_byte set (get_or bs i 0))) in
     ap (λ l. percent_encode set (take i bs) ++ l) one ∙ sym (percent_encode-append set (take i bs) (get_or bs i 0 ∷ [])) ∙ ap (percent_encode set) (sym (take_more bs i 0 within))
 
--- what is written for a block, and for what follows it
+-- what is written for a block, and for the text after it
 pub block_put : (set : AsciiSet) (rest block behind written chunk : List ℕ) (n : ℕ) → block ≡ take n rest → behind ≡ drop n rest → written ≡ percent_encode set block → chunk ≡ written → percent_encode set rest ≡ chunk ++ percent_encode set behind
 block_put set rest block behind written chunk n front back is same =
     ap (percent_encode set) (sym (take-append-drop n rest)) ∙ percent_encode-append set (take n rest) (drop n rest)

@@ -70,7 +70,7 @@ kept_text set (b ∷ bs) all =
 
 -- ---- percents
 
--- a text is written as the text before the first `%`, its escape, and what is written behind it
+-- a text is written as the text before the first `%`, its escape, and what is written after it
 pub percents_cut : (t x y : List ℕ) → FreeOf percent_sign x → t ≡ x ++ percent_sign ∷ y → escaped_percents t ≡ x ++ 37 ∷ 50 ∷ 53 ∷ escaped_percents y
 percents_cut t x y free whole =
     ap escaped_percents whole ∙ escaped_percents-append x (percent_sign ∷ y) ∙ ap (λ z. z ++ escaped_percents (percent_sign ∷ y)) (escaped_percents_kept x free)
@@ -97,7 +97,7 @@ handed_on whole done rest chunk left first second = first ∙ (ap (λ x. done ++
 
 -- ---- results
 
--- what follows where a call succeeds
+-- what follows if a call succeeds
 pub on_ok : {T E P Q : Type 0} (r : Result T E) → (P → Q) → OnOk r P → OnOk r Q
 on_ok (Ok x) follows h = follows h
 on_ok (Err e) follows h = tt

@@ -22,7 +22,7 @@ curl_free s h =
       ]
     ]
 
--- what follows the first colon of a URL for curl
+-- the text after the first colon of a URL for curl
 pub data BehindScheme (t behind text : List ℕ) : Type 0 where
   named : behind ≡ colon ∷ text → BehindScheme t behind text
   whole : (rest : List ℕ) → behind ≡ slash ∷ slash ∷ rest → text ≡ t → BehindScheme t behind text

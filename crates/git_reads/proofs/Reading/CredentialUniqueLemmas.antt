@@ -49,7 +49,7 @@ cut_same a user other password secret named name (CredentialCut.with_password u 
 
 -- ---- the path
 
--- what follows the slashes is empty or begins with another byte
+-- the text after the slashes is empty or begins with another byte
 behind_slashes : (rest : List ℕ) → begins_with slash rest ≡ false → (rest ≡ []) ⊎ (begins_by (λ b. not (b == slash)) rest ≡ true)
 behind_slashes rest other = grind arith
 
@@ -81,7 +81,7 @@ pieces_same authority behind r other schemes h k =
     let paths = path_same behind r.path other.path h.path k.path in
     λ i. record { protocol = schemes i; user = credentials.0 i; password = credentials.1 i; host = hosts i; path = paths i }
 
--- so a text is read in one way, also where a part is of several lines
+-- so a text is read in one way, also if a part is of several lines
 pub one_of_pieces : (t authority behind place rest : List ℕ) (r other : CredentialReading) → CutsText t r.protocol authority behind → ReadsPieces authority behind r → CutsText t other.protocol place rest → ReadsPieces place rest other → r ≡ other
 one_of_pieces t authority behind place rest r other cut h cut' k =
     let same = text_same t r.protocol other.protocol authority place behind rest cut cut' in

@@ -29,7 +29,7 @@ place_unique c t place rest other more h k =
 abbrev both : List ℕ → Option ℕ → List ℕ × Option ℕ
 both text port = (text, port)
 
--- what the first colon of a text and the text behind it make of the text
+-- what the first colon of a text and the text after it make of the text
 abbrev outcome : List ℕ → List ℕ → List ℕ → Option ℕ → List ℕ × Option ℕ
 outcome t front behind (Some number) = (front, Some number)
 outcome t front [] None = (front, None)
@@ -48,7 +48,7 @@ record ComesOfNone (t front : List ℕ) (port : Option ℕ) : Type 0 where
   free : FreeOf colon t
   value : both front port ≡ both t None
 
--- what isn't a port leaves the text as it is
+-- a text that isn't a port leaves the text as it is
 unmarked_outcome : (t front behind : List ℕ) → 0 < length behind → outcome t front behind None ≡ both t None
 unmarked_outcome t front [] some = absurd (omega arith)
 unmarked_outcome t front (b ∷ bs) some = refl
@@ -192,7 +192,7 @@ own_unique p q t rest other first second h k =
 pub own_no_other : {A : Type 0} (p : Scheme) (t rest : List ℕ) → OwnUrl p t rest → IsNoUrl t → A
 own_no_other p t rest h k = absurd (k.no_mark (h.scheme, h.spelled, h.joined))
 
--- a colon before any `/` isn't behind one
+-- a colon before any `/` isn't after one
 not_both_first : (x y p q : List ℕ) → FreeOf slash x → FreeOf colon p → x ++ colon ∷ y ≡ p ++ slash ∷ q → ⊥
 not_both_first [] y [] q f g e = different_bytes 58 47 refl e
 not_both_first [] y (b ∷ p) q f g e = both_ways (b == colon) (free_head_tail colon b p g).0 (eq-eqb b colon (sym (heads e)))

@@ -42,7 +42,7 @@ own_not_foreign ext scheme own h e = false≢true own
 own_not_foreign (helper n) scheme own h e = false≢true own
 own_not_foreign (helper_url n) scheme own h e = false≢true own
 
--- a URL of Git's own transports is rewritten where a text is behind its mark
+-- a URL of Git's own transports is rewritten if a text is after its mark
 pub own_rewritten : (scheme spelled : List ℕ) (p : Scheme) → is_own p ≡ true → scheme_of scheme ≡ p → 0 < length spelled → IsRewritten (url_text scheme spelled)
 own_rewritten scheme spelled p own is some = IsRewritten.url scheme spelled (λ foreign. own_not_foreign p scheme own foreign is) some refl
 
@@ -99,7 +99,7 @@ gets_of p t rest place path own u (IsForSecureShell.url x behind v c is) h =
     same_url GetsUrlOf p ssh t rest x own refl u v record { place = place; path = behind; cut = c; gets = subst (λ s. GetsUrl place s) is h }
 gets_of p t rest place path own u (IsForSecureShell.scp_form behind n m c is) h = own_no_other p t rest u n
 
--- a transport's URL is refused where nothing is reached and no URL is got
+-- a transport's URL is refused if nothing is reached and no URL is got
 own_refused : (p : Scheme) (t rest : List ℕ) → is_own p ≡ true → OwnUrl p t rest → ((r : GitReading) → ¬ ReachesUrl r p rest) → ¬ GetsUrlOf p rest → Fails t why.Refused
 own_refused p t rest own u none other = (
   λ r h. none r (own_reached p t rest r own u h),
@@ -127,7 +127,7 @@ own_reads ext t rest place path r u c h = absurd h
 own_reads (helper n) t rest place path r u c h = absurd h
 own_reads (helper_url n) t rest place path r u c h = absurd h
 
--- a text gives Secure Shell a URL where the transport gets one
+-- a text gives Secure Shell a URL if the transport gets one
 own_gives : (p : Scheme) (t rest place path : List ℕ) → OwnUrl p t rest → CutsPlace slash rest place path → GetsUrlBy p place (slash ∷ path) → GivesUrl t
 own_gives ssh t rest place path u c h = record { place = place; path = from_tilde (slash ∷ path); secure = IsForSecureShell.url rest path u c refl; gets = h }
 own_gives git t rest place path u c h = absurd h
@@ -176,7 +176,7 @@ foreign_gives : (scheme spelled place path : List ℕ) → ¬ Holds url_mark sch
 foreign_gives scheme spelled place path none foreign (IsForSecureShell.url x behind u c is) = foreign.0 (own_scheme ssh scheme spelled x refl none u)
 foreign_gives scheme spelled place path none foreign (IsForSecureShell.scp_form behind n m c is) = n.no_mark (scheme, spelled, refl)
 
--- a URL of none of Git's own transports is for no helper where its scheme names none
+-- a URL of none of Git's own transports is for no helper if its scheme names none
 foreign_helper : (scheme spelled : List ℕ) → ¬ Holds url_mark scheme → ¬ NamesHelper (url_text scheme spelled) → IsForeignFor scheme why.Refused → ¬ IsForHelper (url_text scheme spelled)
 foreign_helper scheme spelled none unnamed h (IsForHelper.named k) = unnamed (inl k)
 foreign_helper scheme spelled none unnamed h (IsForHelper.unnamed more e) = unnamed (inr (more, e))
@@ -209,13 +209,13 @@ foreign_fails scheme spelled why.Refused none unnamed foreign h = (
 unmarked_url : {A : Type 0} (p : Scheme) (t rest : List ℕ) → ¬ Holds url_mark t → OwnUrl p t rest → A
 unmarked_url p t rest none u = absurd (none (u.scheme, u.spelled, u.joined))
 
--- a text without a mark is for no helper where it names none
+-- a text without a mark is for no helper if it names none
 unmarked_helper : (t : List ℕ) → ¬ Holds url_mark t → ¬ NamesHelper t → ¬ IsForHelper t
 unmarked_helper t none unnamed (IsForHelper.named h) = unnamed (inl h)
 unmarked_helper t none unnamed (IsForHelper.unnamed rest e) = unnamed (inr (rest, e))
 unmarked_helper t none unnamed (IsForHelper.by_scheme scheme rest foreign name other e) = none (scheme, rest, e)
 
--- a text without a mark isn't a URL where it names no helper and isn't for `rsync`
+-- a text without a mark isn't a URL if it names no helper and isn't for `rsync`
 pub is_no_url : (t : List ℕ) → ¬ Holds url_mark t → ¬ NamesHelper t → ¬ BeginsBy (codes "rsync:") t → IsNoUrl t
 is_no_url t none unnamed other = record {
   no_mark = none;
@@ -239,7 +239,7 @@ unmarked_gives t place path none (IsForSecureShell.scp_form behind n m c is) scp
 
 -- ---- the scp form
 
--- the scp form is refused where nothing is reached and no URL is got
+-- the scp form is refused if nothing is reached and no URL is got
 scp_refused : (t : List ℕ) → ¬ Holds url_mark t → ¬ NamesHelper t → IsRemote t → ((place path : List ℕ) (r : GitReading) → CutsPlace colon t place path → ¬ ReachesSecure place (from_tilde path) r) → ((place path : List ℕ) → CutsPlace colon t place path → ¬ GetsUrl place (from_tilde path)) → Fails t why.Refused
 scp_refused t none unnamed remote unreached ungot = (
   λ r h. unmarked_read t r none h (λ place path n m c k. unreached place path r c k) (λ passed path n l k some. remote_not_local t remote l),
@@ -280,7 +280,7 @@ scp_fails t place path why.Refused none unnamed other remote c h =
 
 -- ---- local paths
 
--- a local path isn't read where its path isn't
+-- a local path isn't read if its path isn't
 pub local_fails : (t passed path : List ℕ) (w : Unread) → ¬ Holds url_mark t → ¬ NamesHelper t → ¬ BeginsBy (codes "rsync:") t → IsLocal t → HostEnd t passed path → IsUnreadPath path w → Fails t w
 local_fails t passed path why.Memory none unnamed other place e h = absurd h
 local_fails t passed path why.ByteZero none unnamed other place e h = absurd h
@@ -299,7 +299,7 @@ local_fails t passed path why.Refused none unnamed other place e h = (
   ),
 )
 
--- ---- what has no reading
+-- ---- a text that has no reading
 
 -- a text that isn't a URL is for no helper
 no_url_no_helper : (t : List ℕ) → IsNoUrl t → ¬ IsForHelper t
@@ -357,7 +357,7 @@ named_for t (inr (rest, e)) = IsForHelper.unnamed rest e
 
 -- ---- what is read
 
--- a local path is read where its path is
+-- a local path is read if its path is
 pub local_reads : (t passed path : List ℕ) (r : GitReading) → ¬ Holds url_mark t → ¬ NamesHelper t → ¬ BeginsBy (codes "rsync:") t → IsLocal t → HostEnd t passed path → IsReadPath path → r ≡ on_this_machine path → ReadsInput t r
 local_reads t passed path r none unnamed other place e some is = ReadsInput.local_path passed path (is_no_url t none unnamed other) place e some.some some.safe some.no_home is
 

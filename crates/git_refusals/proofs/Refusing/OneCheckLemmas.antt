@@ -1,4 +1,4 @@
--- A check finds one place at most: what follows of that for checks one behind the other, and the checks of
+-- A check finds one place at most: what follows of that for checks one after the other, and the checks of
 -- bytes, characters and escapes.
 use Rattle.std.proofs.Common.{◌≡◌, ℕ, ◌+◌, Bool, true, false, inr, List, [], ◌∷◌, ◌++◌, length, refl, sym, ap, subst, ◌∙◌, encode_utf8, encode_utf8_all}
 use Rattle.std.proofs.lemmas.Bool.{both_ways}
@@ -11,7 +11,7 @@ use Rattle.git_refusals.specs.declared.reason.Reason.{Reason}
 use Rattle.git_refusals.specs.Characters.{StandsFirst, StandsBroken, StandsCharacter}
 use Rattle.git_refusals.specs.Reasons.{Stands, Behind, Then, Undecodable, NotText, HasCharacter, HasBackslash, HasBrokenEscape}
 
--- ---- checks one behind the other
+-- ---- checks one after the other
 
 -- a check finds one place at most
 abbrev pub One : (Place → Type 0) → Type 0
@@ -46,7 +46,7 @@ one_behind before check one p q h k =
     (h.stands.start ∙ ap (λ (z : Place). before + z.at) same ∙ sym k.stands.start)
     (h.stands.size ∙ ap (λ (z : Place). z.len) same ∙ sym k.stands.size)
 
--- two checks one behind the other find one place at most
+-- two checks one after the other find one place at most
 pub one_then : (first second : Place → Type 0) → One first → One second → One (Then first second)
 one_then first second f g p q (Then.at_first h) (Then.at_first k) = f p q h k
 one_then first second f g p q (Then.at_first h) (Then.at_second n k) = absurd (n p h)

@@ -30,7 +30,7 @@ one_no_other other_hosts text = one_undecodable text
 pub one_no_inner : (syntax : HostSyntax) (text : List ℕ) → One (NoInner syntax text)
 one_no_inner syntax text p q h k = one_no_other syntax text p q h.no_other k.no_other
 
--- what isn't a number is one flaw
+-- a text that isn't a number is one flaw
 pub one_no_digits : (digits : List ℕ) → One (NoDigits digits)
 one_no_digits digits p q h k = stands_alike p q refl refl h.stands k.stands
 
@@ -131,14 +131,14 @@ one_bad_outside syntax piece p q (BadOutside.with_port x d t f e h) (BadOutside.
 
 -- ---- in brackets
 
--- what is wrong with brackets and what follows them
+-- what is wrong with brackets and the text after them
 data BadBrackets (syntax : HostSyntax) (x behind : List ℕ) (p : Place) : Type 0 where
   followed : (wrong rest : List ℕ) → FreeOf colon wrong → 0 < length wrong → (rest ≡ []) ⊎ (begins_with colon rest ≡ true) → behind ≡ wrong ++ rest
       → Stands reason.BehindBracket (length x + 2) (length wrong) p → BadBrackets syntax x behind p
   between : (behind ≡ []) ⊎ (begins_with colon behind ≡ true) → Behind 1 (NoInner syntax x) p → BadBrackets syntax x behind p
   port : (digits : List ℕ) → Passes (NoInner syntax x) → behind ≡ colon ∷ digits → Behind (length x + 3) (Then (NoDigits digits) (PortOutside syntax digits)) p → BadBrackets syntax x behind p
 
--- what follows brackets doesn't both begin with a colon, or the end, and with another byte
+-- the text after brackets doesn't both begin with a colon, or the end, and with another byte
 followed_apart : (behind wrong rest : List ℕ) → FreeOf colon wrong → 0 < length wrong → behind ≡ wrong ++ rest → (behind ≡ []) ⊎ (begins_with colon behind ≡ true) → ⊥
 followed_apart behind [] rest f some e h = omega (arith, some)
 followed_apart behind (b ∷ wrong) rest f some e (inl none) = let clash : [] ≡ b ∷ (wrong ++ rest) = sym none ∙ e in cc

@@ -40,7 +40,7 @@ use Rattle.git_refusals.proofs.Refusing.UrlLemmas.{url_pieces_utf8, FoundBehind}
 
 -- ---- schemes
 
--- what isn't a scheme
+-- a text that isn't a scheme
 bad_scheme_kind : (scheme : List ℕ) (p : Place) → BadScheme scheme p → kind_of p.reason ≡ kind.BadUrl fault.NoScheme
 bad_scheme_kind scheme p (BadScheme.missing e s) = ap kind_of s.named
 bad_scheme_kind scheme p (BadScheme.bad_start c rest size e other _ s) = ap kind_of s.named
@@ -84,7 +84,7 @@ too_long_of b scheme rest p form h = of_kind b Url p.reason kind.TooLong (named 
     named (TooLong.long_scheme _ s) = ap kind_of s.named
     named (TooLong.long_rest _ _ s) = ap kind_of s.named
 
--- what is wrong behind a scheme
+-- what is wrong after a scheme
 bad_rest_of : (b scheme rest : List ℕ) (p : Place) → OtherUrlForm b scheme rest → is_scheme_text scheme ≡ true → BadRest b scheme rest p → IsOfKind b Url (kind_of p.reason)
 bad_rest_of b scheme rest p form is h = found h.found
   where

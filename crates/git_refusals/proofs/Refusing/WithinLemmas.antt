@@ -28,7 +28,7 @@ use Rattle.git_refusals.proofs.Refusing.UrlLemmas.{url_pieces_utf8, authority_ut
 abbrev pub IsWithin : List ℕ → Place → Type 0
 IsWithin piece p = p.at + p.len ≤ length piece
 
--- a place in a piece behind others is in a whole that reaches so far
+-- a place in a piece after others is in a whole that reaches so far
 behind_inside : (why : Reason) (before : ℕ) (inside p : Place) (piece whole : List ℕ) → Stands why (before + inside.at) inside.len p → IsWithin piece inside → before + length piece ≤ length whole → IsWithin whole p
 behind_inside why before inside p piece whole s h long = omega (arith, s.start, s.size, h, long)
 
@@ -68,7 +68,7 @@ broken_within text p h = omega (arith, h.stands.size, h.first.offset, ap length 
 
 -- ---- hosts and ports
 
--- a text that stands for no host
+-- a text that denotes no host
 no_host_within : (syntax : HostSyntax) (text : List ℕ) (p : Place) → IsUtf8 text → NoHostText syntax text p → IsWithin text p
 no_host_within http_hosts text p utf8 h = character_inside _ text p.at p.len utf8 h.stands
 no_host_within git_hosts text p utf8 h = undecodable_within text p h
@@ -168,7 +168,7 @@ bad_scheme_within scheme p utf8 (BadScheme.missing _ s) = omega (arith, s.start,
 bad_scheme_within scheme p utf8 (BadScheme.bad_start c rest size _ _ first s) = omega (arith, s.start, s.size, character_inside _ scheme 0 size utf8 first)
 bad_scheme_within scheme p utf8 (BadScheme.bad_character _ _ _ _ h) = character_inside _ scheme p.at p.len utf8 h.stands
 
--- what is behind a scheme
+-- the text after a scheme
 bad_rest_within : (b scheme rest : List ℕ) (p : Place) → b ≡ scheme ++ (codes "://" ++ rest) → IsUtf8 rest → BadRest b scheme rest p → IsWithin b p
 bad_rest_within b scheme rest p e utf8 h = found h.found
   where

@@ -72,7 +72,7 @@ mark_or_none (b ∷ bs) = elim (begins_or_not url_mark (b ∷ bs)) [
 abbrev HelperOrNone : List ℕ → Type 0
 HelperOrNone t = ((name : List ℕ) × UsesTransport t name) ⊎ ¬ NamesHelper t
 
--- a text that is cut at its first colon, with another one behind it
+-- a text that is cut at its first colon, with another one after it
 double_decided : (t name address : List ℕ) → FreeOf colon name → t ≡ name ++ colon ∷ address → begins_with colon address ≡ true → HelperOrNone t
 double_decided t [] address free e double = inl ([], uses_empty t address e double)
 double_decided t (b ∷ bs) address free e double = elim (cases_Bool (is_helper_name (b ∷ bs))) [
@@ -150,7 +150,7 @@ each_decided t = elim (free_or_cut 0 t) [
 
 -- ---- what Git reads
 
--- what is known of the scheme of one of Git's own transports
+-- the known facts about the scheme of one of Git's own transports
 record IsOwnName (known : Scheme) (scheme : List ℕ) : Type 0 where
   named : is_helper_name scheme ≡ true
   other : ¬ (scheme ≡ codes "rsync")
@@ -198,7 +198,7 @@ reads_use t r (ReadsInput.file_url rest place path u cut is) = of_protocol t fil
 reads_use t r (ReadsInput.scp_form place path n m cut h) = of_protocol t ssh r.protocol (ap (λ (g : GitReading). g.protocol) h.value) (UsesTransport.scp_form n m refl)
 reads_use t r (ReadsInput.local_path passed path n l end some safe low is) = of_protocol t file r.protocol (ap (λ (g : GitReading). g.protocol) is) (UsesTransport.local_path n l refl)
 
--- where Git reads a place in a text, the transport of the text is that of the place
+-- if Git reads a place in a text, the transport of the text is that of the place
 pub transport_of_reading : TransportOfReading
 transport_of_reading t r h = record { input = record { whole = h.whole; no_option = h.no_option }; uses = reads_use t r h.reads }
 

@@ -115,7 +115,7 @@ has_or_lacks t name why.UnknownScheme h k = unknown_unused t name k.1 h.uses
 
 -- ---- what decides
 
--- a text with two colons behind a front names a helper, if the front is a name or empty
+-- a text with two colons after a front names a helper, if the front is a name or empty
 front_name : (t name address : List ℕ) → FreeOf colon name → t ≡ name ++ colon ∷ address → NamesHelper t → is_helper_name name ≡ false → name ≡ []
 front_name t name address free e (inl (n, a, k)) other =
     let same = (cut_unique colon n name (colon ∷ a) address (name_free n k.named) free (sym k.joined ∙ e)).0 in
@@ -126,7 +126,7 @@ front_name t name address free e (inr (rest, is)) other = (cut_unique colon name
 pub names_none : (t name address : List ℕ) → FreeOf colon name → t ≡ name ++ colon ∷ address → ¬ (name ≡ []) → is_helper_name name ≡ false → ¬ NamesHelper t
 names_none t name address free e some other h = some (front_name t name address free e h other)
 
--- a text with two colons behind a name uses the helper of that name
+-- a text with two colons after a name uses the helper of that name
 pub uses_helper : (t name address : List ℕ) → t ≡ name ++ colon ∷ address → begins_with colon address ≡ true → is_helper_name name ≡ true → UsesTransport t name
 uses_helper t name address e double named =
     let (rest, is) = begins_cut colon address double in

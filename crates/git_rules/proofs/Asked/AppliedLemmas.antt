@@ -20,24 +20,24 @@ form_unique globs t None (Some n) h k = absurd (h n k)
 form_unique globs t (Some n) None h k = absurd (k n h)
 form_unique globs t (Some n) (Some m) h k = ap Some (normal_unique globs t n m h k)
 
--- a pattern that stands for the place of the request
+-- a pattern that denotes the place of the request
 pub fits_matched : (url : List ℕ) (r : CredentialReading) (user : Option (List ℕ)) (place : Option NormalPlace) (pattern : NormalPlace) → IsFormOf false (credential_url r) place → IsNormalOf true url pattern → MatchesForm pattern place → FitsSubsection (Some url) r user
 fits_matched url r user place pattern form is matches = inl (place, form, (pattern, is, matches))
 
--- a subsection that fits and has a normal form stands for the place
+-- a subsection that fits and has a normal form denotes the place
 pub matched_fits : (url : List ℕ) (r : CredentialReading) (user : Option (List ℕ)) (place : Option NormalPlace) (pattern : NormalPlace) → IsFormOf false (credential_url r) place → IsNormalOf true url pattern → FitsSubsection (Some url) r user → MatchesForm pattern place
 matched_fits url r user place pattern form is (inl (other, also, (found, is_found, matches))) =
     subst (λ p. MatchesForm p place) (normal_unique true url found pattern is_found is) (subst (MatchesForm found) (form_unique false (credential_url r) other place also form) matches)
 matched_fits url r user place pattern form is (inr (none, parts)) = absurd (none pattern is)
 
--- so it is decided where the subsection has a normal form
+-- so it is decided if the subsection has a normal form
 pub fits_decided : (url : List ℕ) (r : CredentialReading) (user : Option (List ℕ)) (place : Option NormalPlace) (matches : Bool) → IsFormOf false (credential_url r) place → DecidesUrl url place (Some matches) → IsTrue matches ↔ FitsSubsection (Some url) r user
 fits_decided url r user place matches form (pattern, is, (to, from)) = (
   λ t. fits_matched url r user place pattern form is (to t),
   λ fits. from (matched_fits url r user place pattern form is fits),
 )
 
--- and where it has none, the parts decide
+-- and if it has none, the parts decide
 pub fits_parts : (url : List ℕ) (r : CredentialReading) (user : Option (List ℕ)) → IsFormOf true url None → FitsSubsection (Some url) r user → FitsPartly url r user
 fits_parts url r user none (inl (place, form, (pattern, is, matches))) = absurd (none pattern is)
 fits_parts url r user none (inr (_, parts)) = parts
@@ -47,7 +47,7 @@ pub fits_by_parts : {E : Type 0} (url : List ℕ) (r : CredentialReading) (user 
 fits_by_parts url r user (Ok fits) none (to, from) = (λ on. inr (none, to on), λ h. from (fits_parts url r user none h))
 fits_by_parts url r user (Err e) none h = h
 
--- an entry of the section applies where its subsection fits
+-- an entry of the section applies if its subsection fits
 pub applies_by : {E : Type 0} (url : List ℕ) (r : CredentialReading) (user : Option (List ℕ)) (e : ConfigEntry) (found : Result Bool E) → is_of_section (codes "credential") e ≡ true → e.subsection ≡ Some url → IfOk found (λ fits. IsTrue fits ↔ FitsSubsection (Some url) r user) → IfOk found (λ applies. IsTrue applies ↔ AppliesTo r user e)
 applies_by url r user e (Ok fits) of same (to, from) = (
   λ on. (of, subst (λ s. FitsSubsection s r user) (sym same) (to on)),

@@ -29,7 +29,7 @@ pub below_begins : (front path : List ℕ) → IsBelow front path → (rest : Li
 below_begins front path (inl same) = ([], same ∙ sym (append-nil front))
 below_begins front path (inr (rest, joined)) = (slash ∷ rest, joined)
 
--- what begins with a path is below it where it ends there, or goes on with a `/`
+-- a text that begins with a path is below it if it ends there, or goes on with a `/`
 pub below_rest : (front path rest : List ℕ) → path ≡ front ++ rest → IsBelow front path ↔ ((rest ≡ []) ⊎ (begins_with slash rest ≡ true))
 below_rest front path rest joined = (
   λ below. elim below [
@@ -49,14 +49,14 @@ below_none front path never = (
   λ below. let begins = below_begins front path below in absurd (never begins.0 begins.1),
 )
 
--- where nothing is left, it is the path
+-- if nothing is left, it is the path
 pub below_ends : (front path rest : List ℕ) (r : Bool) → path ≡ front ++ rest → r ≡ (length rest == 0) → r ≡ true → IsTrue r ↔ IsBelow front path
 below_ends front path rest r joined test all = (
   λ same. (below_rest front path rest joined).1 (inl (empty_is rest (sym test ∙ all))),
   λ below. all,
 )
 
--- where something is left, it is below the path if it begins with a `/`
+-- if something is left, it is below the path if it begins with a `/`
 pub below_goes_on : (front path rest : List ℕ) (r more : Bool) → path ≡ front ++ rest → r ≡ (length rest == 0) → r ≡ false → more ≡ begins_with slash rest → IsTrue more ↔ IsBelow front path
 below_goes_on front path rest r more joined test some begins = (
   λ goes. (below_rest front path rest joined).1 (inr (sym begins ∙ goes)),

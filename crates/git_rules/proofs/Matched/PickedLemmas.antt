@@ -43,12 +43,12 @@ no_file : (scheme : List ℕ) → IsWebText scheme → ¬ (scheme ≡ codes "fil
 no_file scheme (inl is) e = different_bytes 104 102 refl (sym is ∙ e)
 no_file scheme (inr is) e = different_bytes 104 102 refl (sym is ∙ e)
 
--- what holds or never does holds
+-- a fact that holds or never does holds
 or_left : (b : Bool) → (b || false) ≡ true → b ≡ true
 or_left true h = refl
 or_left false h = h
 
--- a scheme's own port is reached where none is there
+-- a scheme's own port is reached if none is there
 own_reached : (scheme : List ℕ) (port : ℕ) → IsWebText scheme → is_own_port scheme port ≡ true → Some port ≡ reached_port scheme None
 own_reached scheme port (inl is) own =
     let eighty : (port == 80) ≡ true = or_left (port == 80) (subst (λ s. is_own_port s port ≡ true) is own) in
@@ -77,7 +77,7 @@ port_same scheme (Some port) number web within (inr (p, is, there)) =
 
 -- ---- hosts of the class
 
--- a text has no `.` at its end where another one without it is there
+-- a text has no `.` at its end if another one without it is there
 end_apart : (front name z : List ℕ) → FreeOf dot z → 0 < length z → ¬ (name ++ z ≡ front ++ dot ∷ [])
 end_apart front name z free some e = end_held dot front name z free some (sym e)
 
@@ -97,7 +97,7 @@ ipv4_end host front h e =
     let some : 0 < length h.fourth = subst (λ t. 0 < length t) (sym octet.2) number.digits.0 in
     end_apart front (h.first ++ dot ∷ (h.second ++ dot ∷ (h.third ++ dot ∷ []))) h.fourth free some (simp append_assoc (sym h.joined ∙ e))
 
--- nor does what ends in a bracket
+-- nor does a text that ends in a bracket
 bracket_end : (host front : List ℕ) → IsBracketedAddress host → ¬ (host ≡ front ++ dot ∷ [])
 bracket_end host front h e = end_apart front (left_bracket ∷ h.0) (right_bracket ∷ []) refl (omega arith) (sym h.2 ∙ e)
 

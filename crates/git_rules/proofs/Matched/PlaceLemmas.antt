@@ -51,7 +51,7 @@ host_form : (named host behind : List ℕ) → UriHost named host behind → ((i
 host_form named host behind (UriHost.bracketed inside address is joined) = inl (inside, is)
 host_form named host behind (UriHost.unbracketed free begins joined) = inr free
 
--- a host and what follows it are the whole
+-- a host and the text after it are the whole
 host_joined : (named host behind : List ℕ) → UriHost named host behind → named ≡ host ++ behind
 host_joined named host behind (UriHost.bracketed inside address is joined) = joined
 host_joined named host behind (UriHost.unbracketed free begins joined) = joined

@@ -33,7 +33,7 @@ pub no_text : (t : Result (List ℕ) WriteFault) (fault : WriteFault) (buffer_le
 no_text (Ok t) fault buffer_len e = cc
 no_text (Err other) fault buffer_len e = cc
 
--- the text is at the front where it fits
+-- the text is at the front if it fits
 front_text : (t old new : List ℕ) → length t ≤ length old → Placed (Ok t) old new → take (length t) new ≡ t
 front_text t old new fits placed =
     elim (cases_Bool (nat_lt (length old) (length t))) [

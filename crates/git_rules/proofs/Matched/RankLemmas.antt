@@ -112,7 +112,7 @@ step_first Ranks done t next rank h place ranked = (
   refl,
 )
 
--- what isn't higher than the highest isn't higher than a rank that isn't lower
+-- a rank that isn't higher than the highest isn't higher than a rank that isn't lower
 not_above : {T : Type 0} (Ranks : T → Rank → Type 0) (highest rank : Rank) → ¬ IsLower rank highest → (s : T) → RanksNoHigher Ranks highest s → RanksNoHigher Ranks rank s
 not_above Ranks highest rank high s less k ranked low =
     elim (lower_between rank highest k low) [ inl l ↦ high l | inr m ↦ less k ranked m ]
@@ -147,7 +147,7 @@ step_higher Ranks done t i next highest rank (best, same) place ranked high = (
   refl,
 )
 
--- the best so far, behind one item more
+-- the best so far, after one item more
 pub step : {T : Type 0} (Ranks : T → Rank → Type 0) (done : List T) (t : T) (next : ℕ) (best r : Option (ℕ × Rank)) (rank : Option Rank) → IsBestSoFar Ranks done best → length done ≡ next → HasRank Ranks t rank → IsBetter best next rank r → IsBestSoFar Ranks (done ++ t ∷ []) r
 step Ranks done t next best r None so_far place ranked better =
     subst (IsBestSoFar Ranks (done ++ t ∷ [])) (sym better) (step_none Ranks done t best so_far ranked)
@@ -158,7 +158,7 @@ step Ranks done t next (Some (i, highest)) r (Some rank) so_far place ranked (in
 step Ranks done t next (Some (i, highest)) r (Some rank) so_far place ranked (inr (high, same)) =
     subst (IsBestSoFar Ranks (done ++ t ∷ [])) (sym same) (step_higher Ranks done t i next highest rank so_far place ranked high)
 
--- the best of a front, behind one item more of the list
+-- the best of a front, after one item more of the list
 pub next : {T : Type 0} (Ranks : T → Rank → Type 0) (items : List T) (i : ℕ) (d : T) (best r : Option (ℕ × Rank)) (rank : Option Rank) → i < length items → IsBestSoFar Ranks (take i items) best → HasRank Ranks (get_or items i d) rank → IsBetter best i rank r → IsBestSoFar Ranks (take (i + 1) items) r
 next Ranks items i d best r rank within so_far ranked better =
     let more : take (i + 1) items ≡ take i items ++ get_or items i d ∷ [] = rw (add-one i) (take-suc items i d within) in

@@ -18,7 +18,7 @@ lacks_base-append : (base : List ℕ) (a b : List Rule) → LacksBase base a →
 lacks_base-append base [] b f g = g
 lacks_base-append base (r ∷ a) b f g = (f.0, lacks_base-append base a b f.1 g)
 
--- items are those before one, it, and those behind it
+-- items are those before one, it, and those after it
 pub cut_here : {A : Type 0} (xs : List A) (i : ℕ) (d : A) → i < length xs → xs ≡ take i xs ++ get_or xs i d ∷ drop (suc i) xs
 cut_here xs i d within = sym (take-append-drop i xs) ∙ ap (λ rest. take i xs ++ rest) (drop-cons xs i d within)
 
@@ -29,7 +29,7 @@ front_more xs i x within at =
 
 -- ---- a rule more
 
--- a rule more, behind the others, changes no rank
+-- a rule more, after the others, changes no rank
 pub rank_kept : (rules : List Rule) (r : Rule) (base : List ℕ) (rank : ℕ) → HasRank rules base rank → HasRank (rules ++ r ∷ []) base rank
 rank_kept rules r base rank (before, first, others, whole, same, lacks, size) =
     (before, first, others ++ r ∷ [], ap (λ rs. rs ++ r ∷ []) whole ∙ append_assoc before (first ∷ others) (r ∷ []), same, lacks, size)
@@ -64,7 +64,7 @@ base_found (k ∷ kept) zero base (r, found, same) = λ lacks.
     lacks.0 (ap (λ z. z.base.now) head ∙ same)
 base_found (k ∷ kept) (suc at) base (r, found, same) = λ lacks. base_found kept at base (r, found, same) lacks.1
 
--- the rule behind so many is at this place
+-- the rule after so many is at this place
 found_at : (kept : List Kept) (before : List Rule) (first : Rule) (others : List Rule) (base : List ℕ) (rank : ℕ) → map rule_of kept ≡ before ++ first ∷ others → first.base ≡ base → length before ≡ rank → HasBaseAt kept rank base
 found_at [] [] first others base rank whole same size = absurd (cc)
 found_at [] (b ∷ before) first others base rank whole same size = absurd (cc)
@@ -107,7 +107,7 @@ next_noted : (rules : List Rule) (base : List ℕ) (rank : ℕ) → HasNextRank 
 next_noted rules base rank (inl h) = inl (rank, refl, h)
 next_noted rules base rank (inr (lacks, size)) = inr lacks
 
--- what is noted stays right where the next rank of a base is noted
+-- what is noted stays right if the next rank of a base is noted
 either_noted : (rules : List Rule) (own base : List ℕ) (rank : ℕ) (entry : Option ℕ) (here : Bool) → Decides here (own ≡ base) → HasNextRank rules own rank → IsNoted rules base entry → IsNoted rules base (cond here (Some rank) entry)
 either_noted rules own base rank entry true is h was = subst (λ b. IsNoted rules b (Some rank)) (is.0 refl) (next_noted rules own rank h)
 either_noted rules own base rank entry false is h was = was

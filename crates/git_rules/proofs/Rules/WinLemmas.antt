@@ -81,7 +81,7 @@ none_so_far rules text lengths o base rest sorted h =
 
 -- ---- the end
 
--- where none that applies is ahead
+-- if none that applies is ahead
 all_seen : (rules : List Rule) (text left : List ℕ) (o : Outcome) → ((s : Rule) → Applies text s → ¬ IsAhead left s) → IsRewrittenSoFar rules text left o → IsRewritten rules text o
 all_seen rules text left o seen (inl h) = inl (h.base, h.rest, λ s among a. seen s a (h.ahead s among a))
 all_seen rules text left o seen (inr h) =

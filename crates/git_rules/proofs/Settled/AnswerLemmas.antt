@@ -113,7 +113,7 @@ first_of_room name place buffer_len entries single h = record {
   fails = h.short;
 }
 
--- or memory is refused for the best entry, where the buffer suffices
+-- or memory is refused for the best entry, if the buffer suffices
 pub first_of_memory : (name : List ℕ) (place : Option NormalPlace) (buffer_len : ℕ) (entries : List ConfigEntry) (i : ℕ) → ¬ IsListName name → All (BufferSuffices (codes "http") name place buffer_len) entries → IsBestAt (RanksSetting name place) entries i → IsOfFirst name place buffer_len entries Memory
 first_of_memory name place buffer_len entries i single enough best =
     let Fits = BufferSuffices (codes "http") name place buffer_len in

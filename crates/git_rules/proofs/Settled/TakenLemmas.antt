@@ -82,7 +82,7 @@ untaken_none name place done t e none h =
     let seam = at_seam h.before h.others done [] e t h.joined h.index in
     none h.rank (subst (λ z. RanksSetting name place z h.rank) seam.1 h.ranks)
 
--- the element where a list is cut is one of the list
+-- the element if a list is cut is one of the list
 pub at_cut : {T : Type 0} (before : List T) (x : T) (others : List T) → Contains (before ++ x ∷ others) x
 at_cut before x others = Contains-append_right before (x ∷ others) x (0, omega arith, refl)
 
@@ -134,7 +134,7 @@ best_is_last name place entries i best = record {
   last = λ j e h. elim (cases_lt i j) [ inl after ↦ absurd (not_after name place entries i j e best after h) | inr l ↦ l ];
 }
 
--- where none sets the variable none is taken
+-- if none sets the variable none is taken
 pub none_taken : (name : List ℕ) (place : Option NormalPlace) (entries : List ConfigEntry) (i : ℕ) (e : ConfigEntry) → All (HasNoRank (RanksSetting name place)) entries → ¬ IsTakenAt name place entries i e
 none_taken name place entries i e none h =
     All-contains (HasNoRank (RanksSetting name place)) entries e none (subst (λ z. Contains z e) (sym h.joined) (at_cut h.before e h.others)) h.rank h.ranks

@@ -111,7 +111,7 @@ settled_host v (inr url) = (url.host.0, url.host.1)
 
 -- ---- the law
 
--- what is known of a host of the class
+-- the known facts about a host of the class
 record IsGiven (v : Location) (host : List ℕ) : Type 0 where
   there : v.host ≡ Some host
   some : 0 < length host

@@ -131,7 +131,7 @@ path_stays p path of_https common some = ap or_root (decode_kept path (common_fr
 abbrev simple_fields : List ℕ → Option (List ℕ) → List ℕ → List ℕ → UrlSyntax
 simple_fields scheme user host path = record { scheme = scheme; user = user; password = None; host = Some host; port = None; path = path }
 
--- the fields mean the location, by a remote scheme
+-- the fields denote the location, by a remote scheme
 simple_means : (p : Scheme) (user : Option (List ℕ)) (host path : List ℕ) → IsRemoteScheme p → IsSimpleHost host → is_common path ≡ true → 0 < length path
     → HostFor p (Some host) (Some host) → DenotesByScheme p (simple_fields (scheme_text p) user host path) (record (path_alone p false path) { user = user; host = Some host })
 simple_means p user host path remote simple common some hosted = record {

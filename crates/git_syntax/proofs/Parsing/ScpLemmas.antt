@@ -45,7 +45,7 @@ pub colons_inside_front : (b front : List ℕ) → ScpFront b front → ColonsIn
 colons_inside_front b front (plain free h) = inl free
 colons_inside_front b front (bracketed inside after h free e) = inr (left_bracket ∷ inside, after, h, free, e)
 
--- so do those of what follows an `@`
+-- so do those of the text after an `@`
 colons_inside_behind : (user host : List ℕ) → ColonsInside (user ++ at_sign ∷ host) → ColonsInside host
 colons_inside_behind user host (inl free) = inl (free_head_tail colon at_sign host (free_parts colon user (at_sign ∷ host) free).1).1
 colons_inside_behind user host (inr (inside, rest, closed, free, e)) =
@@ -101,7 +101,7 @@ scp_user_utf8 b front path user host h text (with_user u e is) =
 
 -- ---- `user@[address]:path`
 
--- where the path behind the address is empty, the earlier form spells nothing
+-- if the path after the address is empty, the earlier form spells nothing
 pub addressed_no_path_before : (b user address : List ℕ) → AddressedForm b user address [] → (v : Location) → ¬ SpellsScpBefore b v
 addressed_no_path_before b user address k v h =
     let (x, y, f, e) = address_cut address k.cut.addressed in
@@ -136,16 +136,16 @@ not_in_brackets t apart (inner, e) = both_ways _ apart (ap (begins_with left_bra
 normal_front : (host : List ℕ) → begins_with left_bracket host ≡ false → begins_with left_bracket (normal_host host) ≡ false
 normal_front host open_front = grind arith
 
--- the front is the same where each `%` is escaped
+-- the front is the same if each `%` is escaped
 escaped_front : (c : ℕ) (host : List ℕ) → (37 == c) ≡ false → begins_with c host ≡ false → begins_with c (escaped_percents host) ≡ false
 escaped_front c host other h = grind arith
 
--- what isn't empty is written as more than nothing
+-- a text that isn't empty is written as more than nothing
 pub escaped_some : (host : List ℕ) → 0 < length host → 0 < length (escaped_percents host)
 escaped_some [] h = absurd (omega (arith, h))
 escaped_some (b ∷ host) h = elim (cases_Bool (b == percent_sign)) [ inl same ↦ rw same (omega arith) | inr kept ↦ rw kept (omega arith) ]
 
--- a text that is UTF-8 stands for its normal form
+-- a text that is UTF-8 denotes its normal form
 name_text : (host : List ℕ) → IsUtf8 host → HostText git_hosts (escaped_percents host) (normal_host host)
 name_text host text = (subst IsUtf8 (sym (decode_escaped_percents host)) text, ap normal_host (sym (decode_escaped_percents host)))
 
@@ -159,7 +159,7 @@ name_found host some open_front text free = record {
   unbracketed = Unbrackets.same (not_in_brackets (normal_host host) (normal_front host open_front)) refl;
 }
 
--- where the text holds a colon, a bracket closes behind it
+-- if the text holds a colon, a bracket closes after it
 colon_enclosed : (host front behind : List ℕ) → host ≡ front ++ colon ∷ behind → ColonsInside host → (z : List ℕ) × (rest : List ℕ) × (behind ≡ z ++ right_bracket ∷ rest)
 colon_enclosed host front behind e (inl free) = absurd (not_free colon front behind (subst (λ t. FreeOf colon t) e free))
 colon_enclosed host front behind e (inr (inside, rest, closed, free, k)) =
@@ -201,7 +201,7 @@ colons_found host front behind open_front text colons e many = record {
               inr (escaped_percents front, escaped_percents y, escaped_percents z, escaped ∙ ap (λ t. escaped_percents front ++ colon ∷ t) (ap escaped_percents k ∙ escaped_percents-append y (colon ∷ z)))
         ]
 
--- what is in a port's place behind one colon isn't a port
+-- what is in a port's place after one colon isn't a port
 pub no_port_found : (host front behind : List ℕ) → begins_with left_bracket host ≡ false → ColonsInside host → FreeOf colon front → host ≡ front ++ colon ∷ behind → false ≡ (length front == 0) → FreeOf colon behind → ScpNameFlaw host fault.BadPort
 no_port_found host front behind open_front colons first e some last =
     HasBadPort.plain (escaped_percents front) (escaped_percents behind) (record { nonempty = escaped_some front (some_tested front some); no_colon = lacks_escaped_percents (λ b. b == colon) front refl refl refl first; no_bracket = escaped_front left_bracket front refl (front_open front e some) }) (lacks_escaped_percents (λ b. b == colon) behind refl refl refl last)
@@ -223,7 +223,7 @@ no_port_found host front behind open_front colons first e some last =
 pub open_found : (behind : List ℕ) → FreeOf right_bracket behind → ScpNameFlaw (left_bracket ∷ behind) fault.BadCharacter
 open_found behind free = HasBadHost.open_bracket (escaped_percents behind) (lacks_escaped_percents (λ b. b == right_bracket) behind refl refl refl free) refl
 
--- the text between brackets and what follows them, where each `%` is escaped
+-- the text between brackets and the text after them, if each `%` is escaped
 brackets_escaped : (behind inner rest : List ℕ) → behind ≡ inner ++ right_bracket ∷ rest → escaped_percents behind ≡ escaped_percents inner ++ right_bracket ∷ escaped_percents rest
 brackets_escaped behind inner rest e = ap escaped_percents e ∙ escaped_percents-append inner (right_bracket ∷ rest)
 
@@ -270,7 +270,7 @@ inner_kept behind inner rest text closed e none other =
 
 -- ---- literals whose `%` is unescaped
 
--- each `%` is sound where it is escaped
+-- each `%` is sound if it is escaped
 escaped_sound : (t : List ℕ) → is_sound (escaped_percents t) ≡ true
 escaped_sound [] = refl
 escaped_sound (b ∷ t) = elim (cases_Bool (b == percent_sign)) [ inl same ↦ rw same (escaped_sound t) | inr kept ↦ rw kept (sound_kept b (escaped_percents t) kept ∙ escaped_sound t) ]
@@ -329,7 +329,7 @@ unbracketed_utf8 host inner (Unbrackets.brackets e) is =
     (utf8_parts inner [] right_bracket (utf8_parts [] (inner ++ right_bracket ∷ []) left_bracket (subst IsUtf8 e is) (lit< tt)).1 (lit< tt)).0
 unbracketed_utf8 host inner (Unbrackets.same other e) is = subst IsUtf8 (sym e) is
 
--- so is the host that one of the scp form stands for
+-- so is the host that one of the scp form denotes
 pub scp_meant_utf8 : {host denoted : List ℕ} → ScpHost host denoted → IsUtf8 denoted
 scp_meant_utf8 {host} {denoted} h = unbracketed_utf8 h.named denoted h.unbracketed (names_utf8 git_hosts (escaped_percents host) h.named None h.names)
 
@@ -346,7 +346,7 @@ simple_byte_no_space b h = grind (arith, nat_tests)
 simple_unbracketed : (t : List ℕ) → IsSimpleHost t → ¬ IsBracketed t
 simple_unbracketed t h k = grind arith
 
--- it stands for itself in the scp form
+-- it denotes itself in the scp form
 pub simple_scp_host : (t : List ℕ) → IsSimpleHost t → ScpHost t t
 simple_scp_host t h = record {
   named = t;

@@ -26,17 +26,17 @@ use Rattle.git_syntax.proofs.Parsing.UrlLemmas.{scheme_no_mark}
 
 -- ---- paths
 
--- `/` stands for an empty path
+-- `/` denotes an empty path
 pub root_meant : (path : List ℕ) → length path ≡ 0 → percent_decode (slash ∷ []) ≡ or_root (percent_decode path)
 root_meant path empty = grind (arith, nat_tests, decode_byte, nil_from_length, percent_decode-nil)
 
--- any other path stands for itself
+-- any other path denotes itself
 pub path_meant : (path : List ℕ) → 0 < length path → percent_decode path ≡ or_root (percent_decode path)
 path_meant path some = grind (arith, nat_tests, decode_empty)
 
 -- ---- hosts
 
--- text behind an opening bracket, without a last colon and then without a last bracket, is in brackets
+-- text after an opening bracket, without a last colon and then without a last bracket, is in brackets
 pub inside_brackets : (host behind closed : List ℕ) (found : Option (Bor (List ℕ))) → host ≡ left_bracket ∷ behind → DropsLast colon behind closed → StripsLast right_bracket closed found → MatchOption found ((inside : List ℕ) → ¬ InBrackets host inside) (λ inside. InBrackets host inside.now)
 inside_brackets host behind closed None e (DropsLast.dropped d) none =
     λ inside brackets. elim brackets [
@@ -110,7 +110,7 @@ pieces_unique {b} {p} {q} h k =
 means_pathed : (p : Scheme) (b : List ℕ) (parts : UrlSyntax) (v : Location) → requires_path p ≡ true → DenotesAs p b parts v → 0 < length parts.path
 means_pathed p b parts v need h = grind arith
 
--- a URL without a path stands for no location where its scheme needs one
+-- a URL without a path denotes no location if its scheme needs one
 pub no_path_refutes : {b : List ℕ} {parts : UrlSyntax} → HasUrlSyntax b parts → requires_path (scheme_of parts.scheme) ≡ true → parts.path ≡ [] → (v : Location) → ¬ SpellsUrl b v
 no_path_refutes {b} {parts} h need empty v other =
     let same = pieces_unique h other.spelled in
@@ -123,6 +123,6 @@ pub path_missed : {b : List ℕ} {parts : UrlSyntax} → HasUrlSyntax b parts �
 path_missed {b} {parts} h need empty =
     MissesPath.in_url parts.scheme h.authority need (free_of_lacked (is_path_start (is_web_scheme parts.scheme)) slash h.authority h.before_path refl) (h.joined ∙ ap (λ p. parts.scheme ++ (codes "://" ++ (h.authority ++ p))) empty ∙ ap (λ a. parts.scheme ++ (codes "://" ++ a)) (append-nil h.authority))
 
--- a URL that was read stands for what its parts mean, by its scheme
+-- a URL that was read denotes what its parts denote, by its scheme
 pub spelled_url : {b : List ℕ} {parts : UrlSyntax} {p : Scheme} {v : Location} → HasUrlSyntax b parts → p ≡ scheme_of parts.scheme → ¬ (p ≡ ext) → DenotesByScheme p parts v → SpellsUrl b v
 spelled_url h e other means = grind arith

@@ -52,7 +52,7 @@ lacks-cons test b x h k = or_from (test b) (list_any test x) h k
 pub lacks_head_tail : (test : ℕ → Bool) (b : ℕ) (x : List ℕ) → Lacks test (b ∷ x) → (test b ≡ false) × Lacks test x
 lacks_head_tail test b x h = or_parts (test b) (list_any test x) h
 
--- what lacks a wider class of bytes lacks a narrower one
+-- a text that lacks a wider class of bytes lacks a narrower one
 pub lacks_weaker : (t u : ℕ → Bool) → ((b : ℕ) → t b ≡ true → u b ≡ true) → (bs : List ℕ) → Lacks u bs → Lacks t bs
 lacks_weaker t u within [] h = refl
 lacks_weaker t u within (b ∷ bs) h =
@@ -114,7 +114,7 @@ free_of_all test c bs h k = grind (arith, nat_tests, lacks_of_all, both_ways, eq
 pub free_of_lacked : (test : ℕ → Bool) (c : ℕ) (bs : List ℕ) → Lacks test bs → test c ≡ true → FreeOf c bs
 free_of_lacked test c bs h k = lacks_weaker (λ b. b == c) test (λ b e. ap test (eqb-true b c e) ∙ k) bs h
 
--- a text is free of a byte, or is the text before the first such byte, the byte, and the text behind it
+-- a text is free of a byte, or is the text before the first such byte, the byte, and the text after it
 pub free_or_cut : (c : ℕ) (bs : List ℕ) → FreeOf c bs ⊎ ((x : List ℕ) × (y : List ℕ) × FreeOf c x × (bs ≡ x ++ c ∷ y))
 free_or_cut c [] = inl refl
 free_or_cut c (b ∷ bs) =
@@ -130,7 +130,7 @@ free_or_cut c (b ∷ bs) =
 abbrev pub EndsOrNot : ℕ → List ℕ → Type 0
 EndsOrNot c t = ((front : List ℕ) × (t ≡ front ++ c ∷ [])) ⊎ ((front : List ℕ) → ¬ (t ≡ front ++ c ∷ []))
 
--- by whether the byte behind all but one byte of the text makes it up
+-- by whether the byte after all but one byte of the text makes it up
 pub ends_or_not : (c : ℕ) (t : List ℕ) → EndsOrNot c t
 ends_or_not c [] = inr (λ front e. absurd (omega (arith, ap length e, length-append front (c ∷ []))))
 ends_or_not c (b ∷ t) =
@@ -144,7 +144,7 @@ ends_or_not c (b ∷ t) =
           both_ways _ other (same.1 (e ∙ ap (λ x. x ++ c ∷ []) (sym is))))
     ]
 
--- a text that begins with a byte is the byte and what follows
+-- a text that begins with a byte is the byte and the rest
 pub begins_cut : (c : ℕ) (bs : List ℕ) → begins_with c bs ≡ true → (rest : List ℕ) × (bs ≡ c ∷ rest)
 begins_cut c bs h = grind arith
 
@@ -152,7 +152,7 @@ begins_cut c bs h = grind arith
 pub free_begins : (c : ℕ) (bs : List ℕ) → FreeOf c bs → begins_with c bs ≡ false
 free_begins c bs h = grind arith
 
--- how a text begins, so does the whole with another text behind it
+-- how a text begins, so does the whole with another text after it
 pub begins-append : (c : ℕ) (x y : List ℕ) → 0 < length x → begins_with c (x ++ y) ≡ begins_with c x
 begins-append c x y some = grind arith
 
@@ -162,7 +162,7 @@ not_free c x y h = grind (arith, nat_tests, free_parts, free_head_tail, both_way
 
 -- ---- cuts at a byte
 
--- a text is the text before a byte, the byte, and the text behind it
+-- a text is the text before a byte, the byte, and the text after it
 joined_around : (c : ℕ) (bs : List ℕ) (n : ℕ) → n < length bs → (get_or bs n 0 == c) ≡ true → bs ≡ take n bs ++ c ∷ drop (n + 1) bs
 joined_around c [] n l h = absurd (omega arith)
 joined_around c (b ∷ bs) zero l h = ap (λ d. d ∷ bs) (eqb-true b c h)
@@ -244,7 +244,7 @@ cut_at_first test xs = (sym (take-append-drop (position_or_len test xs) xs), lac
 pub cut_at_place : (test : ℕ → Bool) (xs : List ℕ) (n : ℕ) → IsFirstByte test xs (Some n) → (xs ≡ take n xs ++ drop n xs) × Lacks test (take n xs) × ((drop n xs ≡ []) ⊎ (begins_by test (drop n xs) ≡ true))
 cut_at_place test xs n h = grind (arith, nat_tests, lacks_before, begins_at, take-append-drop)
 
--- where none was found, the whole is the front
+-- if none was found, the whole is the front
 pub cut_at_end : (test : ℕ → Bool) (xs : List ℕ) (n : ℕ) → n ≡ length xs → IsFirstByte test xs None → (xs ≡ take n xs ++ drop n xs) × Lacks test (take n xs) × ((drop n xs ≡ []) ⊎ (begins_by test (drop n xs) ≡ true))
 cut_at_end test xs n all h = grind (arith, nat_tests, lacks_before, drop_all, take-append-drop)
 
@@ -289,7 +289,7 @@ last_cut_unique c (d ∷ a) (k ∷ b) x y f g e =
 pub held_free : (bs : List ℕ) → FreeOf colon bs → ¬ Holds url_mark bs
 held_free bs h (front, rest, e) = not_free colon front (47 ∷ 47 ∷ rest) (subst (λ z. FreeOf colon z) e h)
 
--- what follows the first byte of a text without a mark holds none
+-- the text after the first byte of a text without a mark holds none
 not_held_behind : (mark : List ℕ) (b : ℕ) (bs : List ℕ) → ¬ Holds mark (b ∷ bs) → ¬ Holds mark bs
 not_held_behind mark b bs h (front, rest, e) = h (b ∷ front, rest, ap (λ z. b ∷ z) e)
 

@@ -40,7 +40,7 @@ found_spelling s spelling path h = ⊎_elim
     (λ none. absurd (not_every s (λ t. h t ∙ unmatched spelling path t none)))
     (cases_Bool (matches spelling path))
 
--- where none was found, none matches
+-- if none was found, none matches
 pub no_spelling : (spelling : Option (List ℕ)) (path : List ℕ) → ((other : List ℕ) → other ≡ matching_or spelling path other) → matches spelling path ≡ false
 no_spelling spelling path h = ⊎_elim
     (λ yes.
@@ -62,7 +62,7 @@ held_within : (a b c : List ℕ) → Holds a b → Holds b c → Holds a c
 held_within a b c (x, y, e) (z, w, k) =
     (z ++ x, y ++ w, k ∙ ap (λ t. z ++ (t ++ w)) e ∙ ap (λ t. z ++ t) (append_assoc x (a ++ y) w ∙ ap (λ t. x ++ t) (append_assoc a y w)) ∙ sym (append_assoc z x (a ++ (y ++ w))))
 
--- what the texts around a delimiter stand for is part of what the whole stands for
+-- what the texts around a delimiter denote is part of what the whole denotes
 held_around : (escaped : Bool) (text x y : List ℕ) (c : ℕ) → Parts c → text ≡ x ++ c ∷ y → Holds (denoted_by escaped x) (denoted_by escaped text) × Holds (denoted_by escaped y) (denoted_by escaped text)
 held_around escaped text x y c parts cut =
     let split = ap (denoted_by escaped) cut ∙ meant_around escaped x y c parts in (
@@ -78,13 +78,13 @@ question_parts = record { digit = refl; percent = refl }
 number_parts : Parts number_sign
 number_parts = record { digit = refl; percent = refl }
 
--- what the parts of a text around its first c stand for is part of what the text stands for
+-- what the parts of a text around its first c denote is part of what the text denotes
 held_off : (escaped : Bool) (text front : List ℕ) (behind : Option (List ℕ)) (c : ℕ) → Parts c → CutsText c text front behind → Holds (denoted_by escaped front) (denoted_by escaped text) × IfSome behind (λ x. Holds (denoted_by escaped x) (denoted_by escaped text))
 held_off escaped text front None c parts (free, e) =
     (subst (λ t. Holds (denoted_by escaped front) (denoted_by escaped t)) e (held_self (denoted_by escaped front)), tt)
 held_off escaped text front (Some x) c parts (free, e) = held_around escaped text front x c parts e
 
--- what the pieces of a path stand for is part of what the path stands for
+-- what the pieces of a path denote is part of what the path denotes
 record HoldsPieces (escaped : Bool) (whole front : List ℕ) (query fragment : Option (List ℕ)) : Type 0 where
   front_held : Holds (denoted_by escaped front) whole
   query_held : IfSome query (λ q. Holds (denoted_by escaped q) whole)
@@ -99,11 +99,11 @@ held_pieces escaped text front query fragment (middle, first, second) =
     λ t inside. held_within (denoted_by escaped t) (denoted_by escaped middle) (denoted_by escaped text) inside middle_held in
     record { front_held = held front front_held; query_held = IfSome_then query query_held held; fragment_held = fragment_held }
 
--- what each of these texts stands for is part of the path
+-- what each of these texts denotes is part of the path
 abbrev AreHeld : Bool → List ℕ → List (List ℕ) → Type 0
 AreHeld escaped path texts = All (λ t. Holds (denoted_by escaped t) path) texts
 
--- what the fields of a text stand for is part of what the text stands for
+-- what the fields of a text denote is part of what the text denotes
 held_fields : (escaped : Bool) (path : List ℕ) (fields : List (List ℕ)) → Holds (denoted_by escaped (join_with_byte ampersand fields)) path → AreHeld escaped path fields
 held_fields escaped path [] held = All-nil (λ t. Holds (denoted_by escaped t) path)
 held_fields escaped path (t ∷ []) held = All-cons (λ x. Holds (denoted_by escaped x) path) t [] held (All-nil (λ x. Holds (denoted_by escaped x) path))
@@ -113,7 +113,7 @@ held_fields escaped path (t ∷ u ∷ us) held =
     let parts = held_around escaped whole t rest ampersand (record { digit = refl; percent = refl }) refl in
     All-cons (λ x. Holds (denoted_by escaped x) path) t (u ∷ us) (held_within (denoted_by escaped t) (denoted_by escaped whole) path parts.0 held) (held_fields escaped path (u ∷ us) (held_within (denoted_by escaped rest) (denoted_by escaped whole) path parts.1 held))
 
--- what name and value stand for is part of what the field stands for
+-- what name and value denote is part of what the field denotes
 held_split : (escaped : Bool) (path field name value : List ℕ) → SplitsField field name value → Holds (denoted_by escaped field) path → Holds (denoted_by escaped name) path × Holds (denoted_by escaped value) path
 held_split escaped path field name value (SplitsField.name_alone free e j) (x, y, k) =
     (subst (λ t. Holds (denoted_by escaped t) path) (sym e) (x, y, k), subst (λ t. Holds (denoted_by escaped t) path) (sym j) (subst (λ t. Holds t path) (sym (denoted-nil escaped)) ([], path, refl)))
@@ -123,17 +123,17 @@ held_split escaped path field name value (SplitsField.with_value free e) held =
 
 -- ---- names and values
 
--- a name or a value is what its piece stands for
+-- a name or a value is what its piece denotes
 term_meant : (v : Location) (piece : List ℕ) (text : QueryText) → BorrowsTerm (matches v.spelling v.path) piece text → text_bytes text ≡ term_of v piece
 term_meant v piece (Borrowed text) h = h.1 ∙ sym (meant_spaces (matches v.spelling v.path) piece h.0)
 term_meant v piece (Owned text) h = h.1
 
--- and is part of the path where it is lent
+-- and is part of the path if it is lent
 term_lent : (v : Location) (piece : List ℕ) (text : QueryText) → BorrowsTerm (matches v.spelling v.path) piece text → Holds (denoted_by (matches v.spelling v.path) piece) v.path → BorrowedTerm v piece text
 term_lent v piece (Borrowed text) h held = (h.0, subst (λ t. Holds t v.path) (sym h.1) held)
 term_lent v piece (Owned text) h held = h.0
 
--- names and values are what their fields stand for
+-- names and values are what their fields denote
 pairs_meant : (v : Location) (fields : List (List ℕ)) (pairs : List (QueryText × QueryText)) → BorrowsPairs (matches v.spelling v.path) fields pairs → PairsOf v fields (map pair_bytes pairs)
 pairs_meant v [] pairs h = ap (map pair_bytes) h
 pairs_meant v ([] ∷ fields) pairs h = pairs_meant v fields pairs h
@@ -142,7 +142,7 @@ pairs_meant v ((b ∷ bs) ∷ fields) pairs (pair, others, lends, rest, e) =
     let value = term_meant v lends.value pair.1 lends.value_lent in
     (lends.name, lends.value, map pair_bytes others, lends.split, pairs_meant v fields others rest, ap (map pair_bytes) e ∙ (λ i. (name i, value i) ∷ map pair_bytes others))
 
--- and are part of the path where they are lent
+-- and are part of the path if they are lent
 pairs_lent : (v : Location) (fields : List (List ℕ)) (pairs : List (QueryText × QueryText)) → BorrowsPairs (matches v.spelling v.path) fields pairs → AreHeld (matches v.spelling v.path) v.path fields → BorrowedPairs v fields pairs
 pairs_lent v [] pairs h held = h
 pairs_lent v ([] ∷ fields) pairs h held = pairs_lent v fields pairs h (All-tail (λ t. Holds (denoted_by (matches v.spelling v.path) t) v.path) [] fields held)
@@ -152,7 +152,7 @@ pairs_lent v ((b ∷ bs) ∷ fields) pairs (pair, others, lends, rest, e) held =
     let more = pairs_lent v fields others rest (All-tail (λ t. Holds (denoted_by syntax t) v.path) (b ∷ bs) fields held) in
     (lends.name, lends.value, pair, others, lends.split, term_lent v lends.name pair.0 lends.name_lent parts.0, term_lent v lends.value pair.1 lends.value_lent parts.1, more, e)
 
--- the names and values of a query are what it stands for
+-- the names and values of a query are what it denotes
 query_meant : (v : Location) (text : Option (List ℕ)) (pairs : Option (List (QueryText × QueryText))) → BorrowsQuery (matches v.spelling v.path) text pairs → QueryOf v text (option_map (map pair_bytes) pairs)
 query_meant v None pairs h = ap (option_map (map pair_bytes)) h
 query_meant v (Some text) None h = absurd h
@@ -192,13 +192,13 @@ parts_meant v parts h = record {
   fragment_meant = h.fragment_meant;
 }
 
--- what the pieces of a location's original path stand for is part of its path
+-- what the pieces of a location's original path denote is part of its path
 held_parts : (v : Location) (front : List ℕ) (query fragment : Option (List ℕ)) → denoted_by (matches v.spelling v.path) (original_path v) ≡ v.path → CutsPath (original_path v) front query fragment → HoldsPieces (matches v.spelling v.path) v.path front query fragment
 held_parts v front query fragment whole cut =
     let held = held_pieces (matches v.spelling v.path) (original_path v) front query fragment cut in
     subst (λ path. HoldsPieces (matches v.spelling v.path) path front query fragment) whole held
 
--- a path that stands for nothing is the root, and any other is part of what it was part of
+-- a path that denotes nothing is the root, and any other is part of what it was part of
 rooted : (t path b : List ℕ) → Holds t path → b ≡ or_root t → Holds b path ⊎ (b ≡ slash ∷ [])
 rooted [] path b held e = inr e
 rooted (c ∷ t) path b held e = inl (subst (λ x. Holds x path) (sym e) held)
@@ -238,7 +238,7 @@ given (Err e) h = absurd (h refl)
 
 -- ---- the original path
 
--- what the original path stands for is the path
+-- what the original path denotes is the path
 pub whole_meant : (v : Location) (whole : EscapedText) → SpellsPath v whole → denoted_by (matches v.spelling v.path) (original_path v) ≡ v.path
 whole_meant v whole (text, denoted, syntax) =
     ap (λ b. denoted_by b (original_path v)) (sym syntax) ∙ ap (denoted_by whole.escaped) (sym text) ∙ sym whole.meaning ∙ denoted

@@ -28,7 +28,7 @@ one_answer b (Err e) found (inr none) v spelled = absurd (none v spelled)
 pub reads_by : (b t : List ℕ) (r : Result Location Error) → b ≡ t → IfOk r (Spells b) → IfErr r (Refuses b) → IfErr r (Flaw b) → (b ≡ [] → r ≡ Err error.EmptyLocal) → Reads t r
 reads_by b t r same found refused flaw empty = subst (λ s. Reads s r) same record { found = found; refused = refused; flaw = flaw; empty = empty; answered = one_answer b r found refused }
 
--- an error of the one says that memory ran out, where the bytes spell a location
+-- an error of the one says that memory ran out, if the bytes spell a location
 memory_alone : (b : List ℕ) (e : Error) (v : Location) → Refuses b e → Spells b v → e ≡ error.Memory
 memory_alone b e v (inl memory) spelled = memory
 memory_alone b e v (inr none) spelled = absurd (none v spelled)

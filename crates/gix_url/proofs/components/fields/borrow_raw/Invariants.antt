@@ -1,4 +1,4 @@
--- What the rest stands for, behind the names and values so far, is what the whole stands for, and there is
+-- What the rest denotes, after the names and values so far, is what the whole denotes, and there is
 -- room for it; a whole without `+` leaves none in the rest.
 use Rattle.std.proofs.Common.{◌++◌, ◌+◌, ◌≤◌, List, IsTrue, false, length, vec_len, vec_capacity}
 use Rattle.gix_url.specs.declared.components.QueryText.{QueryText}

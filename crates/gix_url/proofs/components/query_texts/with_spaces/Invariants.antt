@@ -1,4 +1,4 @@
--- What was made so far and what the rest stands for, with its spaces,
+-- What was made so far and what the rest denotes, with its spaces,
 -- make the whole, and there is room for the rest.
 use Rattle.std.proofs.Common.{◌≡◌, ◌++◌, ◌+◌, ◌≤◌, length, vec_len, vec_capacity}
 use Rattle.git_laws.specs.Components.{with_spaces}
