@@ -133,7 +133,7 @@ until_digits (b ∷ bs) = elim (cases_Bool (is_ascii_digit b)) [
       ap (λ x. list_all is_ascii_digit x) none
 ]
 
--- and begins with one where the whole does
+-- and begins with one if the whole does
 until_begins : (t : List ℕ) → begins_by is_ascii_digit t ≡ true → begins_by is_ascii_digit (until is_no_digit t) ≡ true
 until_begins [] begins = absurd (false≢true begins)
 until_begins (b ∷ bs) begins =
@@ -180,7 +180,7 @@ pub record IsScpText (user : Option (List ℕ)) (host path : List ℕ) : Type 0 
 abbrev pub scp_of : Option (List ℕ) → List ℕ → List ℕ → List ℕ
 scp_of user host path = word_of user host ++ colon ∷ path
 
--- what of it is free of a byte
+-- the texts of it that are free of a byte
 host_lacks : (c : ℕ) → is_unreserved c ≡ false → (host : List ℕ) → IsCommonHost host → FreeOf c host
 host_lacks c other host plain = free_of_all is_unreserved c host (host_plain host plain) other
 
@@ -316,7 +316,7 @@ scp_read r leaves user host path t =
 
 -- ---- a location in the scp form
 
--- what its parts owe
+-- the conditions on its parts
 scp_text_of : (v : Location) (host : List ℕ) → v.scheme ≡ ssh → v.flag ≡ true → IsUnambiguous v → v.host ≡ Some host → IsSettledScp v → IsScpText v.user host v.path
 scp_text_of v host e flagged clear there s =
     let path = path_meets v clear ssh true e flagged in record {

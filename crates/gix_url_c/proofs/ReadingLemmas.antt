@@ -1,4 +1,4 @@
--- What is read with more buffer than the bytes have is read with just as much.
+-- A location that is read with a longer buffer than the bytes is read with one that is just as long.
 use Rattle.std.proofs.Common.{◌≡◌, ◌≤◌, ℕ, List, length, Result, Ok, Err, arith, subst}
 use Rattle.git_refusals.specs.declared.refusal.Refusal.{Refusal}
 use Rattle.std.specs.Prelude.{IfErr}
@@ -20,6 +20,6 @@ read_with_buffer b buffer r enough h = record {
   exact = λ _ v. h.exact enough v;
 }
 
--- what is refused with this error is refused so
+-- a text that is refused with this error is refused so
 pub refused_so : (b : List ℕ) (buffer : ℕ) (e : ParseError) (why : Refusal) → e ≡ unread.Refused why → ReadsIn b buffer (Err e) → ReadsIn b buffer (Err (unread.Refused why))
 refused_so b buffer e why is h = subst (λ f. ReadsIn b buffer (Err f)) is h

@@ -42,7 +42,7 @@ both_by (Err f) w v = tt
 pub both : (v : Location) → AreBoth (display v) (text v)
 both v = subst (λ c. AreBoth (shown_text (in_form c (hidden v))) (text v)) (sym (same_choice v.scheme v)) (both_by (choice v) (hidden v) v)
 
--- if the text has a length, what is shown is this
+-- if the text has a length, the shown text is this
 pub shown_as : (d : Option (List ℕ)) (r : Result (List ℕ) WriteFault) (n : ℕ) (t : List ℕ) → AreBoth d r → text_length r ≡ Ok n → IfSome d (λ s. t ≡ s) → d ≡ Some t
 shown_as (Some s) r n t b h same = ap Some (sym same)
 shown_as None (Ok text) n t b h same = absurd b

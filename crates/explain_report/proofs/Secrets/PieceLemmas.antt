@@ -46,7 +46,7 @@ shown_outlined [] = refl
 shown_outlined (shown bytes ∷ parts) = ap (λ t. bytes ++ t) (shown_outlined parts)
 shown_outlined (hidden bytes ∷ parts) = ap (λ t. part_shown (hidden bytes) ++ t) (shown_outlined parts)
 
--- what may be a secret leaves no trace in what is shown
+-- a piece that may be a secret leaves no trace in the shown text
 pub leaves_secrets_out : LeavesSecretsOut
 leaves_secrets_out a b same =
     shown_outlined (parts_of a) ∙ ap parts_shown same ∙ sym (shown_outlined (parts_of b))

@@ -16,15 +16,15 @@ use Rattle.git_reads.proofs.Reading.CredentialUniqueLemmas.{one_credential}
 use Rattle.git_rules.specs.SameHost.{host_name}
 use Rattle.git_audit.specs.Dangers.{AsksForOtherHost, HasHostName, IsOtherHost, NamesOwnHost, NamesOwnPort, ReachesOtherHost, ReadsOtherHost, is_of_http}
 
--- what is said of the item that an option has
+-- a property of the item that an option has
 pub some_of : {X : Type 0} (N : Type 0) (P : X → Type 0) (o : Option X) (x : X) → o ≡ Some x → MatchOption o N P → P x
 some_of N P o x is found = subst (λ p. MatchOption p N P) is found
 
--- what is said if it has none
+-- the property if it has none
 pub none_of : {X : Type 0} (N : Type 0) (P : X → Type 0) (o : Option X) → o ≡ None → MatchOption o N P → N
 none_of N P o is found = subst (λ p. MatchOption p N P) is found
 
--- what follows of the value of a result
+-- the consequence for the value of a result
 pub if_ok : {A E : Type 0} {P Q : A → Type 0} (found : Result A E) → ((a : A) → P a → Q a) → IfOk found P → IfOk found Q
 if_ok (Ok a) follows given = follows a given
 if_ok (Err e) follows given = tt

@@ -1,4 +1,4 @@
--- Where marks are: what is found after a place is found in the text, if none was found before it.
+-- Positions of marks: a mark that is found after a place is found in the text, if none was found before it.
 use Rattle.std.proofs.Common.{◌≡◌, ◌∙◌, ℕ, ◌+◌, ◌<◌, Bool, true, false, if◌then◌else◌, List, [], ◌∷◌, length, drop, get_or, Option, Some, None, option_map, refl, sym, ap, subst, arith, zero, suc}
 use Rattle.std.proofs.Math.Seq.{drop-cons, drop-length}
 use Rattle.git_audit.specs.declared.secret.mark.Mark.{Mark}
@@ -43,7 +43,7 @@ passed_more m text n within begins passed =
     let here : begins_as m (get_or text n 0 ∷ drop (n + 1) text) ≡ false = subst (λ t. begins_as m t ≡ false) cut begins in
     passed ∙ ap (λ t. place_behind n (first_mark m t)) cut ∙ ap (place_behind n) (first_step m _ _ here) ∙ one_more n (first_mark m (drop (n + 1) text))
 
--- the first mark is where one begins, if all before it is passed
+-- the first mark is the one that begins at a place, if no mark begins before it
 pub passed_here : (m : Mark) (text : List ℕ) (n : ℕ) → n < length text → begins_as m (drop n text) ≡ true → Passed m text n → Some n ≡ first_mark m text
 passed_here m text n within begins passed =
     let cut : drop n text ≡ get_or text n 0 ∷ drop (n + 1) text = cut_at text n within in
@@ -76,14 +76,14 @@ none_from m text n next within step begins behind =
     let here : begins_as m (get_or text n 0 ∷ drop (n + 1) text) ≡ false = subst (λ t. begins_as m t ≡ false) cut begins in
     ap (last_mark m) cut ∙ last_none m _ _ none here
 
--- what is last after a place is last in the text
+-- a mark that is the last after a place is the last in the text
 moved_on : (m : Mark) (text : List ℕ) (n k : ℕ) → last_mark m (drop n text) ≡ Some k → last_mark m text ≡ Some (n + k)
 moved_on m [] zero k found = found ∙ ap Some (omega arith)
 moved_on m [] (suc n) k found = cc
 moved_on m (b ∷ bs) zero k found = found ∙ ap Some (omega arith)
 moved_on m (b ∷ bs) (suc n) k found = ap (λ t. later_mark t (begins_as m (b ∷ bs))) (moved_on m bs n k found) ∙ ap Some (omega arith)
 
--- the last mark is where one begins, if none is after it
+-- the last mark is the one that begins at a place, if none is after it
 pub last_found : (m : Mark) (text : List ℕ) (n next : ℕ) → n < length text → n + 1 ≡ next → begins_as m (drop n text) ≡ true → last_mark m (drop next text) ≡ None → Some n ≡ last_mark m text
 last_found m text n next within step begins behind =
     let none : last_mark m (drop (n + 1) text) ≡ None = ap (λ k. last_mark m (drop k text)) step ∙ behind in

@@ -63,7 +63,7 @@ kept_not_percent : (b : ℕ) → should_percent_encode PATH b ≡ false → (b =
 kept_not_percent b kept =
     false_from_ne_true (b == percent_sign) (λ e. both_ways (contains PATH b) (outside_from_kept PATH b kept) (ap (contains PATH) (eqb-true b percent_sign e) ∙ path_holds percent_sign (omega arith)))
 
--- nor is what it denotes
+-- nor is its meaning
 meant_not_percent : (b : ℕ) → (b == percent_sign) ≡ false → ((if b == plus_sign then space else b) == percent_sign) ≡ false
 meant_not_percent b other = grind (arith, nat_tests)
 
@@ -71,7 +71,7 @@ meant_not_percent b other = grind (arith, nat_tests)
 spaces_escaped : (b : ℕ) (bs : List ℕ) → b < 256 → should_percent_encode PATH b ≡ true → percent_decode (with_spaces (percent_encode PATH (b ∷ bs))) ≡ b ∷ percent_decode (with_spaces (percent_encode PATH bs))
 spaces_escaped b bs h2 h3 = grind (arith, nat_tests, percent_encode_escaped, map-append, spaces_escape, percent_decode-percent_encode_byte)
 
--- a byte that is kept decodes to what it denotes
+-- a byte that is kept decodes to its meaning
 spaces_kept : (b : ℕ) (bs : List ℕ) → should_percent_encode PATH b ≡ false → percent_decode (with_spaces (percent_encode PATH (b ∷ bs))) ≡ (if b == plus_sign then space else b) ∷ percent_decode (with_spaces (percent_encode PATH bs))
 spaces_kept b bs h2 = grind (arith, nat_tests, percent_encode_kept, decode_byte, meant_not_percent, kept_not_percent)
 
@@ -272,7 +272,7 @@ split_back f field name value way (SplitsField.with_value free e) =
     let (x, y, lone, cut, is_x, is_y) = cut_back f equals_sign field name value way equals_sign_mark free e in
     (x, y, is_x, is_y, SplitsField.with_value lone cut)
 
--- ---- what the pieces denote
+-- ---- the meaning of the pieces
 
 -- the path of the second location is written of that of the first, and the pieces denote the same
 record IsRewritten (f : List ℕ → List ℕ) (v w : Location) : Type 0 where
@@ -282,7 +282,7 @@ record IsRewritten (f : List ℕ → List ℕ) (v w : Location) : Type 0 where
   denoted : (x : List ℕ) → IsBytes x → stands_for w (f x) ≡ stands_for v x
   term : (x : List ℕ) → IsBytes x → term_of w (f x) ≡ term_of v x
 
--- what a field that isn't empty adds to the names and values
+-- the names and values that a field that isn't empty adds
 abbrev AddsPair : Location → List ℕ → List (List ℕ) → List (List ℕ × List ℕ) → Type 0
 AddsPair v field fields pairs =
     (name : List ℕ) × (value : List ℕ) × (others : List (List ℕ × List ℕ))
@@ -293,11 +293,11 @@ adds_pair : (v : Location) (field : List ℕ) (fields : List (List ℕ)) (pairs 
 adds_pair v [] fields pairs some = absurd (some refl)
 adds_pair v (b ∷ bs) fields pairs some = (λ h. h, λ h. h)
 
--- what is written of a text that isn't empty isn't empty
+-- the writing of a text that isn't empty isn't empty
 some_written : (f : List ℕ → List ℕ) (b : ℕ) (bs : List ℕ) → IsWay f → ¬ (f (b ∷ bs) ≡ [])
 some_written f b bs way e = let wrong : b ∷ bs ≡ [] = way.empty (b ∷ bs) e in cc
 
--- fields denote what their writings denote
+-- fields and their writings have the same meaning
 pairs_written : (f : List ℕ → List ℕ) (v w : Location) (fields : List (List ℕ)) (pairs : List (List ℕ × List ℕ)) → IsRewritten f v w → All IsBytes fields → PairsOf v fields pairs → PairsOf w (map f fields) pairs
 pairs_written f v w [] pairs h small of = of
 pairs_written f v w ([] ∷ fields) pairs h small of =
@@ -310,7 +310,7 @@ pairs_written f v w ((b ∷ bs) ∷ fields) pairs h small (name, value, others, 
     (λ i. (sym (h.term name bytes.0) i, sym (h.term value bytes.1) i) ∷ others) in
     (adds_pair w (f field) (map f fields) pairs (some_written f b bs h.way)).1 (f name, f value, others, split_written f field name value h.way split, more, e ∙ same)
 
--- and the writings for what the fields denote
+-- and the writings for the meaning of the fields
 pairs_back : (f : List ℕ → List ℕ) (v w : Location) (fields : List (List ℕ)) (pairs : List (List ℕ × List ℕ)) → IsRewritten f v w → All IsBytes fields → PairsOf w (map f fields) pairs → PairsOf v fields pairs
 pairs_back f v w [] pairs h small of = of
 pairs_back f v w ([] ∷ fields) pairs h small of =
@@ -325,20 +325,20 @@ pairs_back f v w ((b ∷ bs) ∷ fields) pairs h small of =
     let two : term_of w value ≡ term_of v second = ap (term_of w) is_second ∙ h.term second bytes.1 in
     (first, second, others, cut, more, e ∙ (λ i. (one i, two i) ∷ others))
 
--- a query denotes what its writing denotes
+-- a query and its writing have the same meaning
 query_written : (f : List ℕ → List ℕ) (v w : Location) (text : Option (List ℕ)) (query : Option (List (List ℕ × List ℕ))) → IsRewritten f v w → IfSome text IsBytes → QueryOf v text query → QueryOf w (option_map f text) query
 query_written f v w None query h small of = of
 query_written f v w (Some t) query h small (fields, pairs, cut, of, e) =
     (map f fields, pairs, fields_written f t fields h.way cut, pairs_written f v w fields pairs h (bytes_fields fields (subst IsBytes cut.joined small)) of, e)
 
--- and the writing for what the query denotes
+-- and the writing for the meaning of the query
 query_back : (f : List ℕ → List ℕ) (v w : Location) (text : Option (List ℕ)) (query : Option (List (List ℕ × List ℕ))) → IsRewritten f v w → IfSome text IsBytes → QueryOf w (option_map f text) query → QueryOf v text query
 query_back f v w None query h small of = of
 query_back f v w (Some t) query h small (given, pairs, cut, of, e) =
     let (fields, back, same) = fields_back f given t h.way cut.each cut.joined in
     (fields, pairs, back, pairs_back f v w fields pairs h (bytes_fields fields (subst IsBytes back.joined small)) (subst (λ z. PairsOf w z pairs) same of), e)
 
--- a fragment denotes what its writing denotes
+-- a fragment and its writing have the same meaning
 fragment_written : (f : List ℕ → List ℕ) (v w : Location) (text : Option (List ℕ)) → IsRewritten f v w → IfSome text IsBytes → option_map (stands_for w) (option_map f text) ≡ option_map (stands_for v) text
 fragment_written f v w None h small = refl
 fragment_written f v w (Some t) h small = ap Some (h.denoted t small)
@@ -405,7 +405,7 @@ retained_parts : (v : Location) (b : Bool) (components : Components) → IsUtf8 
 retained_parts v true components text h = parts_rewritten (λ x. percent_encode PATH x) v (spelled_as v (Some (percent_encode PATH v.path))) components (encoded_rewritten v text h)
 retained_parts v false components text h = parts_rewritten (λ x. x) v (spelled_as v None) components (plain_rewritten v text h)
 
--- the components with the spelling that is read, by whether the given one matches
+-- the components with the spelling that is read, by whether the location's one matches
 parts_by : (v : Location) (b : Bool) (components : Components) → IsWeb v → IsSettledUrl v → matches v.spelling v.path ≡ b → WebComponents (as_read v) components ↔ WebComponents v components
 parts_by v true components web settled h =
     subst (λ o. WebComponents (spelled_as v o) components ↔ WebComponents v components) (sym (spelled_again v web settled.path.spelling h)) (λ parts. parts, λ parts. parts)
@@ -413,7 +413,7 @@ parts_by v false components web settled h =
     let read : retained_spelling (percent_encode PATH v.path) ≡ retained_spelling (canonical_path v) = ap retained_spelling (sym (web_path v web ∙ unmatched v.spelling v.path (percent_encode PATH v.path) h)) in
     subst (λ o. WebComponents (spelled_as v o) components ↔ WebComponents v components) read (retained_parts v (has_percent (percent_encode PATH v.path)) components settled.path.path_text h)
 
--- ---- what is read of a settled location
+-- ---- a location that is read from the text of a settled one
 
 -- the components of a location of HTTP are those of its kind
 pub web_parts : (v : Location) (components : Components) → IsWeb v → ComponentsOf v components ↔ WebComponents v components
@@ -424,7 +424,7 @@ web_parts v components (inr e) = (λ h. subst (λ p. ComponentsBy p v components
 web_text : (v : Location) (t : List ℕ) → IsWeb v → IsSettledUrl v → text v ≡ Ok t → t ≡ canonical_text v
 web_text v t web h has = one_text has ((written_web v web).canonical h.unflagged h.hosted)
 
--- what is read of a settled location of HTTP has the same components
+-- a location that is read from the text of a settled location of HTTP has the same components
 pub same_components : SameComponents
 same_components v w t is web settled has spelled components =
     let h = settled_as_web v web settled in

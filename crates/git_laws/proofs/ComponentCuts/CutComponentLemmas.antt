@@ -93,7 +93,7 @@ split_some field = elim (free_or_cut equals_sign field) [
   | inr (x, y, free, cut) ↦ (x, y, SplitsField.with_value free cut)
 ]
 
--- what fields denote is determined
+-- the meaning of fields is determined
 pairs_unique : (v : Location) (fields : List (List ℕ)) (p q : List (List ℕ × List ℕ)) → PairsOf v fields p → PairsOf v fields q → p ≡ q
 pairs_unique v [] p q h k = h ∙ sym k
 pairs_unique v ([] ∷ fields) p q h k = pairs_unique v fields p q h k
@@ -111,7 +111,7 @@ pairs_some v ((b ∷ bs) ∷ fields) =
     let (name, value, split) = split_some (b ∷ bs) in
     ((term_of v name, term_of v value) ∷ pairs, (name, value, pairs, split, of, refl))
 
--- what a query denotes is determined
+-- the meaning of a query is determined
 query_unique : (v : Location) (text : Option (List ℕ)) (p q : Option (List (List ℕ × List ℕ))) → QueryOf v text p → QueryOf v text q → p ≡ q
 query_unique v None p q h k = h ∙ sym k
 query_unique v (Some text) p q (fields, ps, cut, of, e) (fields_2, qs, cut_2, of_2, k) =

@@ -1,4 +1,4 @@
--- What a written-out text holds and what it doesn't, by searching it.
+-- The bytes that a written-out text has and those that it lacks, by searching it.
 use Rattle.std.proofs.Common.{◌≡◌, ℕ, Bool, true, false, nat_le, ◌&&◌, ◌||◌, ◌==◌, List, [], ◌∷◌, ◌++◌, length, refl, sym, ap, ◌∙◌, eqb}
 use Rattle.std.proofs.lemmas.Bool.{both_ways, and_from, eq-eqb, leb-true, or_left, or_right}
 use Rattle.git_syntax.specs.Bytes.{colon, Lacks, FreeOf, Holds, begins_by, begins_with, is_helper_name, is_path_start, StartsPath}
@@ -11,7 +11,7 @@ use Rattle.git_syntax.proofs.Texts.CutLemmas.{cut_unique, helper_name_free}
 pub other_byte : {A : Type 0} (a b : ℕ) → eqb a b ≡ false → a ≡ b → A
 other_byte a b h e = absurd (both_ways (eqb a b) h (eq-eqb a b e))
 
--- ---- what a text doesn't hold
+-- ---- the bytes that a text lacks
 
 -- the text begins with the mark
 abbrev pub begins_as : List ℕ → List ℕ → Bool

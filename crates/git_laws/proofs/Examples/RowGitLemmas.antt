@@ -1,4 +1,4 @@
--- Rows on what Git reads: by giving the cuts, and what it doesn't.
+-- Rows on texts that Git reads, by their cuts, and on texts that it doesn't read.
 use Rattle.std.proofs.Common.{◌≡◌, ◌∙◌, ◌==◌, ◌&&◌, ◌<◌, ℕ, true, false, inl, inr, List, [], ◌∷◌, ◌++◌, Option, Some, None, length, codes, refl, sym, ap, subst, arith, lit<}
 use Rattle.std.proofs.lemmas.Bool.Decides.{nat_tests}
 use Rattle.std.proofs.lemmas.Bool.{false≢true, true≢false}
@@ -42,7 +42,7 @@ bracket_cut c t front inside between rest h other first = record {
 url : (p : Scheme) (scheme spelled rest : List ℕ) → scheme_of scheme ≡ p → rest ≡ git_decode spelled → OwnUrl p (scheme ++ (codes "://" ++ spelled)) rest
 url p scheme spelled rest own decoded = record { scheme = scheme; spelled = spelled; own = own; joined = refl; decoded = decoded }
 
--- what Secure Shell gets
+-- the word that Secure Shell gets
 reached : (place path named word host : List ℕ) (found port : Option ℕ) (user : Option (List ℕ)) → HostAndPort place named found → SecurePort named found word port → UserCut word user host → is_option_like word ≡ false → is_option_like path ≡ false → holds (codes "ssh://") word ≡ false → ReachesSecure place path (by_ssh user (unless_empty host) port path)
 reached place path named word host found port user cut secure split first second other = record {
   named = named;
@@ -247,7 +247,7 @@ git_text_rows = (
 not_own : {A : Type 0} (p : Scheme) (t rest : List ℕ) → ¬ Holds (codes "://") t → OwnUrl p t rest → A
 not_own p t rest none h = absurd (none (h.scheme, h.spelled, h.joined))
 
--- what is neither a URL nor another text that Git reads itself
+-- a text that is neither a URL nor another text that Git reads itself
 neither_read : (t : List ℕ) (reading : GitReading) → ¬ Holds (codes "://") t → ¬ IsNoUrl t → ReadsInput t reading → ⊥
 neither_read t reading h2 h3 h4 = grind (arith, nat_tests, not_own)
 

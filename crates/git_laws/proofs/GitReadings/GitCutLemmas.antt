@@ -163,7 +163,7 @@ git_port_digits (b ∷ bs) some digits small =
     let (space, plus, minus) = digit_begins b (and_parts (is_ascii_digit b) (list_all is_ascii_digit bs) digits).0 in
     cond-false _ _ _ space ∙ cond-false _ _ _ plus ∙ cond-false _ _ _ minus ∙ cond-true _ _ _ (and_from _ _ digits (small_value (digits_value 10 (b ∷ bs)) small))
 
--- what a port is written with is that port
+-- the digits with which a port is written spell that port
 pub git_port_written : (port : ℕ) → port < 65536 → git_port (decimal port) ≡ Some port
 git_port_written port small =
     let number = number_written git_hosts port small tt in

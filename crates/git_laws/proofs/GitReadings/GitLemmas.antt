@@ -157,7 +157,7 @@ scp_no_url v host h t other = record {
       other record { scp = h.flagged; no_user = none; host = t.there ∙ ap Some same };
 }
 
--- Git reads in it what the location holds
+-- Git reads in it the location's own fields
 scp_reads : (v : Location) (host : List ℕ) → IsSettledScp v → (t : IsScpText v host) → AgreesByTransport v → is_tilde_second v.path ≡ false → ¬ IsRsync v → ¬ (v.user ≡ Some []) → FreeOf left_bracket (word_of v.user host ++ colon ∷ v.path) → ReadsInput (word_of v.user host ++ colon ∷ v.path) (secure_reading v.user (Some host) None v.path)
 scp_reads v host h t a second other named free =
     let word = word_of v.user host in
@@ -170,7 +170,7 @@ scp_reads v host h t a second other named free =
 word_option : (user : Option (List ℕ)) (host path : List ℕ) → 0 < length host → IfSome user (λ u. is_option_like u ≡ false) → is_option_like host ≡ false → is_option_like (word_of user host ++ colon ∷ path) ≡ false
 word_option user host path h3 h4 h5 = grind (arith, nat_tests)
 
--- what the location holds, as Git reads it
+-- the location's own fields, as Git reads them
 scp_reading : (v : Location) (host : List ℕ) → v.scheme ≡ ssh → IsSettledScp v → own_reading v (Some host) ≡ secure_reading v.user (Some host) None v.path
 scp_reading v host e h = λ i. record { protocol = e i; user = v.user; host = Some host; port = h.no_port i; path = v.path }
 
@@ -210,7 +210,7 @@ addressed_text v host a h there address has =
       written = has.written ∙ ap Ok joined;
     }
 
--- its place is free of what neither user nor address holds
+-- its place is free of each byte that neither user nor address holds
 addressed_free : (v : Location) (host : List ℕ) → IsAddressedText v host → (c : ℕ) → is_address_byte c ≡ false → (left_bracket == c) ≡ false → (right_bracket == c) ≡ false → FreeOf c (raw_user v.user) → FreeOf c (bracketed_place v.user host [])
 addressed_free v host t c other left right free =
     free-append c (raw_user v.user) (left_bracket ∷ (host ++ right_bracket ∷ [])) free (free-cons c left_bracket (host ++ right_bracket ∷ []) left (free-append c host (right_bracket ∷ []) (address_free c host other t.address) (free-cons c right_bracket [] right refl)))
@@ -235,7 +235,7 @@ address_nonempty host address =
     let (x, y, z, e) = address_two_colons host address in
     subst (λ t. 0 < length t) (sym e) (some_behind x (y ++ colon ∷ z))
 
--- Git reads in it what the location holds
+-- Git reads in it the location's own fields
 addressed_reads : (v : Location) (host : List ℕ) → IsAddressedText v host → AgreesByTransport v → is_tilde_second v.path ≡ false → ¬ (v.user ≡ Some []) → ReadsInput (bracketed_place v.user host [] ++ colon ∷ v.path) (secure_reading v.user (Some host) None v.path)
 addressed_reads v host t a second named =
     let place = bracketed_place v.user host [] in

@@ -43,7 +43,7 @@ unescaped set (b ∷ bs) kept =
 pub kept_free : (set : AsciiSet) (t : List ℕ) → Lacks (should_percent_encode set) t → (c : ℕ) → contains set c ≡ true → FreeOf c t
 kept_free set t kept c inside = free_of_lacked (should_percent_encode set) c t kept (escaped_from_inside set c inside)
 
--- a byte of a user is written as it is where that of a password is, except a colon
+-- a byte of a user is written unescaped if that of a password is, except a colon
 user_byte_kept : (b : ℕ) → should_percent_encode PASSWORD b ≡ false → (b == colon) ≡ false → should_percent_encode USER b ≡ false
 user_byte_kept b kept other =
     let ascii = ascii_from_kept PASSWORD b kept in
@@ -88,7 +88,7 @@ host_raw v host escapes unmarked kept kind = grind (arith, nat_tests, kept_free,
 pub unmarked : (port : Option ℕ) (host : List ℕ) → FreeOf percent_sign host → (IsSome port → FreeOf colon host) → needs_brackets port host ≡ false
 unmarked port host free beside = grind arith
 
--- the text holds the host of the scp form as it is where it has no colon
+-- the text has the host of the scp form unescaped if it has no colon
 pub scp_host_raw : (host : List ℕ) → FreeOf colon host → raw_host (Some host) ≡ host
 scp_host_raw host free = cond-false _ _ _ (and_left _ _ free)
 
@@ -135,7 +135,7 @@ path_decoded : (v : Location) → HasPlainPaths v.scheme → IsRawPath v → per
 path_decoded v facts raw =
     matching_cases (λ t. percent_decode t ≡ v.path) v.spelling v.path (plain_path v.scheme v.path) (λ s is same. same) (λ none. ap percent_decode (facts.plain v.path) ∙ decode_kept v.path (raw none).0)
 
--- by where the path is
+-- by the place of the path
 path_raw_by : (v : Location) → requires_path v.scheme ≡ true → percent_decode (matching_or v.spelling v.path (plain_path v.scheme v.path)) ≡ v.path → IsTransportPath v → IsPathRaw v
 path_raw_by v roots same (inl (rooted, homeless)) =
     let (rest, e) = begins_cut slash v.path rooted in

@@ -36,7 +36,7 @@ use Rattle.git_location.proofs.Writing.WrittenAsUrlLemmas.{written_git, written_
 abbrev pub IsReadBy : Scheme → Location → Type 0
 IsReadBy p v = (t : List ℕ) × (text v ≡ Ok t) × ReadsOwnBy p t v
 
--- of Git's own transports, if they are what Git reads in it
+-- of Git's own transports, if this is the place that Git reads in it
 pub own_read : (v : Location) (host : Option (List ℕ)) (whole : List ℕ) (reading : GitReading) → HostForGit v.scheme v.host host → own_reading v host ≡ reading → text v ≡ Ok whole → FreeOf 0 whole → is_option_like whole ≡ false → ReadsInput whole reading → (t : List ℕ) × (text v ≡ Ok t) × ReadsOwnPlace t v
 own_read v host whole reading own value has zero_free safe reads = (
   whole,
@@ -52,7 +52,7 @@ own_read v host whole reading own value has zero_free safe reads = (
 pub secure_host : (v : Location) (host : Option (List ℕ)) → v.scheme ≡ ssh → v.host ≡ host → HostForGit v.scheme v.host host
 secure_host v host e there = subst (λ p. HostForGit p v.host host) (sym e) (sym there)
 
--- ---- what Secure Shell reaches
+-- ---- the place that Secure Shell reaches
 
 -- a user, a host, a port and a path of Secure Shell
 abbrev pub secure_reading : Option (List ℕ) → Option (List ℕ) → Option ℕ → List ℕ → GitReading
@@ -105,7 +105,7 @@ word_read : (word : List ℕ) (port : Option ℕ) → IfSome port (λ p. p < 655
 word_read word None small marked portless free = place_without_port word portless (free_parts left_bracket word [] free).0
 word_read word (Some p) small marked portless free = place_with_port word p small (marked refl) free
 
--- the text is a URL of the transport, and this is what the rest is decoded to
+-- the text is a URL of the transport, and this is the decoding of the rest
 pub own_url : (known : Scheme) (scheme spelled rest : List ℕ) → scheme_of scheme ≡ known → git_decode spelled ≡ rest → OwnUrl known (scheme ++ (codes "://" ++ spelled)) rest
 own_url known scheme spelled rest own decoded = record { scheme = scheme; spelled = spelled; own = own; joined = refl; decoded = sym decoded }
 
@@ -120,7 +120,7 @@ pub record HasPlace (v : Location) (word : List ℕ) : Type 0 where
   pub cut : (rest : List ℕ) → FreeOf left_bracket rest → CutsPlace slash (place ++ slash ∷ rest) place rest
   pub read : ReadsPlace place word v.port
 
--- what the text of a location holds after `://`: it is decoded to the place and a path
+-- the text of a location after `://`: it is decoded to the place and a path
 record IsTransportText (v : Location) (place : List ℕ) : Type 0 where
   pathed : IsPathRaw v
   behind : git_decode (authority_text v ++ canonical_path v) ≡ place ++ slash ∷ pathed.rest
@@ -193,7 +193,8 @@ name_place v host is h kept free =
 
 -- ---- addresses
 
--- a place with an address in brackets is free of what is written as an escape, and isn't a mark of the place
+-- a place with an address in brackets is free of each byte that is written as an escape, and isn't a mark of
+-- the place
 address_free_place : (user : Option (List ℕ)) (address : List ℕ) (port : Option ℕ) → IsIpv6Text address → IfSome port (λ p. p < 65536) → IsUserRaw user → (c : ℕ) → contains USER c ≡ true → is_address_byte c ≡ false → (at_sign == c) ≡ false → (left_bracket == c) ≡ false → (right_bracket == c) ≡ false → (colon == c) ≡ false → is_ascii_digit c ≡ false → FreeOf c (bracketed_place user address (port_part port))
 address_free_place user address port h small raw c in_user other mark left right separator digit =
     free-append c (raw_user user) (left_bracket ∷ (address ++ right_bracket ∷ port_part port)) (raw.free c in_user mark) (free-cons c left_bracket (address ++ right_bracket ∷ port_part port) left (free-append c address (right_bracket ∷ port_part port) (address_free c address other h) (free-cons c right_bracket (port_part port) right (port_free c port digit separator small))))
@@ -287,7 +288,7 @@ secure_place : (v : Location) (host : List ℕ) → v.scheme ≡ ssh → IsValue
 secure_place v host e is h (inl name) = name_place v host is h (secure_kept v host e h) name.unbracketed.no_colon
 secure_place v host e is h (inr address) = address_place_by v host v.port refl is h (secure_kept v host e h) address.address
 
--- Git reads in the text what the location holds
+-- Git reads in the text the location's own fields
 secure_url_reads : (v : Location) (host : List ℕ) → Lacks (should_percent_encode PASSWORD) host → HasHostGiven v host → (p : HasPlace v (word_of v.user host)) → (t : IsTransportText v p.place) → IsBareHost host → HasNoOption v → ¬ (v.user ≡ Some []) → ReadsInput (codes "ssh://" ++ (authority_text v ++ canonical_path v)) (secure_reading v.user (Some host) v.port v.path)
 secure_url_reads v host kept h p t kind safe named =
     let no_slash = free-append slash (raw_user v.user) host ((user_raw v.user h.user).free slash refl refl) (kept_free PASSWORD host kept slash refl) in
@@ -312,7 +313,7 @@ secure_url_alike v e is a named h =
 abbrev git_reading : Option (List ℕ) → Option (List ℕ) → Option ℕ → List ℕ → GitReading
 git_reading name place number whole = record { protocol = git; user = name; host = place; port = number; path = whole }
 
--- what Git has for a host of its own protocol, and that it reads it
+-- the host that Git has for its own protocol, and that it reads it
 record HasGitHost (v : Location) (own : List ℕ) : Type 0 where
   host : List ℕ
   bare : Unbrackets own host
@@ -359,7 +360,7 @@ git_host v host is h none (inr (address, normal, e)) = record {
   placed = address_place v address is normal.address (user_raw v.user h.user) (escaped_address v host address h (subst (λ o. IfSome o IsUtf8) h.there is.host) is.port none e);
 }
 
--- Git reads in the text what the location holds
+-- Git reads in the text the location's own fields
 git_url_reads : (v : Location) (host : List ℕ) → (p : HasPlace v (word_of v.user host)) → (t : IsTransportText v p.place) → 0 < length host → v.user ≡ None → FreeOf newline v.path → ReadsInput (codes "git://" ++ (authority_text v ++ canonical_path v)) (git_reading None (Some host) v.port v.path)
 git_url_reads v host p t some none path_line =
     let reached : ReachesGit p.place v.path (git_reading None (Some host) v.port v.path) = record {

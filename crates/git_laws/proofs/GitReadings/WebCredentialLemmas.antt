@@ -120,7 +120,7 @@ named_odd host port kind small = lacks-append is_odd host (port_part port) (host
 
 -- ---- paths
 
--- a text lacks what it lacks without the slashes at its end
+-- a text lacks each byte that it lacks without the slashes at its end
 trimmed_lacks : (test : ℕ → Bool) (t : List ℕ) → Lacks test t → Lacks test (without_last_slashes t)
 trimmed_lacks test [] h = refl
 trimmed_lacks test (b ∷ t) h =

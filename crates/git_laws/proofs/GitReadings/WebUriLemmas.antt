@@ -111,7 +111,7 @@ record IsUriHost (host : List ℕ) : Type 0 where
   lower : IsLowercase host
   read : (behind : List ℕ) → UriHost (host ++ behind) host behind
 
--- it is where it has the bytes of a plain host
+-- it is if it has the bytes of a plain host
 plain_host : (host : List ℕ) → list_all is_plain_host_byte host ≡ true → IsUriHost host
 plain_host host h = record {
   bytes = inr (all_weaker is_plain_host_byte is_host_byte (λ b is. grind (arith, nat_tests)) host h, sound_free host (free_of_all is_plain_host_byte percent_sign host h refl));
@@ -119,7 +119,7 @@ plain_host host h = record {
   read = λ behind. UriHost.unbracketed (free_of_all is_plain_host_byte colon host h refl) (free_begins left_bracket host (free_of_all is_plain_host_byte left_bracket host h refl)) refl;
 }
 
--- and where it is an address in brackets
+-- and if it is an address in brackets
 bracketed_host : (host : List ℕ) → IsBracketedAddress host → IsUriHost host
 bracketed_host host (address, normal, e) = record {
   bytes = inl (ap (begins_with left_bracket) e);
@@ -170,7 +170,7 @@ dots_joined path query h = grind (arith, nat_tests, end_joined, append_assoc)
 end_decoded : (behind : List ℕ) → (behind ≡ []) ⊎ (begins_by is_segment_end behind ≡ true) → (percent_decode behind ≡ []) ⊎ (begins_by is_segment_end (percent_decode behind) ≡ true)
 end_decoded behind h = grind (arith, nat_tests, decode_byte, nothing_decoded)
 
--- so such a segment of an escaped text is one of what that decodes to
+-- so such a segment of an escaped text is one of its decoding
 dots_decoded : (t : List ℕ) → is_sound t ≡ true → HasDotSegment t → HasDotSegment (percent_decode t)
 dots_decoded t sound h =
     let front = (sound_around h.front (h.dots ++ h.behind) slash refl (subst (λ x. is_sound x ≡ true) h.joined sound)).0 in

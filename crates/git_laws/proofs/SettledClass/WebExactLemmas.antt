@@ -137,7 +137,7 @@ bracketed_names (Some x) password host information lacks u p named port held =
     let parts = authority_cut http_hosts (bracketed_text (Some x) password host) i.information (in_brackets host) u p (Some named) port (brackets_no_at host lacks) (bracketed_cut x password host i) held in
     bracket_named (in_brackets host) named port refl parts.1
 
--- ---- the text of what is read
+-- ---- the text of a location that is read
 
 -- the authority of a URL of HTTP is the written one of a location whose text the URL is
 authority_same : {t : List ℕ} {parts : UrlSyntax} → (w : Location) → IsWeb w → is_web_scheme parts.scheme ≡ true → (h : HasUrlSyntax t parts) → canonical_text w ≡ t → Lacks (is_path_start true) (authority_text w) → StartsPath true (canonical_path w) → h.authority ≡ authority_text w
@@ -150,13 +150,13 @@ authority_same {t} {parts} w web is_web h same lacks starts =
 authority_bracketed : (w : Location) (host : List ℕ) → w.host ≡ Some host → w.port ≡ None → needs_brackets w.port host ≡ true → authority_text w ≡ bracketed_text w.user w.password host
 authority_bracketed w host h2 h3 h4 = grind (arith, nat_tests, cond-true, append-nil)
 
--- the path of what is read is written with a start of a path
+-- the path of a location that is read is written with a start of a path
 path_shown : {t : List ℕ} {parts : UrlSyntax} → (scheme : Scheme) → IsWeb (web_meant scheme parts) → is_web_scheme parts.scheme ≡ true → HasUrlSyntax t parts → StartsPath true (canonical_path (web_meant scheme parts))
 path_shown {t} {parts} scheme web is_web h =
     let way = url_path_closed is_web h in
     (web_path_written (web_meant scheme parts) web way.meant_starts record { path_text = way.meant_text; spelling = λ s e matches. way.fair s e }).starts
 
--- what is read has its canonical text
+-- a location that is read has its canonical text
 canonical_shown : (t : List ℕ) (scheme : Scheme) (parts : UrlSyntax) → IsWeb (web_meant scheme parts) → IsSome parts.host → text (web_meant scheme parts) ≡ Ok t → canonical_text (web_meant scheme parts) ≡ t
 canonical_shown t scheme parts web hosted written =
     one_text ((written_web (web_meant scheme parts) web).canonical refl (λ given. hosted, λ given. hosted)) written

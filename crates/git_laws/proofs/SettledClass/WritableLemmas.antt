@@ -1,4 +1,4 @@
--- What is read has a text, and isn't taken for a stored location of the legacy form.
+-- A location that is read has a text, and isn't taken for a stored location of the legacy form.
 use Rattle.std.proofs.Common.{◌≡◌, ℕ, ◌<◌, ◌≤◌, true, false, ◌==◌, inl, inr, ◌⊎◌, ⊎_elim, List, [], ◌∷◌, ◌++◌, length, Option, Some, None, Ok, IsSome, refl, sym, ap, subst, ◌∙◌, arith, codes}
 use Rattle.std.proofs.lemmas.Bool.Decides.{nat_tests}
 use Rattle.std.specs.Option.{is_some}
@@ -49,7 +49,7 @@ user_hosted syntax authority user password host port (with_user information piec
 parts_hosted : (b : List ℕ) (parts : UrlSyntax) → HasUrlSyntax b parts → IsSome parts.user → IsSome parts.host
 parts_hosted b parts h given = user_hosted (host_syntax_of parts.scheme) h.authority parts.user parts.password parts.host parts.port h.named given
 
--- what a URL means whose location has the host that the URL names has a text, if it is written as a URL
+-- the location of a URL that has the host that the URL names has a text, if it is written as a URL
 named_there : (scheme : Scheme) (parts : UrlSyntax) (v : Location) → (h : DenotesByScheme scheme parts v) → h.host ≡ parts.host → (IsSome parts.user → IsSome parts.host) → choice (meant_with scheme parts h.host) ≡ with_host (meant_with scheme parts h.host) canonical_form → HasText v
 named_there scheme parts v h same hosted chosen =
     subst HasText (sym h.value) (canonical_there (meant_with scheme parts h.host) chosen (λ given. ap is_some same ∙ hosted given))
@@ -77,7 +77,7 @@ ssh_host_there : (named host : Option (List ℕ)) → HostFor ssh named host →
 ssh_host_there None host h some = absurd (false≢true some)
 ssh_host_there (Some named) host h some = ap is_some h.2
 
--- what a URL of Secure Shell means has a text
+-- the location of a URL of Secure Shell has a text
 secure_there : (b : List ℕ) (parts : UrlSyntax) (v : Location) → is_ssh_scheme parts.scheme ≡ true → HasUrlSyntax b parts → DenotesByScheme ssh parts v → HasText v
 secure_there b parts v is_ssh spelled h =
     let starts = subst (λ web. StartsPath web parts.path) (ssh_not_web parts.scheme is_ssh) spelled.path_starts in
@@ -158,7 +158,7 @@ held_nonempty : (bs : List ℕ) → has_percent bs ≡ true → 0 < length bs
 held_nonempty [] held = absurd (false≢true held)
 held_nonempty (b ∷ bs) held = omega arith
 
--- what is retained of the spelling of a sound path isn't the path that it is read as
+-- the retained spelling of a sound path isn't the path that it is read as
 retained_other : (scheme : Scheme) (path : List ℕ) → is_sound path ≡ true → ¬ (retained_spelling path ≡ Some (path_for scheme (percent_decode path)))
 retained_other scheme path sound e =
     let meaning = path_for scheme (percent_decode path) in
@@ -174,7 +174,7 @@ path_sound : (b : List ℕ) (parts : UrlSyntax) → HasUrlSyntax b parts → is_
 path_sound b parts h =
     sound_behind (parts.scheme ++ (codes "://" ++ h.authority)) parts.path (subst (λ t. is_sound t ≡ true) (parts_joined h) h.sound)
 
--- the spelling isn't the path in what the parts of a URL denote
+-- the spelling isn't the path in the location of the parts of a URL
 meant_other : (scheme : Scheme) (b : List ℕ) (parts : UrlSyntax) (v : Location) → HasUrlSyntax b parts → DenotesByScheme scheme parts v → ¬ (v.spelling ≡ Some v.path)
 meant_other scheme b parts v spelled h =
     subst (λ l. ¬ (l.spelling ≡ Some l.path)) (sym h.value) (retained_other scheme parts.path (path_sound b parts spelled))
@@ -200,7 +200,7 @@ scp_unspelled b v (inr h) = ap (λ l. l.spelling) h.value
 pub spelling_other : (b : List ℕ) (v : Location) → Spells b v → ¬ (v.spelling ≡ Some v.path)
 spelling_other b v h2 = grind (arith, nat_tests, url_other, unspelled_other, scp_unspelled)
 
--- a spelled location has a text, and denotes itself when it was stored
+-- a spelled location has a text, and represents itself when it was stored
 pub writable : Writable
 writable b v spelled =
     let other = spelling_other b v spelled in

@@ -59,7 +59,7 @@ path_empty v e = plain_empty v.scheme v.path (right_empty (root_part v) (plain_p
 begins_written : {A : Type 0} (test : ℕ → Bool) (v : Location) → begins_by test v.path ≡ true → canonical_path (fields v) ≡ [] → A
 begins_written test v begins e = absurd (false≢true (sym (ap (begins_by test) (path_empty v e)) ∙ begins))
 
--- ---- what settled URLs have in common
+-- ---- the common conditions of settled URLs
 
 -- without a spelling none matches
 no_match : (v : Location) → ¬ HasMatch (fields v)

@@ -22,18 +22,18 @@ use Rattle.std.proofs.lemmas.Str.{IsUtf8-append}
 
 -- ---- a path and its writing
 
--- the text denotes the path, begins as it does, and is the plain one where it holds no escape
+-- the text denotes the path, begins as it does, and is the plain one if it has no escape
 pub record IsWriting (path plain t : List ℕ) : Type 0 where
   pub escaped : IsEscapedPiece t
   pub front : first_byte t ≡ first_byte path
   pub decoded : percent_decode t ≡ path
   unescaped : has_percent t ≡ false → t ≡ plain
 
--- a spelling is given, and denotes the path
+-- a spelling is there, and denotes the path
 abbrev Matches : Option (List ℕ) → List ℕ → Type 0
 Matches spelling path = (s : List ℕ) × (spelling ≡ Some s) × (percent_decode s ≡ path)
 
--- the given spelling is fair if it denotes the path
+-- the spelling is fair if it denotes the path
 abbrev IsFair : Option (List ℕ) → List ℕ → Type 0
 IsFair spelling path = (s : List ℕ) → spelling ≡ Some s → percent_decode s ≡ path → IsFairSpelling s path
 
@@ -104,7 +104,7 @@ some_alike t path h2 h3 = grind (arith, nat_tests, false≢true)
 
 -- ---- a path without a root before it
 
--- what is needed of a path that is written as it is, or as one of its spellings
+-- the conditions on a path that is written as it is, or as one of its spellings
 record IsPlainly (web : Bool) (v : Location) : Type 0 where
   root : root_part v ≡ []
   starts : StartsPath web v.path
@@ -137,7 +137,7 @@ plainly_written web v p fair =
 
 -- ---- HTTP
 
--- what the scheme of a location of HTTP says of its path
+-- the facts about its path that follow from the scheme of a location of HTTP
 record HasWebPaths (scheme : Scheme) : Type 0 where
   plain : (path : List ℕ) → plain_path scheme path ≡ percent_encode PATH path
   denoted : (path : List ℕ) → path_for scheme path ≡ or_root path
@@ -178,7 +178,7 @@ web_writing path begins text = record {
 plain_writing : (v : Location) → IsWeb v → begins_by (is_path_start true) v.path ≡ true → IsUtf8 v.path → IsWriting v.path (plain_path v.scheme v.path) (plain_path v.scheme v.path)
 plain_writing v web begins text = subst (λ p. IsWriting v.path p p) (sym ((web_paths v web).plain v.path)) (web_writing v.path begins text)
 
--- a spelling is fair that is what is written of the path of a settled location of HTTP, and isn't the path
+-- a spelling is fair if it is the writing of the path of a settled location of HTTP, and isn't the path
 pub written_fair : (v : Location) → IsWeb v → begins_by (is_path_start true) v.path ≡ true → HasUrlPath v → (s : List ℕ) → matching_or v.spelling v.path (plain_path v.scheme v.path) ≡ s → ¬ (s ≡ v.path) → IsFairSpelling s v.path
 written_fair v web begins url s same other =
     let plain = plain_path v.scheme v.path in
@@ -200,7 +200,7 @@ web_plainly v web begins url =
       writing = λ none. plain_writing v web begins url.path_text;
     }
 
--- what is written of it is a writing of it
+-- the text that is written of it is a writing of it
 pub web_path_writing : (v : Location) → IsWeb v → begins_by (is_path_start true) v.path ≡ true → HasUrlPath v → IsWriting v.path (plain_path v.scheme v.path) (canonical_path v)
 web_path_writing v web begins url = plainly_writing true v (web_plainly v web begins url) url.spelling
 
@@ -230,7 +230,7 @@ raw_by false path t lacks w none =
 raw_again : (path t : List ℕ) → IsWriting path path t → ¬ Matches (retained_spelling t) path → (has_percent path ≡ false) × LacksWhiteSpace path
 raw_again path t w none = raw_by (has_percent t) path t refl w none
 
--- what is needed of a path that is written raw, or as one of its spellings
+-- the conditions on a path that is written raw, or as one of its spellings
 record IsRawly (v : Location) : Type 0 where
   root : root_part v ≡ []
   starts : StartsPath false v.path
@@ -274,7 +274,7 @@ other_path_written v name e rooted url raw = rawly_written v record {
 
 -- ---- Secure Shell and Git's own protocol
 
--- what the scheme says of a path that may be below a home folder
+-- the facts about a path that may be below a home folder that follow from the scheme
 record HasHomes (scheme : Scheme) : Type 0 where
   roots : requires_path scheme ≡ true
   plain : (path : List ℕ) → plain_path scheme path ≡ path
@@ -363,7 +363,7 @@ home_written v facts h =
       fair = λ s is same. absurd (none-some s (sym none ∙ is));
     }
 
--- by where the path is
+-- by the place of the path
 transport_by : (v : Location) → HasHomes v.scheme → IsTransportPath v → HasUrlPath v → IsRawPath v → WritesPath false v × IsTransportPath (as_read v) × IsRawPath (as_read v)
 transport_by v facts (inl rooted) url raw =
     let both = rawly_written v (rooted_rawly v facts rooted.0 rooted.1) url raw in

@@ -1,4 +1,4 @@
--- The pieces of a written URL, and what its reader finds in each.
+-- The pieces of a written URL, and the fields that its reader finds in each.
 use Rattle.std.specs.Prelude.{◌≡◌, ℕ, ◌<◌, Bool, true, List, [], ◌∷◌, ◌++◌, length, Option, Some, IsUtf8}
 use Rattle.percent_encoding.specs.Percent.{percent_decode}
 use Rattle.git_syntax.specs.Location.{Location}

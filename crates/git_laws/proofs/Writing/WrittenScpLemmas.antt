@@ -204,7 +204,7 @@ holds_colon (b ∷ x) y = or_right (b == colon) (has_colon (x ++ colon ∷ y)) (
 pub address_raw : (h : List ℕ) → IsNormalAddress h → raw_host (Some h) ≡ in_brackets h
 address_raw h h1 = grind (arith, nat_tests, address_cut, holds_colon, free_begins, address_free, and_from, not, cond-true)
 
--- an address in brackets is free of what no address holds
+-- an address in brackets is free of each byte that no address holds
 in_brackets_free : (c : ℕ) (h : List ℕ) → is_address_byte c ≡ false → (left_bracket == c) ≡ false → (right_bracket == c) ≡ false → IsNormalAddress h → FreeOf c (in_brackets h)
 in_brackets_free c h other left right a =
     free-cons c left_bracket (h ++ right_bracket ∷ []) left (free-append c h (right_bracket ∷ []) (address_free c h other a.address) (free-cons c right_bracket [] right refl))

@@ -51,7 +51,7 @@ pub record IsUrlScheme (p : Scheme) : Type 0 where
   pub not_ext : ¬ (p ≡ ext)
   pub scheme_text : is_scheme_text (scheme_text p) ≡ true
 
--- what the reader of a location's text finds in it
+-- the fields that the reader of a location's text finds in it
 pub record IsReadable (v : Location) (named : Option (List ℕ)) : Type 0 where
   pub scheme : IsUrlScheme v.scheme
   pub unflagged : v.flag ≡ false

@@ -42,7 +42,7 @@ name_piece t h = host_piece t (all_weaker is_http_host_byte is_host_byte (λ b i
 literal_no_bracket : (t n : List ℕ) → Literal t n → FreeOf right_bracket t
 literal_no_bracket t n h = grind (arith, nat_tests, address_free, free-append, free_of_all)
 
--- ---- what is named
+-- ---- the host that is named
 
 -- a port that isn't zero is allowed
 port_allowed : (p : ℕ) → Some p ≢ Some 0 → 0 < p

@@ -91,7 +91,7 @@ literal_with_zone t a e free joined =
 inside_brackets : (x y : List ℕ) → left_bracket ∷ (x ++ right_bracket ∷ []) ≡ left_bracket ∷ (y ++ right_bracket ∷ []) → x ≡ y
 inside_brackets x y e = (same_from_push x y right_bracket right_bracket (tails e)).0
 
--- brackets hold a literal that stays as it is where the text between them is one
+-- brackets hold a literal that stays unchanged if the text between them is one
 pub literal_in_brackets : (b : Bool) (host inner : List ℕ) → host ≡ left_bracket ∷ (inner ++ right_bracket ∷ []) → (IsTrue b ↔ IsNormalLiteral inner) → IsTrue b ↔ IsBracketedLiteral host
 literal_in_brackets b host inner joined test = (
   λ yes. (inner, test.0 yes, joined),
@@ -110,7 +110,7 @@ name_or_colon host front name e =
     let all = sym (list_all-append is_http_host_byte front (colon ∷ [])) ∙ ap (list_all is_http_host_byte) (sym e) ∙ name.bytes in
     absurd (false≢true (and_parts _ _ all).1)
 
--- the colon after brackets follows what they are part of
+-- the colon after brackets follows the piece that they are part of
 colon_behind : (n : List ℕ) → left_bracket ∷ (n ++ right_bracket ∷ (colon ∷ [])) ≡ (left_bracket ∷ (n ++ right_bracket ∷ [])) ++ colon ∷ []
 colon_behind n = sym (append_assoc (left_bracket ∷ n) (right_bracket ∷ []) (colon ∷ []))
 
@@ -189,7 +189,7 @@ host_tested P host h b is test = (
   λ (x, e, passes). let same : Some x ≡ Some h = sym e ∙ is in let equal : x ≡ h = cc in test.1 (subst P equal passes),
 )
 
--- ---- paths, and what there is beside them
+-- ---- paths, and the other conditions
 
 -- a plain path without a spelling is one of a settled URL, and raw
 pub plain_raw_path : (v : Location) → v.spelling ≡ None → is_plain v.path ≡ true → HasRawPath v
@@ -198,7 +198,7 @@ plain_raw_path v none plain = (
   λ unmatched. (plain_free v.path plain, plain_white_space v.path plain),
 )
 
--- a settled URL has a path and what there is beside it
+-- a settled URL has a path and meets the other conditions
 pub url_by_parts : (v : Location) → (HasUrlPath v × IsSettledBesidePath v) ↔ IsSettledUrl v
 url_by_parts v = (
   λ parts. record { unflagged = parts.1.unflagged; credentials = parts.1.credentials; hosted = parts.1.hosted; path = parts.0; fits = parts.1.fits },
@@ -237,7 +237,7 @@ fitting_text v t free canonical is =
       λ (x, e, fits). test.1 (subst FitsText (one_text e (sym is)) fits),
     )
 
--- so it is where it has no more bytes than the limit
+-- so it is if it has no more bytes than the limit
 pub short_text : (v : Location) → FreeOf colon (scheme_text v.scheme) → text v ≡ Ok (canonical_text v) → length (canonical_text v) ≤ 1024 → HasFittingText v
 short_text v free canonical short =
     let rest = codes "://" ++ (user_information v.user v.password ++ (host_part v v.host ++ (port_part v.port ++ canonical_path v))) in
@@ -247,7 +247,7 @@ short_text v free canonical short =
     let fits = fits_tested (scheme_text v.scheme) behind (omega (arith, whole, short)) in
     (fitting_text v (canonical_text v) free canonical (sym canonical)).0 (fits.0 (or_left _ _ (le-leb (length behind) 1024 few)))
 
--- and a test of its scheme and of what it is made of decides it
+-- and a test of its scheme and of its pieces decides it
 pub text_tested : (v : Location) (s t : List ℕ) (b : Bool) → s ≡ scheme_text v.scheme → FreeOf colon (scheme_text v.scheme) → text v ≡ Ok (canonical_text v) → Ok t ≡ text v
     → (IsTrue b ↔ IsPiecesShort s t) → IsTrue b ↔ HasFittingText v
 text_tested v s t b same_scheme free canonical is test =

@@ -1,5 +1,5 @@
 -- The class of HTTP locations by its tests: hosts by their last label, paths by their bytes and segments, and
--- what is written for a text by what it holds.
+-- the text that is written for a text, by its bytes.
 use Rattle.std.proofs.Common.{⊎_elim, ◌≡◌, ◌≢◌, ◌↔◌, ◌∙◌, ◌<◌, ℕ, Bool, true, false, not, ◌&&◌, ◌||◌, ◌==◌, ◌⊎◌, inl, inr, List, [], ◌∷◌, ◌++◌, length, codes, decimal, Option, Some, None, IfSome, IsUtf8, if◌then◌else◌, refl, sym, ap, subst, append_assoc, length-append, arith}
 use Rattle.std.specs.List.{list_all, list_any, count_by}
 use Rattle.std.specs.Char.{is_ascii_digit, is_ascii_lowercase, to_ascii_lowercase}
@@ -228,7 +228,7 @@ escape_in_uri b h = grind (arith, nat_tests)
 stray_in_ascii : (b : ℕ) → is_stray b ≡ true → b < 128
 stray_in_ascii b stray = grind (arith, nat_tests)
 
--- the strays of ASCII are the controls, `#`, and what is neither escaped nor of a URI
+-- the strays of ASCII are the controls, `#`, and the bytes that are neither escaped nor of a URI
 strays : (b : ℕ) → b < 128 → is_stray b ≡ (is_control b || (b == number_sign || not (contains PATH b || is_uri_byte b)))
 strays b ascii = agree_below_at is_stray (λ c. is_control c || (c == number_sign || not (contains PATH c || is_uri_byte c))) 128 b refl ascii
 
@@ -362,7 +362,8 @@ pub rooted_starts : (path : List ℕ) → begins_with slash path ≡ true → be
 rooted_starts [] rooted = rooted
 rooted_starts (b ∷ bs) rooted = or_left _ _ rooted
 
--- a location of HTTP is of the class by its parts, and by what settled URLs have beside their paths
+-- a location of HTTP is of the class by its parts, and by the conditions of settled URLs except for those on
+-- paths
 pub class_by_parts : (v : Location) → IsWeb v
     → ((HasUnambiguousHost v × (v.port ≢ Some 0) × IfSome v.user IsUnambiguousUser × IfSome v.password IsUnambiguousPassword × HasUnambiguousPath v × HasUrlPath v) × IsSettledBesidePath v) ↔ AgreesOverWeb v
 class_by_parts v web = (

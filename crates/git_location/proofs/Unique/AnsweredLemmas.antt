@@ -12,11 +12,11 @@ use Rattle.git_syntax.proofs.Unique.UniqueLemmas.{spells_unique}
 
 -- ---- reading into a buffer
 
--- what is answered is spelled
+-- a returned location is spelled
 pub answer_spelled : {E : Type 0} (b : List ℕ) (r : Result Location E) → IfOk r (Spells b) → (v : Location) → r ≡ Ok v → Spells b v
 answer_spelled {E} b r found v e = let Found : Result Location E → Type 0 = λ answer. IfOk answer (Spells b) in subst Found e found
 
--- a spelled location is answered if there is room for as many bytes
+-- a spelled location is returned if the buffer has as many bytes
 spelled_answered : (b : List ℕ) (buffer_len : ℕ) (r : Result Location ParseError) → IfOk r (Spells b) → IfErr r (RefusesIn b buffer_len) → length b ≤ buffer_len → (v : Location) → Spells b v → r ≡ Ok v
 spelled_answered b buffer_len (Ok w) found refused enough v spelled = ap Ok (spells_unique b w v found spelled)
 spelled_answered b buffer_len (Err unread.NoRoom) found (some, short) enough v spelled = absurd (omega (arith, short, enough))

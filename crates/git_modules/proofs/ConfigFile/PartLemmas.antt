@@ -1,4 +1,4 @@
--- What the parts of a value add to it.
+-- The bytes that the parts of a value add to it.
 use Rattle.std.proofs.Common.{◌≡◌, ℕ, ◌+◌, ◌-◌, ◌<◌, ◌≤◌, Bool, true, false, List, [], ◌∷◌, ◌++◌, length, take, set, Ok, refl, ap, ◌∙◌, arith, append_assoc, nat_lt, if◌then◌else◌}
 use Rattle.std.proofs.lemmas.Bool.Decides.{nat_tests}
 use Rattle.std.proofs.lemmas.Grind.{replicate_next, common_steps}

@@ -29,7 +29,7 @@ abbrev pub IsAt : List ℕ → ℕ → ℕ → Owner → List FileEntry → Type
 IsAt text at line owner found = (first : List ℕ) × (done : List Turn) × (stem : List ℕ) × (start_of (unix_text text) ≡ Ok first)
     × AreItems first done (left_at text at) × Owns stem owner × HasFront text done found stem × (line ≡ line_at text at) × (at ≤ length text)
 
--- what is read of an item is the front with the item
+-- the text that is read of an item is the front with the item
 front_gap : (text : List ℕ) (done : List Turn) (found : List FileEntry) (stem left : List ℕ) → HasFront text done found stem → HasFront text (done ++ (left, gap) ∷ []) found stem
 front_gap text done found stem left front ts others h = subst (λ (x : List Turn). AreEntries text [] x (found ++ others)) (sym (append_assoc done ((left, gap) ∷ []) ts)) (front ((left, gap) ∷ ts) others h)
 

@@ -42,7 +42,8 @@ before_last_some c (b ∷ bs) front e =
       | inr (same, none) ↦ (bs, ap (λ z. z ∷ bs) same ∙ ap (λ z. z ++ c ∷ bs) (sym none))
     ]
 
--- what was taken off begins with a `:` if one was taken off, and else with a `/`, if the text ends so too
+-- the text that was removed begins with a `:` if a `:` was removed, and else with a `/`, if the text ends so
+-- too
 abbrev pub Follows : List ℕ → Bool → List ℕ → Type 0
 Follows whole true rest = begins_with colon rest ≡ true
 Follows whole false rest = ((rest ≡ []) × (without_last_slash whole ≡ whole)) ⊎ (begins_with slash rest ≡ true)

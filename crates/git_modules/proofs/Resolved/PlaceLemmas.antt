@@ -16,7 +16,7 @@ use Rattle.git_modules.proofs.Resolved.RootLemmas.{IsName, authority_ends, keeps
 
 -- ---- the rest
 
--- a text is its front without a last `/`, and what was left out
+-- a text is its front without a last `/`, and the text that was left out
 trimmed_front : (text : List ℕ) → (rest : List ℕ) × (text ≡ without_last_slash text ++ rest) × Follows text false rest
 trimmed_front text =
     elim (ends_or_not slash text) [

@@ -30,7 +30,7 @@ name_remote [] rest h = refl
 name_remote (b ∷ bs) rest h =
     rw (free_head_tail colon b bs h.no_colon).0 (rw (free_head_tail slash b bs h.no_slash).0 (name_remote bs rest (is_name_tail b bs h)))
 
--- the name is what precedes its colon
+-- the name is the text before its colon
 pub name_length-name : (name rest : List ℕ) → IsName name → name_length false (name ++ colon ∷ rest) ≡ length name
 name_length-name [] rest h = refl
 name_length-name (b ∷ bs) rest h =

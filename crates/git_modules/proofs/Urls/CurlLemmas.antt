@@ -1,4 +1,4 @@
--- What curl would get by a URL: the text determines it.
+-- The URL that curl would get for a URL: the text determines it.
 use Rattle.std.proofs.Common.{◌≡◌, ◌∙◌, ℕ, true, false, ◌||◌, inl, inr, List, ◌∷◌, ◌++◌, refl, sym, ap, subst, bytes_eq, codes}
 use Rattle.std.proofs.lemmas.Bool.{eq-eqb}
 use Rattle.std.proofs.lemmas.Slice.Eq.{bytes_eq-Decides}

@@ -105,11 +105,11 @@ feeds_same (b ∷ high ∷ low ∷ rest) =
 
 -- ---- pieces
 
--- what precedes the first colon and the text after it
+-- the text before the first colon and the text after it
 pub feed_behind : (front rest : List ℕ) → has_feed (front ++ colon ∷ rest) ≡ (has_feed front || has_feed rest)
 feed_behind front rest = list_any-append (λ b. b == newline) front (colon ∷ rest)
 
--- what precedes the first colon has a line feed if it isn't one line
+-- the text before the first colon has a line feed if it isn't one line
 not_line : (front : List ℕ) (line : Bool) → (line ≡ true → FreeOf newline front) × (FreeOf newline front → line ≡ true) → not line ≡ has_feed front
 not_line front true k = sym (k.0 refl)
 not_line front false k =
@@ -132,7 +132,7 @@ pub feed_cut : (piece front rest : List ℕ) (line inner : Bool) → FreeOf colo
 feed_cut piece front rest line inner free e k so =
     (front ++ colon ∷ git_decode rest, CredentialDecodes.behind front rest free e refl, ap (λ x. x || inner) (not_line front line k) ∙ ap (λ x. has_feed front || x) so ∙ sym (feed_behind front (git_decode rest)))
 
--- what a piece decodes to has a line feed or has none
+-- the decoding of a piece has a line feed or has none
 same_feed : (piece one two : List ℕ) → CredentialDecodes piece one → CredentialDecodes piece two → has_feed one ≡ has_feed two
 same_feed piece one two h k =
     let same : one ≡ two = grind (arith, nat_tests, cut_unique, not_free) in

@@ -1,4 +1,4 @@
--- What Git's credential code finds in a text: whether it has a host, and no line feed.
+-- The host that Git's credential code finds in a text, if there is one, and that it has no line feed.
 use Rattle.std.proofs.Common.{◌≡◌, ◌∙◌, ℕ, ◌<◌, Bool, true, false, not, ◌==◌, ◌||◌, ◌&&◌, inl, inr, List, [], ◌∷◌, ◌++◌, length, Option, Some, None, refl, sym, ap, subst, arith, append_assoc}
 use Rattle.std.proofs.Math.Bool.{or-false}
 use Rattle.std.proofs.lemmas.Bool.{cases_Bool, cond-false, cond-true, eqb-true, and_parts, and_from, not-true}
@@ -249,7 +249,7 @@ finds_host t protocol authority behind taken cut h =
 
 -- ---- URLs for curl
 
--- there is a host, or none, in what curl would get
+-- there is a host, or none, in the URL that curl would get
 pub lacks_host : (t text : List ℕ) (found : Bool) → IsForCurl t text → (found ≡ true → FindsHost text) × (FindsHost text → found ≡ true) → (not found ≡ true → LacksHost t) × (LacksHost t → not found ≡ true)
 lacks_host t text found given tells = (
   λ e. (text, given, λ h. clash found (tells.1 h) (not-true found e)),

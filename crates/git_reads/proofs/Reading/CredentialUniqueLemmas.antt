@@ -12,7 +12,7 @@ decodes_unique piece decoded other h k = grind (arith, nat_tests, cut_unique, no
 
 -- ---- the authority
 
--- what precedes the first `@`, of a user and a password
+-- the text before the first `@`, of a user and a password
 information_free : (u w : List ℕ) → FreeOf at_sign u → FreeOf at_sign w → FreeOf at_sign (u ++ colon ∷ w)
 information_free u w first second = free-append at_sign u (colon ∷ w) first second
 
@@ -98,7 +98,7 @@ reading_cut t r h = record {
   path_start = h.path_start;
 }
 
--- and what is read in its pieces
+-- and the reading of its pieces
 pub reading_pieces : (t : List ℕ) (r : CredentialReading) (h : CredentialReads t r) → ReadsPieces h.authority h.behind r
 reading_pieces t r h = record { named = h.named; cut = h.cut; host = h.host; path = h.path }
 

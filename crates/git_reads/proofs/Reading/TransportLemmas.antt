@@ -1,4 +1,5 @@
--- Which texts name a remote helper, have the scp form or are a local path, and what Secure Shell reaches.
+-- Which texts name a remote helper, have the scp form or are a local path, and the places that Secure Shell
+-- reaches.
 use Rattle.std.proofs.Common.{◌≡◌, ◌∙◌, ◌↔◌, ◌==◌, ℕ, ◌<◌, Bool, true, false, inl, inr, List, [], ◌∷◌, ◌++◌, length, Option, IsTrue, codes, refl, sym, ap, subst, arith, append_assoc}
 use Rattle.std.proofs.lemmas.Bool.{both_ways, false≢true}
 use Rattle.git_syntax.specs.Location.Scheme.{ssh}
@@ -128,7 +129,7 @@ url_lacks place path h r k =
 abbrev secure_of : List ℕ → Option (List ℕ) → Option ℕ → Option (List ℕ) → GitReading
 secure_of whole name number place = record { protocol = ssh; user = name; host = place; port = number; path = whole }
 
--- Secure Shell reaches a place where its word isn't an option, isn't a URL and doesn't have an empty user
+-- Secure Shell reaches a place if its word isn't an option, isn't a URL and doesn't have an empty user
 pub secure_reached : (place path word host : List ℕ) (port : Option ℕ) (user kept : Option (List ℕ)) → GivesWord place word port → is_option_like word ≡ false → is_option_like path ≡ false → ¬ BeginsBy (codes "ssh://") word → UserCut word user host → kept ≡ unless_empty host → ReachesSecure place path (record { protocol = ssh; user = user; host = kept; port = port; path = path })
 secure_reached place path word host port user kept h word_safe path_safe other split is = record {
   named = h.named;

@@ -100,7 +100,7 @@ host_end_unique t passed rest other more (HostEnd.brackets f i b h p r) (HostEnd
 host_end_unique t passed rest other more (HostEnd.none lacks p r) (HostEnd.brackets f i b h p' r') = absurd (brackets_not_lacked t f i b h lacks)
 host_end_unique t passed rest other more (HostEnd.none lacks p r) (HostEnd.none lacks' p' r') = (p ∙ sym p', r ∙ sym r')
 
--- a text is what is passed over and the rest
+-- a text is the skipped front and the rest
 end_joined : (t passed rest : List ℕ) → HostEnd t passed rest → t ≡ passed ++ rest
 end_joined t passed rest (HostEnd.brackets f i b h p r) =
     brackets_joined t f i b h ∙ ap (λ x. x ++ right_bracket ∷ b) (sym p) ∙ ap (λ x. passed ++ x) (sym r)

@@ -1,4 +1,5 @@
--- Authorities: what the checks find in their pieces, and what these hold if nothing is found.
+-- Authorities: the flaws that the checks find in their pieces, and the form of a piece in which nothing is
+-- found.
 use Rattle.std.proofs.Common.{◌≡◌, ℕ, ◌+◌, ◌<◌, Bool, true, List, [], ◌∷◌, ◌++◌, length, Option, Some, None, refl, ap, subst, arith, length-append}
 use Rattle.std.specs.Prelude.{IsSome, IsUtf8}
 use Rattle.percent_encoding.specs.Percent.{percent_decode}
@@ -23,7 +24,7 @@ pub user_alone : (text : List ℕ) (r : Option Place) → FreeOf colon text → 
 user_alone text None free h = record { found = (_, _, Credentials.user_alone free h.found refl refl); within = h.within }
 user_alone text (Some p) free h = record { found = BadUser.alone free h.found; within = h.within }
 
--- a password that decodes to no text is what is wrong with user information
+-- a password that decodes to no text is the flaw of user information
 pub password_found : (text u w : List ℕ) (p : Place) → FreeOf colon u → text ≡ u ++ colon ∷ w → Checks w (Undecodable w) (IsUtf8 (percent_decode w)) (Some p) → Checks text (BadUser text) (HoldsUser text) (Some (record { reason = p.reason; at = length u + 1 + p.at; len = p.len }))
 password_found text u w p free e h = record {
   found = BadUser.with_password u w free e (Then.at_first (record { inside = p; found = h.found; stands = record { named = refl; start = refl; size = refl } }));
@@ -96,14 +97,14 @@ behind_held syntax needed text information piece clean free e (user, password, c
       held = record { named = Authority.with_user information piece free e c h has; hosted = λ need. has };
     }
 
--- what is wrong with the user information is wrong with the authority
+-- a flaw of the user information is one of the authority
 pub user_found : (syntax : HostSyntax) (needed : Bool) (text information piece : List ℕ) (p : Place) → FreeOf at_sign piece → text ≡ information ++ at_sign ∷ piece → Checks information (BadUser information) (HoldsUser information) (Some p) → Checks text (BadParts syntax needed text) (HoldsParts syntax needed text) (Some p)
 user_found syntax needed text information piece p free e h = record {
   found = BadParts.with_user information piece free e (Then.at_first h.found);
   within = omega (arith, h.within, ap length e, length-append information (at_sign ∷ piece));
 }
 
--- and if nothing is, what is wrong with the host after it
+-- and if that has none, a flaw of the host after it
 pub host_found : (syntax : HostSyntax) (needed : Bool) (text information piece : List ℕ) (p : Place) → FreeOf at_sign piece → text ≡ information ++ at_sign ∷ piece → HoldsUser information → Checks piece (BadHost syntax piece) (NamesHost syntax piece) (Some p) → Checks text (BadParts syntax needed text) (HoldsParts syntax needed text) (Some (record { reason = p.reason; at = length information + 1 + p.at; len = p.len }))
 host_found syntax needed text information piece p free e user h = record {
   found =
@@ -112,7 +113,7 @@ host_found syntax needed text information piece p free e user h = record {
   within = omega (arith, h.within, ap length e, length-append information (at_sign ∷ piece));
 }
 
--- if nothing follows the user information, that is wrong
+-- if nothing follows the user information, that is the flaw
 pub no_host_found : (syntax : HostSyntax) (needed : Bool) (text information piece : List ℕ) → FreeOf at_sign piece → text ≡ information ++ at_sign ∷ piece → HoldsUser information → piece ≡ [] → Checks text (BadParts syntax needed text) (HoldsParts syntax needed text) (Some (record { reason = reason.HostBehindUser; at = length text; len = 0 }))
 no_host_found syntax needed text information piece free e user empty = record {
   found =

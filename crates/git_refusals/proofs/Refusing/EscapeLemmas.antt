@@ -50,7 +50,7 @@ spelled_within zero text = omega arith
 spelled_within (suc n) text =
     omega (arith, spelled_within n (drop (unit_len text) text), length-drop (unit_len text) text, unit_within text)
 
--- of which there is one where there is one to be spelled
+-- of which there is one if there is one to be spelled
 pub spelled_some : (n : ℕ) (text : List ℕ) → 0 < n → 0 < length text → 0 < spelled_len n text
 spelled_some zero text some full = omega (arith, some)
 spelled_some (suc n) text some full = omega (arith, unit_some text full)
@@ -63,7 +63,7 @@ spelled_decodes (suc n) text =
     let next : 1 + n ≡ suc n = omega arith in
     ap percent_decode (sym (drop-drop (spelled_len n behind) (unit_len text) text)) ∙ spelled_decodes n behind ∙ ap (drop n) (unit_decodes text) ∙ drop-drop n 1 (percent_decode text) ∙ ap (λ k. drop k (percent_decode text)) next
 
--- one byte more is left
+-- one more byte is left
 pub unit_more : (text rest left : List ℕ) (n : ℕ) → rest ≡ drop (spelled_len n text) text → left ≡ drop (unit_len rest) rest → left ≡ drop (spelled_len (n + 1) text) text
 unit_more text rest left n so_far step =
     let at = drop (spelled_len n text) text in
@@ -147,7 +147,7 @@ pub decoded_some : (text bs : List ℕ) (b : ℕ) → percent_decode text ≡ b 
 decoded_some [] bs b e = absurd (omega (arith, ap length (sym percent_decode-nil ∙ e)))
 decoded_some (c ∷ text) bs b e = omega arith
 
--- a window on what it decodes to isn't empty
+-- a window on its decoding isn't empty
 pub window_full : (text window bs : List ℕ) (b : ℕ) → percent_decode text ≡ b ∷ bs → window ≡ take 4 (percent_decode text) → 0 < length window
 window_full text window bs b e whole = omega (arith, ap length (whole ∙ ap (take 4) e))
 
@@ -186,7 +186,7 @@ at_is text left e =
     let within = spelled_within (utf8_valid_len (percent_decode text)) text in
     omega (arith, ap length e, length-drop (undecodable_at text) text, within)
 
--- what the window there decodes to says how many bytes are not UTF-8
+-- the decoding of the window determines how many bytes are not UTF-8
 pub len_is : (text left window behind : List ℕ) (size : ℕ) → ¬ IsUtf8 (percent_decode text) → left ≡ drop (undecodable_at text) text → window ≡ take 4 (percent_decode left) → size ≡ (decoded window).size → behind ≡ drop (spelled_len size left) left
     → length left - length behind ≡ undecodable_len (drop (undecodable_at text) text)
 len_is text left window behind size not e whole width step =

@@ -1,4 +1,5 @@
--- What the checks find in hosts, ports and authorities: the flaw of `git_syntax` that belongs to the reason is there.
+-- The flaws that the checks find in hosts, ports and authorities: the flaw of `git_syntax` that belongs to
+-- the reason.
 use Rattle.std.proofs.Common.{◌≡◌, ℕ, Bool, false, inl, inr, List, [], ◌∷◌, ◌++◌, refl, sym, ap, subst, ◌∙◌, arith, length-append, IsUtf8}
 use Rattle.std.proofs.lemmas.List.{append-nil}
 use Rattle.percent_encoding.specs.Percent.{percent_decode}
@@ -79,7 +80,7 @@ colons_flaw http_hosts piece p front many _ h = flawed fault.BadCharacter (web_c
 colons_flaw git_hosts piece p front many none h = flawed fault.BadCharacter (ap kind_of h.stands.named) (HasBadHost.colons bare_not_strict none front many (λ host k. h.undecodable k.0))
 colons_flaw other_hosts piece p front many none h = flawed fault.BadCharacter (ap kind_of h.stands.named) (HasBadHost.colons loose_not_strict none front many (λ host k. h.undecodable k.0))
 
--- what is wrong with a host and a port
+-- the flaw of a host and a port
 pub bad_host_flaw : (syntax : HostSyntax) (piece : List ℕ) (p : Place) → BadHost syntax piece p → Flawed (HostPortFlaw syntax piece) p.reason
 bad_host_flaw syntax piece p (BadHost.unclosed behind free e s) = flawed fault.BadCharacter (ap kind_of s.named) (HasBadHost.open_bracket behind free e)
 bad_host_flaw syntax piece p (BadHost.behind_bracket x wrong rest closed free some _ e s) =
@@ -101,7 +102,7 @@ bad_host_flaw syntax piece p (BadHost.with_port text digits h free e (Then.at_se
 
 -- ---- authorities
 
--- what is wrong with user information is a part of it that is not text
+-- the flaw of user information is a part of it that is not text
 pub bad_user_kind : (information : List ℕ) (p : Place) → BadUser information p → HasNoText information × (kind_of p.reason ≡ kind.BadUrl fault.BadCharacter)
 bad_user_kind information p (BadUser.alone free h) = (HasNoText.user free h.undecodable, ap kind_of h.stands.named)
 bad_user_kind information p (BadUser.with_password u w free e (Then.at_first b)) =

@@ -1,4 +1,4 @@
--- The front that the error of a URL that is too long shows: its scheme, and what is shown of the rest. So it
+-- The front that the error of a URL that is too long shows: its scheme, and the shown part of the rest. So it
 -- names the refusal.
 use Rattle.std.proofs.Common.{◌≡◌, ℕ, ◌+◌, ◌-◌, ◌<◌, ◌≤◌, inl, inr, List, ◌++◌, length, take, refl, sym, ap, subst, ◌∙◌, arith, codes}
 use Rattle.std.proofs.Math.Seq.{take-append-add}
@@ -83,7 +83,7 @@ front_marked front b r h k e =
     let names = front_names front b r h k e in
     (names.scheme, names.shown, names.joined)
 
--- its scheme and what is shown of the rest are the text before and after its first mark
+-- its scheme and the shown part of the rest are the text before and after its first mark
 pub front_cut : (front b scheme shown : List ℕ) (r : Refusal) → Refused b r → kind_of r.reason ≡ kind.TooLong → front ≡ shown_front b r → ¬ Holds (codes "://") scheme → front ≡ scheme ++ (codes "://" ++ shown) → LongRefusal scheme shown r
 front_cut front b scheme shown r h k e first joined =
     let names = front_names front b r h k e in

@@ -1,4 +1,5 @@
--- Hosts and ports: what is wrong with a piece by the marks that are in it, and what it names if nothing is.
+-- Hosts and ports: the flaw of a piece by the marks that are in it, and the host that it names if it has no
+-- flaw.
 use Rattle.std.proofs.Common.{◌≡◌, ℕ, ◌<◌, ◌^◌, ◌==◌, true, false, ◌⊎◌, inl, inr, List, [], ◌∷◌, ◌++◌, length, Option, Some, None, refl, sym, ap, subst, ◌∙◌, arith, append_assoc, IsUtf8, chars}
 use Rattle.std.specs.List.{list_any, list_all}
 use Rattle.std.specs.Char.{is_ascii_digit}
@@ -75,7 +76,7 @@ web_inner http_hosts text p e none s = record { no_literal = none; no_other = s 
 web_inner git_hosts text p e none s = absurd (bare_not_strict e)
 web_inner other_hosts text p e none s = absurd (loose_not_strict e)
 
--- elsewhere it denotes what it decodes to, if that is text
+-- elsewhere it denotes its decoding, if that is text
 pub lax_inner : (syntax : HostSyntax) (text : List ℕ) (r : Option Place) → ¬ (syntax ≡ http_hosts) → ¬ IsLiteral text → Checks text (Undecodable text) (IsUtf8 (percent_decode text)) r → Checks text (NoInner syntax text) (StandsForInner syntax text) r
 lax_inner http_hosts text r other none h = absurd (other refl)
 lax_inner git_hosts text (Some p) other none h = record { found = record { no_literal = none; no_other = h.found }; within = h.within }

@@ -25,7 +25,7 @@ use Rattle.git_refusals.proofs.Refusing.OneHostLemmas.{closed_apart, one_host}
 
 -- ---- authorities
 
--- what is wrong with a user and a password
+-- the flaw of a user and a password
 abbrev BadPassword : List ℕ → List ℕ → Place → Type 0
 BadPassword u w = Then (Behind (length u + 1) (Undecodable w)) (Undecodable u)
 
@@ -50,7 +50,7 @@ one_no_host_behind authority piece p q h k = stands_alike p q refl refl h.stands
 one_no_host_at_all : (needed : Bool) (authority : List ℕ) → One (NoHostAtAll needed authority)
 one_no_host_at_all needed authority p q h k = stands_alike p q refl refl h.stands k.stands
 
--- what is wrong with user information and the text after it
+-- the flaw of user information and the text after it
 abbrev BadUserHost : HostSyntax → List ℕ → List ℕ → List ℕ → Place → Type 0
 BadUserHost syntax authority information piece = Then (BadUser information)
     (Then (Behind (length information + 1) (BadHost syntax piece)) (NoHostBehind authority piece))

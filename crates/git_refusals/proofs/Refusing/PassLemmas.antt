@@ -1,4 +1,5 @@
--- Checks that find nothing in a piece without what they look for, and what a piece is in which they find nothing.
+-- Checks that find nothing in a piece without the bytes that they search for, and the form of a piece in
+-- which they find nothing.
 use Rattle.std.proofs.Common.{◌≡◌, ℕ, ◌<◌, Bool, true, false, inl, inr, List, length, drop, Option, Some, None, refl, sym, ap, ◌∙◌, arith, IsUtf8, chars}
 use Rattle.std.specs.List.{list_any, list_all}
 use Rattle.std.specs.Char.{is_ascii_alphabetic, is_ascii_digit}

@@ -1,4 +1,5 @@
--- Schemes, the lengths of URLs, and file URLs: what the checks find, and a text that holds if they find nothing.
+-- Schemes, the lengths of URLs, and file URLs: the flaws that the checks find, and the form of a text in
+-- which they find nothing.
 use Rattle.std.proofs.Common.{◌≡◌, ℕ, true, false, List, [], ◌∷◌, length, Some, None, inl, inr, refl, sym, ap, subst, ◌∙◌, codes}
 use Rattle.std.specs.Prelude.{IsUtf8, chars, slice_get}
 use Rattle.std.specs.List.{list_any, list_all}

@@ -1,4 +1,4 @@
--- The scp form: what its checks find, and what it denotes if they find nothing.
+-- The scp form: the flaws that its checks find, and the host that it denotes if they find nothing.
 use Rattle.std.proofs.Common.{◌≡◌, ℕ, ◌+◌, ◌<◌, true, false, ◌==◌, ◌⊎◌, inl, inr, List, [], ◌∷◌, ◌++◌, length, Option, Some, None, refl, sym, ap, subst, ◌∙◌, arith, length-append, IsUtf8}
 use Rattle.std.proofs.lemmas.Bool.{both_ways, cases_Bool, false≢true}
 use Rattle.std.specs.List.{list_all}
@@ -115,7 +115,7 @@ behind_bracket_found host behind inner rest front closed e some = record {
 
 -- ---- the host
 
--- without white space and backslashes, what is found in its name is found in the host
+-- without white space and backslashes, the flaw that is found in its name is found in the host
 pub name_checked : (host : List ℕ) (r : Option Place) → FreeOf at_sign host → LacksWhiteSpace host → FreeOf backslash host → 0 < length host → Checks host (BadScpName host) (NamesScpHost host) r → Checks host (BadScpHost host) (StandsForScpHost host) r
 name_checked host r at white back some h =
     found_second host (HasCharacter reason.WhiteSpaceInHost is_whitespace host) (Then (HasBackslash reason.BackslashInHost host) (Then (NoScpHost host) (BadScpName host))) (StandsForScpHost host) (StandsForScpHost host) r (character_passes reason.WhiteSpaceInHost is_whitespace host white) (λ k. k)
@@ -124,7 +124,7 @@ name_checked host r at white back some h =
 
 -- ---- the front
 
--- what is found in a front without an `@` is what is found in a host
+-- the flaw that is found in a front without an `@` is the flaw that is found in a host
 pub front_alone : (front : List ℕ) (r : Option Place) → FreeOf at_sign front → Checks front (BadScpHost front) (StandsForScpHost front) r → Checks front (BadFront front) (IsScpFront front) r
 front_alone front None at h = record {
   found = record { user = None; host = front; split = ScpUser.host_alone refl refl; hosted = h.found };
@@ -139,7 +139,7 @@ front_with_user front user host e h = record {
   within = tt;
 }
 
--- what is wrong with the host after a user is wrong with the front
+-- a flaw of the host after a user is one of the front
 pub front_flawed : (front user host : List ℕ) (p : Place) → FreeOf at_sign host → front ≡ user ++ at_sign ∷ host → Checks host (BadScpHost host) (StandsForScpHost host) (Some p) → Checks front (BadFront front) (IsScpFront front) (Some (record { reason = p.reason; at = length user + 1 + p.at; len = p.len }))
 front_flawed front user host p at e h = record {
   found = BadFront.with_user user host at e (record { inside = p; found = h.found; stands = record { named = refl; start = refl; size = refl } });
@@ -148,7 +148,7 @@ front_flawed front user host p at e h = record {
 
 -- ---- the whole
 
--- what is found in the front of a text with a path is found in the text
+-- the flaw that is found in the front of a text with a path is found in the text
 pub scp_checked : (b front path : List ℕ) (r : Option Place) → PlainScp b front path → IsUtf8 b → false ≡ (length path == 0) → Checks front (BadFront front) (IsScpFront front) r → Checks b (BadScp b front path) (IsScp b) r
 scp_checked b front path None h text some k = record {
   found = (

@@ -1,4 +1,4 @@
--- URLs: what the checks find in one, and that a text in which none finds anything is one.
+-- URLs: the flaws that the checks find in one, and that a text in which none finds anything is one.
 use Rattle.std.proofs.Common.{◌≡◌, ℕ, ◌+◌, ◌<◌, ◌≤◌, Bool, true, inl, inr, List, [], ◌∷◌, ◌++◌, length, Option, Some, None, refl, sym, ap, subst, arith, length-append, codes, IsUtf8}
 use Rattle.std.specs.Char.{is_whitespace}
 use Rattle.std.proofs.lemmas.Bool.Decides.{nat_tests}
@@ -55,7 +55,7 @@ by_rules {scheme} {authority} {rules} {r} are h =
     subst (λ n. Checks authority (BadAuthority (host_syntax_of scheme) n authority) (HoldsParts (host_syntax_of scheme) n authority) r) are.host
     (subst (λ s. Checks authority (BadAuthority s rules.needs_host authority) (HoldsParts s rules.needs_host authority) r) are.syntax h)
 
--- what is found after a scheme, in the text after it cut before its path
+-- the flaw that is found after a scheme, in the text after it cut before its path
 abbrev pub FoundBehind : List ℕ → List ℕ → List ℕ → List ℕ → Place → Type 0
 FoundBehind b scheme authority path = Then (Behind (length scheme + 3 + length authority) (Undecodable path))
     (Then (Behind (length scheme + 3) (BadAuthority (host_syntax_of scheme) (requires_host scheme) authority)) (NoPath scheme b path))
@@ -65,7 +65,7 @@ pub url_length : (b scheme rest authority path : List ℕ) → OtherUrlForm b sc
 url_length b scheme rest authority path form cut =
     omega (arith, ap length form.form.joined, length-append scheme (codes "://" ++ rest), ap length cut.joined, length-append authority path)
 
--- what is found after a scheme is wrong there
+-- the flaw that is found after a scheme is one of the text there
 pub found_behind : {b scheme rest authority path : List ℕ} {p : Place} → CutsRest scheme rest authority path → FoundBehind b scheme authority path p → p.at + p.len ≤ length b → Checks b (BadRest b scheme rest) (HoldsRest scheme rest) (Some p)
 found_behind {b} {scheme} {rest} {authority} {path} {p} cut h within = record {
   found = record { authority = authority; path = path; joined = cut.joined; before_path = cut.before_path; path_starts = cut.path_starts; found = h };
@@ -95,7 +95,7 @@ no_path b scheme rest authority path cut text held wanted empty =
     (record { wanted = wanted; empty = empty; stands = record { named = refl; start = refl; size = refl } })))
     (omega arith)
 
--- the text after a scheme, if nothing is wrong with it
+-- the text after a scheme, if it has no flaw
 pub rest_held : (scheme rest authority path : List ℕ) → CutsRest scheme rest authority path → IsUtf8 (percent_decode path) → HoldsParts (host_syntax_of scheme) (requires_host scheme) authority
     → (requires_path (scheme_of scheme) ≡ true → 0 < length path) → HoldsRest scheme rest
 rest_held scheme rest authority path cut text held pathed = record {
@@ -149,7 +149,7 @@ url_spelled b scheme rest front h =
       },
     )
 
--- what is found after its scheme is what is wrong with it
+-- the flaw that is found after its scheme is its flaw
 pub rest_found : (b scheme rest : List ℕ) (p : Place) → PassesFront b scheme rest → BadRest b scheme rest p → BadUrl b scheme rest p
 rest_found b scheme rest p front h =
     Then.at_second (fits_passes scheme rest front.fits) (Then.at_second (text_passes b front.text)
@@ -161,7 +161,7 @@ pub rest_decides : (b scheme rest : List ℕ) (r : Option Place) → PassesFront
 rest_decides b scheme rest None front h = record { found = url_spelled b scheme rest front h.found; within = tt }
 rest_decides b scheme rest (Some p) front h = record { found = rest_found b scheme rest p front h.found; within = h.within }
 
--- what is wrong with the scheme of a URL is wrong with the URL
+-- a flaw of the scheme of a URL is one of the URL
 pub scheme_found : (b scheme rest : List ℕ) (p : Place) → OtherUrlForm b scheme rest → Fits scheme rest → IsUtf8 b → LacksWhiteSpace b → is_sound b ≡ true
     → Checks scheme (BadScheme scheme) (is_scheme_text scheme ≡ true) (Some p) → Checks b (BadUrl b scheme rest) (IsUrl b) (Some p)
 scheme_found b scheme rest p form fits text white sound h = record {

@@ -90,6 +90,6 @@ decides_back : (list : Option (List ℕ)) (policy : Policy) (name : List ℕ) (r
 decides_back (Some list) policy name r is = is
 decides_back None policy name r (chosen, counts, is) = (chosen, counts_back policy.entries name chosen counts, is)
 
--- what Git does about a transport is the same by the entries of the section as by all
+-- Git's decision about a transport is the same by the entries of the section as by all
 pub section_decides : SectionDecides
 section_decides policy name r = (decides_kept policy.allow_list policy name r, decides_back policy.allow_list policy name r)

@@ -1,5 +1,5 @@
--- The answers on credentials: what is used of a front of the entries, at which entry Git stops, and that what
--- is used is one.
+-- The answers on credentials: the settings by a front of the entries, at which entry Git stops, and that the
+-- text is used is one.
 use Rattle.std.proofs.Common.{◌≡◌, ◌↔◌, Bool, true, false, IsTrue, Contains, ℕ, suc, ◌+◌, ◌<◌, List, [], ◌∷◌, ◌++◌, length, take, drop, get_or, refl, sym, ap, subst, ◌∙◌, arith}
 use Rattle.std.proofs.lemmas.List.{length-take-le}
 use Rattle.std.proofs.lemmas.List.Kept.{AllPairs-from_increasing}

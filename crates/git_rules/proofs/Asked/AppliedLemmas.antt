@@ -1,5 +1,5 @@
--- Which entries apply: what fits a request, the user that Git has, and that a front of a list is gone through
--- alike in the whole list.
+-- Which entries apply: the subsections that fit a request, the user that Git has, and that a front of a list
+-- is gone through alike in the whole list.
 use Rattle.std.proofs.Common.{◌≡◌, ℕ, ◌+◌, ◌<◌, ◌⊎◌, ◌↔◌, inl, inr, Bool, true, false, List, [], ◌∷◌, ◌++◌, codes, length, refl, sym, ap, subst, ◌∙◌, arith, append_assoc, length-append, IsTrue, Option, Some, None, IfOk, Result, Ok, Err}
 use Rattle.std.proofs.lemmas.Bool.{cases_lt}
 use Rattle.git_reads.specs.Credentials.{CredentialReading}
@@ -80,14 +80,14 @@ through_more r (d ∷ done) e user last next (middle, first, more) change =
 
 -- ---- fronts
 
--- what applies has a place in the list
+-- an entry that applies has a place in the list
 pub place_within : (r : CredentialReading) (entries : List ConfigEntry) (i : ℕ) (e : ConfigEntry) → AppliesAt r entries i e → i < length entries
 place_within r entries i e h =
     let size : length entries ≡ length h.before + length (e ∷ h.others) = ap length h.joined ∙ length-append h.before (e ∷ h.others) in
     let at : length h.before ≡ i = h.index in
     omega (arith, size, at)
 
--- what applies in a front applies in the whole list
+-- an entry that applies in a front applies in the whole list
 pub grow : (r : CredentialReading) (done more : List ConfigEntry) (i : ℕ) (e : ConfigEntry) → AppliesAt r done i e → AppliesAt r (done ++ more) i e
 grow r done more i e h = record {
   before = h.before;
@@ -99,7 +99,7 @@ grow r done more i e h = record {
   applies = h.applies;
 }
 
--- what applies in the whole list at a place of the front applies in the front
+-- an entry that applies in the whole list at a place of the front applies in the front
 pub shrink : (r : CredentialReading) (done more : List ConfigEntry) (i : ℕ) (e : ConfigEntry) → i < length done → AppliesAt r (done ++ more) i e → AppliesAt r done i e
 shrink r done more i e short h =
     let at : length h.before ≡ i = h.index in
@@ -114,7 +114,7 @@ shrink r done more i e short h =
       applies = h.applies;
     }
 
--- what applies with one entry more applies without it, or is this entry
+-- an entry that applies with one entry more applies without it, or is this entry
 pub applied_cases : (r : CredentialReading) (done : List ConfigEntry) (t : ConfigEntry) (i : ℕ) (e : ConfigEntry) → AppliesAt r (done ++ t ∷ []) i e → AppliesAt r done i e ⊎ ((i ≡ length done) × (e ≡ t))
 applied_cases r done t i e h = elim (cases_lt i (length done)) [
   | inl short ↦ inl (shrink r done (t ∷ []) i e short h)
@@ -147,7 +147,7 @@ not_here r done t user through not_so e h =
     let same : h.user ≡ user = through_unique r done r.user h.user user (subst (λ z. UserThrough r z r.user h.user) seam.0 h.through) through in
     not_so (subst (AppliesTo r user) seam.1 (subst (λ z. AppliesTo r z e) same h.applies))
 
--- what applies and has a name, with one entry more
+-- an entry that applies and has a name, with one entry more
 pub sets_cases : (name : List ℕ) (r : CredentialReading) (done : List ConfigEntry) (t : ConfigEntry) (i : ℕ) (e : ConfigEntry) → SetsAt name r (done ++ t ∷ []) i e → SetsAt name r done i e ⊎ ((i ≡ length done) × (e ≡ t) × SetsAt name r (done ++ t ∷ []) (length done) t)
 sets_cases name r done t i e (applies, named) = elim (applied_cases r done t i e applies) [
   | inl old ↦ inl (old, named)

@@ -11,7 +11,7 @@ use Rattle.git_rules.proofs.Matched.LabelLemmas.{labels_some}
 
 -- ---- labels without `*`
 
--- a first label with one byte more is free of what it was free of
+-- a first label with one byte more is free of each byte that it was free of
 free_first : (b : ℕ) (labels : List (List ℕ)) → (b == asterisk) ≡ false → All (FreeOf asterisk) labels → All (FreeOf asterisk) (in_first_label b labels)
 free_first b [] other h = All-cons (FreeOf asterisk) (b ∷ []) [] (free-cons asterisk b [] other refl) (All-nil (FreeOf asterisk))
 free_first b (label ∷ labels) other h =

@@ -1,4 +1,4 @@
--- A path without one `/` at its end, and what is below a path.
+-- A path without one `/` at its end, and the paths below a path.
 use Rattle.std.proofs.Common.{◌≡◌, ℕ, ◌==◌, ◌↔◌, ◌⊎◌, inl, inr, List, [], ◌∷◌, ◌++◌, length, refl, sym, ap, ◌∙◌, append-nil, Bool, true, false, IsTrue}
 use Rattle.std.proofs.lemmas.Bool.{both_ways, cases_Bool, eqb-true}
 use Rattle.std.proofs.lemmas.List.{append_cancel_left}
@@ -24,7 +24,7 @@ without-other (b ∷ []) other =
 without-other (b ∷ c ∷ bs) other =
     ap (λ z. b ∷ z) (without-other (c ∷ bs) (λ front e. other (b ∷ front) (ap (λ z. b ∷ z) e)))
 
--- what is below a path begins with it
+-- a path below a path begins with it
 pub below_begins : (front path : List ℕ) → IsBelow front path → (rest : List ℕ) × (path ≡ front ++ rest)
 below_begins front path (inl same) = ([], same ∙ sym (append-nil front))
 below_begins front path (inr (rest, joined)) = (slash ∷ rest, joined)

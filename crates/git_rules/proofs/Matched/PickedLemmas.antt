@@ -1,4 +1,4 @@
--- What a pattern picks for the text of a location of the class
+-- The place that a pattern picks for the text of a location of the class
 -- goes to the pattern's own scheme, host and port.
 use Rattle.std.proofs.Common.{◌≡◌, ℕ, ◌<◌, ◌⊎◌, inl, inr, List, [], length, refl, sym, ap, subst, ◌∙◌, arith, append_assoc, Bool, true, false, ◌==◌, ◌||◌, Option, Some, None, codes, unwrap_or, option_map, decimal, if◌then◌else◌, IfSome, ◌++◌, ◌∷◌}
 use Rattle.std.proofs.lemmas.Bool.{both_ways, cases_Bool, eqb-true}
@@ -131,7 +131,7 @@ own_of v host r place pattern web within scheme named digits same h free none =
       own_port = port_same (scheme_text v.scheme) v.port place.port (web_text v web) within ports ∙ ap (reached_port (scheme_text v.scheme)) h.port ∙ ap (λ s. reached_port s pattern.port) (sym own ∙ h.scheme);
     }
 
--- what is picked goes to the pattern's own
+-- the request of a picked text goes to the pattern's own place
 pub picked_own : PickedGoesToOwn
 picked_own v t place pattern value web agrees has_text normal h free =
     let both : ReadsOwnOverWeb t v = web_read v t web ((read_same v value agrees).read t has_text) in

@@ -7,7 +7,7 @@ use Rattle.std.proofs.lemmas.List.Elements.{All-append, All-cons, All-nil, All-p
 use Rattle.git_rules.specs.declared.pattern.Rank.{Rank}
 use Rattle.git_rules.specs.Patterns.{IsLower, IsBestAt, HasRank, HasNoRank, RanksLower, RanksNoHigher, IsBetter}
 
--- what is lower than a lower rank is lower
+-- a rank that is lower than a lower rank is lower
 pub lower_trans : (a b c : Rank) → IsLower a b → IsLower b c → IsLower a c
 lower_trans a b c (inl h) (inl k) = inl (omega arith)
 lower_trans a b c (inl h) (inr (f, k)) = inl (omega arith)
@@ -117,7 +117,7 @@ not_above : {T : Type 0} (Ranks : T → Rank → Type 0) (highest rank : Rank) �
 not_above Ranks highest rank high s less k ranked low =
     elim (lower_between rank highest k low) [ inl l ↦ high l | inr m ↦ less k ranked m ]
 
--- nor is what is lower than the highest
+-- nor is a rank that is lower than the highest
 not_above_lower : {T : Type 0} (Ranks : T → Rank → Type 0) (highest rank : Rank) → ¬ IsLower rank highest → (s : T) → RanksLower Ranks highest s → RanksNoHigher Ranks rank s
 not_above_lower Ranks highest rank high s less k ranked low = high (lower_trans rank k highest low (less k ranked))
 

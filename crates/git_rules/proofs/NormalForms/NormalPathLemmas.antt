@@ -31,7 +31,7 @@ flat_bytes (b ∷ bs) all = free-cons slash b bs (escape_no_slash b (All-head Is
 flat_escape : (b : ℕ) → FreeOf slash (percent_encode_byte b)
 flat_escape b = flat_bytes (percent_encode_byte b) (All-percent_encode_byte b)
 
--- nor does what a byte becomes that is none or came as an escape
+-- nor does the normal form of a byte that is none or was an escape
 flat_byte : (escaped : Bool) (b : ℕ) → (b == slash) ≡ false → FreeOf slash (normal_byte escaped b)
 flat_byte escaped b other = elim (is_unsafe b || (escaped && is_reserved b)) as (λ v. FreeOf slash (cond v (percent_encode_byte b) (b ∷ []))) [ true ↦ flat_escape b | false ↦ free-cons slash b [] other refl ]
 
@@ -62,7 +62,7 @@ fails_each (b ∷ bs) free =
     let parts = free_head_tail slash b bs free in
     All-cons (λ b. (b == slash) ≡ false) b bs parts.0 (fails_each bs parts.1)
 
--- the segments of a text begin with what precedes its first `/`
+-- the segments of a text begin with the text before its first `/`
 pub segments_at : (segment rest : List ℕ) → FreeOf slash segment → normal_segments (segment ++ slash ∷ rest) ≡ normal_text segment ∷ normal_segments rest
 segments_at segment rest free = ap (map normal_text) (slice_split_at (λ b. b == slash) segment slash rest (fails_each segment free) refl)
 
@@ -74,7 +74,7 @@ segments_alone segment free = ap (map normal_text) (slice_split_none (λ b. b ==
 put_step : (segment : List ℕ) (rest stack : List (List ℕ)) (outcome : Option (List (List ℕ))) → put_segment stack segment ≡ outcome → put_segments (segment ∷ rest) stack ≡ option_and_then (λ left. put_segments rest left) outcome
 put_step segment rest stack outcome e = ap (option_and_then (λ left. put_segments rest left)) e
 
--- if a segment is put, the rest is put on what it leaves
+-- if a segment is put, the rest is put on the resulting stack
 pub put_first : (segment rest : List ℕ) (stack left : List (List ℕ)) → FreeOf slash segment → put_segment stack (normal_text segment) ≡ Some left → put_segments (normal_segments (segment ++ slash ∷ rest)) stack ≡ put_segments (normal_segments rest) left
 put_first segment rest stack left free e = ap (λ s. put_segments s stack) (segments_at segment rest free) ∙ put_step (normal_text segment) (normal_segments rest) stack (Some left) e
 
@@ -95,7 +95,7 @@ put_last segment stack free = ap (λ s. put_segments s stack) (segments_alone se
 nil_no_cut : (front back : List ℕ) → [] ≡ front ++ slash ∷ back → ⊥
 nil_no_cut front back e = let long = length-append front (slash ∷ back) in let none = ap length e in omega (arith, long, none)
 
--- what precedes the last `/` of a path is the path of the stack without its top
+-- the text before the last `/` of a path is the path of the stack without its top
 pub top_cut : (path front back : List ℕ) (stack : List (List ℕ)) → ShowsStack path stack → FreeOf slash back → path ≡ front ++ slash ∷ back → ShowsFront (without_top stack) path (Some (length front))
 top_cut path front back [] shows free e = absurd (nil_no_cut front back (sym shows.0 ∙ e))
 top_cut path front back (top ∷ below) shows free e =
@@ -104,13 +104,13 @@ top_cut path front back (top ∷ below) shows free e =
 
 -- ---- a segment in a buffer
 
--- what is written between two places of a buffer
+-- the text that is written between two places of a buffer
 pub written_between : (buffer front form : List ℕ) (start end : ℕ) → take end buffer ≡ front ++ form → length front ≡ start → start ≤ end → end ≤ length buffer → take (end - start) (drop start buffer) ≡ form
 written_between buffer front form start end whole place order within =
     let sum : start + (end - start) ≡ end = omega (arith, order) in
     sym (drop-take start (end - start) buffer) ∙ ap (λ n. drop start (take n buffer)) sum ∙ ap (drop start) whole ∙ ap (λ n. drop n (front ++ form)) (sym place) ∙ drop-append_seam front form
 
--- the front of a buffer before what was written after it
+-- the front of a buffer before the text that was written after it
 pub front_kept : (buffer front form : List ℕ) (at end : ℕ) → take end buffer ≡ front ++ form → length front ≡ at → at ≤ end → take at buffer ≡ front
 front_kept buffer front form at end whole place order =
     sym (take-take at end buffer order) ∙ ap (take at) whole ∙ ap (λ n. take n (front ++ form)) (sym place) ∙ take-append_seam front form

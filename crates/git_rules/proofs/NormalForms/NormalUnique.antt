@@ -210,7 +210,7 @@ part_flawed globs text s a b buffer_len BadHost enough cut flaw = (enough, (s, a
 part_flawed globs text s a b buffer_len BadPort enough cut flaw = (enough, (s, a, b, cut, flaw), cut_refused globs text s a b BadPort cut flaw)
 part_flawed globs text s a b buffer_len AboveRoot enough cut flaw = (enough, (s, a, b, cut, flaw), cut_refused globs text s a b AboveRoot cut flaw)
 
--- what was written of the parts is the normal form, or the path has a flaw
+-- the text written for the parts is the normal form, or the path has a flaw
 pub parts_normalize : (globs : Bool) (text scheme lowered authority behind : List ℕ) (user : Option (List ℕ)) (host : List ℕ) (port : Option ℕ) (buffer_len : ℕ) (r : Result NormalPlace NormalError) → 3 * length text + 1 ≤ buffer_len → UrlCut text scheme authority behind → lowered ≡ lowercase scheme → ReadsAuthority globs lowered authority user host port
     → MatchResult r (λ n. HoldsParts lowered user host port behind n) (λ e. PathFlaw behind e) → NormalizesIn globs text buffer_len r
 parts_normalize globs text scheme lowered authority behind user host port buffer_len (Ok n) enough cut low read holds =

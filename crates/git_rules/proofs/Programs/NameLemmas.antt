@@ -1,4 +1,4 @@
--- The last name of a path with one byte more, and what is kept of it.
+-- The last name of a path with one byte more, and the bytes of it that are kept.
 use Rattle.std.proofs.Common.{◌≡◌, ◌∙◌, ℕ, zero, suc, ◌+◌, ◌<◌, ◌≤◌, true, false, cond, ◌==◌, List, [], ◌∷◌, ◌++◌, length, take, refl, sym, ap, arith, bytes_eq, codes, lit<}
 use Rattle.std.specs.Prelude.{reverse, slice_set}
 use Rattle.std.specs.List.{take_while}
@@ -46,7 +46,7 @@ name_started path b ended other = name-byte path b other ∙ ap (λ t. reverse (
 name_more : (path : List ℕ) (b : ℕ) → begins_with slash (reverse path) ≡ false → (b == slash) ≡ false → base_name (path ++ b ∷ []) ≡ base_name path ++ b ∷ []
 name_more path b going other = name-byte path b other ∙ ap (λ t. reverse (b ∷ t)) (sym (some_before (reverse path) going)) ∙ reverse-append (b ∷ []) (name_back (reverse path))
 
--- ---- what is kept
+-- ---- the bytes that are kept
 
 -- a byte more is kept if fewer are than may be
 kept_more : (n : ℕ) (kept name : List ℕ) (b : ℕ) → kept ≡ take n name → length kept < n → kept ++ b ∷ [] ≡ take n (name ++ b ∷ [])
@@ -119,7 +119,7 @@ word_front : (n : ℕ) (text word : List ℕ) → length word < n → is_word (t
 word_front n text word h =
     ap (λ t. bytes_eq t (lowercase word)) (sym (take-map to_ascii_lowercase n text)) ∙ eq_front n (lowercase text) (lowercase word) (omega (arith, h, length-map word to_ascii_lowercase))
 
--- so the variant is that of what is kept
+-- so the variant is that of the bytes that are kept
 pub named_front : (text : List ℕ) → variant_named (take 18 text) ≡ variant_named text
 named_front text =
     let ssh = word_front 18 text (codes "ssh") (lit< tt) in

@@ -1,4 +1,4 @@
--- The answers on settings: what was found, why nothing was, and that the answer is one.
+-- The answers on settings: the entries that were found, why none were, and that the answer is one.
 use Rattle.std.proofs.Common.{◌≡◌, ℕ, suc, ◌+◌, ◌<◌, inl, inr, List, [], ◌∷◌, ◌++◌, length, take, drop, get_or, refl, sym, ap, subst, ◌∙◌, arith, append_assoc, add-one, Option, None, option_to_list, Ok, Err, All, codes}
 use Rattle.std.proofs.Math.Seq.{take-append_seam, take-suc}
 use Rattle.std.proofs.lemmas.List.{length-take-le}

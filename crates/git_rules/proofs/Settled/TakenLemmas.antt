@@ -14,14 +14,14 @@ use Rattle.git_rules.proofs.Settled.ListLemmas.{at_seam, in_front, tail_same}
 
 -- ---- fronts
 
--- what is taken has a place in the list
+-- an entry that is taken has a place in the list
 pub place_within : (name : List ℕ) (place : Option NormalPlace) (entries : List ConfigEntry) (i : ℕ) (e : ConfigEntry) → IsTakenAt name place entries i e → i < length entries
 place_within name place entries i e h =
     let size : length entries ≡ length h.before + length (e ∷ h.others) = ap length h.joined ∙ length-append h.before (e ∷ h.others) in
     let at : length h.before ≡ i = h.index in
     omega (arith, size, at)
 
--- what is taken in a front is taken in the whole list
+-- an entry that is taken in a front is taken in the whole list
 pub grow : (name : List ℕ) (place : Option NormalPlace) (done more : List ConfigEntry) (i : ℕ) (e : ConfigEntry) → IsTakenAt name place done i e → IsTakenAt name place (done ++ more) i e
 grow name place done more i e h = record {
   before = h.before;
@@ -33,7 +33,7 @@ grow name place done more i e h = record {
   not_higher = h.not_higher;
 }
 
--- what is taken in the whole list at a place of the front is taken in the front
+-- an entry that is taken in the whole list at a place of the front is taken in the front
 pub shrink : (name : List ℕ) (place : Option NormalPlace) (done more : List ConfigEntry) (i : ℕ) (e : ConfigEntry) → i < length done → IsTakenAt name place (done ++ more) i e → IsTakenAt name place done i e
 shrink name place done more i e short h =
     let at : length h.before ≡ i = h.index in
@@ -48,7 +48,7 @@ shrink name place done more i e short h =
       not_higher = h.not_higher;
     }
 
--- what is taken with one entry more is taken without it, or is this entry
+-- an entry that is taken with one entry more is taken without it, or is this entry
 pub taken_cases : (name : List ℕ) (place : Option NormalPlace) (done : List ConfigEntry) (t : ConfigEntry) (i : ℕ) (e : ConfigEntry) → IsTakenAt name place (done ++ t ∷ []) i e → IsTakenAt name place done i e ⊎ ((i ≡ length done) × (e ≡ t))
 taken_cases name place done t i e h = elim (cases_lt i (length done)) [
   | inl short ↦ inl (shrink name place done (t ∷ []) i e short h)

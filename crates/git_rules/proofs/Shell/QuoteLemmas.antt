@@ -1,4 +1,5 @@
--- What a shell reads in a text in Git's quotes, the text; and in a program with such a text after it.
+-- The words that a shell reads in a text in Git's quotes: the text; and in a program with such a text after
+-- it.
 use Rattle.std.proofs.Common.{◌≡◌, ◌∙◌, ℕ, Bool, true, false, ◌==◌, List, [], ◌∷◌, ◌++◌, Option, Some, None, refl, ap, arith, append_assoc, inl, inr}
 use Rattle.std.specs.Prelude.{flat_map, if◌then◌else◌}
 use Rattle.std.proofs.lemmas.Bool.{cases_Bool, or_parts}

@@ -35,7 +35,7 @@ none_from_test (Some r) h = absurd (cc)
 
 -- ---- users and hosts
 
--- what is asked of a user
+-- the conditions on a user
 record IsGoodUser (user : List ℕ) : Type 0 where
   some : 0 < length user
   no_option : is_option_like user ≡ false
@@ -47,7 +47,7 @@ good_user (b ∷ bs) h = record {
   no_option = (test_false _ _ _ (test_false _ _ _ h).1).0;
 }
 
--- what is asked of a host
+-- the conditions on a host
 record IsGoodHost (host : List ℕ) : Type 0 where
   no_option : is_option_like host ≡ false
   no_at : FreeOf at_sign host
@@ -62,7 +62,7 @@ good_host (b ∷ bs) h =
 
 -- ---- destinations
 
--- a text before an `@` begins with what the whole begins with, if no `@` is in that
+-- a text before an `@` begins with the bytes with which the whole begins, if no `@` is in those
 mark_before : (mark user host rest : List ℕ) → FreeOf at_sign mark → user ++ at_sign ∷ host ≡ mark ++ rest → (r : List ℕ) × (user ≡ mark ++ r)
 mark_before [] user host rest free e = (user, refl)
 mark_before (m ∷ mark) [] host rest free e = absurd (both_ways (m == at_sign) (free_head_tail at_sign m mark free).0 (eq-eqb m at_sign (sym (heads e))))
@@ -110,7 +110,7 @@ remote_no_option UploadArchive None path h = refl
 remote_no_option service (Some []) path h = absurd (cc)
 remote_no_option service (Some (b ∷ bs)) path h = (test_false _ _ _ (test_false _ _ _ h).1).0
 
--- what a shell reads without a program of one's own
+-- the words that a shell reads if the request has no program
 service_read : (service : Service) (program : Option (List ℕ)) (path : List ℕ) → program ≡ None → shell_words (remote_command (unwrap_or program (service_name service)) path) ≡ Some (service_name service ∷ path ∷ [])
 service_read service None path h = two_words service path
 service_read service (Some program) path h = absurd (cc)

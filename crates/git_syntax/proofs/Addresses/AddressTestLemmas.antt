@@ -32,7 +32,7 @@ cut_here c before behind b bs e = grind arith
 cut_later : (c : ℕ) (before behind : List ℕ → Bool) (b : ℕ) (bs : List ℕ) → Cut c (λ x. before (b ∷ x)) behind bs → Cut c before behind (b ∷ bs)
 cut_later c before behind b bs r = grind arith
 
--- what the search finds is a cut
+-- each result of the search is a cut
 any_cut_from : (c : ℕ) (before behind : List ℕ → Bool) (t : List ℕ) → any_cut c before behind t ≡ true → Cut c before behind t
 any_cut_from c before behind [] e = cc
 any_cut_from c before behind (b ∷ bs) e =
@@ -160,7 +160,7 @@ items_ending ending n t e =
     let more = and_parts _ _ parts.1 in
     (t ∷ [], inr (more.0, ipv4_from t more.1, ap (λ x. suc (suc x)) (eqb-true n 0 parts.0)), refl)
 
--- what the test finds are items
+-- the results of the test are items
 items_from : (ending : Bool) (n : ℕ) (t : List ℕ) → are_items ending n t ≡ true → Items ending n t
 items_from ending zero [] e = ([], refl, refl)
 items_from ending zero (b ∷ bs) e = cc

@@ -6,7 +6,7 @@ use Rattle.std.proofs.lemmas.Simd.{zip2_splat, zip2_of_maps, splat_is_map, mask_
 use Rattle.std.proofs.lemmas.List.{length-map}
 use Rattle.git_syntax.specs.Internal.Masks.{mask_of}
 
--- what a comparison of two lanes gives
+-- the result of a comparison of two lanes
 abbrev pub compared : (ℕ → ℕ → Bool) → ℕ → ℕ → ℕ
 compared test a b = cond (test a b) 255 0
 

@@ -1,4 +1,4 @@
--- The forms of a text: where its pieces are cut, that they are cut in
+-- The forms of a text: the places at which its pieces are cut, that they are cut in
 -- one way, and that one form excludes the others.
 use Rattle.std.proofs.Common.{◌≡◌, ℕ, ◌+◌, ◌<◌, true, false, ◌⊎◌, inl, inr, List, [], ◌∷◌, ◌++◌, length, take, drop, refl, sym, ap, subst, ◌∙◌, arith, append_assoc, length-append, ◌==◌, eq-eqb, IsUtf8, codes, bytes_eq}
 use Rattle.std.proofs.Math.Seq.{drop-append-add}
@@ -211,7 +211,7 @@ local_form b some neither none uncut = record {
 pub colon_nonempty : (b front rest : List ℕ) → ColonCut b front rest → 0 < length b
 colon_nonempty b front rest cut = omega (arith, ap length cut.joined, length-append front (colon ∷ rest))
 
--- ---- what is refused
+-- ---- the refusals
 
 -- a text whose length is tested to be 0 is empty
 pub nil_tested : (t : List ℕ) → true ≡ (length t == 0) → t ≡ []
@@ -314,7 +314,7 @@ spelled_as_helper b s v (remote_helper h) = h
 spelled_as_helper b s v (scp_form h) = absurd ((scp_neither h).no_helper s)
 spelled_as_helper b s v (local_path h) = absurd (h.neither.no_helper s)
 
--- what is neither a helper nor a URL is spelled in the scp form or as a local path
+-- a text that is neither a helper nor a URL is spelled in the scp form or as a local path
 spelled_neither : (b : List ℕ) → IsNeither b → (v : Location) → Spells b v → SpellsScp b v ⊎ SpellsLocal b v
 spelled_neither b n v (url h) = absurd (url_not_neither h n)
 spelled_neither b n v (file_url h) = absurd (file_not_neither h n)

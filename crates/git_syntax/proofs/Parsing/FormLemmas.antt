@@ -41,7 +41,7 @@ addressed_joined user address path x y e = grind (arith, nat_tests, append_assoc
 pub addressed_front_free : (user x : List ℕ) → FreeOf colon user → FreeOf colon x → FreeOf colon (user ++ at_sign ∷ (left_bracket ∷ x))
 addressed_front_free user x f g = free-append colon user (at_sign ∷ (left_bracket ∷ x)) f g
 
--- the pieces of an address are free of what no address holds
+-- the pieces of an address are free of each byte that no address holds
 address_pieces_free : (c : ℕ) (t x y : List ℕ) → is_address_byte c ≡ false → IsIpv6Text t → t ≡ x ++ colon ∷ y → FreeOf c x × FreeOf c (colon ∷ y)
 address_pieces_free c t x y other h e = free_parts c x (colon ∷ y) (subst (λ s. FreeOf c s) e (address_free c t other h))
 

@@ -1,4 +1,4 @@
--- Hosts and ports: what a piece of an authority looks like, that it names at
+-- Hosts and ports: the shape of a piece of an authority, that it names at
 -- most one host and port, and none if it has a flaw.
 use Rattle.std.proofs.Common.{◌≡◌, ℕ, ◌<◌, true, false, ◌==◌, ◌⊎◌, inl, inr, List, [], ◌∷◌, ◌++◌, length, take, drop, Option, Some, None, Err, ◌^◌, rules, refl, sym, ap, subst, ◌∙◌, arith, append_assoc, length-append}
 use Rattle.std.specs.List.{list_all}
@@ -133,7 +133,7 @@ host_text_unique other_hosts t m n h k = h.1 ∙ sym k.1
 follows_place : {syntax : HostSyntax} {base rest : List ℕ} {host : Option (List ℕ)} {port : Option ℕ} → Follows syntax base rest host port → IsPortPlace rest
 follows_place h = grind (arith, nat_tests, free_of_all)
 
--- the text after a host decides what is added to it, and the port
+-- the text after a host determines the text that is added to it, and the port
 follows_unique : {syntax : HostSyntax} {rest : List ℕ} (base other : List ℕ) (host second : Option (List ℕ)) (port last : Option ℕ) → base ≡ other → Follows syntax base rest host port → Follows syntax other rest second last → (host ≡ second) × (port ≡ last)
 follows_unique base other host second port last same h k = grind arith
 
@@ -284,7 +284,7 @@ names_unique syntax piece host second port last h k = form_unique syntax piece h
 
 -- ---- flaws
 
--- what is in a port's place and isn't a port follows no host
+-- a text in the place of a port that isn't a port follows no host
 no_port_follows : {syntax : HostSyntax} {base digits rest : List ℕ} {host : Option (List ℕ)} {port : Option ℕ} → IsNoPort syntax digits → rest ≡ colon ∷ digits → Follows syntax base rest host port → ⊥
 no_port_follows h e k = grind arith
 
@@ -418,7 +418,7 @@ literal_utf8 t n (zoned a z h zone is e) =
 bracketed_literal : (t n : List ℕ) → Literal t n → Bracketed t (lowercase_address (percent_decode t))
 bracketed_literal t n h = spec.Bracketed.literal n h (sym (literal_decoded t n h)) (subst IsUtf8 (literal_decoded t n h) (literal_utf8 t n h))
 
--- a literal between brackets denotes what is shown of it
+-- a literal between brackets denotes the text that is shown for it
 pub literal_inner : (syntax : HostSyntax) (t : List ℕ) → IsLiteral t → Inner syntax t (shown_literal syntax t)
 literal_inner http_hosts t (n, h) = subst (λ x. Literal t x) (literal_normal t n h) h
 literal_inner git_hosts t (n, h) = bracketed_literal t n h
@@ -457,7 +457,7 @@ pub colon_first : (piece front rest : List ℕ) → true ≡ (length front == 0)
 colon_first piece [] rest none e = inl (ap (begins_with colon) e)
 colon_first piece (b ∷ front) rest none e = absurd (omega (arith, eqb-true (length (b ∷ front)) 0 (sym none)))
 
--- nor is one where another colon follows
+-- nor is one that another colon follows
 pub colon_again : (piece front rest : List ℕ) → ¬ FreeOf colon rest → piece ≡ front ++ colon ∷ rest → IsManyColoned piece
 colon_again piece front rest held e = grind (arith, nat_tests, free_or_cut)
 

@@ -1,4 +1,4 @@
--- The length test: what counts of a text in pieces, and that the walk over it is the definition.
+-- The length test: the bytes that count of a text in pieces, and that the check over it is the definition.
 use Rattle.std.proofs.Common.{◌↔◌, ◌-◌, codes, zero, suc, length-append, ◌≡◌, ℕ, ◌+◌, ◌<◌, ◌≤◌, Bool, true, false, not, ◌==◌, ◌||◌, inl, inr, List, [], ◌∷◌, ◌++◌, length, take, drop, refl, sym, ap, subst, ◌∙◌, arith, append_assoc, Option, None, Some, IsTrue}
 use Rattle.std.proofs.lemmas.Bool.Decides.{nat_tests}
 use Rattle.std.specs.Prelude.{nat_le}
@@ -127,14 +127,14 @@ front_counted web within front y lacks =
     ap (starts_within web within) (filter-append _ front y) ∙ starts_behind web within (without_white_space front) (without_white_space y) (lacks_without web front lacks)
     ∙ ap (λ n. starts_within web (within - n) (without_white_space y)) (length-filter (λ b. not (is_ascii_whitespace b)) front)
 
--- a window is looked at in two pieces
+-- a window is tested in two pieces
 pub past_window : (web : Bool) (within left count : ℕ) (rest window front path back : List ℕ) → rest ≡ window ++ back → window ≡ front ++ path → Lacks (is_path_start web) front → count ≡ count_by (λ b. not (is_ascii_whitespace b)) front → left ≡ within - count → (y : List ℕ)
     → is_in_time web (Front left) (path ++ (back ++ y)) ≡ is_in_time web (Front within) (rest ++ y)
 past_window web within left count rest window front path back whole joined lacks counted is y =
     let pieces : rest ++ y ≡ front ++ (path ++ (back ++ y)) = ap (λ t. t ++ y) (whole ∙ ap (λ t. t ++ back) joined) ∙ append_assoc (front ++ path) back y ∙ append_assoc front path (back ++ y) in
     ap (λ n. is_in_time web (Front n) (path ++ (back ++ y))) (is ∙ ap (λ n. within - n) counted) ∙ sym (front_counted web within front (path ++ (back ++ y)) lacks) ∙ sym (ap (is_in_time web (Front within)) pieces)
 
--- if no byte is left, none is looked at
+-- if no byte is left, none is tested
 pub none_left : (web : Bool) (left : ℕ) (bs : List ℕ) → left ≡ 0 → is_in_time web (Front left) bs ≡ false
 none_left web left bs none = ap (λ n. is_in_time web (Front n) bs) none
 
@@ -195,7 +195,7 @@ parts_of_text web text =
 limit_by_lengths : (front back whole : List ℕ) → length front ≤ 1024 → length whole ≤ 1024 → IsWithinLimit front back whole
 limit_by_lengths front back whole short all = grind arith
 
--- and where a path starts in time
+-- and if a path starts in time
 limit_by_start : (web : Bool) (front back whole : List ℕ) → Lacks (is_path_start web) front → starts_within web 1025 (front ++ back) ≡ true → IsWithinLimit front back whole
 limit_by_start web front [] whole lacks found =
     absurd (false≢true (sym (ap (list_any (is_path_start web)) (take-nil (1025 - length front))) ∙ sym (starts_behind web 1025 front [] lacks) ∙ found))

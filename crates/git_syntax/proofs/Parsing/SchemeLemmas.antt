@@ -1,4 +1,4 @@
--- Schemes: what the text of one can name, and what a URL means by it.
+-- Schemes: the schemes that a text can name, and the locations that a URL denotes by them.
 use Rattle.std.proofs.Common.{◌≡◌, ℕ, Bool, true, false, ◌⊎◌, List, sym, subst, codes, bytes_eq, if◌then◌else◌, arith}
 use Rattle.std.proofs.lemmas.Bool.Decides.{nat_tests}
 use Rattle.std.proofs.lemmas.Bool.{or_cases}

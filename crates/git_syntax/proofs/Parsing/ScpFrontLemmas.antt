@@ -73,7 +73,7 @@ open_bracket_no_host host x denoted e f h =
 
 -- ---- the fronts of a text with the shape
 
--- what the front of such a text can be: it ends within the address, or after its bracket
+-- the forms of the front of such a text: it ends within the address, or after its bracket
 abbrev pub FrontOf : List ℕ → List ℕ → List ℕ → List ℕ → List ℕ → List ℕ → Type 0
 FrontOf user address path x front second =
     (front ≡ user ++ at_sign ∷ (left_bracket ∷ x)) ⊎ ((front ≡ user ++ at_sign ∷ (left_bracket ∷ (address ++ right_bracket ∷ []))) × (second ≡ path))

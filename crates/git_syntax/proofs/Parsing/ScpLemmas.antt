@@ -1,4 +1,4 @@
--- The scp form: its colons, the piece that its host is read from, and what is refused.
+-- The scp form: its colons, the piece that its host is read from, and the refusals.
 use Rattle.std.proofs.Common.{◌≡◌, ℕ, ◌<◌, Bool, false, ◌==◌, ◌&&◌, ◌⊎◌, inl, inr, List, [], ◌∷◌, ◌++◌, length, Option, Some, None, Result, Ok, Err, true, refl, sym, ap, subst, ◌∙◌, arith, append_assoc, eq-eqb, lit<, IsUtf8, IfSome}
 use Rattle.std.proofs.lemmas.Bool.{both_ways, cases_Bool, false≢true, eqb-true}
 use Rattle.std.proofs.lemmas.Bool.Decides.{nat_tests}
@@ -126,7 +126,7 @@ addressed_user_utf8 b user address path k text =
 
 -- ---- tests and steps of the code
 
--- ---- what is found for the host
+-- ---- the slices that are found for the host
 
 -- a text with another byte in front is in no brackets
 pub not_in_brackets : (t : List ℕ) → begins_with left_bracket t ≡ false → ¬ IsBracketed t
@@ -201,7 +201,7 @@ colons_found host front behind open_front text colons e many = record {
               inr (escaped_percents front, escaped_percents y, escaped_percents z, escaped ∙ ap (λ t. escaped_percents front ++ colon ∷ t) (ap escaped_percents k ∙ escaped_percents-append y (colon ∷ z)))
         ]
 
--- what is in a port's place after one colon isn't a port
+-- the text in the place of a port, after one colon, isn't a port
 pub no_port_found : (host front behind : List ℕ) → begins_with left_bracket host ≡ false → ColonsInside host → FreeOf colon front → host ≡ front ++ colon ∷ behind → false ≡ (length front == 0) → FreeOf colon behind → ScpNameFlaw host fault.BadPort
 no_port_found host front behind open_front colons first e some last =
     HasBadPort.plain (escaped_percents front) (escaped_percents behind) (record { nonempty = escaped_some front (some_tested front some); no_colon = lacks_escaped_percents (λ b. b == colon) front refl refl refl first; no_bracket = escaped_front left_bracket front refl (front_open front e some) }) (lacks_escaped_percents (λ b. b == colon) behind refl refl refl last)
@@ -275,7 +275,7 @@ escaped_sound : (t : List ℕ) → is_sound (escaped_percents t) ≡ true
 escaped_sound [] = refl
 escaped_sound (b ∷ t) = elim (cases_Bool (b == percent_sign)) [ inl same ↦ rw same (escaped_sound t) | inr kept ↦ rw kept (sound_kept b (escaped_percents t) kept ∙ escaped_sound t) ]
 
--- a byte of a zone is one where each `%` is escaped
+-- a byte of a zone is one if each `%` is escaped
 escaped_zone_bytes : (t : List ℕ) → list_all is_zone_byte (escaped_percents t) ≡ list_all is_zone_byte t
 escaped_zone_bytes [] = refl
 escaped_zone_bytes (b ∷ t) =
@@ -291,7 +291,7 @@ escaped_zone_bytes (b ∷ t) =
     escaped_other : (b == percent_sign) ≡ false → escaped_percents (b ∷ t) ≡ b ∷ escaped_percents t
     escaped_other other = rw other refl
 
--- the bytes of a zone, and no other, are one where each `%` is escaped
+-- the bytes of a zone, and no other, are one if each `%` is escaped
 pub zone_found : (t : List ℕ) → 0 < length t → list_all is_zone_byte t ≡ true → IsZone (escaped_percents t)
 zone_found t some all = record {
   nonempty = escaped_some t some;
@@ -318,7 +318,7 @@ zone_parts t a z free e h =
 
 -- ---- the location
 
--- what is found in a host that isn't empty is found for the host
+-- the slices that are found for a host that isn't empty are found for the host
 pub scp_host_read : (host : List ℕ) (r : Result rust.ScpHost UrlFault) → FreeOf at_sign host → FreeOf backslash host → LacksWhiteSpace host → ReadsScpPiece host r → ReadsScpHost host r
 scp_host_read host (Ok found) at back white h = scp_host_found host (escaped_percents host) (scp_host_of found) at back white refl h
 scp_host_read host (Err fault) at back white h = ScpHostFlaw.bad_name fault h

@@ -1,4 +1,4 @@
--- URLs: what their text determines of their pieces, and what leaves no reading.
+-- URLs: the pieces that their text determines, and the flaws that leave no reading.
 use Rattle.std.proofs.Common.{◌≡◌, ℕ, ◌<◌, ◌⊎◌, Bool, true, false, List, [], ◌∷◌, ◌++◌, length, Option, Some, None, Result, inl, inr, refl, sym, ap, subst, ◌∙◌, arith}
 use Rattle.std.proofs.lemmas.Bool.Decides.{nat_tests}
 use Rattle.std.specs.Prelude.{IfOk, IsSome, is_some, IsUtf8}
@@ -41,7 +41,7 @@ some_kept text some = grind arith
 pub nothing_meant : (text : List ℕ) → length text ≡ 0 → None ≡ unless_empty (percent_decode text)
 nothing_meant text e = sym (ap unless_empty (ap percent_decode (nil_from_length text e) ∙ percent_decode-nil))
 
--- any other text denotes what it decodes to
+-- any other text denotes its decoding
 pub something_meant : (text : List ℕ) → 0 < length text → Some (percent_decode text) ≡ unless_empty (percent_decode text)
 something_meant text some = sym (some_kept (percent_decode text) (λ e. absurd (omega (arith, ap length (decode_empty text e)))))
 

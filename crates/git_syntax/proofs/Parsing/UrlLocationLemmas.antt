@@ -53,7 +53,7 @@ inside_brackets host behind closed None e (DropsLast.kept ends same) none =
 inside_brackets host behind closed (Some front) e (DropsLast.kept ends same) strip =
     inl (e ∙ ap (λ x. left_bracket ∷ x) (sym same ∙ strip))
 
--- what Secure Shell takes of a text is text
+-- the host that Secure Shell takes from a text is text
 pub ssh_host_utf8 : {host ssh_host : List ℕ} → IsSshHost host ssh_host → IsUtf8 host → IsUtf8 ssh_host
 ssh_host_utf8 {host} {ssh_host} (IsSshHost.brackets e) h =
     (utf8_parts ssh_host [] right_bracket (utf8_parts [] (ssh_host ++ right_bracket ∷ []) left_bracket (subst IsUtf8 e h) (lit< tt)).1 (lit< tt)).0
@@ -77,14 +77,14 @@ host_text : (syntax : HostSyntax) (piece : List ℕ) (host : Option (List ℕ)) 
 host_text syntax piece None port h = tt
 host_text syntax piece (Some host) port h = names_utf8 syntax piece host port h
 
--- what an authority holds is text
+-- the parts of an authority are text
 authority_texts : (syntax : HostSyntax) (text : List ℕ) (user password host : Option (List ℕ)) (port : Option ℕ) → Authority syntax text user password host port → IfSome user IsUtf8 × IfSome password IsUtf8 × IfSome host IsUtf8
 authority_texts syntax text user password host port (host_alone f h u p) =
     (subst (λ o. IfSome o IsUtf8) (sym u) tt, subst (λ o. IfSome o IsUtf8) (sym p) tt, host_text syntax text host port h)
 authority_texts syntax text user password host port (with_user i piece f e c h s) =
     (user_text i user password c, password_text i user password c, host_text syntax piece host port h)
 
--- what a URL holds is text
+-- the parts of a URL are text
 pub texts : {b : List ℕ} {parts : UrlSyntax} → HasUrlSyntax b parts → AreTexts parts
 texts {b} {parts} h =
     let held = authority_texts (host_syntax_of parts.scheme) h.authority parts.user parts.password parts.host parts.port h.named in
@@ -123,6 +123,6 @@ pub path_missed : {b : List ℕ} {parts : UrlSyntax} → HasUrlSyntax b parts �
 path_missed {b} {parts} h need empty =
     MissesPath.in_url parts.scheme h.authority need (free_of_lacked (is_path_start (is_web_scheme parts.scheme)) slash h.authority h.before_path refl) (h.joined ∙ ap (λ p. parts.scheme ++ (codes "://" ++ (h.authority ++ p))) empty ∙ ap (λ a. parts.scheme ++ (codes "://" ++ a)) (append-nil h.authority))
 
--- a URL that was read denotes what its parts denote, by its scheme
+-- a URL that was read denotes the location of its parts, by its scheme
 pub spelled_url : {b : List ℕ} {parts : UrlSyntax} {p : Scheme} {v : Location} → HasUrlSyntax b parts → p ≡ scheme_of parts.scheme → ¬ (p ≡ ext) → DenotesByScheme p parts v → SpellsUrl b v
 spelled_url h e other means = grind arith

@@ -1,4 +1,4 @@
--- Texts of printable ASCII, and escapes that denote ASCII.
+-- Texts of printable ASCII, and escapes that decode to ASCII.
 use Rattle.std.proofs.Common.{◌≡◌, ◌∙◌, ◌<◌, ◌&&◌, ◌++◌, ◌∷◌, ◌*◌, ◌+◌, ℕ, suc, true, false, List, [], IsAscii, refl, sym, ap, subst, inl, inr, arith}
 use Rattle.std.specs.Prelude.{nat_le}
 use Rattle.std.specs.Char.{is_digit, digit_value, is_whitespace}
@@ -44,13 +44,13 @@ sound_at_cut [] behind free = sound_step percent_sign behind
 sound_at_cut (b ∷ front) behind free =
     let (other, more) = free_head_tail percent_sign b front free in sound_kept b (front ++ percent_sign ∷ behind) other ∙ sound_at_cut front behind more
 
--- ---- escapes that denote ASCII
+-- ---- escapes that decode to ASCII
 
 -- a byte of ASCII in front
 pub ascii_cons : (b : ℕ) (t : List ℕ) → b < 128 → IsAscii t → IsAscii (b ∷ t)
 ascii_cons b t low h = grind arith
 
--- an escape whose first digit is below 8 denotes ASCII
+-- an escape whose first digit is below 8 decodes to ASCII
 low_escape : (high low : ℕ) → is_digit high 16 ≡ true → is_digit low 16 ≡ true → nat_le 56 high ≡ false → 16 * digit_value high + digit_value low < 128
 low_escape high low h l below = grind (arith, nat_tests)
 

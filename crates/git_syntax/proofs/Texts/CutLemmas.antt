@@ -1,5 +1,5 @@
--- Texts cut around a byte or a mark: what the pieces lack, that the
--- text determines them, and what classes of bytes lack.
+-- Texts cut around a byte or a mark: the bytes that the pieces lack, that the
+-- text determines them, and the bytes that classes lack.
 use Rattle.std.proofs.Common.{◌≡◌, ℕ, zero, suc, ◌+◌, ◌<◌, ◌≤◌, Bool, true, false, ◌==◌, ◌⊎◌, inl, inr, List, [], ◌∷◌, ◌++◌, length, take, drop, get_or, refl, sym, ap, subst, ◌∙◌, arith, append_assoc, add-one, eqb, Some, None, bytes_eq}
 use Rattle.std.proofs.lemmas.Bool.Decides.{nat_tests}
 use Rattle.std.specs.List.{list_any, list_all, position_or_len}
@@ -27,16 +27,16 @@ tails e = cc
 pub different_bytes : {A : Type 0} (a b : ℕ) {x y : List ℕ} → eqb a b ≡ false → a ∷ x ≡ b ∷ y → A
 different_bytes a b h e = absurd (both_ways (eqb a b) h (eq-eqb a b (heads e)))
 
--- ---- what a text lacks
+-- ---- the bytes that a text lacks
 
--- the whole lacks what both parts lack
+-- the whole lacks each byte that both parts lack
 pub lacks-append : (test : ℕ → Bool) (x y : List ℕ) → Lacks test x → Lacks test y → Lacks test (x ++ y)
 lacks-append test [] y h k = k
 lacks-append test (b ∷ x) y h k =
     let parts = or_parts (test b) (list_any test x) h in
     or_from (test b) (list_any test (x ++ y)) parts.0 (lacks-append test x y parts.1 k)
 
--- the parts lack what the whole lacks
+-- the parts lack each byte that the whole lacks
 pub lacks_parts : (test : ℕ → Bool) (x y : List ℕ) → Lacks test (x ++ y) → Lacks test x × Lacks test y
 lacks_parts test [] y h = (refl, h)
 lacks_parts test (b ∷ x) y h =
@@ -44,11 +44,11 @@ lacks_parts test (b ∷ x) y h =
     let rest = lacks_parts test x y parts.1 in
     (or_from (test b) (list_any test x) parts.0 rest.0, rest.1)
 
--- a text lacks what its first byte and the others lack
+-- a text lacks each byte that its first byte and the others lack
 pub lacks-cons : (test : ℕ → Bool) (b : ℕ) (x : List ℕ) → test b ≡ false → Lacks test x → Lacks test (b ∷ x)
 lacks-cons test b x h k = or_from (test b) (list_any test x) h k
 
--- and its first byte and the others lack what it lacks
+-- and its first byte and the others lack each byte that it lacks
 pub lacks_head_tail : (test : ℕ → Bool) (b : ℕ) (x : List ℕ) → Lacks test (b ∷ x) → (test b ≡ false) × Lacks test x
 lacks_head_tail test b x h = or_parts (test b) (list_any test x) h
 
@@ -73,14 +73,14 @@ lacks_of_all test other apart (b ∷ bs) h =
     let parts = and_parts (test b) (list_all test bs) h in
     or_from _ _ (apart b parts.0) (lacks_of_all test other apart bs parts.1)
 
--- bytes up to a place lack what none of them passes
+-- bytes up to a place lack each byte that none of them passes
 pub lacks_before : (test : ℕ → Bool) (bs : List ℕ) (n : ℕ) → ((k : ℕ) → k < n → ¬ (test (get_or bs k 0) ≡ true)) → Lacks test (take n bs)
 lacks_before test bs zero h = refl
 lacks_before test [] (suc n) h = refl
 lacks_before test (b ∷ bs) (suc n) h =
     or_from (test b) (list_any test (take n bs)) (false_from_ne_true (test b) (h 0 (omega arith))) (lacks_before test bs n (λ k l. h (suc k) (omega arith)))
 
--- bytes from a place on lack what none of them passes
+-- bytes from a place on lack each byte that none of them passes
 pub lacks_after : (test : ℕ → Bool) (bs : List ℕ) (n : ℕ) → ((k : ℕ) → n ≤ k → k < length bs → ¬ (test (get_or bs k 0) ≡ true)) → Lacks test (drop n bs)
 lacks_after test [] zero h = refl
 lacks_after test (b ∷ bs) zero h =
@@ -88,13 +88,13 @@ lacks_after test (b ∷ bs) zero h =
 lacks_after test [] (suc n) h = refl
 lacks_after test (b ∷ bs) (suc n) h = lacks_after test bs n (λ k l m. h (suc k) (omega arith) (omega arith))
 
--- ---- what a text is free of
+-- ---- the bytes that a text is free of
 
--- the whole is free of what both parts are free of
+-- the whole is free of each byte that both parts are free of
 pub free-append : (c : ℕ) (x y : List ℕ) → FreeOf c x → FreeOf c y → FreeOf c (x ++ y)
 free-append c = lacks-append (λ b. b == c)
 
--- the parts are free of what the whole is free of
+-- the parts are free of each byte that the whole is free of
 pub free_parts : (c : ℕ) (x y : List ℕ) → FreeOf c (x ++ y) → FreeOf c x × FreeOf c y
 free_parts c = lacks_parts (λ b. b == c)
 

@@ -25,7 +25,7 @@ percent_before_none behind long none = grind (arith, nat_tests, decode_broken)
 pub percent_before_one : (behind : List ℕ) → 2 ≤ length behind → is_hexadecimal (get_or behind 0 0) ≡ true → is_hexadecimal (get_or behind 1 0) ≡ false → percent_decode (percent_sign ∷ behind) ≡ percent_sign ∷ percent_decode behind
 percent_before_one behind long one none = grind (arith, nat_tests, decode_broken)
 
--- one with two digits denotes their byte
+-- one with two digits decodes to their byte
 pub percent_before_two : (behind : List ℕ) (high low : ℕ) → 2 ≤ length behind → is_hexadecimal (get_or behind 0 0) ≡ true → high ≡ digit_value (get_or behind 0 0) → is_hexadecimal (get_or behind 1 0) ≡ true → low ≡ digit_value (get_or behind 1 0)
     → percent_decode (percent_sign ∷ behind) ≡ (high * 16 + low) ∷ percent_decode (take (length behind - 2) (drop 2 behind))
 percent_before_two [] high low long one is two same = absurd (omega (arith, long))

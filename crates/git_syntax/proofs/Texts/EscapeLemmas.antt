@@ -1,4 +1,4 @@
--- Escaped texts: where they are sound, how they decode in parts, and how they are UTF-8 in parts.
+-- Escaped texts: when they are sound, how they decode in parts, and how they are UTF-8 in parts.
 use Rattle.std.proofs.Common.{◌≡◌, ◌∙◌, ◌<◌, ◌≤◌, ◌+◌, ℕ, zero, suc, Bool, true, false, not, ◌&&◌, ◌||◌, ◌==◌, List, [], ◌∷◌, ◌++◌, length, take, ◌*◌, nat_lt, All, IsAscii, get_or, arith, refl, sym, ap, subst, ⊎_elim, inl, inr}
 use Rattle.std.specs.Char.{is_digit, digit_value, is_whitespace, encode_utf8}
 use Rattle.std.specs.Str.{IsUtf8, encode_utf8_all}
@@ -195,7 +195,7 @@ encode_empty set (b ∷ bs) none =
 pub encode_byte_kept : (set : AsciiSet) (b : ℕ) (bs : List ℕ) → b < 128 → contains set b ≡ false → percent_encode set (b ∷ bs) ≡ b ∷ percent_encode set bs
 encode_byte_kept set b bs ascii out = percent_encode_kept set b bs (kept_from_outside set b ascii out)
 
--- the written text lacks what the text lacks, except the bytes of an escape
+-- the written text lacks each byte that the text lacks, except the bytes of an escape
 pub encode_lacks_kept : (test : ℕ → Bool) (set : AsciiSet) (t : List ℕ) → ((b : ℕ) → is_escape_byte b ≡ true → test b ≡ false) → Lacks test t → Lacks test (percent_encode set t)
 encode_lacks_kept test set [] escapes lacks = rw percent_encode-nil refl
 encode_lacks_kept test set (b ∷ bs) escapes lacks =
@@ -207,7 +207,7 @@ encode_lacks_kept test set (b ∷ bs) escapes lacks =
     (λ kept. rw (percent_encode_kept set b bs kept) (or_from _ _ parts.0 rest))
     (cases_Bool (should_percent_encode set b))
 
--- the text lacks what its writing lacks, if the test passes no byte that is escaped
+-- the text lacks each byte that its writing lacks, if the test passes no byte that is escaped
 pub lacks_from_encode : (test : ℕ → Bool) (set : AsciiSet) (t : List ℕ) → ((b : ℕ) → should_percent_encode set b ≡ true → test b ≡ false) → Lacks test (percent_encode set t) → Lacks test t
 lacks_from_encode test set [] escaped lacks = refl
 lacks_from_encode test set (b ∷ bs) escaped lacks = ⊎_elim
@@ -226,7 +226,7 @@ encode_free set t c has other = grind (arith, nat_tests, encode_lacks, both_ways
 
 -- ---- a `%` as its own escape
 
--- each text is what its `%` as escapes decode to
+-- each text is the decoding of its `%` as escapes
 pub decode_escaped_percents : (t : List ℕ) → percent_decode (escaped_percents t) ≡ t
 decode_escaped_percents [] = percent_decode-nil
 decode_escaped_percents (b ∷ bs) =
@@ -236,7 +236,7 @@ decode_escaped_percents (b ∷ bs) =
     (λ other. rw other (decode_byte b (escaped_percents bs) other ∙ rest))
     (cases_Bool (b == 37))
 
--- a text with its `%` as escapes lacks what the text lacks, except `%`, `2` and `5`
+-- a text with its `%` as escapes lacks each byte that the text lacks, except `%`, `2` and `5`
 pub lacks_escaped_percents : (test : ℕ → Bool) (t : List ℕ) → test 37 ≡ false → test 50 ≡ false → test 53 ≡ false → Lacks test t → Lacks test (escaped_percents t)
 lacks_escaped_percents test [] sign two five lacks = refl
 lacks_escaped_percents test (b ∷ bs) sign two five lacks =

@@ -1,4 +1,5 @@
--- Looks at texts: escapes that denote ASCII, and the known facts about the path of a text that was looked at.
+-- Tests of texts: escapes that decode to ASCII, and the known facts about the path of a text that was
+-- classified.
 use Rattle.std.proofs.Common.{◌≡◌, ◌∙◌, ◌++◌, ◌∷◌, ◌&&◌, ◌||◌, ◌==◌, ℕ, Bool, true, false, List, [], IsAscii, append_assoc, codes, refl, sym, ap, subst, inl, inr, arith}
 use Rattle.std.specs.Char.{is_digit}
 use Rattle.std.specs.Str.{IsUtf8}
@@ -53,7 +54,7 @@ ascii_decoded (b ∷ bs) printable low =
 
 -- ---- the known facts about a text
 
--- what is known to be printable holds no white space
+-- a text that is known to be printable holds no white space
 pub known_white_space : (byte_class : ByteClass) (t : List ℕ) → HasByteClass byte_class t → knows_printable byte_class ≡ true → LacksWhiteSpace t
 known_white_space Plain t h known = plain_white_space t h
 known_white_space Ascii t h known = printable_white_space t h.printable
@@ -74,21 +75,21 @@ known_utf8 Ascii t h known = printable_utf8 t h.printable
 known_utf8 Escaped t h known = printable_utf8 t h.printable
 known_utf8 Other t h known = absurd (false≢true known)
 
--- what is known to decode to ASCII decodes to UTF-8
+-- a text that is known to decode to ASCII decodes to UTF-8
 pub known_means_utf8 : (byte_class : ByteClass) (t : List ℕ) → HasByteClass byte_class t → knows_ascii byte_class ≡ true → IsUtf8 (percent_decode t)
 known_means_utf8 Plain t h known = plain_means_utf8 t h
 known_means_utf8 Ascii t h known = ascii_means_utf8 t (ascii_decoded t h.printable h.low)
 known_means_utf8 Escaped t h known = absurd (false≢true known)
 known_means_utf8 Other t h known = absurd (false≢true known)
 
--- what is known to be plain holds no `%`
+-- a text that is known to be plain holds no `%`
 pub known_free : (byte_class : ByteClass) (t : List ℕ) → HasByteClass byte_class t → knows_plain byte_class ≡ true → FreeOf percent_sign t
 known_free Plain t h known = plain_free t h
 known_free Ascii t h known = absurd (false≢true known)
 known_free Escaped t h known = absurd (false≢true known)
 known_free Other t h known = absurd (false≢true known)
 
--- ---- the path of a text that was looked at
+-- ---- the path of a text that was classified
 
 -- a path starts with no digit
 start_no_digit : (web : Bool) (b : ℕ) → is_path_start web b ≡ true → is_digit b 16 ≡ false

@@ -100,7 +100,7 @@ host_for_unique ssh None host other h k = h ∙ sym k
 host_for_unique ssh (Some named) host other (x, p, e) (y, q, f) = e ∙ ap (λ z. Some z) (ssh_host_unique named x y p q) ∙ sym f
 host_for_unique _ named host other h k = h ∙ sym k
 
--- what the parts of a URL denote with this host
+-- the location of the parts of a URL with this host
 abbrev pub meant_with : Scheme → UrlSyntax → Option (List ℕ) → Location
 meant_with scheme parts host = record {
   scheme = scheme;

@@ -1,4 +1,4 @@
--- Names and values that are lent: what was cut of a text denotes what the text denotes.
+-- Names and values that are borrowed: the pieces that were cut from a text denote the meaning of the text.
 use Rattle.std.proofs.Common.{◌≡◌, ◌∙◌, ◌+◌, ◌<◌, ℕ, Bool, true, false, ◌==◌, if◌then◌else◌, List, [], ◌∷◌, ◌++◌, Option, Some, None, length, take, drop, get_or, set, option_map, IfSome, All, filter, refl, sym, ap, subst, arith, append_assoc}
 use Rattle.std.specs.List.{slice_split, onto_first}
 use Rattle.std.proofs.lemmas.List.{append-nil, drop-drop, drop-set-lt, get_or-drop, map-append, take_more, take_more_set}
@@ -13,13 +13,13 @@ use Rattle.gix_url.specs.Internal.ComponentPieces.{CutsAround, CutsOff, BorrowsF
 use Rattle.git_syntax.proofs.Texts.CutLemmas.{free_head_tail, free_parts}
 use Rattle.gix_url.proofs.ComponentCuts.MeaningLemmas.{Parts, meant_around, meant_around_plus, meant_spaces}
 
--- ---- pieces and what they denote
+-- ---- pieces and their meaning
 
--- what a piece denotes, by whether the escapes of the whole denote their bytes
+-- the meaning of a piece, by whether the escapes of the whole denote their bytes
 pub meant_as : (piece : EscapedText) (escaped : Bool) → piece.escaped ≡ escaped → piece.denoted.now ≡ denoted_by escaped piece.text.now
 meant_as piece escaped e = piece.meaning ∙ ap (λ b. denoted_by b piece.text.now) e
 
--- the parts around a delimiter denote what is around it in what the whole denotes
+-- the parts around a delimiter denote the texts around it in the meaning of the whole
 pub spelled_cut : (c : ℕ) (whole front behind : EscapedText) → Parts c → CutsAround c whole front behind → whole.denoted.now ≡ front.denoted.now ++ c ∷ behind.denoted.now
 spelled_cut c whole front behind parts cut =
     let first = meant_as front whole.escaped cut.front_escaped in
@@ -34,7 +34,7 @@ plus_parts = record { digit = refl; percent = refl }
 
 -- ---- spaces
 
--- what was made grows by the text before the next `+`, and a space
+-- the result grows by the text before the next `+`, and a space
 pub spaced_more : (escaped : Bool) (whole built rest front behind denoted new : List ℕ) → FreeOf plus_sign front → rest ≡ front ++ plus_sign ∷ behind → denoted ≡ denoted_by escaped front → whole ≡ built ++ denoted_by escaped (with_spaces rest) → new ≡ (built ++ denoted) ++ space ∷ [] → whole ≡ new ++ denoted_by escaped (with_spaces behind)
 spaced_more escaped whole built rest front behind denoted new free cut is before grown =
     let last = denoted_by escaped (with_spaces behind) in
@@ -172,7 +172,7 @@ adds_field escaped text (b ∷ bs) behind old new more free cut (pair, lends, gr
   behind = ap (λ t. t ++ more) grown ∙ append_assoc old (pair ∷ []) more;
 }
 
--- what a field adds whose escapes denote themselves
+-- the pair that a field adds whose escapes denote themselves
 pub adds_raw : (piece : EscapedText) (field : List ℕ) (old new : List (QueryText × QueryText)) → piece.text.now ≡ field → piece.escaped ≡ false → AddsPair piece.escaped piece.text.now old new → AddsPair false field old new
 adds_raw piece field old new text syntax adds =
     subst (λ t. AddsPair false t old new) text (subst (λ b. AddsPair b piece.text.now old new) syntax adds)
@@ -212,7 +212,7 @@ escaped_on : (piece : Option EscapedText) (part whole : Bool) → part ≡ whole
 escaped_on None part whole same syntax = tt
 escaped_on (Some piece) part whole same syntax = syntax ∙ same
 
--- what was cut off a text at `#`, and off its front at `?`
+-- the texts cut off a text at `#`, and off its front at `?`
 pub record CutsTwice (whole front : EscapedText) (query fragment : Option EscapedText) : Type 0 where
   pub cut : CutsPath whole.text.now front.text.now (option_map (λ p. p.text.now) query) (option_map (λ p. p.text.now) fragment)
   pub front_escaped : front.escaped ≡ whole.escaped
@@ -230,7 +230,7 @@ cuts_twice whole front path query fragment h k =
       fragment_escaped = first.behind_escaped;
     }
 
--- ---- what was returned
+-- ---- the returned components
 
 -- the meaning of a fragment, by whether the escapes of the whole denote their bytes
 pub fragment_meant : (escaped : Bool) (fragment : Option EscapedText) → IfSome fragment (λ p. p.escaped ≡ escaped) → option_map (λ p. p.denoted.now) fragment ≡ option_map (denoted_by escaped) (option_map (λ p. p.text.now) fragment)

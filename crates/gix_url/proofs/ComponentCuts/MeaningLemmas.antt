@@ -1,4 +1,4 @@
--- Pieces of a text around a delimiter denote the pieces of what the text denotes.
+-- Pieces of a text around a delimiter denote the pieces of the meaning of the text.
 use Rattle.std.proofs.Common.{◌≡◌, ◌∙◌, ◌≤◌, ◌<◌, ◌+◌, ◌*◌, ℕ, Bool, true, false, ◌==◌, List, [], ◌∷◌, ◌++◌, length, take, drop, refl, sym, ap, ⊎_elim, arith, append_assoc, eq-eqb, if◌then◌else◌}
 use Rattle.std.specs.Char.{is_digit, digit_value}
 use Rattle.std.proofs.lemmas.Bool.{cases_Bool, and_parts, false_from_ne_true, both_ways}
@@ -76,19 +76,19 @@ pub decoded_none : (bs : List ℕ) → length bs < 1 → length (percent_decode 
 decoded_none [] short = ap length percent_decode-nil
 decoded_none (b ∷ bs) short = absurd (omega (arith, short))
 
--- ---- what pieces denote
+-- ---- the meaning of pieces
 
 -- the empty text denotes itself
 pub denoted-nil : (escaped : Bool) → denoted_by escaped [] ≡ []
 denoted-nil true = percent_decode-nil
 denoted-nil false = refl
 
--- the texts around a delimiter denote what is around it in what the whole denotes
+-- the texts around a delimiter denote the texts around it in the meaning of the whole
 pub meant_around : (escaped : Bool) (xs ys : List ℕ) (c : ℕ) → Parts c → denoted_by escaped (xs ++ c ∷ ys) ≡ denoted_by escaped xs ++ c ∷ denoted_by escaped ys
 meant_around true xs ys c parts = decode_around xs ys c parts
 meant_around false xs ys c parts = refl
 
--- so the front is as long a front of what the whole denotes
+-- so the front is as long a front of the meaning of the whole
 pub meant_front : (escaped : Bool) (whole denoted xs ys : List ℕ) (c at : ℕ) → Parts c → denoted ≡ denoted_by escaped whole → whole ≡ xs ++ c ∷ ys → at ≡ length (denoted_by escaped xs) → take at denoted ≡ denoted_by escaped xs
 meant_front escaped whole denoted xs ys c at parts e cut size =
     let split = e ∙ ap (denoted_by escaped) cut ∙ meant_around escaped xs ys c parts in
@@ -101,7 +101,7 @@ meant_behind escaped whole denoted xs ys c at parts e cut size =
     let split = e ∙ ap (denoted_by escaped) cut ∙ meant_around escaped xs ys c parts ∙ sym (append_assoc front (c ∷ []) (denoted_by escaped ys)) in
     ap (drop (at + 1)) split ∙ drop_at (front ++ c ∷ []) (denoted_by escaped ys) (at + 1) (omega (arith, size, length-append front (c ∷ [])))
 
--- the cut is in what the whole denotes
+-- the cut is in the meaning of the whole
 pub meant_within : (escaped : Bool) (whole denoted xs ys : List ℕ) (c at : ℕ) → Parts c → denoted ≡ denoted_by escaped whole → whole ≡ xs ++ c ∷ ys → at ≡ length (denoted_by escaped xs) → at + 1 ≤ length denoted
 meant_within escaped whole denoted xs ys c at parts e cut size =
     let split = e ∙ ap (denoted_by escaped) cut ∙ meant_around escaped xs ys c parts in
@@ -109,7 +109,7 @@ meant_within escaped whole denoted xs ys c at parts e cut size =
 
 -- ---- spaces
 
--- with each `+` a space, the texts around the first `+` denote what is around that space
+-- with each `+` a space, the texts around the first `+` denote the texts around that space
 pub meant_around_plus : (escaped : Bool) (xs ys : List ℕ) → FreeOf plus_sign xs → denoted_by escaped (with_spaces (xs ++ plus_sign ∷ ys)) ≡ denoted_by escaped xs ++ space ∷ denoted_by escaped (with_spaces ys)
 meant_around_plus escaped xs ys free =
     let parts : Parts space = record { digit = refl; percent = refl } in

@@ -4,7 +4,7 @@ use Rattle.std.specs.Cmp.Lexicographic.{pointwise}
 use Rattle.std.proofs.Math.Seq.{drop-cons}
 use Rattle.std.proofs.lemmas.List.{drop_all}
 
--- views are equal if the elements are equal by what is viewed
+-- views are equal if the elements are equal by their views
 pub pointwise_map : {A B : Type 0} (E : B → B → Bool) (f : A → B) (xs ys : List A) → pointwise E (map f xs) (map f ys) ≡ pointwise (λ x y. E (f x) (f y)) xs ys
 pointwise_map E f [] [] = refl
 pointwise_map E f [] (y ∷ ys) = refl

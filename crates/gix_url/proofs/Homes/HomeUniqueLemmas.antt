@@ -11,7 +11,7 @@ use Rattle.gix_url.proofs.Homes.PathUniqueLemmas.{parent_unique, some_parent, jo
 
 -- ---- splits
 
--- what a split is: a user and the rest
+-- the form of a split: a user and the rest
 abbrev pub Split : Type 0
 Split = Option HomeUser × List ℕ
 

@@ -91,7 +91,7 @@ opens_name folder some no_slash =
 
 -- ---- pieces, one after another
 
--- what a reader of segments has still to read: the `/` that it passed, and the rest
+-- the text that a reader of segments has still to read: the `/` that it skipped, and the rest
 abbrev pub unread : Option (Bor (List ℕ)) → List ℕ
 unread None = []
 unread (Some behind) = slash ∷ behind.now
@@ -111,7 +111,7 @@ pub unread_none : (left : Option (Bor (List ℕ))) → ((behind : Bor (List ℕ)
 unread_none None h = refl
 unread_none (Some behind) h = absurd (h behind refl)
 
--- the rest after a segment is shorter than what was left with the `/` before it
+-- the rest after a segment is shorter than the rest with the `/` before it
 pub shorter : (left : Option (Bor (List ℕ))) (text : Bor (List ℕ)) (segment : Bor (List ℕ)) (behind : Option (Bor (List ℕ))) → left ≡ Some text → CutsSegment text.now segment behind → length (unread behind) < length (unread left)
 shorter left text segment behind e h = rw (e, segment_cut text.now segment behind h) (omega (arith, length-append segment.now (unread behind)))
 

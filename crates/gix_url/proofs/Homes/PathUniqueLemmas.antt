@@ -79,7 +79,7 @@ idle_each (segment ∷ segments) h =
     let parts = or_parts (counts segment) (list_any counts segments) h in
     (idle_free segment parts.0, idle_each segments parts.1)
 
--- what is idle holds no piece
+-- idle bytes hold no piece
 idle_pieces : (segments : List (List ℕ)) → list_any counts segments ≡ false → filter counts segments ≡ []
 idle_pieces [] h = refl
 idle_pieces (segment ∷ segments) h =
@@ -165,7 +165,7 @@ some_last (segment ∷ segments) = elim (some_last segments) [
 
 -- ---- parents
 
--- what lies above the last piece, from what is the last piece in front of it
+-- the text above the last piece, from the last piece in front of it
 upper : List ℕ → Option (List (List ℕ) × List ℕ) → List ℕ
 upper first None = or_root first
 upper first (Some (front, piece)) = first ++ behind_slashes (front ++ piece ∷ [])

@@ -45,7 +45,7 @@ own law v buffer_len place entries found value web agrees placing (inl (list, ar
     }
 own law v buffer_len place entries found value web agrees placing (inr (single, best)) i held = absurd (single (inl refl))
 
--- what follows for a value that is there
+-- the consequence for a value that is there
 if_ok : {A E : Type 0} (P Q : A → Type 0) (r : Result A E) → ((a : A) → P a → Q a) → IfOk r P → IfOk r Q
 if_ok P Q (Ok a) f h = f a h
 if_ok P Q (Err e) f h = tt

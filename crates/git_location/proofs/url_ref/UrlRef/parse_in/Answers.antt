@@ -1,4 +1,4 @@
--- What is found or refused is what reading into a buffer answers.
+-- The location or the refusal is the result of reading into a buffer.
 use Rattle.std.proofs.Common.{Ok, Err, ap, sym, subst, length}
 use Rattle.git_location.specs.declared.parse_error.ParseError.TheVariants.{Refused}
 use Rattle.git_syntax.specs.Grammar.{Spells}
