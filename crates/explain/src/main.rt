@@ -243,7 +243,8 @@ fn answer_remotes<W: Write>(
     Ok(())
 }
 
-/// Writes the requested reports, with what Git does by a configuration and the program that it runs for Secure Shell.
+/// Writes the requested reports, with Git's use of lines by a configuration and the program that it runs for
+/// Secure Shell.
 fn answer_by_config<W: Write>(
     rt: &HostRuntime,
     given: &ArgMatches<'_>,
