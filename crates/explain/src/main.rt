@@ -1,4 +1,4 @@
-//! The program `explain` reports what texts mean as Git locations, to people and to other programs.
+//! The program `explain` reports the locations that texts spell, to people and to other programs.
 //!
 //! It calls only the public functions of `gix_url` and `git_rules`, directly or in the crates below: `explain_report`
 //! finds the facts about a line, and `explain_page` writes the page. `options` parses the command line, `source` reads

@@ -31,7 +31,7 @@ pub struct EntrySizes {
 enum Unlisted {
     /// Memory was refused.
     Memory,
-    /// The text is no listing.
+    /// The text isn't a listing.
     Flawed(EntryError),
 }
 
