@@ -19,8 +19,8 @@ pub one_more : (left : List ℕ) (ts : List Turn) (last rest : List ℕ) (item :
 one_more left [] last rest item h some e = ((λ z. some (sym h ∙ z)), sym h, (rest, ap item_of h ∙ e, refl))
 one_more left (t ∷ ts) last rest item h some e = (h.0, h.1, (h.2.0, h.2.1, one_more h.2.0 ts last rest item h.2.2 some e))
 
--- the items up to a place have these entries, and the keys after it begin with a stem: whatever the entries of
--- the text after are, they come after these
+-- the items up to a place have these entries, and the keys after it begin with a stem: whatever the entries
+-- of the text after are, they come after these
 abbrev pub HasFront : List ℕ → List Turn → List FileEntry → List ℕ → Type 0
 HasFront text done found stem = (ts : List Turn) (others : List FileEntry) → AreEntries text stem ts others → AreEntries text [] (done ++ ts) (found ++ others)
 

@@ -23,7 +23,8 @@ use Rattle.git_modules.proofs.Resolved.PlaceLemmas.{against_some, left_front, no
 
 -- ---- the text
 
--- the resolved text keeps the name and its colon, and begins neither by `::` nor by `://` if its parent doesn't
+-- the resolved text keeps the name and its colon, and begins neither by `::` nor by `://` if its parent
+-- doesn't
 pub record KeepsName (name path text : List ℕ) : Type 0 where
   pub behind : List ℕ
   pub joined : text ≡ name ++ colon ∷ behind

@@ -1,4 +1,5 @@
--- The index at which the decoding of a text stops being UTF-8, and the number of bytes of the text that spell it.
+-- The index at which the decoding of a text stops being UTF-8, and the number of bytes of the text that spell
+-- it.
 use Rattle.std.proofs.Common.{◌≡◌, ◌∙◌, ◌+◌, ◌-◌, ◌<◌, ◌≤◌, ℕ, zero, suc, true, false, List, [], ◌∷◌, ◌++◌, Option, Some, None, length, take, drop, refl, sym, ap, subst, ⊎_elim, arith, append_assoc, append-nil, length-take, length-drop, drop-drop, take_all, take-append-drop, take-add, true≢false, IsUtf8, encode_utf8, encode_utf8_all}
 use Rattle.std.specs.Option.{is_some}
 use Rattle.std.specs.Str.Lossy.{utf8_valid_len, utf8_invalid_len}

@@ -1,5 +1,5 @@
--- The bits of a mask, and the facts about a text that follow from them: the first and the last byte of a class, and whether
--- all bytes or none are of it.
+-- The bits of a mask, and the facts about a text that follow from them: the first and the last byte of a
+-- class, and whether all bytes or none are of it.
 use Rattle.std.proofs.Common.{◌≡◌, ℕ, zero, suc, ◌+◌, ◌-◌, ◌*◌, ◌/◌, ◌^◌, ◌<◌, ◌≤◌, Bool, true, false, cond, ◌&&◌, ◌||◌, List, [], ◌∷◌, map, length, get_or, Some, None, refl, sym, ap, ◌∙◌, subst, arith, lt_of_lt_of_le, pow_mono, pow_pos, pow-suc}
 use Rattle.std.specs.Int.{bit_at}
 use Rattle.std.specs.List.{list_any, list_all}

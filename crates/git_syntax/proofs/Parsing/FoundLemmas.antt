@@ -1,4 +1,5 @@
--- The slices that are found in a text: the host that Secure Shell takes, and the location that the parts of a URL denote.
+-- The slices that are found in a text: the host that Secure Shell takes, and the location that the parts of a
+-- URL denote.
 use Rattle.std.proofs.Common.{◌≡◌, ℕ, ◌<◌, ◌==◌, true, false, inl, inr, List, [], ◌∷◌, ◌++◌, length, Option, Some, None, refl, sym, ap, subst, ◌∙◌, append_assoc, eq-eqb, arith}
 use Rattle.std.proofs.lemmas.Bool.Decides.{nat_tests}
 use Rattle.std.specs.Prelude.{IfSome, IsUtf8, MatchOption, option_map}

@@ -1,4 +1,5 @@
--- Each entry that is used ranks for the place, so its URL is a pattern that denotes the place, and the law is for that.
+-- Each entry that is used ranks for the place, so its URL is a pattern that denotes the place, and the law is
+-- for that.
 use Rattle.std.proofs.Common.{◌≡◌, ℕ, ◌⊎◌, inl, inr, false, List, length, codes, Option, Some, None, Result, Ok, Err, IfOk, refl, subst}
 use Rattle.gix_url.specs.GitClass.{AgreesWithGit}
 use Rattle.gix_url.specs.Settled.{IsValue, IsWeb}
