@@ -22,7 +22,7 @@ from rt_api import LAYERS, LIBRARIES, ROOT
 
 FOLDER = "docs/reference"
 INDEX, HEAD = f"{FOLDER}/README.md", "<!-- Written by `scripts/reference.py --write`. -->\n"
-# What begins a clause, or what an implementation of a trait states; and a documented field, variant or member.
+# The start of a clause, or of a statement in an implementation of a trait; a documented member.
 STATED = re.compile(r"(?m)^ *(?:(ensures|requires)(?: (\w+))?|ghost (\w+) =) (?=\{)")
 MEMBER = re.compile(r"(?m)((?:^( +)///.*\n)+)(?: +#\[.*\n)* *(?:pub )?(?:fn |type |const )?(\w+)")
 
@@ -33,8 +33,8 @@ def read(name):
 
 
 def stated(text):
-    """The text without doc comments and without what it states, and this: of each clause its kind, its function if there are several,
-    its name and its formal text."""
+    """The text without doc comments and statements, and the statements: each clause with its kind, its
+    function if there are several, its name and its formal text."""
     text, found = DOC.sub("", text), []
     functions = len(re.findall(r"\bfn \w", text))
     while start := STATED.search(text):
@@ -50,7 +50,7 @@ def stated(text):
 
 
 def clauses(crate, module, found):
-    """The list of what is stated, and below each clause the definitions that no clause before it names."""
+    """The list of the statements, and below each clause the definitions that no clause before it names."""
     named = set()
     for kind, names, formal in found:
         label = " ".join(f"`{it}`" for it in names or [kind] if it not in ("ensures", "requires"))
@@ -99,7 +99,7 @@ def item(crate, path):
 
 
 def order(crate, path):
-    """Items of a module behind those of the root; behind a type its members, and then what it implements."""
+    """Items of a module after those of the root; after a type its members, then implementations of traits."""
     module = module_of(crate, path)
     owner, _, rest = path.removeprefix(module + "::" if module else "").partition(" as " if " as " in path else "::")
     return module, owner, bool(rest), " as " in path, rest
@@ -129,7 +129,7 @@ def page(crate):
 
 
 def index():
-    """The index by name: behind each last name of a path the items that have it."""
+    """The index by name: after each last name of a path the items that have it."""
     for name in sorted(by_last_name(), key=lambda it: (it.lower(), it)):
         there = [link(crate, None, f"`{crate}::{path}`", path) for crate, path in by_last_name()[name] if not path.startswith("mod ")]
         if there:
@@ -137,7 +137,7 @@ def index():
 
 
 def wanted():
-    """The files of the sources, by their names; of the README what is above the index is as it was."""
+    """The files of the sources, by their names; the README is unchanged above the index."""
     found = {f"{FOLDER}/{crate}.md": "\n".join(page(crate)) for crate in crates()}
     return {**found, INDEX: read(INDEX).partition(HEAD)[0] + HEAD + "\n" + "".join(index())}
 

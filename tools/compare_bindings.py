@@ -27,14 +27,14 @@ def components(parts):
 
 
 def agreement(line):
-    """The results of the rules by hand for the text that is written for the line's reading."""
+    """The results of the Python rules for the text that is written for the line's reading."""
     v = grammar.spells(line)
     is_same = v is not None and settled_class.settled(v) and unambiguous.is_unambiguous(writing.text(v))
     return ["alike" if v is not None and agrees_with_git(v) else "unsure", "unambiguous" if is_same else "doubtful"]
 
 
 def of_explain(said, line):
-    """The results of explain and of the rule by hand for a line, in the bindings' words."""
+    """The results of explain and of the Python rule for a line, in the bindings' words."""
     it, refusal = said["location"], said["refusal"]
     if refusal:
         return ["refused", *(refusal[it] for it in ("error", "fault", "kind", "at", "len", "reason"))]

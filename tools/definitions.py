@@ -1,4 +1,4 @@
-"""The definitions in the folders specs/ of the crates: where each stands for the names of a source, and the comment above it."""
+"""The definitions in the folders specs/ of the crates: the file and the comment for the names of a source."""
 import functools
 import os
 import re
@@ -55,7 +55,7 @@ def taken(text):
 
 
 def home(crate, module):
-    """The crate and the module that have what a crate passes on as a module of its own; of a member's name its type's module."""
+    """The crate and the module that define a module that a crate exports; for a member its type's module."""
     if text_of(crate, module)[1]:
         return crate, module
     for other, there, *_ in TAKEN.findall(text_of(crate, "Lib")[1]):

@@ -1,4 +1,4 @@
-"""Doc comments as Markdown, with links to what they name."""
+"""Doc comments as Markdown, with links to the items that they name."""
 import re
 
 from public_items import DOC, HEAD_COMMENT, documented_items, sources_of

@@ -25,12 +25,12 @@ STORED = f"{ROOT}/crates/explain/golden"
 LONGEST = 200
 # A remote of HTTP, of Secure Shell or in the scp form, of which nothing has to be said.
 PLAIN = re.compile(rb"(https|ssh)://([\w.-]+@)?[\w.-]+(:\d+)?/[\w./-]+|([\w.-]+@)?[\w.-]+:[\w.][\w./-]*")
-# Of Secure Shell and Git, the path of which begins in a home folder.
+# Locations of Secure Shell and Git whose path begins in a home folder.
 BELOW_HOME = re.compile(rb"(?:(?:ssh|git)://[^/]+/|[^/:]+:)~")
 OPTION = re.compile(rb"(^|//|@|/|:)-")
 # Segments that curl takes out.
 DOTS = re.compile(rb"https://.*/\.\.?(/|\Z)")
-# In the row of Git all but that the same is read, and that it was not compared; rows of what others read.
+# Rows of Git, except for an equal reading and for one that was not compared; and rows of other readers.
 READ_ALIKE = rb"reads the same in its text|passes its text to a remote helper"
 ALARM = re.compile(rb"; danger: |: refused: |, not settled|^ +git +(?! |" + READ_ALIKE + rb")|^ +(helpers|curl|readers|hint) ", re.M)
 
@@ -51,7 +51,7 @@ def lines():
 
 
 def derived():
-    """The lines whose stored answers aren't what the second reading derives."""
+    """The lines whose stored answers differ from those that the second reading derives."""
     wanted = stored("stdout")
     for number, line in enumerate(lines(), 1):
         answer = text_answers.answer(number, line).encode()
@@ -94,7 +94,7 @@ def expected():
 
 
 def in_colours():
-    """Where answers in colours are other ones, or the first coloured lines are not as they were written by hand."""
+    """Answers that differ in colours, and the first coloured lines that differ from the written ones."""
     ran = subprocess.run([program("explain"), "--color=always"], input=stored("stdin"), stdout=subprocess.PIPE, timeout=60)
     if re.sub(rb"\x1b\[[0-9;]*m", b"", ran.stdout) != stored("stdout"):
         yield "in colours explain prints something else"
@@ -103,7 +103,7 @@ def in_colours():
 
 
 def in_the_picture():
-    """Where what the picture of a terminal shows isn't what is printed now."""
+    """Whether the picture of a terminal shows an older output."""
     if terminal.printed() != terminal.stored():
         yield "docs/explain.svg is older than what explain prints: scripts/pictures.py --terminal draws it"
 
@@ -114,13 +114,13 @@ def alarming(lines):
 
 
 def told(lines):
-    """What `explain --json` answers to lines."""
+    """The answers of `explain --json` to lines."""
     ran = subprocess.run([program("explain"), "--json"], input=b"".join(it + b"\n" for it in lines), stdout=subprocess.PIPE, timeout=60)
     return [json.loads(it) for it in ran.stdout.split(b"\n")[:-1]]
 
 
 def false_alarms(lines):
-    """What is found in plain remotes, or hinted at. Of a path that begins in a home folder only that is said."""
+    """Findings and hints for plain remotes, except the hint that a path begins in a home folder."""
     for line, it in zip(lines, told(lines), strict=True):
         others = it["readers"] and it["readers"]["others"]
         hints = ["home_there"] if BELOW_HOME.match(line) else []

@@ -7,7 +7,7 @@ IMPL = re.compile(r"(?m)^impl(?:<.*?>)? (?:.* for )?(?:\w+::)*(\w+)")
 
 
 class Function(typing.NamedTuple):
-    """A function: its name behind that of its type, its head, its clauses, and all of it but those, each on one line."""
+    """A function: its name after that of its type, its head, its clauses, and the rest, each on one line."""
 
     name: str
     head: str

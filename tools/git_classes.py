@@ -95,7 +95,7 @@ def is_cut(is_there):
 
 
 CLASSES = {
-    # Another machine or another user. `no-path`: Git misses the path because of the brackets that it looks at.
+    # Another machine or another user. `no-path`: Git finds no path because of brackets.
     "escaped-delimiter": of(ALL, has(rb"%(2[fF]|3[aA]|40|5[bBdD])", "ssh git", "authority")),
     "user-in-brackets": of(ALL, has(rb"\[[^\]/]*@[^\]/]*\]", "ssh git")),
     "bracket-behind-at": of(ALL + " protocol no-path", bracket_behind_at),
@@ -126,7 +126,8 @@ CLASSES = {
 
 
 def is_careful(case, is_same):
-    """The rule by hand of `docs/GIT.md`: the conditions on a text before Git gets it for the place of this library's reading.
+    """The rule of `docs/GIT.md`, written again here: the conditions on a text for which Git reads the place
+    that this library reads.
 
     `Url::agrees_with_git` checks them for a text that is written as it was read. `is_same` is whether the text is settled and
     `to_bstring` writes it.

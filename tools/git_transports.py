@@ -136,8 +136,8 @@ def is_blocked(text, answer):
 
 
 def program_fault(text, answer, reading):
-    """The fault of the words that a program got for a reading, if there is one. After an empty path Git looks at the byte past
-    the text's end, in which it may find a `~`, so there the path isn't compared."""
+    """The fault of the words that a program got for a reading, if there is one. After an empty path Git reads
+    the byte after the text's end, which may be a `~`, so there the path isn't compared."""
     words = shown(answer)
     if reading.protocol == "git" and (b"%0a" in text.lower() or words is None):
         return None if words is None and is_blocked(text, answer) else f"Git answers {answer!r}"

@@ -1,4 +1,4 @@
-"""The links of Markdown documents: each names a file that is there and, behind `#`, a heading or an anchor of it."""
+"""The links of Markdown documents: each names a file that exists and, after `#`, a heading or an anchor."""
 import functools
 import os
 import re

@@ -1,5 +1,5 @@
-"""Whether a page shows what `explain --json` answers, read back from what a browser made of it: the objects in its data, a row for
-each line in the table, the details of each line, the counts, and nothing that the template lacks."""
+"""Whether a page shows the answers of `explain --json`, as a browser has read it: the objects in its data, a
+row for each line in the table, the details of each line, the counts, and nothing that the template lacks."""
 import base64
 import collections
 import hashlib
@@ -17,13 +17,15 @@ MOST_HOSTS = 20
 REWRITTEN = "once the configuration has rewritten it"
 # The second reading takes much memory for longer lines.
 MOST_READ = 10_000
-# The data, and of each row its number, the text with a byte 0 around what is marked, and what the other cells say.
+# The data, and for each row its number, the text with a byte 0 around the marked parts, and the text of the
+# other cells.
 ROWS = """(() => {
   const own = it => it.nodeType === 3 ? it.data : (end => end + [...it.childNodes].map(own).join('') + end)(it.nodeName === 'MARK' ? '\\0' : '');
   return JSON.stringify([document.querySelector('#data').textContent, [...document.querySelectorAll('#lines > tbody > tr')].map(it =>
     [+it.id.slice(1), own(it.cells[1]), ...[0, 2, 3, 4].map(at => it.cells[at].textContent)])]);
 })()"""
-# Of each row whether its details are opened and closed by its number, and in them the named texts, and the pieces with their labels.
+# For each row: whether its number opens and closes its details, the named texts there, and the pieces with
+# their labels.
 DETAILS = """JSON.stringify([...document.querySelectorAll('#lines > tbody > tr')].map(row => {
   const link = row.querySelector('a'), press = isOpen => (link.click(), link.getAttribute('aria-expanded') === String(isOpen));
   const own = it => [...it.childNodes].filter(below => below.nodeName !== 'I').map(below => below.textContent).join('');
@@ -83,7 +85,7 @@ def host(answer):
 
 
 def words_of_verdict(answer):
-    """The cell of the verdict: that, why it isn't better, what is found in what the line is rewritten to, and what Git does otherwise."""
+    """The cell of the verdict: that, why it isn't better, findings of the rewritten line, and Git's."""
     reason = (answer["refusal"] or (answer["location"]["reread"] or {"words": None}))["words"]
     own = {"settled": [], "not settled": ["unsettled"]}.get(verdict(answer), ["refused", "unsettled"])
     also = {"refused": f"refused {REWRITTEN}", "unsettled": f"not settled {REWRITTEN}",
@@ -194,7 +196,7 @@ def made_faults(page, title):
         *{*made["tags"]} - TAGS, *{*made["attributes"]} - ATTRIBUTES, *{*made["links"]} - {"#lines", "#counts", "#l"}, *made["strays"]])
     if made["whole"] != WHOLE:
         yield f"the page has {made['whole']}"
-    # Of the title of a document white space is collapsed.
+    # White space in the title of a document is collapsed.
     if title is not None and (unescaped(made["heading"]).decode() != title or made["title"] != " ".join(made["heading"].split())):
         yield f"the title {title!r} is shown as {made['heading']!r} and {made['title']!r}"
 

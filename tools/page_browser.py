@@ -12,10 +12,11 @@ from selenium.webdriver.chrome.service import Service
 # Root has no sandbox, and some containers allow none.
 WORDS = ("--headless=new", "--no-sandbox", "--disable-gpu", "--disable-dev-shm-usage", "--disable-extensions", "--disable-component-update",
          "--hide-scrollbars", "--host-resolver-rules=MAP * ~NOTFOUND")
-# Reports what the policy refuses, from a world of its own, which the page doesn't see, and which has scripts where the page has none.
+# Reports what the policy refuses. It runs in an isolated world, which the page doesn't see, and in which
+# scripts are allowed.
 LISTENER = """document.addEventListener('securitypolicyviolation',
   it => console.error(`against the policy: ${it.violatedDirective} ${it.blockedURI}`))"""
-# Events that are faults, and those that are where the address in this member is another one.
+# Events that are faults, and those that are faults if the address in this member is another one.
 FAULTS = {"Page.javascriptDialogOpening", "Page.windowOpen", "Page.downloadWillBegin"}
 ELSEWHERE = {"Network.requestWillBeSent": "request", "Page.frameNavigated": "frame"}
 
@@ -59,7 +60,7 @@ class Browser(webdriver.Chrome):
         webdriver.ActionChains(self).send_keys(keys).perform()
 
     def settle(self):
-        """Waits until what was typed is drawn."""
+        """Waits until the typed text is drawn."""
         self.ask("new Promise(done => requestAnimationFrame(() => requestAnimationFrame(() => done(1))))")
 
     def found(self):

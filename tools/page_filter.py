@@ -6,10 +6,10 @@ from selenium.webdriver import Keys
 FOCUSED = "document.activeElement?.id || document.activeElement?.type || document.activeElement?.nodeName"
 # The first control of the page has the focus.
 TO_TOP = "document.querySelector('.skip').focus()"
-# The lines that are seen, in order, and what the page says of that.
+# The lines that are visible, in order, and the words of the page about that.
 SHOWN = """[[...document.querySelectorAll('#lines > tbody > tr:not(.more)')].filter(it => it.checkVisibility())
   .map(it => +it.id.slice(1)).sort((a, b) => a - b), document.querySelector('#shown').textContent]"""
-# Whether the details of the line that has the focus are seen.
+# Whether the details of the line that has the focus are visible.
 OPENED = "document.activeElement.closest('tr').nextElementSibling?.matches('.more') ?? false"
 
 

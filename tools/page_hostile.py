@@ -51,7 +51,7 @@ def lines():
     return list(dict.fromkeys([*(it.encode() for it in texts), *(piece for it in BYTES for piece in it.split(b"\0"))]))
 
 
-# What a careless program could have written, and what each changes of a page of hostile lines, where that is first.
+# Pages that a careless program could write: the first place of a page of hostile lines, and its bytes.
 FAULTS = {
     "a text as markup": (rb"&lt;script&gt;alert\(1\)&lt;/script&gt;", rb"<script>alert(1)</script>"),
     "an image of a text": (rb"&lt;img src=x onerror=alert\(1\)&gt;", rb"<img src=x onerror=alert(1)>"),

@@ -1,16 +1,16 @@
-"""How a page looks, asked of the browser: that nothing is wider than the window, that each text can be read against what is
-behind it, that what a screen reader is given has names, and that it can be printed."""
+"""How a page looks, measured in the browser: nothing is wider than the window, each text has enough contrast
+to its background, the parts that a screen reader announces have names, and the page can be printed."""
 import base64
 
 # From the narrowest telephone to a desk.
 WIDTHS = (320, 768, 1280)
 LEAST_CONTRAST = 4.5
-# What has to have a name for a screen reader.
+# The roles that need a name for a screen reader.
 NAMED = {"button", "columnheader", "combobox", "form", "heading", "link", "region", "rowheader", "searchbox", "table", "textbox"}
 # Opens the details of each line.
 OPEN = "document.querySelectorAll('#lines > tbody > tr:not(.more) a').forEach(it => it.ariaExpanded === 'true' || it.click())"
-# What is beyond the window, what has to be scrolled to the side, and rows of lines that are higher than so many points. What
-# scrolls by itself may be longer inside.
+# Parts beyond the window, parts that must be scrolled to the side, and rows of lines that are higher than so
+# many points. A part that scrolls by itself may be longer inside.
 WIDE = """(most => {
   for (const it of document.querySelectorAll('tbody')) it.style.contentVisibility = 'visible';
   const whole = document.scrollingElement, faults = new Set(), right = whole.clientWidth;
@@ -29,7 +29,8 @@ WIDE = """(most => {
   visit(document.body);
   return [...faults].slice(0, 20);
 })(arguments[0])"""
-# The colours of each text and of what is behind it, by the rule of WCAG 2: each pair once, with its contrast and a place.
+# The colours of each text and of its background, by the rule of WCAG 2: each pair once, with its contrast and
+# a place.
 COLOURS = """(isPaper => {
   const parts = colour => { const [r, g, b, a] = colour.match(/^rgba?\\((.*)\\)$/)[1].split(',').map(Number); return [r, g, b, a ?? 1]; };
   const over = ([r, g, b, a], [x, y, z]) => [r * a + x * (1 - a), g * a + y * (1 - a), b * a + z * (1 - a)];
@@ -55,13 +56,13 @@ COLOURS = """(isPaper => {
   }
   return Object.entries(found);
 })(arguments[0])"""
-# Letters that are written from right to left must not reorder what is beside a value.
+# Letters that are written from right to left must not reorder the text beside a value.
 ISOLATED = """[...new Set([...document.querySelectorAll('td, th, dd, .t span')]
   .filter(it => !getComputedStyle(it).unicodeBidi.includes('isolate')).map(it => `${it.nodeName} ${it.className}`))]"""
 
 
 def layout_faults(page, widths=WIDTHS, most=None):
-    """What is too wide in windows of these widths, and which rows are higher than so many points."""
+    """The parts that are too wide in windows of these widths, and the rows that are higher than `most`."""
     for width in widths:
         page.look(width)
         yield from (f"at {width} columns of pixels {it}" for it in page.ask(WIDE, most))
@@ -69,7 +70,7 @@ def layout_faults(page, widths=WIDTHS, most=None):
 
 
 def contrast_faults(page):
-    """Texts that can't be read against what is behind them: in light, in dark and on paper."""
+    """Texts with too little contrast to their background: in light, in dark and on paper."""
     for media in ("", "print"):
         for dark in (False, True):
             page.look(1280, dark, media)

@@ -1,4 +1,4 @@
-"""Lines by configurations, of which a page shows what `explain --json --config` answers."""
+"""Lines by configurations, for which a page shows the answers of `explain --json --config`."""
 import os
 import subprocess
 from collections import namedtuple
@@ -51,7 +51,7 @@ def run(case, words):
 
 
 def faults_of(case, words):
-    """What is wrong beside the page: the status, what is reported on standard error, and secrets."""
+    """The faults outside of the page: in the status, in the messages on standard error, and secrets."""
     ran = [run(case, [*layout, *words]) for layout in ([], ["--json"], ["--html"])]
     if len({(it.returncode, it.stderr) for it in ran}) != 1:
         yield f"the status and the reports are {[(it.returncode, it.stderr) for it in ran]}"

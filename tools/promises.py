@@ -23,7 +23,8 @@ def fields():
 
 
 def promises():
-    """What the promises name in their parentheses: of each group of calls the clauses behind its colon."""
+    """The calls and clauses that the promises name in parentheses: each group of calls, and the clauses after
+    its colon."""
     rows = re.findall(r"(?m)^- .* \((`.*)\)$", LINK.sub(r"\1", read(PROOFS)))
     for group in (part for row in rows for part in row.split("; ")):
         calls, _, clauses = group.partition("`: ")

@@ -64,12 +64,12 @@ def no_user(text, host):
 
 
 def no_inner_slash(text, host):
-    r"""It takes no path without a `/` between two bytes, nor one with a `\` at the front or behind that `/`."""
+    r"""It takes no path without a `/` between two bytes, nor one with a `\` at the front or after that `/`."""
     return not re.match(rb"[^\\].*/[^\\]", text.partition(b"@")[2].partition(b":")[2], re.S)
 
 
 def no_slash_behind_port(text, host):
-    r"""It takes no port before a path without a `/` between two bytes, nor before one with a `\` at the front or behind that `/`."""
+    r"""It takes no port before a path without a `/` between two bytes, nor before one with a `\` at the front or after that `/`."""
     return not re.match(rb"[^:]*:[0-9]+[/:][^\\].*/[^\\]", text, re.S)
 
 

@@ -1,4 +1,5 @@
-"""The names of the reference: which crates have a page, where on it each public item is, and what the names in doc comments link to."""
+"""The names of the reference: the crates that have a page, the place of each public item on it, and the items
+to which names in doc comments link."""
 import functools
 import re
 
@@ -49,7 +50,8 @@ def anchors(crate):
 
 @functools.cache
 def passed_on():
-    """The names by which programs know what a library passes on of a layer below: by the crate and the path there."""
+    """The names by which programs use the items that a library exports of a layer below: by the crate and the
+    path there."""
     found = {}
     for library in LIBRARIES:
         for path, text in public_items(library).items():
@@ -81,7 +83,8 @@ def by_last_name():
 
 
 def target(crate, module, name):
-    """The crate and the path of the item that a name in a doc comment means: of its module, its crate, or what its source uses."""
+    """The crate and the path of the item that a name in a doc comment denotes: an item of the module, of the
+    crate, or one that the source uses."""
     words = re.sub(r"\(.*|!$", "", name).split("::")
     of = words[0] if words[0] in crates() else None
     words = [it for it in words if it not in ("crate", "super", "self", "Self") and it not in crates()]
@@ -106,7 +109,7 @@ def link(crate, page, words, path):
 
 
 def prose(crate, module, text, page=None):
-    """The words of a doc comment with links from a page to what they name."""
+    """The words of a doc comment with links from a page to the items that they name."""
     def linked(found):
         words, name, plain, address = found.groups()
         if not words and not plain:

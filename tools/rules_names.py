@@ -9,8 +9,8 @@ from rules_transport import NAMED, ask
 from second_reading import grammar
 
 NUMBER, WHOLE, SAMPLE = 20_261_129, 4_000, 1_000
-# Git's refusals before it looks at the transport: of a text that has none, by the library's names, or of a text whose form has
-# one.
+# Git's refusals before it checks the transport: for a text without one, by the library's names, and for a
+# text whose form has one.
 REASONS = {b"git-over-rsync": "Rsync", b"is not supported": "UnknownScheme"}
 REFUSALS = (b"no path specified", b"strange pathname", b"newline is forbidden")
 

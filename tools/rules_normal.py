@@ -1,4 +1,5 @@
-"""The normal form of URLs, and the entries that apply to one: a rule by hand for the forms that Git doesn't print, and for credentials.
+"""The normal form of URLs, and the entries that apply to one: a rule written here for the forms that Git
+doesn't print, and for credentials.
 
 git-config(1), `http.<url>.*`: all URLs are normalized before they are compared, the password is ignored, and a missing port is
 the scheme's default port. The details left open follow RFC 3986: scheme and host in lower case, zeros of a port and the

@@ -1,5 +1,5 @@
-"""The readings of the three readers of an HTTP remote in its text: rules by hand for Git's credential code and for libcurl, and
-the second reading (`tools/second_reading`) for this library.
+"""The readings of the three readers of an HTTP remote in its text: rules written here for Git's credential
+code and for libcurl, and the second reading (`tools/second_reading`) for this library.
 
 A caller picks credentials by the host that this library reads. Git's credential code (`credential_from_url` of Git 2.39.5)
 splits the same text for the helpers that it asks, and libcurl 7.88.1 splits it to connect. `web_asked.py` runs the programs

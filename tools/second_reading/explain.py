@@ -162,7 +162,7 @@ def reading(v):
 
 
 def agrees_with_git(v):
-    """The rules by hand for the written text: the text of a settled location is read as it and written again."""
+    """The rules for the written text: the text of a settled location is read as it, and written again."""
     is_web = v.scheme in grammar.HTTP_SCHEMES
     answer = not broken(v) if is_web else is_careful(Case(writing.text(v), None, reading(v)), settled_class.settled(v))
     assert answer == git_class.agrees_with_git(v), v

@@ -34,7 +34,7 @@ def host_in(authority: bytes) -> bytes:
 # ---- the groups: for each the host in a text, empty if it finds none
 
 def urls(text: bytes) -> bytes:
-    """RFC 3986: an authority is behind `//`, at the front or after a scheme, and ends at `/`, `?` or `#`. Its last `@` ends user
+    """RFC 3986: an authority follows `//`, at the front or after a scheme, and ends at `/`, `?` or `#`. Its last `@` ends user
     information, and its last `:` begins a port."""
     return host_in(front(URL, text))
 
@@ -60,12 +60,12 @@ def first_at(text: bytes) -> bytes:
 
 
 def digits_are_port(text: bytes) -> bytes:
-    """In the scp form digits behind the first `:` are a port, if a `/` or `:` follows them."""
+    """In the scp form digits after the first `:` are a port, if a `/` or `:` follows them."""
     return behind_user(front(PORT_BEHIND, text))
 
 
 def four_numbers(text: bytes) -> bytes:
-    """RFC 3986, and a host ends after four numbers with a `.` behind them."""
+    """RFC 3986, and a host ends after four numbers with a `.` after them."""
     return front(FOUR_NUMBERS, urls(text))
 
 

@@ -1,4 +1,4 @@
-"""How `explain` shows bytes: on a terminal, in quotes, for a shell, and with a word in place of what may be a secret.
+"""How `explain` shows bytes: on a terminal, in quotes, for a shell, and with a word for a possible secret.
 
 It is written from the words of docs/EXPLAIN.md, not from the code.
 """
@@ -32,7 +32,7 @@ def is_visible(it):
 
 
 def escaped(it, octets):
-    """A character as it is shown, by an escape where a terminal could be controlled or nothing be seen."""
+    """A character as it is shown: as an escape if it could control a terminal or is invisible."""
     if it is None:
         return f"\\x{octets[0]:02x}"
     if it == "\\":
@@ -52,7 +52,7 @@ def quoted(text):
 
 
 def for_shell(text):
-    """A text quoted for a POSIX shell: with escapes where a character isn't shown as it is."""
+    """A text quoted for a POSIX shell: with escapes if a character isn't shown as it is."""
     if all(is_visible(it) for it, _ in characters(text)):
         return "'{}'".format(text.decode().replace("'", r"'\''"))
     return "$'{}'".format("".join(escaped_for_shell(*it) for it in characters(text)))
@@ -72,7 +72,7 @@ def width(text):
 
 
 def cells(line):
-    """The pieces of a line as it is shown: of each where its bytes begin and end, and what is shown of them."""
+    """The pieces of a line as it is shown: the start and the end of each in bytes, and its shown text."""
     at, found = 0, []
     for begin, end in [*hidden.places(line), (len(line), len(line))]:
         for it, octets in characters(line[at:begin]):

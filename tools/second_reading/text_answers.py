@@ -28,7 +28,7 @@ GROUPS = {
     "first_at": "readers that cut at the first @, as go-git",
     "digits_are_port": "readers that take digits after the colon for a port, as go-git",
     "four_numbers": "readers that end a host after four numbers, as Boost.URL"}
-# Of HTTP by doubts: who reads what otherwise.
+# The words of each doubt about a location of HTTP: the reader that may differ, and why.
 PATH, HOST, NONE = "may read another path than curl: ", "may read another host than curl: ", "may refuse its text, or curl may: "
 DOUBTS = {
     "PathControl": NONE + "the path has a control character", "PasswordControl": NONE + "the password has a control character",
@@ -59,13 +59,14 @@ def pieces(line, v):
 
 
 def apart(line, piece, ends):
-    """The piece; the slash of a path directly behind another piece is left out, unless it is all of the path."""
+    """The piece; a path directly after another piece has no slash, unless the slash is the whole path."""
     name, begin, end = piece
     return name, begin + (name == "path" and begin in ends and line[begin:begin + 1] == b"/" and end - begin > 1), end
 
 
 def host_pieces(line, v, begin, end):
-    """Host and port. Of Secure Shell brackets around the host, and a colon behind it, aren't of the piece, unless they are escapes."""
+    """Host and port. For Secure Shell the piece excludes brackets around the host and a colon after it,
+    unless they are escapes."""
     named = line[begin:end]
     port = len(named) - named.rindex(b":") - 1 if v.port is not None else 0
     front = end - port - (v.port is not None)
@@ -86,7 +87,8 @@ def path_pieces(line, v, begin, end):
 
 
 def named_below(line, v):
-    """The rows below a line: one under each piece, and the names, each in the first row in which it ends before what is behind it."""
+    """The rows below a line: one under each piece, and the names, each in the first row in which it ends
+    before the next name or bar."""
     found = [(name, *columns(line, begin, end)) for name, begin, end in pieces(line, v)]
     yield placed((begin, "-" * (end - begin)) for _, begin, end in found)
     while found:
@@ -108,7 +110,7 @@ def placed(texts):
 
 
 def marked(line, place):
-    """The row that marks a fault: all of what is hidden, if a part of that is wrong."""
+    """The row that marks a fault: all of a hidden piece, if a part of it is wrong."""
     begin, end = columns(line, place["at"], place["at"] + place["len"])
     return " " * begin + "^" + "~" * (end - begin - 1)
 
@@ -125,7 +127,7 @@ def instead_of(name, here, there):
 
 
 def read_by_git(v):
-    """The row of what Git reads in the text of a location."""
+    """The row of Git's reading of the text of a location."""
     it, is_web = told(v), v.scheme in grammar.HTTP_SCHEMES
     if it["agrees_with_git"]:
         return "reads the same in its text" + (", as curl does" if is_web else "")
@@ -160,7 +162,7 @@ def home_or_here(v):
 
 
 def read_over_web(v):
-    """The rows of what Git's credential code and curl read, if that may be otherwise."""
+    """The rows of the readings of Git's credential code and curl, if these may differ."""
     if v.scheme not in grammar.HTTP_SCHEMES or agrees_with_git(v):
         return
     it = told(v)
@@ -244,7 +246,7 @@ def rows_of_components(it):
 
 
 def read_in_refused(line, it):
-    """The row of what Git reads in a refused line."""
+    """The row of Git's reading of a refused line."""
     found = it["git_reads"]
     if found is None:
         return
@@ -264,7 +266,7 @@ def rows_of_hints(it):
 
 
 def heading(it, v):
-    """What is said first, of what the line itself is read as."""
+    """The first words of an answer, about the reading of the line itself."""
     front = f"refused: {it['refusal']['words']}" if v is None else f"{NAMES[form(v)]}, {verdict(it)}"
     found = [WORDS[name] for name in it["dangers"]]
     return front + (f"; danger: {', '.join(found)}" if found else "")
@@ -277,7 +279,8 @@ def verdict(it):
 
 
 def below(line, other, it):
-    """The rows below a line, and those with names: what is read in the line as it is shown, or a fault; nothing if that is withheld."""
+    """The rows below a line, and those with names: the reading of the line as it is shown, or a fault; none
+    if that is withheld."""
     w = None if other is None else grammar.spells(other)
     if w is not None:
         own = text(w if w.password is None else w._replace(password=hidden.WORD))
@@ -290,7 +293,7 @@ def below(line, other, it):
 
 
 def answer(number, line):
-    """What is printed of a line. Of a location it is what is read in the line as it is shown."""
+    """The printed answer to a line. For a location it has the reading of the line as it is shown."""
     v, other, it = grammar.spells(line), seen(line), object_of(number, line)
     marks, rows = below(line, other, it)
     shape = [] if line == b"" else ["".join(piece for _, _, piece in cells(line)), *marks]

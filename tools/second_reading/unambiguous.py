@@ -342,7 +342,7 @@ def path_slashes(it):
 
 
 def path_drive(it):
-    """A byte and a `:` behind the first `/` of the path, in URLs of `ssh`, `git` and `file`."""
+    """A byte and a `:` after the first `/` of the path, in URLs of `ssh`, `git` and `file`."""
     return it.form in ("ssh", "git", "file") and it.path[2:3] == b":"
 
 
@@ -387,7 +387,7 @@ def scp_scheme(it):
 
 
 def scp_again(it):
-    """An `@` with a `:` behind it in the path of the scp form, as if the host were there."""
+    """An `@` with a `:` after it in the path of the scp form, as if the host were there."""
     return has(scp_path(it), rb"(?s)@.*:") and not scp_bracket(it)
 
 

@@ -46,7 +46,7 @@ extern "C" {
 /* The version of the linked library, in the form of GIX_URL_VERSION. The text ends in a byte 0 and is never freed. */
 const char *gix_url_version(void);
 
-/* What a call returns. */
+/* The result of a call. */
 typedef enum gix_url_error {
     GIX_URL_OK = 0,
     GIX_URL_MEMORY = 1,        /* memory was refused; the same call can succeed later */
@@ -58,8 +58,8 @@ typedef enum gix_url_error {
     GIX_URL_HELPER_NAME = 7,   /* the name of a remote helper isn't valid */
     GIX_URL_UNWRITABLE = 8,    /* the location has no text */
     GIX_URL_NO_LOCATION = 101, /* the struct isn't a location: its scheme is not one of the eight, or its user, its password,
-                                  its host or the name that its scheme takes is there and is not UTF-8. Each call that
-                                  is given such a struct returns this, and with another struct none does */
+                                  its host or the name that its scheme takes is there and is not UTF-8. Each
+                                  call with such a struct returns this, and with another struct none does */
     GIX_URL_NO_ROOM = 102,     /* the result doesn't fit in the buffer; the call stores how much is needed */
     GIX_URL_NULL = 103,        /* a pointer that must not be null is null */
     /* of gix_url_rules.h alone */
@@ -264,7 +264,7 @@ typedef enum gix_url_argument {
     GIX_URL_DANGEROUS = 2 /* it begins with -: a program may take it for an option */
 } gix_url_argument;
 
-/* What a command line needs to know of a location, its original path and its port. */
+/* Whether a location's parts are usable on a command line, its original path and its port. */
 typedef struct gix_url_seen {
     gix_url_argument user;
     gix_url_argument host;

@@ -1,41 +1,46 @@
-/* What Git does by its configuration before it connects: rewriting, remotes, transports and permission, words of Secure
- * Shell, settings of http.*, credentials and submodules; and what Git reads in a text, and what is dangerous in it. The
- * rules are those of Git 2.39.5 on Linux. docs/RULES.md has them, and docs/AUDIT.md those of dangers and secrets.
+/* Git's use of its configuration before it connects: rewriting, remotes, transports and permission, words of
+ * Secure Shell, settings of http.*, credentials and submodules; Git's reading of a text, and the dangers of a
+ * text. The rules are those of Git 2.39.5 on Linux. docs/RULES.md has them, and docs/AUDIT.md those of
+ * dangers and secrets.
  *
  * Link libgix_url, as for gix_url.h. No call reads a file or the environment, or runs a program: the caller passes texts.
  *
- * A configuration is an array of entries in the order in which Git reads them. gix_url_read_listing reads them from the
- * output of git config --list -z, and gix_url_read_file from the text of one configuration file or .gitmodules file, once;
- * the other calls take the array and its length. An entry is a plain struct. Its parts point into the buffer that the
- * caller supplied, which has to stay as long as the entry is used; the text that was read isn't used after the call.
- * Entries may be put together, joined and left out by hand. Each part of an entry then points to as many bytes as its
- * length says, and no pointer in it may be null, also if the part is absent: has_subsection and has_value report that.
- * An entry with a null pointer makes a call return GIX_URL_NULL. The place of an entry, at, is whatever the caller stored
- * there: the calls report it and don't use it.
+ * A configuration is an array of entries in the order in which Git reads them. gix_url_read_listing reads
+ * them from the output of git config --list -z, and gix_url_read_file from the text of one configuration file
+ * or .gitmodules file, once; the other calls take the array and its length. An entry is a plain struct. Its
+ * parts point into the buffer that the caller supplied, which has to stay as long as the entry is used; the
+ * text that was read isn't used after the call. A caller may also build entries, join arrays and leave
+ * entries out. Each part of an entry then points to as many bytes as its length says, and no pointer in it
+ * may be null, also if the part is absent: has_subsection and has_value report that. An entry with a null
+ * pointer makes a call return GIX_URL_NULL. The place of an entry, at, is whatever the caller stored there:
+ * the calls report it and don't use it.
  *
- * Buffers and null pointers are as in gix_url.h. A null text, name or buffer is empty, and null entries, or other places
- * for what a call stores, have no elements, whatever the length beside them; where a pointer needed, needed_urls,
- * needed_words, needed_helpers or stop is null, it is not stored; a null text of a struct is absent. Any other null
- * pointer is an error, GIX_URL_NULL. What a call stores must not overlap what it reads.
+ * Buffers and null pointers are as in gix_url.h. A null text, name or buffer is empty, and a null array of
+ * entries, or of results, has no elements, whatever the length beside it; nothing is stored through a null
+ * pointer needed, needed_urls, needed_words, needed_helpers or stop; a null text of a struct is absent. Any
+ * other null pointer is an error, GIX_URL_NULL. The places that a call stores to must not overlap those that
+ * it reads.
  *
  * Each call returns one of
  *
  *   GIX_URL_OK                the result, all of it
  *   GIX_URL_MEMORY            memory was refused
- *   GIX_URL_NO_LOCATION       a struct holds no location, a number stands for nothing, or a name is not UTF-8
+ *   GIX_URL_NO_LOCATION       a struct holds no location, a number is not of its enum, or a name is not UTF-8
  *   GIX_URL_NO_ROOM           the result doesn't fit: the call stores the lengths and counts that are needed
  *   GIX_URL_NULL              a pointer that may not be null is
  *   GIX_URL_NO_VALUE          Git stops at an entry without a value
  *   GIX_URL_NO_BOOLEAN        Git stops at an entry whose value is not a boolean
  *   GIX_URL_NO_CONFIGURATION  the text is not a configuration
  *
- * The last three store in stop where. Each call with a parameter stop sets it: to all 0 unless it returns one of these.
- * A reason for which there is nothing to return, as of a text without a transport, is a result, and not an error.
+ * The last three store the place in stop. Each call with a parameter stop sets it: to all 0 unless it returns
+ * one of these. A reason why there is nothing to return, for example a text without a transport, is a result,
+ * and not an error.
  *
- * GIX_URL_NO_ROOM stores only lengths and counts: needed, needed_urls, needed_words, needed_helpers and the counts that are
- * parameters. After any other error all else than stop keeps each byte that it held: the buffers, the arrays and the
- * results. On GIX_URL_OK the bytes of a buffer and the elements of an array behind the result are kept. No call keeps a
- * pointer past its return, calls may run in several threads, and nothing has to be freed.
+ * GIX_URL_NO_ROOM stores only lengths and counts: needed, needed_urls, needed_words, needed_helpers and the
+ * counts that are parameters. After any other error only stop has changed: each byte of the buffers, the
+ * arrays and the results is kept. On GIX_URL_OK the bytes of a buffer and the elements of an array after the
+ * result are kept. No call keeps a pointer past its return, calls may run in several threads, and nothing has
+ * to be freed.
  *
  * A call over entries allocates one array for the entries in the library's own form, and frees it, also if the library's
  * own call allocates nothing. gix_url_transport_of, gix_url_secrets_of, gix_url_resolve_submodule, gix_url_check_submodule,
@@ -59,13 +64,13 @@ typedef struct gix_url_entry {
     size_t at;          /* how many bytes of the text that was read come before the entry */
     size_t line;        /* of a file the line in which the name begins, from 1; else 0 */
     bool has_subsection;
-    bool has_value; /* false of a key without =, which Git takes for true where it needs a boolean value */
+    bool has_value; /* false for a key without =, which Git reads as true if it needs a boolean value */
 } gix_url_entry;
 
-/* What is wrong with the text of a configuration. */
+/* The flaw of a text that is not a configuration. */
 typedef enum gix_url_flaw {
     GIX_URL_FLAW_NONE = 0,
-    GIX_URL_FLAW_PARTIAL_MARK = 1,    /* of a file: a part of a byte order mark */
+    GIX_URL_FLAW_PARTIAL_MARK = 1,    /* in a file: a part of a byte order mark */
     GIX_URL_FLAW_NO_START = 2,        /* a byte that begins neither a header nor a name */
     GIX_URL_FLAW_NO_SECTION = 3,      /* a header without a section */
     GIX_URL_FLAW_BAD_SECTION = 4,     /* a byte that can't be in a section */
@@ -76,11 +81,12 @@ typedef enum gix_url_flaw {
     GIX_URL_FLAW_BAD_ESCAPE = 9,      /* an unknown escape */
     GIX_URL_FLAW_OPEN_QUOTE = 10,     /* a value without its last quote */
     GIX_URL_FLAW_ZERO_BYTE = 11,      /* a byte 0 */
-    GIX_URL_FLAW_NO_KEY = 12,         /* of a listing: a key without a section or without a name */
-    GIX_URL_FLAW_NO_END = 13          /* of a listing: its last entry has no byte 0 behind it */
+    GIX_URL_FLAW_NO_KEY = 12,         /* in a listing: a key without a section or without a name */
+    GIX_URL_FLAW_NO_END = 13          /* in a listing: no byte 0 follows the last entry */
 } gix_url_flaw;
 
-/* The place at which Git stops, or at which a text is not a configuration. What doesn't belong to the error is 0. */
+/* The place at which Git stops, or at which a text is not a configuration. Members that don't belong to the
+ * error are 0. */
 typedef struct gix_url_stop {
     size_t at;         /* NO_VALUE, NO_BOOLEAN: at of the entry. NO_CONFIGURATION: how many bytes of the text come before */
     size_t line;       /* NO_CONFIGURATION, of a file: the line, from 1 */
@@ -96,9 +102,9 @@ typedef struct gix_url_stop {
 gix_url_error gix_url_read_listing(const char *text, size_t len, char *buffer, size_t buffer_len, gix_url_entry *entries,
                                    size_t entry_capacity, size_t *count, size_t *needed, gix_url_stop *stop);
 
-/* The same with the text of a configuration file: what git config --file FILE --list -z lists. No file is included. The
- * section of an entry is in the buffer once for each entry, so the buffer may have to be longer than the text; an entry
- * before any header has an empty section. */
+/* Reads the entries of a configuration file, as git config --file FILE --list -z lists them. No file is
+ * included. The section of an entry is in the buffer once for each entry, so the buffer may have to be longer
+ * than the text; an entry before any header has an empty section. */
 gix_url_error gix_url_read_file(const char *text, size_t len, char *buffer, size_t buffer_len, gix_url_entry *entries,
                                 size_t entry_capacity, size_t *count, size_t *needed, gix_url_stop *stop);
 
@@ -114,8 +120,9 @@ typedef struct gix_url_rewritten {
 gix_url_error gix_url_rewrite_fetch(const gix_url_entry *entries, size_t count, const char *text, size_t len, char *buffer,
                                     size_t buffer_len, gix_url_rewritten *rewritten, size_t *needed, gix_url_stop *stop);
 
-/* The same before it pushes to it: by url.<base>.pushInsteadOf, or if no value of that matches by insteadOf. Of a URL that
- * is a pushurl of a remote, for which has_push_url is true, by insteadOf alone. */
+/* Rewrites a URL as Git does before it pushes to it: by url.<base>.pushInsteadOf, or if no value of that
+ * matches, by insteadOf. If has_push_url is true, the URL is a pushurl of a remote, and is rewritten by
+ * insteadOf alone. */
 gix_url_error gix_url_rewrite_push(const gix_url_entry *entries, size_t count, const char *text, size_t len,
                                    bool has_push_url, char *buffer, size_t buffer_len, gix_url_rewritten *rewritten,
                                    size_t *needed, gix_url_stop *stop);
@@ -132,11 +139,11 @@ typedef struct gix_url_remote {
 
 /* Finds the remote of this name: its URLs, rewritten, and four values. Without entries of its own the name is the only URL.
  *
- * The URLs are stored in urls, which has url_capacity places: those to fetch from, and behind them those to push to. All
- * texts point into the buffer. On GIX_URL_NO_ROOM only needed and needed_urls are stored, how many bytes and places it
- * takes; they are stored on GIX_URL_OK too. Git stops at an entry of any remote that has one of the six names and no
- * value, and at one of insteadOf or pushInsteadOf: GIX_URL_NO_VALUE, with the place of the first of insteadOf and
- * pushInsteadOf, or else of the first of remotes. */
+ * The URLs are stored in urls, which has url_capacity places: those to fetch from, and then those to push to.
+ * All texts point into the buffer. On GIX_URL_NO_ROOM only needed and needed_urls are stored, how many bytes
+ * and places it takes; they are stored on GIX_URL_OK too. Git stops at an entry of any remote that has one of
+ * the six names and no value, and at one of insteadOf or pushInsteadOf: GIX_URL_NO_VALUE, with the place of
+ * the first of insteadOf and pushInsteadOf, or else of the first of remotes. */
 gix_url_error gix_url_remote_of(const gix_url_entry *entries, size_t count, const char *name, size_t len, char *buffer,
                                 size_t buffer_len, gix_url_text *urls, size_t url_capacity, gix_url_remote *remote,
                                 size_t *needed, size_t *needed_urls, gix_url_stop *stop);
@@ -161,13 +168,13 @@ typedef struct gix_url_transport {
 gix_url_error gix_url_transport_of(const char *text, size_t len, char *buffer, size_t buffer_len,
                                    gix_url_transport *transport, size_t *needed);
 
-/* Two variables of the environment; null where they aren't set, which isn't the same as empty. */
+/* Two variables of the environment; null if not set, which differs from empty. */
 typedef struct gix_url_policy {
     gix_url_text allow_list; /* GIT_ALLOW_PROTOCOL */
     gix_url_text from_user;  /* GIT_PROTOCOL_FROM_USER */
 } gix_url_policy;
 
-/* What Git does about a transport. */
+/* Whether Git uses a transport. */
 typedef enum gix_url_decision {
     GIX_URL_ALLOWED = 1,
     GIX_URL_REFUSED = 2,
@@ -175,19 +182,20 @@ typedef enum gix_url_decision {
     GIX_URL_UNKNOWN_FROM_USER = 4  /* Git stops: it needs GIT_PROTOCOL_FROM_USER, which is not a boolean */
 } gix_url_decision;
 
-/* What decides about a transport. */
+/* The setting that decides about a transport. */
 typedef enum gix_url_decider {
-    GIX_URL_BY_NOTHING = 0, /* of GIX_URL_UNKNOWN_FROM_USER */
+    GIX_URL_BY_NOTHING = 0, /* with GIX_URL_UNKNOWN_FROM_USER */
     GIX_URL_BY_LIST = 1,    /* GIT_ALLOW_PROTOCOL */
     GIX_URL_BY_ENTRY = 2,   /* the last protocol.<name>.allow, or else the last protocol.allow */
-    GIX_URL_BY_DEFAULT = 3  /* neither: what Git does where nothing is configured */
+    GIX_URL_BY_DEFAULT = 3  /* neither: Git's default */
 } gix_url_decider;
 
-/* What Git does about a transport, and by what. Only of GIX_URL_ALLOWED Git uses it. */
+/* Git's decision about a transport, and the setting that decides. Git uses a transport only on
+ * GIX_URL_ALLOWED. */
 typedef struct gix_url_permission {
     gix_url_decision decision;
     gix_url_decider by;
-    size_t at; /* of GIX_URL_BY_ENTRY at of the entry; else 0 */
+    size_t at; /* with GIX_URL_BY_ENTRY at of the entry; else 0 */
 } gix_url_permission;
 
 /* Decides whether Git may use the transport of this name, as gix_url_transport_of stores it. The policy may be null: then
@@ -195,7 +203,7 @@ typedef struct gix_url_permission {
 gix_url_error gix_url_permission_of(const gix_url_entry *entries, size_t count, const gix_url_policy *policy,
                                     const char *name, size_t len, gix_url_permission *permission);
 
-/* What is dangerous in a text, or in the location that is read in it. */
+/* A danger of a text, or of the location that is read in it. */
 typedef enum gix_url_danger {
     GIX_URL_DANGER_COMMAND = 1,          /* Git runs the path: the scheme is ext */
     GIX_URL_DANGER_OPTION_LIKE_USER = 2, /* the user begins with - */
@@ -220,7 +228,7 @@ gix_url_error gix_url_dangers_of(const char *text, size_t len, const gix_url *ur
 
 /* Puts the name of a danger into the buffer, as option_like_host, or the danger in a few words, as "the host begins with
  * -"; neither has more than 64 bytes. No byte 0 is added. needed is the length, on GIX_URL_NO_ROOM too. A number that
- * stands for no danger returns GIX_URL_NO_LOCATION, and needed is 0 then. */
+ * isn't a danger's returns GIX_URL_NO_LOCATION, and needed is 0 then. */
 gix_url_error gix_url_danger_name(gix_url_danger danger, char *buffer, size_t buffer_len, size_t *needed);
 gix_url_error gix_url_danger_words(gix_url_danger danger, char *buffer, size_t buffer_len, size_t *needed);
 
@@ -270,7 +278,7 @@ typedef struct gix_url_git_place {
 gix_url_error gix_url_git_reading(const char *text, size_t len, char *buffer, size_t buffer_len, gix_url_git_place *place,
                                   size_t *needed);
 
-/* What Git's credential code asks helpers for, by a URL. If it reads nothing, all is 0. */
+/* The fields that Git's credential code passes to helpers for a URL. If it reads nothing, all is 0. */
 typedef struct gix_url_request {
     bool is_read;
     gix_url_text protocol;
@@ -285,7 +293,7 @@ typedef struct gix_url_request {
 gix_url_error gix_url_credential_reading(const char *text, size_t len, char *buffer, size_t buffer_len,
                                          gix_url_request *request, size_t *needed);
 
-/* What Git has the server run. */
+/* The program that Git runs on the server. */
 typedef enum gix_url_service {
     GIX_URL_UPLOAD_PACK = 0,   /* git fetch, git clone, git ls-remote */
     GIX_URL_RECEIVE_PACK = 1,  /* git push */
@@ -299,17 +307,17 @@ typedef enum gix_url_ssh_variant {
     GIX_URL_SSH_PLINK = 2,
     GIX_URL_SSH_PUTTY = 3,
     GIX_URL_SSH_TORTOISEPLINK = 4,
-    GIX_URL_SSH_ASKED = 5 /* of gix_url_ssh_program_of alone: Git runs the program with -G to find it */
+    GIX_URL_SSH_ASKED = 5 /* only from gix_url_ssh_program_of: Git runs the program with -G to find it */
 } gix_url_ssh_variant;
 
 /* The family of the addresses: git fetch -4 and -6. */
 typedef enum gix_url_family { GIX_URL_ANY_FAMILY = 0, GIX_URL_IPV4 = 4, GIX_URL_IPV6 = 6 } gix_url_family;
 
-/* What is asked of Secure Shell beside the location. What Git asks for if nothing is configured is all 0 but the version,
- * 2. */
+/* The request to Secure Shell, apart from the location. If nothing is configured, Git's request has version
+ * 2, and all else is 0. */
 typedef struct gix_url_ssh_request {
     gix_url_service service;
-    gix_url_text program; /* what the server runs in place of the service, as remote.<name>.uploadpack; null if unset */
+    gix_url_text program; /* run on the server in place of the service: remote.<name>.uploadpack; null if unset */
     gix_url_ssh_variant variant;
     uint8_t version; /* protocol.version: 0, 1 or 2 */
     gix_url_family family;
@@ -339,7 +347,7 @@ typedef enum gix_url_ssh_refusal {
 /* A command of Secure Shell. If it is refused, all but the refusal is 0. */
 typedef struct gix_url_ssh_command {
     gix_url_ssh_refusal refusal;
-    size_t word_count;    /* how many words there are behind the name of the program */
+    size_t word_count;    /* how many words follow the name of the program */
     uint8_t git_protocol; /* GIT_PROTOCOL is to be set to version=1 or version=2 then; 0 if it isn't to be set */
 } gix_url_ssh_command;
 
@@ -350,12 +358,12 @@ typedef struct gix_url_ssh_command {
  * and point into the buffer: options, the destination, and last the command, which a shell on the server reads. Pass each
  * as one argument, without a shell. On GIX_URL_NO_ROOM only needed and needed_words are stored, how many bytes and places
  * it takes; they are stored on GIX_URL_OK too. GIX_URL_NO_LOCATION is returned also for a number of the request that
- * stands for nothing. */
+ * is not of its enum. */
 gix_url_error gix_url_ssh_words(const gix_url *url, const gix_url_ssh_request *request, char *buffer, size_t buffer_len,
                                 gix_url_text *words, size_t word_capacity, gix_url_ssh_command *command, size_t *needed,
                                 size_t *needed_words);
 
-/* Three variables of the environment; null where they aren't set, which isn't the same as empty. */
+/* Three variables of the environment; null if not set, which differs from empty. */
 typedef struct gix_url_ssh_variables {
     gix_url_text git_ssh_command; /* GIT_SSH_COMMAND */
     gix_url_text git_ssh;         /* GIT_SSH */
@@ -404,7 +412,7 @@ gix_url_error gix_url_settings_of(const gix_url_entry *entries, size_t count, co
                                   const char *text, size_t len, size_t *settings, size_t setting_capacity,
                                   gix_url_settings *found, size_t *needed, gix_url_stop *stop);
 
-/* What Git's credential code uses of a configuration for a URL. If it reads nothing in the URL, all is 0. */
+/* The settings that Git's credential code uses for a URL. If it reads nothing in the URL, all is 0. */
 typedef struct gix_url_credentials {
     bool is_read;
     size_t helper_count;
@@ -412,11 +420,11 @@ typedef struct gix_url_credentials {
     bool use_http_path; /* helpers get the path of a URL of HTTP */
 } gix_url_credentials;
 
-/* Finds what Git's credential code uses for a URL. The indices of the entries whose values are the helpers are stored in
- * helpers, which has helper_capacity places, in the order in which Git asks them. The user points into the buffer. On
- * GIX_URL_NO_ROOM only needed and needed_helpers are stored, how many bytes and places it takes; they are stored on
- * GIX_URL_OK too. Git stops at an entry that applies and has no value, or is a useHttpPath with no boolean value:
- * GIX_URL_NO_VALUE or GIX_URL_NO_BOOLEAN. */
+/* Finds the settings that Git's credential code uses for a URL. The indices of the entries whose values are
+ * the helpers are stored in helpers, which has helper_capacity places, in the order in which Git asks them.
+ * The user points into the buffer. On GIX_URL_NO_ROOM only needed and needed_helpers are stored, how many
+ * bytes and places it takes; they are stored on GIX_URL_OK too. Git stops at an entry that applies and has no
+ * value, or is a useHttpPath with no boolean value: GIX_URL_NO_VALUE or GIX_URL_NO_BOOLEAN. */
 gix_url_error gix_url_credentials_of(const gix_url_entry *entries, size_t count, const char *text, size_t len, char *buffer,
                                      size_t buffer_len, size_t *helpers, size_t helper_capacity,
                                      gix_url_credentials *credentials, size_t *needed, size_t *needed_helpers,
@@ -452,7 +460,7 @@ typedef enum gix_url_submodule_refusal {
     GIX_URL_SUBMODULE_UPDATE = 4 /* the submodule is updated by a command: gitmodulesUpdate */
 } gix_url_submodule_refusal;
 
-/* What git fsck refuses in an entry of .gitmodules. */
+/* The refusals of git fsck for an entry of .gitmodules. */
 typedef struct gix_url_submodule_check {
     gix_url_submodule_refusal name;  /* ACCEPTED or NAME */
     gix_url_submodule_refusal value; /* ACCEPTED, URL, PATH or UPDATE */
@@ -464,7 +472,8 @@ gix_url_error gix_url_check_submodule(const gix_url_entry *entry, gix_url_submod
 /* The index of an entry that there isn't. */
 #define GIX_URL_NO_ENTRY SIZE_MAX
 
-/* A submodule: its name, and the indices of the entries whose values Git uses; GIX_URL_NO_ENTRY where it uses none. */
+/* A submodule: its name, and the indices of the entries whose values Git uses; GIX_URL_NO_ENTRY if it uses
+ * none. */
 typedef struct gix_url_submodule {
     gix_url_text name;
     size_t path;

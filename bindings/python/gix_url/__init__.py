@@ -143,7 +143,7 @@ class Url:
             raise ValueError(f"gix_url: {self.scheme} has {'no' if self.scheme < Scheme.HELPER else 'a'} name")
 
     def replace(self, **fields: Any) -> "Url":
-        """The location with these fields in place of its own. A new path has no spelling, unless one is given."""
+        """The location with these fields in place of its own. A new path has no spelling, unless it is passed."""
         if fields.get("path", self.path) != self.path:
             fields.setdefault("spelling", None)
         return dataclasses.replace(self, **fields)

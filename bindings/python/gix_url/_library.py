@@ -8,7 +8,7 @@ _NAME = "libgix_url.so.2"
 
 
 def _candidates(named: str | None) -> list[pathlib.Path]:
-    """The files of which the first that exists is the library: by its given name, or by this package's own path."""
+    """The files of which the first that exists is the library: named by the caller, or by this package's path."""
     if named:
         return [pathlib.Path(named), pathlib.Path(named, _NAME), pathlib.Path(named, "lib", _NAME)]
     folder = pathlib.Path(__file__).resolve().parent

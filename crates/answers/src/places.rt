@@ -1,6 +1,7 @@
 //! Calls of `git_rules` over places: normal forms, patterns, and entries that apply to a place.
 //!
-//! Each normal form is written into a buffer, whose size is the one that the call needs, or the number in `room`.
+//! Each normal form is written into a buffer, whose size is the one that the call needs, or that of the
+//! member `room`.
 
 use crate::halt::Halt;
 use crate::order::{Order, unknown};

@@ -1,4 +1,4 @@
--- What the exports return: numbers, defined by what they say of a location.
+-- The results of the exports: numbers, defined by the facts about a location that they represent.
 use Rattle.std.specs.Prelude.{◌≡◌, ◌<◌, ℕ, List, Option, IsUtf8, codes, length, None, Some, Ok}
 use Rattle.git_rules.specs.Config.{ConfigEntry}
 use Rattle.git_rules.specs.ConfigItems.{HasEntries}
@@ -29,7 +29,7 @@ IsTextLength v n = (t : List ℕ) × (text v ≡ Ok t) × (length t ≡ n)
 abbrev pub IsPathLength : Location → ℕ → Type 0
 IsPathLength v n = length v.path ≡ n
 
--- the length of what is shown of it
+-- the length of its shown text
 abbrev pub IsShownLength : Location → ℕ → Type 0
 IsShownLength v n = (t : List ℕ) → display v ≡ Some t → length t ≡ n
 
@@ -42,7 +42,7 @@ abbrev pub IsExpansionLength : Option HomeUser → List ℕ → ℕ → Type 0
 IsExpansionLength user path n = IsUtf8 path → (whole : List ℕ)
     × Expands (Some (codes "/home/ann")) user path (Some whole) × (length whole ≡ n)
 
--- the same of its path, behind what begins it in a home folder
+-- the same of its path, after the front that names a home folder
 abbrev pub IsExpandedLength : Location → ℕ → Type 0
 IsExpandedLength v n = (user : Option HomeUser) × (rest : List ℕ) × SplitsHome v.path user rest
     × IsExpansionLength user rest n
@@ -52,7 +52,7 @@ abbrev pub IsRereadLength : Location → ℕ → Type 0
 IsRereadLength v n = (again : Location) × ((t : List ℕ) → text v ≡ Ok t → Spells t again)
     × (length again.path ≡ n)
 
--- the length of the path of what its parts make
+-- the length of the path of the location that is built from its parts
 abbrev pub IsMadeLength : Location → ℕ → Type 0
 IsMadeLength v n = (built : Location) × BuiltFrom (record v { spelling = None }) (Ok built)
     × (length built.path ≡ n)
@@ -65,7 +65,7 @@ IsCompact json = json ≡ print (tokens json)
 abbrev pub IsCompactLength : ℕ → Type 0
 IsCompactLength n = (json : List ℕ) × IsCompact json × (length json ≡ n)
 
--- the length of the path of a location that a record means
+-- the length of the path of the location that a record represents
 abbrev pub IsRestoredLength : ℕ → Type 0
 IsRestoredLength n = (stored : StoredUrl) × (length (migrated (recorded_location stored)).path ≡ n)
 

@@ -206,7 +206,7 @@ pub fn reread(alloc: Global, url: &Url) -> usize
     }
 }
 
-/// The length of the path of the location that the parts mean; 0 if they mean none.
+/// The length of the path of the location that the parts denote; 0 if they denote none.
 #[inline(never)]
 pub fn from_parts(alloc: Global, url: Url) -> usize
     ensures { 0 < result → IsMadeLength url result }

@@ -263,7 +263,7 @@ pub extern "C" fn call_bench_reread(alloc: Global, bytes: &[u8]) -> usize
     }
 }
 
-/// The length of the path of the location that the parts of the location mean.
+/// The length of the path of the location that the parts of the location denote.
 #[unsafe(no_mangle)]
 pub extern "C" fn call_bench_from_parts(alloc: Global, bytes: &[u8]) -> usize
     ensures { SaysOf IsMadeLength bytes.now result }

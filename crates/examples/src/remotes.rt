@@ -1,4 +1,4 @@
-//! Examples of remotes: where Git fetches from and pushes to by a configuration.
+//! Examples of remotes: the URLs that Git fetches from and pushes to by a configuration.
 
 use bstr::BString;
 use git_rules::config::Entry;

@@ -2,9 +2,9 @@
 //! refused.
 //!
 //! `explain_report` finds which parts of the line may be shown, the facts about a location or the reason of a parse
-//! error, likely mistakes, and what Git does with the line by a configuration. `shown` lays these out for people, and
-//! `only` prints one part; with `--json` the report is one object, and `--html` adds the object and the row of the line
-//! to the page. `scripts/hostile` and the stored run test the reports.
+//! error, likely mistakes, and how Git uses the line by a configuration. `shown` lays these out for people,
+//! and `only` prints one part; with `--json` the report is one object, and `--html` adds the object and the
+//! row of the line to the page. `scripts/hostile` and the stored run test the reports.
 
 use crate::results::Origin;
 use crate::style::{Layout, Style};
@@ -62,7 +62,7 @@ struct Answer<'b, 'a: 'b> {
     findings: &'b [&'static str],
     /// Likely mistakes in the line.
     hints: &'b [Hint],
-    /// What Git does with the line by the configuration, if one is given.
+    /// How Git uses the line by the configuration, if one is given.
     rules: Option<&'b Rules>,
 }
 
@@ -77,7 +77,7 @@ pub struct Notes<'b> {
     pub readers: Option<&'b Readers>,
     /// Likely mistakes in the line.
     pub hints: &'b [Hint],
-    /// What Git does with the line by the configuration, if one is given.
+    /// How Git uses the line by the configuration, if one is given.
     pub rules: Option<&'b Rules>,
 }
 
@@ -218,7 +218,7 @@ impl Line<'_, '_> {
         answer
     }
 
-    /// What Git does with the line by the configuration that is given. The line is parsed as this location, or is
+    /// How Git uses the line by the configuration that is given. The line is parsed as this location, or is
     /// refused.
     fn rules(self, alloc: Global, url: Option<&Url>) -> Result<Option<Rules>, AllocError> {
         Rules::of_input(alloc, self.style.config, self.bytes, url)

@@ -1,4 +1,4 @@
-//! The program `explain` reports what texts mean as Git locations, to people and to other programs.
+//! The program `explain` reports the locations that texts spell, to people and to other programs.
 //!
 //! It calls only the public functions of `gix_url` and `git_rules`, directly or in the crates below: `explain_report`
 //! finds the facts about a line, and `explain_page` writes the page. `options` parses the command line, `source` reads
@@ -243,7 +243,8 @@ fn answer_remotes<W: Write>(
     Ok(())
 }
 
-/// Writes the requested reports, with what Git does by a configuration and the program that it runs for Secure Shell.
+/// Writes the requested reports, with Git's use of lines by a configuration and the program that it runs for
+/// Secure Shell.
 fn answer_by_config<W: Write>(
     rt: &HostRuntime,
     given: &ArgMatches<'_>,

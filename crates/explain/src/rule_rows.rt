@@ -1,4 +1,4 @@
-//! The rows for people about what Git does by a configuration, for a terminal.
+//! The rows for people about Git's use of a line by a configuration, for a terminal.
 //!
 //! `explain_report` has the rows. `scripts/hostile rules` tests the output.
 

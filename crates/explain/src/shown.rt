@@ -61,7 +61,7 @@ fn heading(
     out.push('\n')
 }
 
-/// The rows of the text, unless it is the line as it was shown, and of what Git and curl find in it.
+/// The rows of the text, unless it is the line as it was shown, and of its readings by Git and curl.
 fn text(
     out: &mut String,
     url: &Url,
@@ -87,7 +87,8 @@ fn is_shown(seen: &SeenLine<'_>, text: &str) -> bool {
     seen.input.as_str() == text && !is_long(&seen.cut)
 }
 
-/// The report about a refusal: a heading, the line with the fault marked, what Git and others find in it, and hints.
+/// The report about a refusal: a heading, the line with the fault marked, its readings by Git and others, and
+/// hints.
 pub fn refusal(
     alloc: Global,
     line: Line<'_, '_>,
@@ -106,7 +107,8 @@ pub fn refusal(
     Ok(out)
 }
 
-/// The report about a location that isn't shown: a heading, the line, and what Git does by the configuration.
+/// The report about a location that isn't shown: a heading, the line, and how Git uses it by the
+/// configuration.
 pub fn withheld(
     alloc: Global,
     line: Line<'_, '_>,
@@ -239,7 +241,7 @@ fn helpers(out: &mut String, url: &Url, report: &Report<'_>) -> Result<(), Alloc
     )
 }
 
-/// The rows of what curl finds in a text of HTTP, if it differs from the location.
+/// The rows of curl's reading of a text of HTTP, if it differs from the location.
 fn curl(out: &mut String, url: &Url, read: &Option<Curl>) -> Result<(), AllocError> {
     let Some(read) = read else {
         return row(out, "curl", "refuses its text");

@@ -21,7 +21,7 @@ pub struct Style<'c, 'e: 'c> {
     pub colors: Colors,
     /// How a line of the input ends.
     pub end: LineEnd,
-    /// The configuration, if one is given, for rows about what Git does by it.
+    /// The configuration, if one is given, for rows about Git's use of lines by it.
     pub config: Option<&'c Config<'e>>,
     /// The program that Git runs for Secure Shell.
     pub client: Client<'c>,

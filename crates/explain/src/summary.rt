@@ -150,7 +150,7 @@ impl Summary {
         }
     }
 
-    /// Counts a line, with what Git does with it by the configuration, if one is given. Returns the findings in it.
+    /// Counts a line, with Git's use of it by the configuration, if one is given. Returns the findings in it.
     pub fn add(
         &mut self,
         line: &[u8],

@@ -5,6 +5,8 @@
 //! about a text, and [`module`] those about a file of submodules, with [`entry`], [`whole`], [`url`] and [`place`].
 //! [`sarif`] has the objects of SARIF, and [`uri`] the file names in them. The findings are data; the crate above
 //! formats them.
+//!
+//! A function allocates only if it can return an error; `AllocError` means that an allocation failed.
 #![tactic(auto)]
 
 pub mod entry;

@@ -1,4 +1,4 @@
--- Pieces as they are shown, one behind the other.
+-- Pieces as they are shown, one after the other.
 use Rattle.std.proofs.Common.{◌≡◌, ◌∙◌, ◌⊎◌, ℕ, zero, suc, List, [], replicate, ◌∷◌, ◌++◌, refl, sym, ap, append_assoc, append-nil, codes, inl, inr}
 use Rattle.explain_report.specs.declared.text.cut.Piece.{Piece}
 use Rattle.explain_report.specs.Pieces.{IsShownAs, piece_shown, pieces_shown}

@@ -16,7 +16,7 @@ use Rattle.explain_report.specs.Printed.{AddsPrinted, IsPrinted, WritesPrinted, 
 pub printed_nil : IsPrinted []
 printed_nil = record { characters = []; printed = refl; spelled = refl }
 
--- a text behind another
+-- a text after another
 pub printed_append : (a b : List ℕ) → IsPrinted a → IsPrinted b → IsPrinted (a ++ b)
 printed_append a b p q = record {
   characters = p.characters ++ q.characters;
@@ -75,7 +75,7 @@ module _ {W : Type 0} (took : W → List ℕ → W → Type 0) where
   pub adds_one : (w v : W) (text : List ℕ) → took w text v → IsPrinted text → AddsPrinted took w v
   adds_one w v text gave is = record { text = text; wrote = writes_in_calls_single took w text v gave; printed = is }
 
-  -- one behind the other
+  -- one after the other
   pub adds_then : (w v u : W) → AddsPrinted took w v → AddsPrinted took v u → AddsPrinted took w u
   adds_then w v u p q = record {
     text = p.text ++ q.text;

@@ -1,2 +1,2 @@
--- What is shown of a text.
+-- The shown parts of a text.
 pub mod PieceLemmas

@@ -1,4 +1,4 @@
--- The report of a refused line: the place, the reason and the words of its only refusal.
+-- the report of a refused line: the place, the reason and the words of its only refusal
 use Rattle.std.specs.Prelude.{◌≡◌, ℕ, List, Some, option_map, string_bytes}
 use Rattle.git_refusals.specs.declared.refusal.Refusal as library
 use Rattle.git_refusals.specs.Words.{reason_name, reason_words}

@@ -41,7 +41,7 @@ struct Pieces<'a> {
 }
 
 impl Curl {
-    /// Returns what curl reads in this text, or `None` if curl refuses the text.
+    /// Returns curl's reading of this text, or `None` if curl refuses the text.
     pub fn in_text(alloc: Global, text: &[u8]) -> Result<Option<Curl>, AllocError> {
         let Some(pieces) = cut(text) else {
             return Ok(None);

@@ -6,6 +6,8 @@
 //! [`rules`] applies a configuration to a line, [`remotes`] reports the remotes of the configuration itself,
 //! [`readers`] lists other readings, [`advice`] has dangers and hints, and [`finding`] has the conditions for which a
 //! run may fail. The reports are data; the crates above format them.
+//!
+//! A function allocates only if it can return an error; `AllocError` means that an allocation failed.
 #![tactic(auto)]
 
 pub mod advice;

@@ -31,7 +31,7 @@ use std::fmt::Write;
 #[derive(Drop, Serialize)]
 pub struct Readers {
     /// The name of the first condition that the location doesn't meet. A refused line has none, nor has a location
-    /// whose text all programs read alike.
+    /// that meets all of them.
     pub condition: Option<&'static str>,
     /// The condition in words.
     #[serde(skip)]

@@ -1,2 +1,2 @@
--- What is dangerous in a text.
+-- The dangers of a text.
 pub mod HostLemmas

@@ -1,4 +1,4 @@
--- What is hidden of a text.
+-- The parts of a text that are hidden.
 pub mod MarkLemmas
 pub mod ClassLemmas
 pub mod CutLemmas

@@ -53,7 +53,7 @@ impl<'a> Model for Pieces<'a> {
 ///   least 24 bytes.
 ///
 /// The escapes of `:` and `@` count as these bytes. The name of a remote helper and its `::` are split off first.
-/// Allocates nothing, and takes time linear in the length of the text.
+/// The time is linear in the length of the text.
 ///
 /// ```
 /// /// A text with a word in place of what may be a secret.

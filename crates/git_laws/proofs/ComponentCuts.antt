@@ -1,3 +1,3 @@
--- Components of a path: cut, lent, returned, compared.
+-- Components of a path: cut, borrowed, returned, compared.
 pub mod CutComponentLemmas
 pub mod ComponentLemmas

@@ -1,4 +1,4 @@
--- A text spells no location exactly where it has a flaw, and no settled location is an exception.
+-- A text spells no location exactly if it has a flaw, and no settled location is an exception.
 pub mod TextDecisions
 pub mod HostDecisions
 pub mod UrlDecisions

@@ -1,4 +1,4 @@
--- What Git reads in the text of a location of its class: the location's own parts, and nothing else.
+-- The place that Git reads in the text of a location of its class: exactly the location's own parts.
 pub mod GitCutLemmas
 pub mod GitPieceLemmas
 pub mod GitTransportLemmas

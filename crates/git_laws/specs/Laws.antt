@@ -83,8 +83,8 @@ Closed = (b : List ℕ) (v : Location) → Spells b v → is_closed v.scheme ≡
 abbrev pub Apart : Type 0
 Apart = (v : Location) → IsException v → ¬ IsSettled v
 
--- a value of local files, HTTP, `ext` or a remote helper whose spelling isn't its path is settled exactly if it
--- comes back
+-- a value of local files, HTTP, `ext` or a remote helper whose spelling isn't its path is settled exactly if
+-- it is `ComesBack`: its text is read as the same fields and the same text
 abbrev pub Exact : Type 0
 Exact = (v : Location) → IsValue v → is_closed v.scheme ≡ true → ¬ (v.spelling ≡ Some v.path)
     → IsSettled v ↔ ComesBack v

@@ -1,8 +1,8 @@
 //! Laws of the library, over the definitions of its contracts alone.
 //!
-//! The functions have no effect: the contract of each is its laws. (`law_value` reads the fields of a
-//! location.) Laws from other modules are in the modules that they are about. Users combine them with the
-//! contracts of `parse`, of the writer, of the settled test and of `lines`, which name the same definitions.
+//! The functions have no effect: the clauses of each are laws. (`law_value` reads the fields of a location.)
+//! Laws from other modules are in the modules that they are about. Users combine them with the contracts of
+//! `parse`, of the writer, of the settled test and of `lines`, which name the same definitions.
 
 ghost use Rattle.std.specs.Cmp.{IsTotalOrder};
 ghost use Rattle.git_laws.specs.AnswerLaws.{LineForLine, OneLine, OneLineSplit};
@@ -16,13 +16,13 @@ ghost use Rattle.git_laws.specs.Order.{fed_location, fed_scheme, location_cmp, l
 ghost use Rattle.git_laws.specs.Records.{KeepsMeaning, MigratedOnce, Migrates, RespelledOnce};
 ghost use Rattle.git_laws.specs.Safeguards.{SettledWithoutPassword, SettledWithoutSpelling, WebSettledWithoutSpelling};
 
-/// Texts distinguish locations.
+/// A text spells at most one location, and the text of a settled location is read as that location's fields.
 ///
 /// - `unique`: no bytes spell two locations, the retained spelling included. So `parse` returns the only
 ///   location of its input.
 /// - `settled_again`: the text of a settled location spells a location with the same public fields, which is
-///   settled and has that text. Programs that rewrite remotes read back what they wrote. (Each `Url` is such a
-///   value: `law_value`.)
+///   settled and has that text. So programs that rewrite remotes read back the fields that they wrote. (The
+///   premise `IsValue` holds of each `Url`: `law_value`.)
 /// - `read_again`: any reader that implements the grammar reads that location again in the text.
 /// - `text_decides`: two settled locations whose texts are equal have equal public fields. So credential
 ///   matchers may compare texts.
@@ -58,10 +58,10 @@ pub fn law_separation()
     ensures before { KeepsEarlier }
 {}
 
-/// Legacy records, whose spelling is their path, mean the same bytes after migration.
+/// Legacy records, whose spelling is their path, denote the same bytes after migration.
 ///
-/// - `respelled`: each path has one new spelling, in which its escapes stay and every other byte is written as
-///   in a path.
+/// - `respelled`: each path has one new spelling, in which its escapes are kept and every other byte is
+///   written as in a path.
 /// - `keeps_meaning`: a path and its new spelling decode to the same bytes, so the new spelling belongs to the
 ///   decoded path. Migration loses nothing.
 /// - `migrates`: a legacy record represents the location with its path decoded, and with that new spelling;
@@ -74,21 +74,21 @@ pub fn law_stored()
     ensures once { MigratedOnce }
 {}
 
-/// Locations that were read are settled, and the settled class is exact: for local files, HTTP, `ext` and
-/// remote helpers.
+/// Locations that were read are settled, with three exceptions, and the settled class is exact: for local
+/// files, HTTP, `ext` and remote helpers.
 ///
 /// - `closed`: a location of these kinds is settled if any bytes spell it, with three exceptions: a host of a
 ///   file URL with `:` and `%`, a host of HTTP with `%` and a `:` at its end (both only if it doesn't begin
-///   with `[`), and a location of HTTP whose text is too long to be read again. A program that only reads gets
-///   no other unsettled one.
+///   with `[`), and a location of HTTP whose text is too long to be read again. A program that only reads
+///   locations gets no other unsettled one.
 /// - `apart`: no exception is settled, so a location that was read is one or the other.
-/// - `exact`: such a location is settled exactly if its text is read as its public fields and written the same
-///   again, provided that its spelling isn't its path. So the class leaves out none of them.
+/// - `exact`: such a location is settled exactly if its text is read as a location with the same public
+///   fields and the same text, provided that its spelling isn't its path. So the class omits none of them.
 /// - `unchanged`: a location that bytes spell as a remote helper or a local path is settled, and its text is
 ///   those bytes. Programs that read and write lists of remotes keep such lines to the byte. (A URL of the
 ///   scheme `ext` is settled too, but is written after `ext::`.)
-/// - `exact_by_fields`: no bytes spell a location with the public fields of an unsettled remote helper or local
-///   path.
+/// - `exact_by_fields`: no bytes spell a location with the public fields of an unsettled remote helper, `ext`
+///   location or local path.
 /// - `writable`: for every kind, a spelled location has a text, and its spelling isn't its path, so its record
 ///   isn't read as a legacy one. A location that was read and stored is restored unchanged.
 pub fn law_closed()
@@ -109,12 +109,12 @@ pub fn law_closed()
 /// - `total`: the order is total: one of two locations comes first, or they are equal.
 /// - `hashed`: equal locations feed a hasher alike. So a `HashMap` finds the same locations as `==`.
 /// - `hashed_apart`: no others do. No field is left out, so a good hasher distinguishes any two locations.
-///   (Each `Url` is such a value: `law_value`.)
+///   (The premise `IsValue` holds of each `Url`: `law_value`.)
 /// - `spelling_last`: the public fields decide the order, and the retained spelling decides only if they are
 ///   all equal. So locations with equal public fields are adjacent in a sorted list.
 ///
-/// Equality doesn't decide whether two locations name one repository: it takes no account of default ports, of
-/// letter case in paths or of different texts of one location.
+/// Equality doesn't decide whether two locations name one repository: default ports, letter case in paths and
+/// different texts of one location are not normalized.
 pub fn law_order()
     ensures same { EqualIsSame location_eq }
     ensures tied { TiedIsEqual location_eq location_cmp }
@@ -124,8 +124,8 @@ pub fn law_order()
     ensures spelling_last { SpellingLast }
 {}
 
-/// Equality, order and hash of schemes agree: each clause states for schemes the fact that the clause of this name
-/// in [`law_order`] states for locations. A scheme is compared as the value that it represents.
+/// Equality, order and hash of schemes agree: each clause states for schemes the fact that the clause of this
+/// name in [`law_order`] states for locations. A scheme is compared as the value that it represents.
 pub fn law_scheme_order()
     ensures same { EqualIsSame scheme_eq }
     ensures tied { TiedIsEqual scheme_eq scheme_cmp }
@@ -134,11 +134,11 @@ pub fn law_scheme_order()
     ensures hashed_apart { SchemesFedApart }
 {}
 
-/// Each line has one line as its answer.
+/// The answer to each line is one line.
 ///
 /// - `one_line`: the answer to a line without byte 10 is a text without it, and byte 10. The text of a settled
-///   location doesn't have it either, though its path or its user may: a field that is written unescaped is from
-///   the line, and in another one the byte is escaped, or the location isn't settled.
+///   location has no byte 10 either, even if its path or its user has one: such a byte is written as an
+///   escape, or the location isn't settled.
 /// - `line_for_line`: so the output of [`run`](git_lines::lines::run) splits at byte 10 into as many lines as
 ///   its input, each the answer to the line at the same index. Answers can be matched to lines by position.
 /// - `one_split`: a text has only one split into lines, so every program that splits it gets these lines.
@@ -159,13 +159,13 @@ pub fn law_components()
     ensures equal { EqualComponents }
 {}
 
-/// A settled location stays settled without some of its fields.
+/// A settled location stays settled without its password or its spelling, except in the cases below.
 ///
 /// - `password`: without its password it is settled exactly if it has none, or its user isn't empty. An empty
 ///   user is written only before a password, so `http://:secret@host/` isn't settled without it. Hiding
 ///   passwords from logs and from other programs keeps all other locations settled.
 /// - `web_spelling`: a settled location of HTTP is settled without its spelling. A program that keeps only its
-///   public fields, and makes a location of them by [`Url::from_parts`](gix_url::Url::from_parts), gets a
+///   public fields, and builds a location from them by [`Url::from_parts`](gix_url::Url::from_parts), gets a
 ///   settled one again.
 /// - `spelling`: the same holds for each kind except the URLs of Secure Shell, of Git and of other schemes. One
 ///   of these is settled without its spelling exactly if its path has neither `%` nor white space, and, if it
@@ -176,21 +176,21 @@ pub fn law_stripped()
     ensures spelling { SettledWithoutSpelling }
 {}
 
-/// Git reads the same place.
+/// In the text of a location that `agrees_with_git` accepts, Git reads the location's own fields.
 ///
 /// - `alike`: a location that [`Url::agrees_with_git`](gix_url::Url::agrees_with_git) accepts has a text, and
 ///   Git reads in it the location's own scheme, user, host, port and path; with `git://`, the host without
 ///   brackets around it. So if credentials are chosen by the host that is read here, and the text is then
-///   passed to Git, Git reads that host. Over HTTP two readers do: Git's credential code, which asks helpers
-///   for a password, reads the location's own scheme, user, password, host and port, and its path without the
-///   slashes around it; and a reader of URIs, which opens the connection, reads components that decode to the
-///   location's own fields, without a fragment, and finds nothing to normalize. So a helper is asked for the
-///   host to which Git connects.
+///   passed to Git, Git reads that host. Over HTTP there are two readers. Git's credential code, which asks
+///   helpers for a password, reads the location's own scheme, user, password, host and port, and its path
+///   without the slashes around it. A reader of URIs, which opens the connection, reads components that
+///   decode to the location's own fields, without a fragment, and normalizes nothing. So a helper is asked
+///   for the host to which Git connects.
 /// - `one`: by the definition, Git has at most one reading of any text, so it reads nothing else in that one.
 /// - `one_credential`: Git's credential code has at most one reading of any text.
 /// - `one_uri`: a reader of URIs has at most one reading of any text.
 ///
-/// The law is about the definitions of these readers. That Git and libcurl keep to them is tested.
+/// The law is about the definitions of these readers. That Git and libcurl follow them is tested, not proved.
 pub fn law_git()
     ensures alike { ReadAlike }
     ensures one { OneGitReading }

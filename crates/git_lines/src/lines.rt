@@ -1,4 +1,4 @@
-//! Reads locations, one a line, and writes an answer to each line.
+//! Reads locations, one per line, and writes an answer to each line.
 //!
 //! All of the input is answered, line by line. If an allocation or the reader fails, nothing is written; a
 //! fault of the writer occurs only after all input was read. Allocates the input, a buffer as long as its
@@ -27,7 +27,7 @@ use std::alloc::{AllocError, Global};
 use std::io::{self, ErrorKind, Read, Write};
 use thiserror::Error as ThisError;
 
-/// Why a run failed.
+/// Why a run failed. [`run`] has an example.
 #[derive(Debug, Drop, ThisError)]
 pub enum RunError {
     /// An allocation failed. Nothing was written.
@@ -52,7 +52,7 @@ impl From<AllocError> for RunError {
     }
 }
 
-/// The maximal number of reads. A reader that hasn't ended by then is given up.
+/// The maximal number of reads. If a reader hasn't ended by then, the run fails.
 const MOST_READS: u64 = 1 << 40;
 
 /// The message of the program `locations` for a fault, without the line end, which goes to standard error.
@@ -209,8 +209,8 @@ fn answers_in(
     Ok((out, all & settled))
 }
 
-/// Appends the answer to a line, which is read into the buffer, and returns whether the line is settled. A simple text
-/// is its own answer.
+/// Appends the answer to a line, which is read into the buffer, and returns whether the line is settled. The
+/// location of a simple text has this text.
 fn answer(line: &[u8], line_buffer: &mut [u8], out: &mut Vec<u8>) -> Result<bool, RunError>
     requires { length line.now ≤ length line_buffer.old }
     ensures { AppendsAnswer line.now out.old.items out.new.items result }

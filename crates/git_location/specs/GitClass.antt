@@ -1,5 +1,5 @@
--- The class of locations in whose texts Git reads the same as this library. Its locations of HTTP are in
--- `WebClass`.
+-- The class of locations in whose texts Git reads the same place as this library. Its locations of HTTP are
+-- in `WebClass`.
 use Rattle.std.specs.Prelude.{◌≡◌, ℕ, Bool, true, false, ◌||◌, ◌==◌, ◌⊎◌, List, [], ◌∷◌, codes, Some, None, IfSome}
 use Rattle.percent_encoding.specs.declared.ascii_set.AsciiSet.{AsciiSet}
 use Rattle.percent_encoding.specs.AsciiSet.{should_percent_encode}

@@ -25,6 +25,8 @@ pub record ReadsIn (b : List ℕ) (buffer_len : ℕ) (result : Result Location P
   pub found : IfOk result (Spells b)
   -- an error is returned only if the bytes spell none, or the buffer is shorter than the bytes
   pub refused : IfErr result (RefusesIn b buffer_len)
+  -- a location is returned only if the buffer is at least as long as the bytes
+  pub fits : IfOk result (λ v. length b ≤ buffer_len)
   -- the empty text is refused as such
   pub empty : b ≡ [] → result ≡ Err (unread.Refused empty_refusal)
   -- if the buffer is at least as long as the bytes, a location is returned exactly if the bytes spell it
@@ -36,7 +38,7 @@ pub record IsAgain (v again : Location) : Type 0 where
   pub same_text : text again ≡ text v
   pub settled : IsSettled again
 
--- the bytes spell the location again
+-- the bytes spell a location that is `IsAgain`
 pub record SpellsAgain (v : Location) (b : List ℕ) : Type 0 where
   pub back : Location
   pub spelled : Spells b back

@@ -1,5 +1,5 @@
--- The settled class, one definition for each kind. The text of each of its locations is read as the same public
--- fields and is written the same again. Some other locations have this property too.
+-- The settled class, one definition for each kind. The text of each of its locations is read as a location
+-- with the same public fields and the same text. Some other locations have this property too.
 use Rattle.std.specs.Prelude.{◌≡◌, ◌≢◌, ℕ, ◌<◌, Bool, true, false, ◌&&◌, ◌==◌, ◌⊎◌, List, [], ◌∷◌, ◌++◌, length, codes, bytes_eq, Option, Some, None, IsSome, IfSome, Ok, IsUtf8, All}
 use Rattle.std.specs.List.{list_all}
 use Rattle.git_syntax.specs.Location.{Scheme, Location}
@@ -70,12 +70,12 @@ HasCredentials v = IfSome v.password (λ p. (0 < length p) × IsSome v.user)
 abbrev pub IsHosted : Location → Type 0
 IsHosted v = (IsSome v.user → IsSome v.host) × (IsSome v.port → IsSome v.host)
 
--- a spelling that matches is fair
+-- a spelling that decodes to the path is fair
 abbrev pub HasFairSpelling : Location → Type 0
 HasFairSpelling v = (s : List ℕ) → v.spelling ≡ Some s → DecodesTo s v.path
     → IsFairSpelling s v.path
 
--- the path is text, and a spelling that matches it is fair
+-- the path is text, and a spelling that decodes to it is fair
 pub record HasUrlPath (v : Location) : Type 0 where
   pub path_text : IsUtf8 v.path
   pub spelling : HasFairSpelling v
@@ -297,7 +297,7 @@ IsSettledBy ext v = IsSettledHelper (codes "ext") v
 IsSettledBy (helper name) v = IsSettledHelper name v × (bytes_eq name (codes "ext") ≡ false)
 IsSettledBy (helper_url name) v = IsSettledHelperUrl name v
 
--- the location meets the conditions of its scheme, so its text is read as its public fields and written the same
--- again (`law_separation`)
+-- the location meets the conditions of its scheme, so its text is read as a location with the same public
+-- fields and the same text (`law_separation`)
 abbrev pub IsSettled : Location → Type 0
 IsSettled v = IsSettledBy v.scheme v

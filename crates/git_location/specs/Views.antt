@@ -1,11 +1,11 @@
--- The judgement of the definitions for that of the code.
+-- The judgement that an `ArgumentSafety` represents.
 use Rattle.git_location.specs.declared.argument.ArgumentSafety.{ArgumentSafety}
 use Rattle.git_location.specs.declared.argument.ArgumentSafety.TheVariants.{Absent, Usable, Dangerous}
 use Rattle.git_location.specs.Arguments.{Judgement}
 use Rattle.git_location.specs.Arguments.Judgement.{absent, usable, dangerous}
 pub use Rattle.git_syntax.specs.Views.{borrowed_scheme}
 
--- the judgement that a value of the code represents
+-- the judgement that an `ArgumentSafety` represents
 abbrev pub judgement : ArgumentSafety → Judgement
 judgement Absent = absent
 judgement (Usable text) = usable text.now

@@ -1,5 +1,5 @@
--- The class of locations of HTTP in whose texts all readers read the same: this library, Git's credential code,
--- and a reader of URIs.
+-- The class of locations of HTTP in whose texts all readers read the same fields: this library, Git's
+-- credential code, and a reader of URIs.
 use Rattle.std.specs.Prelude.{◌≡◌, ℕ, Bool, true, false, ◌||◌, ◌==◌, nat_lt, ◌⊎◌, List, [], ◌∷◌, ◌++◌, codes, Some, IfSome}
 use Rattle.std.specs.List.{list_all}
 use Rattle.std.specs.Char.{is_ascii_alphanumeric, is_ascii_lowercase, is_ascii_digit}
@@ -42,7 +42,7 @@ pub record IsPlainName (name : List ℕ) : Type 0 where
 abbrev pub IsUnambiguousHost : List ℕ → Type 0
 IsUnambiguousHost host = IsPlainName host ⊎ (IsIpv4Text host ⊎ IsBracketedAddress host)
 
--- there is a host, and it is unambiguous
+-- there is a host that all readers read alike
 abbrev pub HasUnambiguousHost : Location → Type 0
 HasUnambiguousHost v = (h : List ℕ) × (v.host ≡ Some h) × IsUnambiguousHost h
 
@@ -91,8 +91,8 @@ pub record HasUnambiguousPath (v : Location) : Type 0 where
 
 -- ---- locations
 
--- the HTTP location is in the class of locations in whose texts this library, Git's credential code and a reader of
--- URIs read the same
+-- the HTTP location is in the class of locations in whose texts this library, Git's credential code and a
+-- reader of URIs read the same fields
 pub record AgreesOverWeb (v : Location) : Type 0 where
   pub settled : IsSettled v
   pub host : HasUnambiguousHost v

@@ -11,7 +11,7 @@ use Rattle.git_location.specs.Text.{canonical_path}
 use Rattle.git_location.specs.Settled.{begins_with_slashes, IsSettled}
 use Rattle.git_location.specs.WebClass.{is_control, is_plain_host_byte, is_uri_byte, HasDotSegment, HasUnambiguousHost, IsDecodedWhole}
 
--- the field is there and has the property
+-- there is such a field, and it has the property
 abbrev pub HasPart : Option (List ℕ) → (List ℕ → Type 0) → Type 0
 HasPart part test = (text : List ℕ) × (part ≡ Some text) × test text
 

@@ -8,7 +8,8 @@ ghost use Rattle.git_syntax.specs.Schemes.{default_port_of};
 use crate::url_ref::UrlRef;
 
 impl UrlRef<'_> {
-    /// The port, or the default port of the scheme, like [`Url::port_or_default`]. Allocates nothing.
+    /// The port, or the default port of the scheme, like [`Url::port_or_default`]; `None` if there is
+    /// neither.
     ///
     /// ```
     /// fn is_same_service(one: &UrlRef<'_>, other: &UrlRef<'_>) -> bool {
@@ -26,7 +27,7 @@ impl UrlRef<'_> {
         }
     }
 
-    /// Whether the path is `/`, like [`Url::path_is_root`]. Allocates nothing.
+    /// Whether the path is `/`, like [`Url::path_is_root`].
     ///
     /// ```
     /// fn names_a_repository(url: &UrlRef<'_>) -> bool {

@@ -1,8 +1,8 @@
 //! Tests for the fields of a location that are passed to a command as arguments.
 //!
-//! A command reads a user, a host or a path that begins with `-` as an option, and options can run programs:
-//! `ssh://-oProxyCommand=..@host/repo` is such an attempt. No function here returns a text that begins with `-`
-//! as usable.
+//! A command may read a user, a host or a path that begins with `-` as an option, and an option can run
+//! programs: `ssh://-oProxyCommand=..@host/repo` is such an attempt. No function here returns a text that
+//! begins with `-` as usable.
 
 ghost use Rattle.std.specs.Prelude.{◌≡◌, Some, IfSome, false, option_map};
 ghost use Rattle.bstr.specs.BStr.{bstr_bytes};
@@ -18,7 +18,7 @@ use git_syntax::bytes::{after, starts_with_byte};
 /// Whether a field of a location can be an argument of a command.
 ///
 /// Two values are equal if they are the same variant with the same text. The text is borrowed from the
-/// location. Copying a value allocates nothing.
+/// location.
 ///
 /// ```
 /// fn ssh_user<'a>(url: &'a Url) -> Result<Option<&'a str>, Refused> {
@@ -33,15 +33,14 @@ use git_syntax::bytes::{after, starts_with_byte};
 pub enum ArgumentSafety<'a> {
     /// The location has no such field.
     Absent,
-    /// The field, which doesn't begin with `-`. Whether a shell needs it quoted is not decided.
+    /// The field, which doesn't begin with `-`. It is not quoted for a shell.
     Usable(&'a str),
     /// The field, which begins with `-`. A command may read it as an option.
     Dangerous(&'a str),
 }
 
 impl<'a> UrlRef<'a> {
-    /// The user as an argument of a command, like [`Url::user_as_argument`]. Allocates nothing. The result
-    /// lives for `'a`.
+    /// The user as an argument of a command, like [`Url::user_as_argument`].
     ///
     /// ```
     /// fn is_refused(url: &UrlRef<'_>) -> bool {
@@ -56,8 +55,7 @@ impl<'a> UrlRef<'a> {
         judge(self.user)
     }
 
-    /// The host as an argument of a command, like [`Url::host_as_argument`]. Allocates nothing. The result
-    /// lives for `'a`.
+    /// The host as an argument of a command, like [`Url::host_as_argument`].
     ///
     /// ```
     /// fn is_refused_host(url: &UrlRef<'_>) -> bool {
@@ -72,7 +70,7 @@ impl<'a> UrlRef<'a> {
         judge(self.host)
     }
 
-    /// The user, if there is one that doesn't begin with `-`. Allocates nothing. The result lives for `'a`.
+    /// The user, if there is one that doesn't begin with `-`; otherwise `None`.
     ///
     /// ```
     /// fn user_or_git<'a>(url: &UrlRef<'a>) -> &'a str {
@@ -87,7 +85,7 @@ impl<'a> UrlRef<'a> {
         usable_text(self.user_as_argument())
     }
 
-    /// The host, if there is one that doesn't begin with `-`. Allocates nothing. The result lives for `'a`.
+    /// The host, if there is one that doesn't begin with `-`; otherwise `None`.
     ///
     /// ```
     /// fn can_connect(url: &UrlRef<'_>) -> bool {
@@ -102,8 +100,7 @@ impl<'a> UrlRef<'a> {
         usable_text(self.host_as_argument())
     }
 
-    /// The whole path, if it begins with `/` and the next byte isn't `-`. Allocates nothing. The result lives
-    /// for `'a`.
+    /// The whole path, if it begins with `/` and the next byte isn't `-`; otherwise `None`.
     ///
     /// ```
     /// fn served<'a>(url: &UrlRef<'a>) -> Option<BStr<'a>> {
@@ -161,7 +158,7 @@ fn usable_text(part: ArgumentSafety<'_>) -> Option<&str>
 /// - `usable`: a text that is classified as usable is the field itself, and doesn't begin with `-`.
 /// - `path`: the path that is returned is the location's own, and doesn't begin with `-`.
 ///
-/// By this law, users who choose a transport by [`ArgumentSafety`] pass no option to a command.
+/// By this law a program that passes only usable fields to a command passes no option.
 pub fn law_arguments()
     ensures usable { UsableIsNoOption }
     ensures path { PathIsNoOption }

@@ -57,7 +57,7 @@ pub fn hidden_password(password: Option<&str>) -> Option<&str>
 }
 
 /// Locations that differ only in their fields `password` have the same output, so if `Display` returns `Ok`,
-/// the output says nothing about that field. The law says nothing about other fields, which may contain a
+/// the output says nothing about that field. The law doesn't cover the other fields, which may contain a
 /// secret too.
 pub fn law_hidden_password()
     ensures hidden { HidesPassword }

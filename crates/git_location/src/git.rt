@@ -21,8 +21,8 @@ use percent_encoding::AsciiSet;
 use web::agrees_over_web;
 
 impl UrlRef<'_> {
-    /// Whether Git reads this very place in the text of the location, like [`Url::agrees_with_git`]. Allocates
-    /// nothing.
+    /// Whether the location is of the class in whose texts Git reads this very place (`law_git`), like
+    /// [`Url::agrees_with_git`]. If the result is `false`, Git may read the same place or another one.
     ///
     /// ```
     /// /// Writes the text for Git, if Git reads the same place in it.
@@ -132,7 +132,7 @@ fn has_host(url: &UrlRef<'_>, name: &[u8]) -> bool
     }
 }
 
-/// Whether Git cuts user, host and path out of the text as they are.
+/// Whether Git cuts exactly the user, the host and the path out of the text.
 fn has_plain_parts(url: &UrlRef<'_>) -> bool
     ensures { IsTrue result ↔ HasPlainParts url.now }
 {
@@ -141,7 +141,7 @@ fn has_plain_parts(url: &UrlRef<'_>) -> bool
         && !holds_contested(url.path)
 }
 
-/// Whether the user or host is missing or is in the text as it is, without a byte at which Git cuts it.
+/// Whether the user or host is missing, or is unescaped in the text and has no byte at which Git cuts it.
 fn is_plain_part(part: Option<&str>, is_no_url: bool, escaped: AsciiSet) -> bool
     ensures { IsTrue result
         ↔ IfSome (option_map (λ t. t.now) part.entry) (IsPlainPart is_no_url escaped) }

@@ -1,8 +1,8 @@
 //! Borrowed Git locations: [`url_ref::UrlRef`], whose fields are slices of other texts.
 //!
-//! Everything that only reads a location is defined here, once: reading into a caller's buffer, writing, the
-//! settled class, the class in whose texts Git reads the same, and the test of arguments. No function here
-//! allocates.
+//! Everything that doesn't own a location is defined here, once: reading into a caller's buffer, writing, the
+//! settled class, the class of locations in whose texts Git reads the same place, and the tests of arguments.
+//! No function here allocates.
 #![tactic(auto)]
 
 mod accessors;

@@ -1,5 +1,5 @@
-//! The test of the settled class. The text of a location of this class is read as the same fields and is
-//! written the same again.
+//! The test of the settled class. The text of a location of this class is read as a location with the same
+//! public fields and the same text.
 
 ghost use Rattle.std.specs.Prelude.{◌≡◌, ◌↔◌, IsTrue, List, Ok, ℕ};
 ghost use Rattle.git_syntax.specs.Location.{Location};
@@ -25,7 +25,7 @@ use scp::is_settled_scp;
 use url::{is_settled_git, is_settled_helper_url, is_settled_secure, is_settled_web};
 
 impl UrlRef<'_> {
-    /// Whether the location is of the settled class, like [`Url::is_settled`]. Allocates nothing.
+    /// Whether the location is of the settled class, like [`Url::is_settled`].
     ///
     /// ```
     /// /// Writes the location if others read it as the same.
@@ -45,8 +45,8 @@ impl UrlRef<'_> {
         self.is_settled_as(None)
     }
 
-    /// Whether the location is of the settled class. `laid` is the pieces of its text, if the caller has them;
-    /// they aren't laid out again then.
+    /// Whether the location is of the settled class. `laid` has the pieces of its text, if the caller has
+    /// already laid them out.
     pub fn is_settled_as(&self, laid: Option<&Pieces<'_>>) -> bool
         requires { AreOwn laid self.now }
         ensures { IsTrue result ↔ IsSettled self.now }
@@ -70,7 +70,7 @@ fn is_settled_named(url: &UrlRef<'_>, name: &[u8]) -> bool
     is_settled_helper(url, name) && name != b"ext".as_slice()
 }
 
-/// A simple text is settled, and is the text of its location.
+/// The location of a simple text is settled, and the simple text is its text.
 pub fn law_simple_texts()
     ensures settled { (b : List ℕ) (v : Location) → IsSimpleText b v → IsSettled v }
     ensures unchanged { (b : List ℕ) (v : Location) → IsSimpleText b v → text v ≡ Ok b }

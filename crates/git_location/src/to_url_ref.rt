@@ -1,5 +1,5 @@
-//! Makes the borrowed location that found slices mean. Fields that differ from the text are written into the
-//! caller's buffer.
+//! Builds the borrowed location that found slices denote. Fields whose bytes are not in the text are written
+//! into the caller's buffer.
 
 ghost use Rattle.std.specs.Prelude.{◌≡◌, ◌≤◌, List, ℕ, IfSome, IsUtf8, false, length, option_map};
 ghost use Rattle.std.specs.Option.{option_copied};
@@ -26,7 +26,7 @@ use git_syntax::ssh_host::ssh_host_text;
 use git_syntax::text::as_text;
 use git_syntax::url_syntax::ParsedUrl;
 
-/// The location that found slices mean.
+/// The location that found slices denote.
 pub fn to_url_ref<'a>(found: Found<'a>, buffer: &'a mut [u8]) -> UrlRef<'a>
     requires ready { IsReady found }
     requires buffer { buffer_length_for found ≤ length buffer.old }

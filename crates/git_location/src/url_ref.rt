@@ -1,4 +1,5 @@
-//! The type of borrowed locations, [`UrlRef`]. To contracts it is the same value of eight fields as a [`Url`].
+//! The type of borrowed locations, [`UrlRef`]. In contracts it is the same value of eight fields as a
+//! [`Url`].
 
 ghost use Rattle.std.specs.Prelude.{◌≡◌, ◌↔◌, [], IsTrue, Some};
 
@@ -7,11 +8,10 @@ use std::marker::Model;
 
 /// A Git location whose fields are borrowed, from a [`Url`] or from any other texts.
 ///
-/// Contracts see the same value in it as in a `Url`: eight fields, among them the retained spelling of the
-/// path. The fields are those of `Url`, and a program may set them itself; [`UrlRef::is_settled`] reports
-/// whether the location's text is read as the same location. It owns nothing, and none of its methods
-/// allocates. Slices that they return live for `'a`. `Display` writes `redacted` in place of the field
-/// `password`, like that of `Url`; it has no `Debug`.
+/// In contracts it is a value of eight fields, as a `Url` is: the fields below. A program may set them
+/// itself; [`UrlRef::is_settled`] reports whether the location is settled. A `UrlRef` owns nothing, and none
+/// of its methods allocates. Slices that they return live for `'a`. `Display` writes `redacted` in place of
+/// the field `password`, like that of `Url`; there is no `Debug`.
 ///
 /// ```
 /// /// Writes the location of a repository on a host, without a copy of either.

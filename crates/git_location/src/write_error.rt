@@ -3,8 +3,8 @@
 use std::io;
 use thiserror::Error;
 
-/// Why a location has no text. A location that was read always has one; a location made of fields, or changed
-/// by a program, can lack it.
+/// Why a location has no text. A location that was read has one (`law_closed`); a location that a program
+/// built from fields, or changed, may have none.
 ///
 /// ```
 /// fn lacks_host(error: &WriteError) -> bool {

@@ -1,8 +1,9 @@
 //! Writes a location: its text, the text's length, and the spelling of its path.
 //!
-//! The text is laid out once, as pieces: slices of the location, each with the way that it is written. `form`
-//! chooses the form, `layout` the pieces, `piece` adds up their lengths and puts them into a sink, `unescaped`
-//! finds texts that need no escape, `escaped` writes the others, and `sink`, `fill` and `show` are the sinks.
+//! The text is laid out once, as pieces: slices of the location, each with the way in which it is written.
+//! `form` chooses the form, `layout` the pieces, `piece` adds up their lengths and puts them into a sink,
+//! `unescaped` finds texts that need no escape, `escaped` writes the others, and `sink`, `fill` and `show`
+//! are the sinks.
 
 ghost use Rattle.std.specs.Prelude.{◌≡◌, [], Ok, Err, IsOk, IfOk, IfErr, length};
 ghost use Rattle.bstr.specs.BStr.{bstr_bytes};
@@ -32,7 +33,7 @@ use itoa::Buffer;
 use std::io::Write;
 
 impl<'a> UrlRef<'a> {
-    /// Writes the text of the location, like [`Url::write_to`]. Allocates nothing.
+    /// Writes the text of the location, including the password, like [`Url::write_to`].
     ///
     /// ```
     /// fn append(out: &mut Vec<u8>, url: &UrlRef<'_>) -> Result<(), WriteError> {
@@ -57,7 +58,7 @@ impl<'a> UrlRef<'a> {
         }
     }
 
-    /// The length of the text of the location, in bytes. Allocates nothing.
+    /// The length of the text of the location, in bytes.
     ///
     /// ```
     /// /// Whether the text fits into a field of so many bytes.
@@ -77,9 +78,9 @@ impl<'a> UrlRef<'a> {
         Ok(pieces.len())
     }
 
-    /// Writes the text of the location to the front of the buffer, if it fits, and returns its length. The rest
-    /// of the buffer is unchanged. If the text doesn't fit, which the length shows, or the location has none,
-    /// all of the buffer is unchanged. Allocates nothing.
+    /// Writes the text of the location to the front of the buffer, if it fits, and returns the length of the
+    /// text in bytes, whether or not it fits. The rest of the buffer is unchanged. If the text doesn't fit,
+    /// or the location has none, the whole buffer is unchanged.
     ///
     /// ```
     /// /// The text of a location in room that is at hand, if it fits.
@@ -102,8 +103,7 @@ impl<'a> UrlRef<'a> {
         }
     }
 
-    /// The escaped path as it was written, if it still decodes to `path`; otherwise `path`. Allocates nothing.
-    /// The result lives for `'a`.
+    /// The escaped path as it was written, if it still decodes to `path`; otherwise `path`.
     ///
     /// ```
     /// fn spelled<'a>(url: &UrlRef<'a>) -> BStr<'a> {

@@ -1,4 +1,4 @@
--- What is read of configuration files.
+-- The reading of configuration files.
 pub mod ReadLemmas
 pub mod PlaceLemmas
 pub mod PartLemmas

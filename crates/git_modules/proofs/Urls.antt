@@ -1,4 +1,4 @@
--- URLs of submodules: line feeds in what they decode to, their steps, and what curl would get.
+-- URLs of submodules: line feeds in their decoding, their steps, and the URL that curl would get.
 pub mod FeedLemmas
 pub mod StepLemmas
 pub mod CurlLemmas

@@ -75,7 +75,7 @@ pub fn is_relative(url: &[u8]) -> bool
 ///
 /// So `./c` against the parent `./a:b`, a path, is `a:b/c`, which is a remote in the scp form.
 ///
-/// Allocates nothing. The time is at most proportional to the number of `../` times the length of the parent.
+/// The time is at most proportional to the number of `../` times the length of the parent.
 ///
 /// ```
 /// /// Whether a submodule is fetched from the host of the superproject; none where Git stores no URL, or a

@@ -26,21 +26,21 @@ before_test : (test : ℕ → Bool) (front rest : List ℕ) → Lacks test front
 before_test test front [] lacks begins = absurd (both_ways _ refl begins)
 before_test test front (b ∷ rest) lacks begins = until_cut test front b rest lacks begins
 
--- the text before a path is what is before the first byte of a path
+-- the text before a path is the text before the first byte of a path
 pub before_path : (front rest t : List ℕ) → t ≡ front ++ rest → Lacks (is_path_start true) front → StartsPath true rest → front ≡ until (is_path_start true) t
 before_path front rest t whole lacks (inl none) =
     sym (ap (λ x. until (is_path_start true) x) (whole ∙ ap (λ x. front ++ x) none ∙ append-nil front) ∙ until_whole (is_path_start true) front lacks)
 before_path front rest t whole lacks (inr begins) =
     sym (ap (λ x. until (is_path_start true) x) whole ∙ before_test (is_path_start true) front rest lacks begins)
 
--- what is before a rest, by the lengths
+-- the text before a rest, by the lengths
 pub before_rest : (p rest t : List ℕ) → t ≡ p ++ rest → take (length t - length rest) t ≡ p
 before_rest p rest t whole =
     let total : length t ≡ length p + length rest = ap (λ x. length x) whole ∙ length-append p rest in
     let same : length t - length rest ≡ length p = grind arith in
     ap (λ n. take n t) same ∙ ap (λ x. take (length p) x) whole ∙ take-append_seam p rest
 
--- the text up to the first byte of the test behind a colon is before the rest
+-- the text up to the first byte of the test after a colon is before the rest
 port_joined : (test : ℕ → Bool) (front rest t : List ℕ) → t ≡ front ++ colon ∷ rest → t ≡ (front ++ colon ∷ until test rest) ++ from test rest
 port_joined test front rest t whole =
     whole ∙ ap (λ x. front ++ colon ∷ x) (until_from test rest) ∙ sym (append_assoc front (colon ∷ until test rest) (from test rest))

@@ -56,7 +56,7 @@ no_hyphen : (a : ℕ) (front : List ℕ) → ¬ (follows a (front ++ hyphen ∷ 
 no_hyphen a [] h = false≢true (and_parts (may_follow a hyphen) (follows hyphen []) h).1
 no_hyphen a (b ∷ front) h = no_hyphen b front (and_parts (may_follow a b) (follows b (front ++ hyphen ∷ [])) h).1
 
--- what is between dots is a plain label
+-- the text between dots is a plain label
 plain_label : (t : List ℕ) → FreeOf dot t → follows dot t ≡ true → length t ≤ 63 → IsPlainLabel t
 plain_label t free h short = record {
   bytes = label_bytes dot t free h;

@@ -30,7 +30,7 @@ label_alone t free (AreLabels.more x l r plain others e) = absurd (not_free dot 
 
 -- ---- numbers
 
--- digits before a byte that is none are what is before the first such byte
+-- digits before a byte that is none are the text before the first such byte
 pub number_same : (c : ℕ) (digits rest front behind : List ℕ) → is_ascii_digit c ≡ false → list_all is_ascii_digit digits ≡ true → FreeOf c front → digits ++ c ∷ rest ≡ front ++ c ∷ behind → digits ≡ front
 number_same c digits rest front behind other all free joined =
     (cut_unique c digits front rest behind (free_of_all is_ascii_digit c digits all other) free joined).0
@@ -40,7 +40,7 @@ pub number_first : (c : ℕ) (digits rest front behind : List ℕ) → is_ascii_
 number_first c digits rest front behind other all free joined =
     subst (λ x. list_all is_ascii_digit x ≡ true) (number_same c digits rest front behind other all free joined) all
 
--- and the rest is what follows
+-- and the rest is the rest
 pub number_rest : (c : ℕ) (digits rest front behind : List ℕ) → is_ascii_digit c ≡ false → list_all is_ascii_digit digits ≡ true → FreeOf c front → digits ++ c ∷ rest ≡ front ++ c ∷ behind → rest ≡ behind
 number_rest c digits rest front behind other all free joined =
     (cut_unique c digits front rest behind (free_of_all is_ascii_digit c digits all other) free joined).1
@@ -61,7 +61,7 @@ pub no_empty_dots : ¬ IsDots []
 no_empty_dots (inl one) = no_cons (sym one)
 no_empty_dots (inr two) = no_cons (sym two)
 
--- a segment behind a `/` is in the rest behind the first one
+-- a segment after a `/` is in the rest after the first one
 later_dots : (segment rest front r : List ℕ) → FreeOf slash segment → segment ++ slash ∷ rest ≡ front ++ slash ∷ r → HasDots r → HasDots rest
 later_dots segment rest front r free joined has = elim (free_or_cut slash front) [
   | inl none ↦ subst HasDots (sym (cut_unique slash segment front rest r free none joined).1) has
@@ -84,12 +84,12 @@ dots_alone t free (HasDots.whole x dots) = dots
 dots_alone t free (HasDots.first x s r dots e) = absurd (not_free slash s r (subst (λ y. FreeOf slash y) e free))
 dots_alone t free (HasDots.later x f r has e) = absurd (not_free slash f r (subst (λ y. FreeOf slash y) e free))
 
--- a segment, or what is before another dot, ends before the text
+-- a segment, or the text before another dot, ends before the text
 abbrev stops : List ℕ → Bool
 stops [] = true
 stops (b ∷ bs) = b == slash || b == dot
 
--- a dot is in the text with such an end behind it
+-- a dot is in the text with such an end after it
 abbrev holds_end_dot : List ℕ → Bool
 holds_end_dot [] = false
 holds_end_dot (b ∷ bs) = (b == dot && stops bs) || holds_end_dot bs
@@ -107,7 +107,7 @@ dots_end path (HasDots.first _ segment rest (inl one) e) = ap holds_end_dot (e �
 dots_end path (HasDots.first _ segment rest (inr two) e) = ap holds_end_dot (e ∙ ap (λ x. x ++ slash ∷ rest) two)
 dots_end path (HasDots.later _ front rest has e) = ap holds_end_dot e ∙ end_dot_later front rest (dots_end rest has)
 
--- a text without a dot has none before what is behind it
+-- a text without a dot has none before the text after it
 end_dot_behind : (t rest : List ℕ) → FreeOf dot t → holds_end_dot (t ++ rest) ≡ holds_end_dot rest
 end_dot_behind [] rest free = refl
 end_dot_behind (b ∷ bs) rest free =
@@ -124,7 +124,7 @@ no_dots_free path free has = both_ways _ (ap holds_end_dot (sym (append-nil path
 
 -- ---- two slashes
 
--- `//` begins at the first `/`, or is behind it
+-- `//` begins at the first `/`, or is after it
 pub slashes_cut : (t front behind : List ℕ) → FreeOf slash front → t ≡ front ++ slash ∷ behind → Holds slashes t → (begins_with slash behind ≡ true) ⊎ Holds slashes behind
 slashes_cut t front behind free joined (x, y, e) = elim (free_or_cut slash x) [
   | inl none ↦ inl (ap (λ z. begins_with slash z) (cut_unique slash front x behind (slash ∷ y) free none (sym joined ∙ e)).1)
@@ -133,19 +133,19 @@ slashes_cut t front behind free joined (x, y, e) = elim (free_or_cut slash x) [
       inr (q, y, (cut_unique slash front p behind (q ++ (slashes ++ y)) free none whole).1)
 ]
 
--- `//` behind a `/` is in the whole
+-- `//` after a `/` is in the whole
 pub slashes_later : (t front behind : List ℕ) → t ≡ front ++ slash ∷ behind → Holds slashes behind → Holds slashes t
 slashes_later t front behind joined (x, y, e) =
     (front ++ slash ∷ x, y, joined ∙ ap (λ z. front ++ slash ∷ z) e ∙ sym (append_assoc front (slash ∷ x) (slashes ++ y)))
 
--- ---- a byte behind a `/`
+-- ---- a byte after a `/`
 
 -- a text with a byte in it isn't empty
 some_length : (q : List ℕ) (c : ℕ) (x : List ℕ) → 0 < length (q ++ c ∷ x)
 some_length [] c x = omega arith
 some_length (d ∷ q) c x = omega arith
 
--- the first `/` has a byte behind it where one does
+-- the first `/` has a byte after it if one does
 pub before_cut : (t front behind : List ℕ) → FreeOf slash front → t ≡ front ++ slash ∷ behind → HasSlashBefore t → 0 < length behind
 before_cut t front behind free joined has = elim (free_or_cut slash has.front) [
   | inl none ↦ subst (λ x. 0 < length x) (sym (cut_unique slash front has.front behind has.behind free none (sym joined ∙ has.joined)).1) has.nonempty

@@ -75,7 +75,7 @@ scp_class b small = agree_below_at (has_flag 2) is_scp_byte 256 b refl small
 pub word_class : (b : ℕ) → b < 256 → has_flag 4 b ≡ is_unreserved b
 word_class b small = agree_below_at (has_flag 4) is_unreserved 256 b refl small
 
--- the bytes so far and the next one pass a test, and those behind it, as the bytes so far and the rest do
+-- the bytes so far and the next one pass a test, and those after it, as the bytes so far and the rest do
 pub all_step : (test : ℕ → Bool) (so_far : Bool) (t : List ℕ) (i : ℕ) → i < length t → ((so_far && test (get_or t i 0)) && list_all test (drop (i + 1) t)) ≡ (so_far && list_all test (drop i t))
 all_step test true t i within = sym (at_drop_more (list_all test) t i 0 within)
 all_step test false t i within = refl
@@ -111,7 +111,7 @@ labels_pass test passes host (AreLabels.more _ label rest plain others joined) =
 octet_pass : (test : ℕ → Bool) → PassesHosts test → (t : List ℕ) → IsOctet t → list_all test t ≡ true
 octet_pass test passes t (n, small, is) = subst (λ x. list_all test x ≡ true) (sym is) (digits_pass 10 test (λ b digit. passes.label b (digit_label b digit)) (decimal n) ((decimal_is_IsNumeral n (omega (arith, small))).0.1))
 
--- an octet and what follows it behind a dot
+-- an octet and the text after it after a dot
 octet_before : (test : ℕ → Bool) → PassesHosts test → (t rest : List ℕ) → IsOctet t → list_all test rest ≡ true → list_all test (t ++ dot ∷ rest) ≡ true
 octet_before test passes t rest octet plain = all-append test t (dot ∷ rest) (octet_pass test passes t octet) (and_from _ _ passes.dot plain)
 

@@ -119,7 +119,7 @@ url_by_all v is clear unflagged r leaves t written =
     let u = url_text v is clear unflagged in
     ap (λ x. reads r x) (one_text written u.written) ∙ cond-true _ _ _ (url_told r.url_test v u) ∙ url_found v unflagged u r.url leaves
 
--- ---- digits behind a colon
+-- ---- digits after a colon
 
 -- the text before the first byte that isn't a digit is of digits
 until_digits : (t : List ℕ) → list_all is_ascii_digit (until is_no_digit t) ≡ true
@@ -133,7 +133,7 @@ until_digits (b ∷ bs) = elim (cases_Bool (is_ascii_digit b)) [
       ap (λ x. list_all is_ascii_digit x) none
 ]
 
--- and begins with one where the whole does
+-- and begins with one if the whole does
 until_begins : (t : List ℕ) → begins_by is_ascii_digit t ≡ true → begins_by is_ascii_digit (until is_no_digit t) ≡ true
 until_begins [] begins = absurd (false≢true begins)
 until_begins (b ∷ bs) begins =
@@ -180,7 +180,7 @@ pub record IsScpText (user : Option (List ℕ)) (host path : List ℕ) : Type 0 
 abbrev pub scp_of : Option (List ℕ) → List ℕ → List ℕ → List ℕ
 scp_of user host path = word_of user host ++ colon ∷ path
 
--- what of it is free of a byte
+-- the texts of it that are free of a byte
 host_lacks : (c : ℕ) → is_unreserved c ≡ false → (host : List ℕ) → IsCommonHost host → FreeOf c host
 host_lacks c other host plain = free_of_all is_unreserved c host (host_plain host plain) other
 
@@ -204,7 +204,7 @@ whole_user r (Some u) host path t =
     let at = ap (λ x. at_user r x) joined ∙ cut_at r.url.user_cut at_sign u behind (free_of_all is_unreserved at_sign u t.named.bytes refl) free in
     (ap (λ x. front_of x) at, ap (λ x. rest_or (scp_of (Some u) host path) x) at)
 
--- so is what is before the colon
+-- so is the text before the colon
 front_user : (r : Reader) (user : Option (List ℕ)) (host path : List ℕ) → IsScpText user host path → (front_of (at_user r (word_of user host)) ≡ user) × (rest_or (word_of user host) (at_user r (word_of user host)) ≡ host)
 front_user r None host path t =
     let none = cut_none r.url.user_cut at_sign host (host_lacks at_sign refl host t.place) in
@@ -217,7 +217,7 @@ front_user r (Some u) host path t =
 whole_colon : (r : Reader) (user : Option (List ℕ)) (host path : List ℕ) → IsScpText user host path → at_colon r (scp_of user host path) ≡ Some (word_of user host, path)
 whole_colon r user host path t = cut_at r.host_cut colon (word_of user host) path (front_lacks colon refl refl user host t.named t.place) (path_lacks colon refl path t.bytes)
 
--- so is what is behind the user
+-- so is the text after the user
 rest_colon : (r : Reader) (user : Option (List ℕ)) (host path : List ℕ) → IsScpText user host path → at_colon r (host ++ colon ∷ path) ≡ Some (host, path)
 rest_colon r user host path t = cut_at r.host_cut colon host path (host_lacks colon refl host t.place) (path_lacks colon refl path t.bytes)
 
@@ -316,7 +316,7 @@ scp_read r leaves user host path t =
 
 -- ---- a location in the scp form
 
--- what its parts owe
+-- the conditions on its parts
 scp_text_of : (v : Location) (host : List ℕ) → v.scheme ≡ ssh → v.flag ≡ true → IsUnambiguous v → v.host ≡ Some host → IsSettledScp v → IsScpText v.user host v.path
 scp_text_of v host e flagged clear there s =
     let path = path_meets v clear ssh true e flagged in record {

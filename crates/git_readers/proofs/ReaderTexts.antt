@@ -100,7 +100,7 @@ rooted_written v none plain no_dots rooted =
       plain = subst IsPlainPath (sym same) record { bytes = plain; no_dots = no_dots };
     }
 
--- no segment is `.` or `..` where a `/` is before the path
+-- no segment is `.` or `..` if a `/` is before the path
 no_dots_behind : (path : List ℕ) → ¬ HasDots path → ¬ HasDots (slash ∷ path)
 no_dots_behind path none has = ⊎_elim (λ dots. no_empty_dots dots) none (dots_cut (slash ∷ path) [] path refl refl has)
 
@@ -143,7 +143,7 @@ with_user : (password user : Option (List ℕ)) → IfSome password (λ p. (0 < 
 with_user None user h there = absurd (false≢true there)
 with_user (Some p) user h there = h.1
 
--- what the parts of a settled URL owe to each other
+-- the conditions that the parts of a settled URL impose on each other
 parts_plain : (v : Location) → IsValue v → IsUnambiguous v → HasCredentials v → IsHosted v → ArePlain v.user v.password v.host v.port
 parts_plain v is clear credentials hosted = record {
   user = users_plain v.user (clear condition.User);
@@ -175,7 +175,7 @@ plain_url v is clear common written path scheme plain = record {
 
 -- ---- by the scheme
 
--- what the conditions say of the path, by the form
+-- the facts about the path that follow from the conditions, by the form
 pub record PathMeets (v : Location) (f : Form) : Type 0 where
   pub bytes : HasPlainBytes f v.path
   pub start : BeginsPlainly f v.path

@@ -1,4 +1,4 @@
--- What a reader of URLs finds in an authority of plain parts, and in a URL with it.
+-- The fields that a reader of URLs finds in an authority of plain parts, and in a URL with it.
 use Rattle.std.proofs.Common.{◌≡◌, ◌∙◌, ◌<◌, ℕ, true, false, ◌==◌, List, [], ◌∷◌, ◌++◌, Option, Some, None, IfSome, IsSome, option_map, unwrap_or, decimal, refl, ap, append_assoc, append-nil}
 use Rattle.std.specs.List.{list_all}
 use Rattle.std.proofs.lemmas.Bool.{false≢true}
@@ -23,7 +23,7 @@ abbrev pub with_at : Option (List ℕ) → List ℕ
 with_at None = []
 with_at (Some t) = t ++ at_sign ∷ []
 
--- the port behind its colon
+-- the port after its colon
 abbrev pub port_text : Option ℕ → List ℕ
 port_text None = []
 port_text (Some n) = colon ∷ decimal n

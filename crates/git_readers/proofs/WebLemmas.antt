@@ -33,7 +33,7 @@ agrees_by (helper_url name) flag v web agrees = absurd (false≢true web)
 agrees_over_web : (v : Location) → form v ≡ form.Web → AgreesWithGit v → AgreesOverWeb v
 agrees_over_web v e agrees = agrees_by v.scheme v.flag v (ap is_web e) agrees
 
--- a segment of dots behind a `/` is one that readers take out
+-- a segment of dots after a `/` is one that readers take out
 dots_behind : (front path : List ℕ) → HasDots path → HasDotSegment (front ++ slash ∷ path)
 dots_behind front path (HasDots.whole _ dots) =
     record { front = front; dots = path; behind = []; joined = ap (λ x. front ++ slash ∷ x) (sym (append-nil path)); segment = dots; end = inl refl }
@@ -52,7 +52,7 @@ rooted_dots path rooted (HasDots.first _ segment rest (inr two) e) =
     absurd (false≢true (subst (λ x. begins_with slash x ≡ true) (e ∙ ap (λ x. x ++ slash ∷ rest) two) rooted))
 rooted_dots path rooted (HasDots.later _ front rest has e) = subst HasDotSegment (sym e) (dots_behind front rest has)
 
--- where Git agrees, a path of HTTP has no segment of dots
+-- if Git agrees, a path of HTTP has no segment of dots
 pub web_lacks_dots : (v : Location) → form v ≡ form.Web → AgreesWithGit v → LacksDots (form v) v.path
 web_lacks_dots v e agrees =
     let path = (agrees_over_web v e agrees).path in

@@ -1,4 +1,4 @@
--- The class of locations whose texts nobody misreads, condition by condition.
+-- The class of unambiguous locations, condition by condition.
 use Rattle.std.specs.Prelude.{◌≡◌, ℕ, ◌<◌, Bool, true, false, List, Option, Some, IfSome, IsUtf8}
 use Rattle.std.specs.List.{list_all}
 use Rattle.git_syntax.specs.Location.{Scheme, Location}

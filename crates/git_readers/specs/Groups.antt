@@ -132,7 +132,7 @@ abbrev pub colon_host : Option (List ℕ × List ℕ) → Option (List ℕ)
 colon_host None = None
 colon_host (Some (front, rest)) = unless_empty (named_in front)
 
--- the host of the URL that is made from an scp form
+-- the host of the URL as which an scp form is rewritten
 abbrev pub made_host : Option (List ℕ × List ℕ) → Option (List ℕ)
 made_host None = None
 made_host (Some (front, rest)) = some_host (authority front)

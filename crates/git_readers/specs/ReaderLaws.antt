@@ -1,4 +1,4 @@
--- The law on texts that nobody misreads, and the readers that are known to be of the family.
+-- The law on texts of unambiguous locations, and the readers that are known to be of the family.
 use Rattle.std.specs.Prelude.{◌≡◌, ℕ, false, List, Ok}
 use Rattle.git_syntax.specs.Location.{Location}
 use Rattle.git_location.specs.Text.{text}

@@ -1,5 +1,5 @@
--- A family of readers of remotes. A reader is a set of choices: where it cuts a text, and how it transforms
--- each piece. The readers that were tested differ in such choices.
+-- A family of readers of remotes. A reader is a set of choices: at which bytes it cuts a text, and how it
+-- transforms each piece. The readers that were tested differ in such choices.
 use Rattle.std.specs.Prelude.{◌≡◌, ℕ, Bool, true, false, not, ◌&&◌, ◌||◌, ◌==◌, List, [], ◌∷◌, codes, bytes_eq, decimal, drop, take, Option, Some, None, option_map, if◌then◌else◌}
 use Rattle.std.specs.List.{list_all, list_any}
 use Rattle.std.specs.Char.{is_ascii_digit}

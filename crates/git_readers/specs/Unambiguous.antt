@@ -1,5 +1,5 @@
--- The texts that nobody misreads: hosts, user information and paths in which all readers that were tested find
--- exactly the written text.
+-- The parts of unambiguous texts: hosts, user information and paths in which all readers that were tested
+-- find exactly the written text.
 use Rattle.std.specs.Prelude.{◌≡◌, ℕ, ◌<◌, ◌≤◌, Bool, true, false, ◌||◌, ◌==◌, ◌⊎◌, List, [], ◌∷◌, ◌++◌, length, codes, bytes_eq, Option, None, if◌then◌else◌}
 use Rattle.std.specs.List.{list_all}
 use Rattle.std.specs.Char.{is_ascii_alphanumeric, is_ascii_lowercase, is_ascii_digit}

@@ -1,8 +1,8 @@
 //! Groups of readers that cut remotes differently from Git, and the host that each finds in a text.
 //!
-//! A group is a way to cut texts. Each program by which it is named was tested: in most texts in which it finds
-//! another host than Git, it finds the host of the group. `docs/READERS.md` says in how many, and what it finds
-//! in the others. Which texts a program refuses isn't modelled.
+//! A group is a way to cut texts. Its programs were tested: in most texts in which such a program finds
+//! another host than Git, that host is the group's. `docs/READERS.md` has the numbers, and the hosts in the
+//! other texts. Whether a program refuses a text isn't modelled.
 
 ghost use Rattle.std.specs.Prelude.{◌≡◌, ◌<◌, ◌||◌, ◌++◌, ◌∷◌, IfSome, Some, length, nat_le, option_map};
 ghost use Rattle.std.specs.Char.{is_ascii_digit};
@@ -16,7 +16,8 @@ ghost use Rattle.git_readers.specs.Readers.{begins_port, cut_first, cut_last, fr
 use crate::host::{are_digits, is_named};
 use git_syntax::bytes::{cut, cut_before_path, is_scheme_text, last_cut, starts_with_byte};
 
-/// A group of readers that cut remotes in one way, which isn't Git's.
+/// A group of readers that cut remotes in one way, which isn't Git's. `other_host` of `git_audit` has an
+/// example.
 #[derive(Clone, Copy, PartialEq, Eq, Debug)]
 pub enum Group {
     /// Readers of URLs by RFC 3986: an authority ends at `/`, `?` or `#`, its last `@` ends user information,
@@ -25,7 +26,7 @@ pub enum Group {
     /// Readers of the URL Standard of the WHATWG: over HTTP a `\` is a `/`, and any number of them may follow the
     /// scheme and its colon.
     UrlStandard,
-    /// Readers that write an scp form as a URL of Secure Shell, and read that.
+    /// Readers that rewrite the scp form as a URL of Secure Shell, and read that URL.
     MadeUrls,
     /// Readers that end the host at the first `:`, whether a `/` precedes it or not.
     FirstColon,
@@ -41,7 +42,7 @@ pub enum Group {
 }
 
 impl Group {
-    /// The name of the group, in lower case, for programs. Allocates nothing.
+    /// The name of the group, in lower case, for programs.
     pub fn name(self) -> &'static str
         ensures { result.now ≡ group_name self }
     {
@@ -56,8 +57,7 @@ impl Group {
         }
     }
 
-    /// The readers of the group in a few words, which begin in lower case and have no end mark. Allocates
-    /// nothing.
+    /// The readers of the group in a few words, which begin in lower case and have no full stop.
     pub fn words(self) -> &'static str
         ensures { result.now ≡ group_words self }
     {
@@ -75,7 +75,7 @@ impl Group {
 
     /// The host that the group finds in a text, undecoded and without brackets, if it finds one. For
     /// [`Group::DigitsArePort`] the result includes the colon and the port, and the host before them may be
-    /// empty. Allocates nothing.
+    /// empty.
     pub fn host_in(self, text: &[u8]) -> Option<&[u8]>
         ensures { option_map (λ t. t.now) result ≡ host_by self text.now }
     {
@@ -310,8 +310,8 @@ struct ScpCut<'a> {
     rest: &'a [u8],
 }
 
-/// The text cut at its first colon, if that may end the host of an scp form: neither a second colon nor two slashes
-/// follow it.
+/// The text cut at its first colon, if that may end the host of an scp form: neither a second colon nor two
+/// slashes follow it.
 fn scp_cut(text: &[u8]) -> Option<ScpCut<'_>>
     ensures found { option_map (λ it. (it.front.now, it.rest.now)) result ≡ spec.scp_cut text.now }
     ensures joined { IfSome result (λ it. text.now ≡ it.front.now ++ colon ∷ it.rest.now) }
@@ -332,7 +332,7 @@ fn colon_host(text: &[u8]) -> Option<&[u8]>
     unless_empty(named_in(scp_cut(text)?.front))
 }
 
-/// The host of the URL that is made from an scp form.
+/// The host of the URL as which an scp form is rewritten.
 fn made_host(text: &[u8]) -> Option<&[u8]>
     ensures { option_map (λ t. t.now) result ≡ spec.made_host (spec.scp_cut text.now) }
 {

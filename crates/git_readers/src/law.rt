@@ -1,4 +1,4 @@
-//! The laws on texts that nobody misreads.
+//! The laws on texts of unambiguous locations.
 
 ghost use Rattle.git_readers.specs.KnownReaders.{WhatwgLeaves, git_credentials, git_transports, rfc3986};
 ghost use Rattle.git_readers.specs.Readers.{LeavesPlain};
@@ -21,7 +21,7 @@ pub fn law_unambiguous()
     ensures urls { UrlReadByAll }
 {}
 
-/// Readers that are of the family of [`law_unambiguous`], by the choices in their documents and sources.
+/// Four readers are of the family of [`law_unambiguous`], by the choices in their documents and sources.
 ///
 /// - `rfc`: RFC 3986.
 /// - `whatwg`: the URL Standard of the WHATWG, however it normalizes hosts and paths that aren't plain.

@@ -1,9 +1,8 @@
-//! The class of locations whose texts nobody misreads.
+//! The class of locations in whose texts all readers of a family find the same fields.
 //!
 //! Programs that check a remote and programs that connect to it often read its text by different rules.
-//! [`unambiguous::unmet_condition`] decides a class of locations in whose texts every reader of a family finds
-//! the same fields; [`law::law_unambiguous`] says so for each reader of that family. No function here
-//! allocates.
+//! [`unambiguous::unmet_condition`] decides this class; [`law::law_unambiguous`] states the property for each
+//! reader of the family. No function here allocates.
 #![tactic(auto)]
 
 mod classes;

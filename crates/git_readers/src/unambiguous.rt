@@ -1,4 +1,4 @@
-//! The conditions of the class of locations whose texts nobody misreads, and the first of them, in the order of
+//! The conditions of the class of unambiguous locations, and the first of them, in the order of
 //! [`Condition`], that a location doesn't meet.
 
 ghost use Rattle.std.specs.Prelude.{◌≡◌, ◌↔◌, IsTrue, IsNone, IfSome};
@@ -12,7 +12,7 @@ use git_syntax::escape::decodes_to;
 use git_syntax::scheme::SchemeRef;
 
 /// A condition under which readers find the same fields in the text of a location. The conditions are in the
-/// order in which they are tested.
+/// order in which they are tested. [`unmet_condition`] has an example.
 #[derive(Clone, Copy, PartialEq, Eq, Debug)]
 pub enum Condition {
     /// The location is settled, and Git reads the same place in its text.
@@ -45,12 +45,12 @@ pub enum Condition {
     ScpPath,
 }
 
-/// The forms of texts whose conditions differ.
+/// The forms of texts. Some conditions depend on the form.
 #[derive(Clone, Copy, PartialEq, Eq, Debug)]
 pub enum Form {
     /// A URL of HTTP.
     Web,
-    /// Another URL in which Git reads the same: of Secure Shell, of `git://` or of a file.
+    /// Any other URL that meets `Git`: of Secure Shell, of `git://` or of a file.
     Transport,
     /// The scp form.
     Scp,
@@ -70,9 +70,10 @@ pub(crate) fn form_of(url: &UrlRef<'_>) -> Form
     }
 }
 
-/// Whether every reader of a family finds the same fields in the text of the location. Allocates nothing.
+/// Whether every reader of a family is known to find the same fields in the text of the location.
 ///
-/// [`law_unambiguous`](crate::law::law_unambiguous) describes these readers.
+/// [`law_unambiguous`](crate::law::law_unambiguous) describes these readers. If the result is `false`, some
+/// of them may still find the same fields.
 ///
 /// ```
 /// /// Whether a checker may pass on a remote: what connects to it finds the host that was checked.
@@ -86,8 +87,7 @@ pub fn is_unambiguous(url: &UrlRef<'_>) -> bool
     unmet_condition(url).is_none()
 }
 
-/// The first condition that the location doesn't meet, or `None` if nobody misreads its text. Allocates
-/// nothing.
+/// The first condition that the location doesn't meet, or `None` if it meets all of them.
 ///
 /// ```
 /// /// Whether readers may find another host in the text of the location.
@@ -126,7 +126,7 @@ pub fn unmet_condition(url: &UrlRef<'_>) -> Option<Condition>
     }
 }
 
-/// Whether the path of the location is written without a spelling of its own.
+/// Whether the path of the location is written without a retained spelling.
 fn is_unescaped(url: &UrlRef<'_>) -> bool
     ensures { IsTrue result ↔ Meets Condition.Escapes url.now }
 {

@@ -1,5 +1,5 @@
-//! What Git's own transports read in a text: protocol, user, host, port and path, or the reason for which they
-//! read nothing.
+//! The reading of a text by Git's own transports: protocol, user, host, port and path, or the reason for
+//! which they read no place.
 //!
 //! The rules are those of Git 2.39.5 on Linux.
 
@@ -20,7 +20,7 @@ use git_syntax::bytes::{cut, cut_at_mark, is_free_of, is_helper_name, last_cut, 
 use git_syntax::scheme::{KnownScheme, scheme_of};
 use std::alloc::{AllocError, Global};
 
-/// Git's own transports.
+/// Git's own transports. [`reading`] has an example.
 #[derive(Clone, Copy, PartialEq, Eq, Debug)]
 pub enum Protocol {
     /// Secure Shell.
@@ -31,7 +31,7 @@ pub enum Protocol {
     File,
 }
 
-/// The place that Git reads. A file has only a path.
+/// The place that Git reads. A file has only a path. [`reading`] has an example.
 #[derive(Clone, Copy)]
 pub struct GitPlace<'a> {
     /// The transport.
@@ -46,7 +46,7 @@ pub struct GitPlace<'a> {
     pub path: &'a [u8],
 }
 
-/// Why Git reads no place in a text.
+/// Why Git reads no place in a text. [`reading`] has an example.
 #[derive(Clone, Copy, PartialEq, Eq, Debug)]
 pub enum Unread {
     /// An allocation failed.
@@ -76,7 +76,8 @@ impl From<AllocError> for Unread {
     }
 }
 
-/// The buffers of a reading: the decoded text, and a host without its brackets.
+/// The buffers of a reading, for the decoded text and for a host without its brackets. [`reading`] has an
+/// example.
 #[derive(Drop)]
 pub struct Buffers {
     decoded: Vec<u8>,
@@ -84,7 +85,7 @@ pub struct Buffers {
 }
 
 impl Buffers {
-    /// Two empty buffers. Allocates nothing.
+    /// Returns two empty buffers. Allocates nothing.
     pub fn new(alloc: Global) -> Buffers {
         Buffers {
             decoded: Vec::new(alloc),
@@ -93,10 +94,14 @@ impl Buffers {
     }
 }
 
-/// What Git reads in the text. The fields are borrowed from the text and from the buffers, whose former content
-/// is lost. Allocates if a URL is decoded or a host has brackets, at most as many bytes as the text has for
-/// each; if that fails, [`Unread::Memory`] is returned. Every other error says why Git reads no place in the
-/// text: byte 0 is returned before any other reason, and then `-` at the front.
+/// Returns the place that Git reads in the text. Its fields are borrowed from the text and from the buffers,
+/// which are overwritten. Allocates if a URL is decoded or a host has brackets, for each at most as many
+/// bytes as the text has.
+///
+/// # Errors
+///
+/// [`Unread::Memory`] if an allocation fails. Every other error is the reason for which Git reads no place in
+/// the text: a byte 0 takes precedence over all other reasons, and then a `-` at the front.
 ///
 /// ```
 /// /// The host that Git connects to.
@@ -189,7 +194,7 @@ fn on_this_machine(path: &[u8]) -> GitPlace<'_>
     }
 }
 
-/// The transport of Git's own that a scheme names.
+/// The transport, if a scheme names one of Git's own.
 fn own_protocol(scheme: &[u8]) -> Option<Protocol>
     ensures { MatchOption result (IsForeign scheme.now) (λ known. scheme_of scheme.now ≡ scheme_of_protocol known) }
 {

@@ -4,7 +4,7 @@ pub mod EscapeLemmas
 pub mod PlaceLemmas
 pub mod PassLemmas
 pub mod FlawLemmas
--- What each check finds, or else what the piece holds.
+-- The flaw that each check finds, or else the form of the piece.
 pub mod HostLemmas
 pub mod AuthorityLemmas
 pub mod SchemeLemmas
@@ -15,11 +15,12 @@ pub mod ScpLemmas
 pub mod OneCheckLemmas
 pub mod OneHostLemmas
 pub mod OneLemmas
--- What is refused: the flaw that its error names is there, so it spells no location, and its place is in it.
+-- The texts that are refused: the flaw that the error names is there, so such a text spells no location, and
+-- its place is in it.
 pub mod UnspelledLemmas
 pub mod WithinLemmas
 -- The front of a URL that is too long names its refusal.
 pub mod FrontLemmas
--- Where the parts of a location are.
+-- The places of the parts of a location.
 pub mod PartLemmas
 pub mod PartLawLemmas

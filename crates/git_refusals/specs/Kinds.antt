@@ -11,7 +11,7 @@ use Rattle.git_refusals.specs.declared.reason.RefusalKind.{RefusalKind}
 use Rattle.git_refusals.specs.declared.reason.RefusalKind.TheVariants as kind
 use Rattle.git_refusals.specs.declared.refusal.Refusal.{Refusal}
 
--- the error that a text is refused with for a reason
+-- the kind of the error with which a text is refused for a reason
 abbrev pub kind_of : Reason → RefusalKind
 kind_of reason.Empty = kind.EmptyLocal
 kind_of reason.PathMissing = kind.MissingPath

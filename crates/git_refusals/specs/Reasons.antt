@@ -91,7 +91,7 @@ pub record NoInner (syntax : HostSyntax) (text : List ℕ) (p : Place) : Type 0 
   pub no_literal : ¬ IsLiteral text
   pub no_other : NoOther syntax text p
 
--- the text in a port's place isn't a decimal number
+-- the text after the colon of a port isn't a decimal number
 pub record NoDigits (text : List ℕ) (p : Place) : Type 0 where
   pub other : list_all is_ascii_digit text ≡ false
   pub stands : Stands reason.PortNotANumber 0 (length text) p

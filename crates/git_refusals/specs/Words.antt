@@ -34,7 +34,7 @@ reason_words reason.PathMissing = codes "a path is required: write `/` and the p
 reason_words reason.FilePathMissing = codes "a file URL needs a path: write `file:///path`"
 reason_words reason.ScpPathMissing = codes "the path behind the `:` is missing"
 
--- a reason's name
+-- the name of a reason
 abbrev pub reason_name : Reason → List ℕ
 reason_name reason.Empty = codes "Empty"
 reason_name reason.SchemeTooLong = codes "SchemeTooLong"

@@ -1,4 +1,4 @@
-//! The front of a URL that is too long. An error shows it in place of the whole.
+//! The front of a URL that is too long, which an error shows instead of the whole URL.
 
 ghost use Rattle.std.specs.Prelude.{◌≡◌, ◌+◌, ◌≤◌, ℕ, List, Some, length};
 ghost use Rattle.git_refusals.specs.Fronts.{shown_front};

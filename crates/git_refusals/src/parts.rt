@@ -17,7 +17,7 @@ use git_syntax::bytes::{cut_before_path, last_cut};
 use git_syntax::classify::{Form, classify};
 use git_syntax::rules::rules_of;
 
-/// A part of a text: `len` bytes from index `at`.
+/// A part of a text: `len` bytes from index `at`. [`Parts`] has an example.
 #[derive(Clone, Copy, Debug, PartialEq, Eq)]
 pub struct Span {
     /// The number of bytes before it.
@@ -67,11 +67,11 @@ pub struct Parts {
     pub path: Span,
 }
 
-/// The places of the parts of the text's location. Allocates nothing.
+/// Returns the places of the parts of the text's location.
 ///
 /// # Errors
 ///
-/// The one refusal of a text that spells no location.
+/// Returns the one refusal of the text, if it spells no location.
 ///
 /// ```
 /// /// The front of a text that may be shown: all before its password, if it has one.

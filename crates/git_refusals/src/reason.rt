@@ -5,7 +5,7 @@ ghost use Rattle.git_refusals.specs.Kinds as spec;
 
 use git_syntax::refusal::UrlFault;
 
-/// The reason for which a text spells no location. `Display` says it in one sentence, without a byte of the
+/// The reason for which a text spells no location. `Display` writes it in one sentence, without a byte of the
 /// text.
 ///
 /// ```
@@ -73,7 +73,7 @@ pub enum Reason {
     ScpPathMissing,
 }
 
-/// The error that a text is refused with.
+/// The kind of the error with which a text is refused.
 ///
 /// ```
 /// fn has_bad_port(refusal: &Refusal) -> bool {
@@ -95,7 +95,7 @@ pub enum RefusalKind {
 }
 
 impl Reason {
-    /// The error that a text is refused with for this reason.
+    /// The kind of the error with which a text is refused for this reason.
     ///
     /// ```
     /// fn is_of_a_port(reason: Reason) -> bool {

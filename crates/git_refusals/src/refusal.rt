@@ -10,8 +10,8 @@ use thiserror::Error;
 
 /// Why a text spells no location, and the place of its flaw: `len` bytes of the text from index `at`.
 ///
-/// If the text has several flaws, it is the first in the order of checks, so each text has at most one refusal.
-/// It owns nothing and contains no byte of the text. `Display` says the reason in words.
+/// If the text has several flaws, the first in the order of checks is returned, so each text has at most one
+/// refusal. A refusal owns nothing and contains no byte of the text. `Display` writes the reason in words.
 ///
 /// ```
 /// /// The end of the text that is wrong, from the flaw on.

@@ -1,4 +1,4 @@
--- Which places a pattern stands for, and which pattern is the best.
+-- Which places a pattern denotes, and which pattern is the best.
 pub mod PathLemmas
 pub mod LabelLemmas
 pub mod RankLemmas

@@ -1,2 +1,2 @@
--- Numbers as digits write them: what more digits do to them, and which of them Git has room for.
+-- Numbers as digits write them: the effect of more digits, and the numbers that Git can hold.
 pub mod DigitLemmas

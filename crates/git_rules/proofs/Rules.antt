@@ -1,4 +1,4 @@
--- Tables of rules: ranks, the first bases of fronts, what a table notes, the rule that wins.
+-- Tables of rules: ranks, the first bases of fronts, the records of a table, the rule that wins.
 pub mod RankLemmas
 pub mod FrontLemmas
 pub mod TableLemmas

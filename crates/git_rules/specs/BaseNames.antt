@@ -22,7 +22,7 @@ pub record IsNameOf (name : BaseName) (path : List ℕ) : Type 0 where
   pub kept : take name.len name.bytes ≡ take most_kept (base_name path)
   pub ended : name.is_ended ≡ begins_with slash (reverse path)
 
--- the spot of a command line as the definitions name it
+-- the state in a command line that a context of the code represents
 abbrev pub spot_of : Place → Spot
 spot_of place.Bare = bare
 spot_of place.Single = single

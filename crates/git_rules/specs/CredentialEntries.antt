@@ -58,7 +58,7 @@ has_user None = false
 has_user (Some []) = false
 has_user (Some (b ∷ bs)) = true
 
--- the user after an entry that applies: the value of a `username`, unless the request has a user of its own
+-- the user after an entry that applies: the value of a `username`, unless the request itself has a user
 abbrev pub user_after : Option (List ℕ) → ConfigEntry → Option (List ℕ) → Option (List ℕ)
 user_after own e user = if has_name (codes "username") e && not (has_user own) then e.value else user
 

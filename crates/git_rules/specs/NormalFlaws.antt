@@ -19,8 +19,8 @@ abbrev pub HasHostBytes : Bool → List ℕ → Type 0
 HasHostBytes globs text = (name : List ℕ) × (port : List ℕ) × CutsPort text name port
     × (list_all (is_host_byte globs) name ≡ true)
 
--- the text after the colon is no port: after a host it is neither empty nor a number, and without a host, which
--- `file` allows, it isn't empty
+-- the text after the colon isn't a port: after a host it is neither empty nor a number, and without a host,
+-- which `file` allows, it isn't empty
 abbrev pub IsBadPort : List ℕ → List ℕ → List ℕ → Type 0
 IsBadPort scheme text port = ((lacks_host text ≡ false) × IsNoPort port)
     ⊎ ((lacks_host text ≡ true) × (scheme ≡ codes "file") × ¬ (port ≡ []))

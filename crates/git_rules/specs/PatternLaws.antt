@@ -17,7 +17,7 @@ use Rattle.git_rules.specs.Patterns.{Matches}
 abbrev pub IsOwnHost : List ℕ → List ℕ → Type 0
 IsOwnHost own host = (own ≡ host) ⊎ (own ≡ host ++ dot ∷ [])
 
--- the port of the connection: the given one, or else the scheme's default port
+-- the port of the connection: the port of the URL, or else the scheme's default port
 abbrev pub reached_port : List ℕ → Option ℕ → Option ℕ
 reached_port scheme (Some port) = Some port
 reached_port scheme None = default_port_of (scheme_of scheme)

@@ -56,7 +56,7 @@ abbrev pub is_from_user : Option (List ℕ) → Option Bool
 is_from_user None = Some true
 is_from_user (Some text) = boolean_of text
 
--- the decision by a test, whose result is missing if Git can't read it
+-- the decision by a test; it has no result if Git can't read the value
 abbrev pub by_test : Reason → Option Bool → Permission
 by_test by (Some true) = permission.Allowed by
 by_test by (Some false) = permission.Refused by

@@ -1,4 +1,4 @@
--- The program that Git runs for Secure Shell, and the variant that Git takes it for.
+-- The program that Git runs for Secure Shell, and its variant as Git determines it.
 use Rattle.std.specs.Prelude.{ℕ, Bool, true, false, ◌&&◌, ◌||◌, bytes_eq, codes, List, filter, Option, Some, None, Result, Ok, Err, is_none, is_some, unwrap_or, if◌then◌else◌}
 use Rattle.std.specs.List.{last_or}
 use Rattle.git_rules.specs.declared.ssh.SshVariant.{SshVariant}

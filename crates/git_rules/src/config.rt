@@ -54,14 +54,16 @@ impl<'a> Model for Entry<'a> {
 }
 
 impl Entry<'_> {
-    /// Whether the entry is in the section, ignoring letter case (ASCII), as Git compares sections.
+    /// Whether the entry is in the section, ignoring letter case (ASCII), as Git compares sections. [`Entry`]
+    /// has an example.
     pub fn is_section(&self, section: &str) -> bool
         ensures { result ≡ is_of_section section.now self.now }
     {
         is_word(self.section, section)
     }
 
-    /// Whether the entry has the name, ignoring letter case (ASCII), as Git compares names.
+    /// Whether the entry has the name, ignoring letter case (ASCII), as Git compares names. [`Entry`] has an
+    /// example.
     pub fn is_name(&self, name: &str) -> bool
         ensures { result ≡ has_name name.now self.now }
     {
@@ -69,7 +71,7 @@ impl Entry<'_> {
     }
 
     /// Whether the entry sets the variable `section.name`, with or without a subsection. [`Entry::is_section`]
-    /// compares the section, [`Entry::is_name`] the name; nothing else of the entry matters.
+    /// compares the section, [`Entry::is_name`] the name; the other fields are ignored.
     ///
     /// ```
     /// /// Whether an entry is `http.sslVerify` or `http.<url>.sslVerify`.
@@ -84,11 +86,12 @@ impl Entry<'_> {
     }
 }
 
-/// An error in the text, with the byte offset of the faulty entry, as a [`Reader`] returns it.
+/// An error in the text, with the byte offset of the faulty entry, as a [`Reader`] returns it. [`Reader`] has
+/// an example.
 #[derive(Clone, Copy, Debug, Drop, PartialEq, Eq, Error)]
 pub enum EntryError {
-    /// The key has no section or no name: it has no dot, begins with a dot or ends in one. The reader goes on with
-    /// the next entry.
+    /// The key has no section or no name: it has no dot, begins with a dot or ends in one. The reader
+    /// continues with the next entry.
     #[error("the key at byte {at} has no section or no name")]
     NoKey {
         /// The byte offset of the key in the text.
@@ -106,7 +109,7 @@ pub enum EntryError {
 ///
 /// Each entry ends in a byte 0. Its key ends before its first line feed, and its value is everything after that; an
 /// entry without a line feed has no value. For an entry that can't be read the item is an [`EntryError`], and the
-/// reader goes on after it.
+/// reader continues after it.
 ///
 /// ```
 /// /// At which bytes of a configuration there is something that is no entry.
@@ -140,7 +143,7 @@ impl<'a> Model for Reader<'a> {
 }
 
 impl<'a> Reader<'a> {
-    /// Returns a reader of the text that `git config --list -z` writes.
+    /// Returns a reader of the text that `git config --list -z` writes. [`Reader`] has an example.
     pub fn new(text: &'a [u8]) -> Reader<'a>
         ensures { result ≡ start text.now }
     {
@@ -232,7 +235,7 @@ fn cut_name(behind: &[u8]) -> (Option<&[u8]>, &[u8])
 /// Whether the text may be the output of `git config --list -z`: it is empty or contains a byte 0, and each key
 /// that a byte 0 ends has a section and a name.
 ///
-/// So the output of `git config --list`, or a configuration file of Git's, is not taken for a configuration without
+/// So the output of `git config --list`, or a configuration file, isn't mistaken for a configuration without
 /// entries. The result is true for a text whose last entry is cut off; a [`Reader`] reports that.
 ///
 /// ```

@@ -1,7 +1,6 @@
 //! The normal form of a URL, by which Git compares places when it picks `http.<url>.*` and `credential.<url>.*`.
 //!
-//! Nothing here allocates: a part whose normal form differs from its text is written to a buffer that the caller
-//! supplies.
+//! A part whose normal form differs from its text is written to a buffer that the caller supplies.
 
 mod authority;
 mod cuts;
@@ -20,7 +19,7 @@ use crate::normal::write::{lowered_in, write_parts};
 use std::marker::Model;
 use thiserror::Error;
 
-/// The reason why a text has no normal form.
+/// The reason why a text has no normal form. [`NormalUrl::parse_in`] has an example.
 #[derive(Clone, Copy, Debug, Error)]
 pub enum NormalError {
     /// The buffer is shorter than three times the text plus one byte.
@@ -48,7 +47,7 @@ pub enum NormalError {
 
 /// A URL in its normal form, as far as Git compares it, in slices of the text and of a buffer.
 ///
-/// The password isn't part of it.
+/// The password isn't part of it. [`NormalUrl::parse_in`] has an example.
 #[derive(Drop)]
 pub struct NormalUrl<'a> {
     /// The scheme, in lower case.
@@ -79,19 +78,21 @@ impl<'a> NormalUrl<'a> {
     ///
     /// The host contains no `*`; [`UrlPattern::parse_in`](crate::pattern::UrlPattern::parse_in) reads a pattern,
     /// which may contain it. `buffer` needs three bytes for each byte of the text, and one more
-    /// ([`needed_buffer_len`]). Allocates nothing.
+    /// ([`needed_buffer_len`]).
     ///
-    /// After [`NormalError::NoRoom`] and [`NormalError::NoUrl`] the buffer is unchanged. After an error in the
-    /// authority it may begin with the scheme in lower case. After an error in the path it may hold the scheme, the
-    /// user, the host and a part of the path, in normal form. The password is never written to it.
+    /// No clause states the contents of the buffer after the call. The code leaves it unchanged after
+    /// [`NormalError::NoRoom`] and [`NormalError::NoUrl`]. After an error in the authority it may begin with
+    /// the scheme in lower case. After an error in the path it may hold the scheme, the user, the host and a
+    /// part of the path, in normal form. The password is never written to it (tested).
     ///
     /// # Errors
     ///
     /// [`NormalError::NoRoom`] if the buffer is too short. Every other error is the reason why the text has no
     /// normal form; Git then uses only the settings for all places
     /// ([`settings_without_place`](crate::pattern::settings::settings_without_place)). If there are several
-    /// reasons, it is the first of these: no URL, a malformed escape in the user information, a byte that no host
-    /// has, no host, a bad port, a malformed escape after the authority, and a segment `..` above the root.
+    /// reasons, the first of these is returned: no URL, a malformed escape in the user information, a byte
+    /// that no host has, no host, a bad port, a malformed escape after the authority, and a segment `..`
+    /// above the root.
     ///
     /// ```
     /// /// The host whose settings apply to a text.

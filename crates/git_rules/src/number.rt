@@ -8,10 +8,12 @@ ghost use Rattle.git_rules.specs.Numbers.{fitting, is_blank, number_in, number_o
 
 use git_syntax::bytes::starts_with_byte;
 
-/// The maximum of C's `int`, as which Git reads most numbers of a configuration.
+/// The maximum of C's `int`, as which Git reads most numbers of a configuration. [`read_number`] has an
+/// example.
 pub const INT_MAX: u64 = 2_147_483_647;
 
-/// The maximum of C's 64-bit `ssize_t`, as which Git reads `http.postBuffer`.
+/// The maximum of C's 64-bit `ssize_t`, as which Git reads `http.postBuffer`. [`read_number`] has an example
+/// of its use with [`INT_MAX`].
 pub const SIZE_MAX: u64 = 9_223_372_036_854_775_807;
 
 /// The absolute value of a number as Git reads it, or `None` if the text isn't a number or the value exceeds

@@ -1,4 +1,4 @@
-//! Patterns of places, as in `credential.<url>.*` and `http.<url>.*`, and the best match among several.
+//! Patterns of places, as in `credential.<url>.*` and `http.<url>.*`, and the best match of several patterns.
 //!
 //! `place` returns the place of a location, `entries` picks the best entry of a configuration, and `settings`
 //! collects all entries that Git uses. Only `settings` allocates.
@@ -29,7 +29,8 @@ use std::marker::Model;
 ///   within a longer label it matches only itself, which no host contains. A `.` at the end of a host adds no
 ///   label.
 /// - The path of the place equals the path of the pattern without one trailing `/`, or continues it with a `/`.
-///   Only whole segments match; query and fragment are compared as they are.
+///   Only whole segments match; query and fragment are compared unchanged. [`UrlPattern::parse_in`] has an
+///   example.
 #[derive(Drop)]
 pub struct UrlPattern<'a> {
     /// The normal form.
@@ -47,9 +48,9 @@ impl<'a> Model for UrlPattern<'a> {
 impl<'a> UrlPattern<'a> {
     /// Returns the pattern that the text spells, as [`NormalUrl::parse_in`] reads it, with `*` allowed in the host.
     ///
-    /// `buffer` needs three bytes for each byte of the text, and one more. Allocates nothing. A text that
-    /// isn't a URL, such as `example.com`, isn't a pattern. [`NormalUrl::parse_in`] describes the contents of the
-    /// buffer after an error.
+    /// `buffer` needs three bytes for each byte of the text, and one more. A text that isn't a URL, such as
+    /// `example.com`, isn't a pattern. [`NormalUrl::parse_in`] describes the contents of the buffer after an
+    /// error.
     ///
     /// # Errors
     ///
@@ -78,7 +79,7 @@ impl<'a> UrlPattern<'a> {
 impl UrlPattern<'_> {
     /// Whether the pattern matches the place, by the rules of [`UrlPattern`].
     ///
-    /// The place is a normal form read without `*`, as [`place_in`](place::place_in) returns it for a location.
+    /// The place is a normal form without `*`, as [`place_in`](place::place_in) returns it for a location.
     ///
     /// ```
     /// /// Whether a proxy that is set for a URL is used for a place.
@@ -283,7 +284,8 @@ fn behind<'a>(front: &[u8], text: &'a [u8]) -> Option<&'a [u8]>
     text.strip_prefix(front)
 }
 
-/// A pattern only selects texts whose requests go to the pattern's own place.
+/// A pattern without `*` selects, of the locations that `agrees_with_git` accepts, only those whose requests
+/// go to the pattern's own place.
 ///
 /// Suppose that a pattern without `*` in its host matches the normal form of the text of an HTTP location for which
 /// [`UrlRef::agrees_with_git`](git_location::url_ref::UrlRef::agrees_with_git) is true. Then Git's credential code
@@ -293,10 +295,10 @@ fn behind<'a>(front: &[u8], text: &'a [u8]) -> Option<&'a [u8]>
 /// pattern. [`law_git`](git_laws::laws::law_git) states that each of the two readers has one reading of such a
 /// text.
 ///
-/// The law is about the text, not about a server's response. Git follows redirections as `http.followRedirects`
-/// says (`initial` if it isn't set), and also sends a header of `http.extraHeader` to the host that it is
-/// redirected to; libcurl only drops the header `Authorization`. The law doesn't cover proxies, `.netrc` and
-/// `GIT_ASKPASS`.
+/// The law is about the text, not about a server's response. Git follows redirections according to
+/// `http.followRedirects` (`initial` if it isn't set), and also sends a header of `http.extraHeader` to the
+/// host that it is redirected to; libcurl only drops the header `Authorization`. The law doesn't cover
+/// proxies, `.netrc` and `GIT_ASKPASS`.
 ///
 /// ```
 /// /// Whether the secret that is kept for a URL may be sent with a location's request, which is made to that URL's host.

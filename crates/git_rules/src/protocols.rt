@@ -1,7 +1,7 @@
 //! Which transports may be used, and which one a location uses.
 //!
-//! The decision is that of Git 2.39: by the list, by the last entry of a key, or by default. The result names the
-//! reason, and reports the same fault at which Git stops. No function here reads the environment.
+//! The decision is that of Git 2.39: by the list, by the last entry of a key, or by default. The result has
+//! the reason of the decision, or the error at which Git stops. No function here reads the environment.
 
 ghost use Rattle.std.specs.Prelude.{◌≡◌, ◌↔◌, IsTrue, option_map};
 ghost use Rattle.git_syntax.specs.Schemes.{scheme_text};
@@ -73,7 +73,7 @@ impl<'a> Model for Protocols<'a> {
     ghost view = { policy };
 }
 
-/// Git's decision about a transport, and the reason.
+/// Git's decision about a transport, and the reason. [`Permission::is_allowed`] has an example.
 #[derive(Clone, Copy, Debug, PartialEq, Eq)]
 pub enum Permission {
     /// Git uses it.
@@ -89,7 +89,7 @@ pub enum Permission {
     UnknownFromUser,
 }
 
-/// The reason why a transport is allowed or refused.
+/// The reason why a transport is allowed or refused. [`Protocols::permission`] has an example.
 #[derive(Clone, Copy, Debug, PartialEq, Eq)]
 pub enum Reason {
     /// The list of `GIT_ALLOW_PROTOCOL`.
@@ -140,8 +140,8 @@ impl Protocols<'_> {
     ///
     /// With `user`, the transport is allowed if `GIT_PROTOCOL_FROM_USER` is true or not set. Names are
     /// case-sensitive. A value that Git can't read is reported only if Git stops for it because it needs it: the
-    /// value of an entry if that entry decides, and `GIT_PROTOCOL_FROM_USER` with `user`. Looks at each entry at
-    /// most twice. Allocates nothing. The rules are those of git(1) and of `protocol.allow` in git-config(1).
+    /// value of an entry if that entry decides, and `GIT_PROTOCOL_FROM_USER` with `user`. Reads each entry at
+    /// most twice. The rules are those of git(1) and of `protocol.allow` in git-config(1).
     ///
     /// Git's helper for HTTP checks again, for `http`, `https`, `ftp` and `ftps`: whether it may use them, and
     /// whether it may follow redirections to them, the latter as if `GIT_PROTOCOL_FROM_USER` were false. So even if

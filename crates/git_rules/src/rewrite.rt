@@ -49,9 +49,9 @@ impl From<AllocError> for RewriteError {
 /// Rewrites<'a>`.
 ///
 /// A rule applies to a text that begins with its front, byte for byte. The rule with the longest front wins. Among
-/// equal fronts the base that comes first in the table wins, even if another rule put it there: Git keeps the
-/// fronts of a base together. An empty front applies to every text, and an empty base removes the front. The result
-/// is not rewritten again.
+/// equal fronts the base that comes first in the table wins, even if it is first because of a rule with
+/// another front: Git keeps all fronts of a base together. An empty front applies to every text, and an empty
+/// base removes the front. The result is not rewritten again.
 ///
 /// ```
 /// /// The text that Git fetches from, by a configuration that `git config --list -z` wrote.
@@ -78,7 +78,7 @@ impl<'a> Model for Rewrites<'a> {
 }
 
 impl<'a> Rewrites<'a> {
-    /// Returns an empty set of rules, which leaves every text unchanged. Allocates nothing yet.
+    /// Returns an empty set of rules, which leaves every text unchanged. Allocates nothing.
     /// [`Rewrites::add_fetch`] has an example.
     pub fn new(alloc: Global) -> Rewrites<'a>
         ensures { result ≡ no_rules }
@@ -91,7 +91,7 @@ impl<'a> Rewrites<'a> {
 
     /// Returns the rules of a configuration: `url.<base>.insteadOf` for fetching and `url.<base>.pushInsteadOf`
     /// for pushing, in the order of the entries. As in Git, an entry without a subsection isn't a rule. Allocates
-    /// as the tables grow.
+    /// as the tables grow. [`Rewrites`] has an example.
     ///
     /// # Errors
     ///
@@ -186,11 +186,11 @@ impl<'a> Rewrites<'a> {
         self.push.add(base, front)
     }
 
-    /// Rewrites a text that Git fetches from.
+    /// Rewrites a text that Git fetches from. [`Rewrites`] has an example.
     ///
-    /// Allocates nothing, and doesn't go through the rules: the text is looked up once for each length of a front
-    /// that is at most its own. That takes at most the sum of these lengths, in bytes, times the logarithm of the
-    /// number of rules.
+    /// The rules aren't tested one by one: the text is looked up once for each length of a front that is at
+    /// most its own. The time is at most proportional to the sum of these lengths, in bytes, times the
+    /// logarithm of the number of rules.
     pub fn rewrite_fetch<'t>(&self, text: &'t [u8]) -> Rewritten<'t>
     where
         'a: 't,
@@ -201,8 +201,8 @@ impl<'a> Rewrites<'a> {
 
     /// Rewrites a text that Git pushes to. If the remote has a push URL, the text is that URL and is rewritten as
     /// for fetching. Otherwise it is the remote's URL: a rule for pushing that applies takes precedence over all
-    /// rules for fetching, and if none applies the text is rewritten as for fetching. Allocates nothing, and takes
-    /// the time of [`Rewrites::rewrite_fetch`] for each kind of rules.
+    /// rules for fetching, and if none applies the text is rewritten as for fetching. The time is that of
+    /// [`Rewrites::rewrite_fetch`] for each of the two kinds of rules.
     ///
     /// ```
     /// /// The text that Git pushes to, for a remote with this URL and perhaps this push URL.

@@ -4,9 +4,9 @@
 //! option, and a shell reads the service and the path in the remote command (`specs/ShellWords.antt`). If Git reads
 //! the same place in the location's text, the words are Git's own (`law_git_words`).
 //!
-//! `ssh_command_for` decides whether there is a command: `request` holds the options of the call, `checks` refuses
-//! unsafe parts. `command` holds the parts of a command, and `words` writes its words. `program` determines which
-//! program Git runs with them. No program is run here.
+//! `ssh_command_for` returns the command of a location, if it has one. `request` has the options of the call,
+//! `checks` refuses unsafe parts, `command` has the parts of a command, and `words` writes its words.
+//! `program` determines which program Git runs with them. No program is run here.
 
 ghost use Rattle.std.specs.Prelude.{◌≡◌, IfErr, IfOk, None, OnOk, Some, map};
 ghost use Rattle.bstr.specs.Owned.{bstring_bytes};
@@ -167,7 +167,7 @@ pub enum SshRefusal {
     PortOfSimple,
 }
 
-/// An error of [`ssh_words`].
+/// An error of [`ssh_words`]: memory, or the reason why there is no command.
 ///
 /// ```
 /// /// Whether the same call can succeed later: nothing is wrong with the location.
@@ -248,7 +248,7 @@ pub fn ssh_words(
 }
 
 /// Returns the command with which Git runs Secure Shell for a location and a service: [`ssh_command_for`] with the
-/// service's own program and any address family. Allocates nothing.
+/// service's own program and any address family.
 ///
 /// ```
 /// /// The port and the host that are connected to, and whether a user is named.
@@ -260,7 +260,7 @@ pub fn ssh_words(
 ///
 /// # Errors
 ///
-/// An error exactly if the definition `ssh_refusal` has a reason to refuse, with the first such reason.
+/// An [`SshRefusal`] exactly if the definition `ssh_refusal` has a reason to refuse: the first such reason.
 pub fn ssh_command<'a>(
     url: &UrlRef<'a>,
     service: Service,
@@ -285,8 +285,8 @@ pub fn ssh_command<'a>(
     ssh_command_for(url, &request)
 }
 
-/// Returns the command with which Git runs Secure Shell for a location and a request. Allocates nothing. The
-/// command borrows from the location and from the request's program.
+/// Returns the command with which Git runs Secure Shell for a location and a request. The command borrows
+/// from the location and from the request's program.
 ///
 /// User, host, port and path are the location's own: no default user or port is added, the host has no brackets
 /// around an address, port 0 is a port, and a path may contain any byte except 0. Only the options begin with `-`,
@@ -319,9 +319,9 @@ pub fn ssh_command<'a>(
 ///
 /// # Errors
 ///
-/// An error exactly if the definition `ssh_refusal` has a reason to refuse, with the first such reason: reasons in
-/// the location come first, then those in the program, then an address family or a port for which the variant
-/// `simple` has no option.
+/// An [`SshRefusal`] exactly if the definition `ssh_refusal` has a reason to refuse: the first such reason.
+/// Reasons in the location precede those in the program, and these an address family or a port for which the
+/// variant `simple` has no option.
 pub fn ssh_command_for<'a>(
     url: &UrlRef<'a>,
     request: &SshRequest<'a>,

@@ -17,7 +17,7 @@ use crate::word::is_word;
 use git_syntax::bytes::starts_with_byte;
 use thiserror::Error;
 
-/// The kind of value that an entry needs, as [`kind_of`] returns it.
+/// The kind of value that an entry needs, as [`kind_of`] returns it. [`stop_at`] has an example.
 #[derive(Clone, Copy, Debug, PartialEq, Eq)]
 pub enum ValueKind {
     /// A text, which may be empty.
@@ -38,7 +38,7 @@ pub enum ValueKind {
     Allowance,
 }
 
-/// The reason why Git stops at an entry, as [`stop_at`] returns it.
+/// The reason why Git stops at an entry, as [`stop_at`] returns it. [`stop_at`] has an example.
 #[derive(Clone, Copy, Debug, PartialEq, Eq, Error)]
 pub enum Stop {
     /// The value is missing, and Git needs one.
@@ -56,7 +56,7 @@ pub enum Stop {
 }
 
 /// Returns the kind of value that an entry needs, or `None` if Git doesn't stop at any value of the entry or if the
-/// entry isn't in the table below.
+/// entry isn't in the table below. [`stop_at`] has an example of the values at which Git stops.
 ///
 /// The table lists the names that affect locations, for Git 2.39.5. Sections and names are compared ignoring letter
 /// case (ASCII).

@@ -1,2 +1,2 @@
--- A text spells no location exactly where it has a flaw, and no settled location is an exception.
+-- A text spells no location exactly if it has a flaw, and no settled location is an exception.
 pub mod RefusalLemmas

@@ -1,4 +1,4 @@
--- What a text spells: forms, and for each reader that it finds what is there and nothing else.
+-- The grammar: forms, and for each reader that it finds exactly the parts that the text has.
 pub mod FormLemmas
 pub mod ClassifierLemmas
 pub mod SchemeLemmas

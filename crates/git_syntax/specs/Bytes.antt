@@ -128,7 +128,7 @@ abbrev pub IsLowercase : List ℕ → Type 0
 IsLowercase bs = lowercase bs ≡ bs
 
 -- no character of the text is white space, as Unicode defines it. This is meaningful for UTF-8 only: for other
--- bytes `chars` is no decoding, so `IsUtf8` is required with it
+-- bytes `chars` isn't a decoding, so `IsUtf8` is required with it
 abbrev pub LacksWhiteSpace : List ℕ → Type 0
 LacksWhiteSpace bs = list_any is_whitespace (chars bs) ≡ false
 

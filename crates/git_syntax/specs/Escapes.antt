@@ -23,7 +23,7 @@ begins_with_digits [] = false
 begins_with_digits (high ∷ []) = false
 begins_with_digits (high ∷ low ∷ rest) = is_hexadecimal high && is_hexadecimal low
 
--- the spelling decodes to the path: it matches
+-- the spelling decodes to the path
 abbrev pub DecodesTo : List ℕ → List ℕ → Type 0
 DecodesTo spelling path = percent_decode spelling ≡ path
 

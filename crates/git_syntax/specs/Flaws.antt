@@ -21,7 +21,7 @@ use Rattle.git_syntax.specs.Grammar.{HasHelperForm, ScpForm, AddressedForm, IsAd
 abbrev pub IsNoPort : HostSyntax → List ℕ → Type 0
 IsNoPort syntax text = (0 < length text) × ((port : ℕ) → ¬ Number syntax text port)
 
--- the text in a port's place, which is all that follows the colon, is not a port
+-- the text after the colon of a port is not a port
 pub data HasBadPort (syntax : HostSyntax) (piece : List ℕ) : Type 0 where
   -- after a host outside brackets
   plain : (text digits : List ℕ) → IsPlainHost text → FreeOf colon digits
@@ -49,9 +49,9 @@ pub record BracketsAround (piece x rest : List ℕ) : Type 0 where
   pub joined : piece ≡ left_bracket ∷ (x ++ right_bracket ∷ rest)
   pub followed : (rest ≡ []) ⊎ (begins_with colon rest ≡ true)
 
--- a byte or an escape in the host's place is not allowed
+-- a byte or an escape in the place of the host is not allowed
 pub data HasBadHost (syntax : HostSyntax) (piece : List ℕ) : Type 0 where
-  -- the text before the port's place denotes no host
+  -- the text before the place of the port denotes no host
   plain : (text rest : List ℕ) → IsPlainHost text → IsPortPlace rest → piece ≡ text ++ rest
       → IsNoHost syntax text → HasBadHost syntax piece
   -- HTTP refuses colons that don't begin a port

@@ -28,7 +28,7 @@ HasHelperForm b = (name : List ℕ) × (address : List ℕ) × HelperCut b name 
 abbrev pub helper_scheme : List ℕ → Scheme
 helper_scheme name = if bytes_eq name (codes "ext") then ext else helper name
 
--- a remote helper: the address stays as it is
+-- a remote helper: the address is used unchanged
 pub record SpellsHelper (b : List ℕ) (v : Location) : Type 0 where
   pub name : List ℕ
   pub address : List ℕ
@@ -37,8 +37,8 @@ pub record SpellsHelper (b : List ℕ) (v : Location) : Type 0 where
 
 -- ---- URLs (RFC 3986)
 
--- the fields of a URL, before its scheme gives them a meaning: user, password and host decoded, the path as it
--- is spelled
+-- the fields of a URL, before the rules of its scheme are applied: user, password and host decoded, the path
+-- as it is spelled
 pub record UrlSyntax : Type 0 where
   pub scheme : List ℕ
   pub user : Option (List ℕ)
@@ -114,7 +114,7 @@ path_for http path = or_root path
 path_for https path = or_root path
 path_for _ path = path
 
--- the spelling of a path is retained if it has an escape
+-- the spelling of a path, which is retained if it has an escape
 abbrev pub retained_spelling : List ℕ → Option (List ℕ)
 retained_spelling path = if has_percent path then Some path else None
 
@@ -145,13 +145,13 @@ DenotesAs https b parts v = DenotesByScheme https parts v
 DenotesAs (helper name) b parts v = DenotesByScheme (helper name) parts v
 DenotesAs (helper_url name) b parts v = DenotesByScheme (helper_url name) parts v
 
--- a URL, except for those of the scheme `file`
+-- a URL of any scheme except `file`
 pub record SpellsUrl (b : List ℕ) (v : Location) : Type 0 where
   pub parts : UrlSyntax
   pub spelled : HasUrlSyntax b parts
   pub means : DenotesAs (scheme_of parts.scheme) b parts v
 
--- a file URL: host and path stay as they are
+-- a file URL: host and path are used unchanged
 pub record SpellsFile (b : List ℕ) (v : Location) : Type 0 where
   pub host : List ℕ
   pub path : List ℕ

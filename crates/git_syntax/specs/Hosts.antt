@@ -33,7 +33,7 @@ HostText http_hosts text host = (list_all is_http_host_byte text ≡ true) × (h
 HostText git_hosts text host = IsUtf8 (percent_decode text) × (host ≡ normal_host (percent_decode text))
 HostText other_hosts text host = IsUtf8 (percent_decode text) × (host ≡ normal_host (percent_decode text))
 
--- the text is an IPv6 literal, in some normal form
+-- the text is an IPv6 literal: it has a normal form as one
 abbrev pub IsLiteral : List ℕ → Type 0
 IsLiteral text = (normal : List ℕ) × Literal text normal
 

@@ -15,7 +15,7 @@ is_ssh_scheme s = bytes_eq s (codes "ssh")
 abbrev pub is_web_scheme : List ℕ → Bool
 is_web_scheme s = bytes_eq s (codes "http") || bytes_eq s (codes "https")
 
--- the scheme that a text names exactly
+-- the scheme of which the text is the name, byte for byte
 abbrev pub scheme_of : List ℕ → Scheme
 scheme_of s =
     if is_ssh_scheme s then ssh
@@ -37,7 +37,7 @@ scheme_text ext = codes "ext"
 scheme_text (helper name) = name
 scheme_text (helper_url name) = name
 
--- the port of a location with this scheme that names none
+-- the default port of the scheme, if it has one
 abbrev pub default_port_of : Scheme → Option ℕ
 default_port_of http = Some 80
 default_port_of https = Some 443

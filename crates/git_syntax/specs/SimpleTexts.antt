@@ -1,4 +1,4 @@
--- Simple texts: most remotes. The text of such a location is the text that it was read from.
+-- Simple texts, which most remotes are: the text of the location that such a text spells is the text itself.
 use Rattle.std.specs.Prelude.{◌≡◌, ℕ, ◌<◌, ◌≤◌, true, false, List, [], ◌∷◌, ◌++◌, length, codes, Option, Some, None, IfSome, IsUtf8}
 use Rattle.git_syntax.specs.Location.{Scheme, Location, path_alone}
 use Rattle.git_syntax.specs.Location.Scheme.{file, git, ssh, http, https}

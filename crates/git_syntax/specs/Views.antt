@@ -1,10 +1,10 @@
--- The scheme of the definitions for that of the code.
+-- The scheme that a `SchemeRef` represents.
 use Rattle.git_syntax.specs.declared.scheme.SchemeRef.{SchemeRef}
 use Rattle.git_syntax.specs.declared.scheme.SchemeRef.TheVariants as borrowed
 use Rattle.git_syntax.specs.Location.{Scheme}
 use Rattle.git_syntax.specs.Location.Scheme.{file, git, ssh, http, https, ext, helper, helper_url}
 
--- the scheme that a borrowed one of the code represents
+-- the scheme that a `SchemeRef` represents
 abbrev pub borrowed_scheme : SchemeRef → Scheme
 borrowed_scheme borrowed.File = file
 borrowed_scheme borrowed.Git = git

@@ -12,7 +12,7 @@ ghost use Rattle.git_syntax.specs.Internal.Cuts.{CutsAt, CutsAtLast, CutsAtMark,
 use bstr::ByteSlice;
 use memchr::memchr3;
 
-/// The bytes before and after the first `c`.
+/// The bytes before and after the first `c`, or `None` if no byte is `c`.
 pub fn cut(bytes: &[u8], c: u8) -> Option<(&[u8], &[u8])>
     ensures { CutsAt c bytes.now result }
 {
@@ -20,7 +20,7 @@ pub fn cut(bytes: &[u8], c: u8) -> Option<(&[u8], &[u8])>
     Some((bytes.split_at(at).0, bytes.split_at(at + 1).1))
 }
 
-/// The bytes before and after the last `c`.
+/// The bytes before and after the last `c`, or `None` if no byte is `c`.
 pub fn last_cut(bytes: &[u8], c: u8) -> Option<(&[u8], &[u8])>
     ensures { CutsAtLast c bytes.now result }
 {
@@ -28,7 +28,7 @@ pub fn last_cut(bytes: &[u8], c: u8) -> Option<(&[u8], &[u8])>
     Some((bytes.split_at(at).0, bytes.split_at(at + 1).1))
 }
 
-/// The bytes before and after the first `://`.
+/// The bytes before and after the first `://`, or `None` if there is none.
 pub fn cut_at_mark(bytes: &[u8]) -> Option<(&[u8], &[u8])>
     ensures { CutsAtMark bytes.now result }
 {
@@ -36,7 +36,7 @@ pub fn cut_at_mark(bytes: &[u8]) -> Option<(&[u8], &[u8])>
     Some((bytes.split_at(at).0, bytes.split_at(at + 3).1))
 }
 
-/// The bytes after `c`, if `c` is the first byte.
+/// The bytes after the first byte, if that is `c`; otherwise `None`.
 pub fn after(bytes: &[u8], c: u8) -> Option<&[u8]>
     ensures { StripsFirst c bytes.now result }
 {
@@ -46,7 +46,7 @@ pub fn after(bytes: &[u8], c: u8) -> Option<&[u8]>
     }
 }
 
-/// The bytes before `c`, if `c` is the last byte.
+/// The bytes before the last byte, if that is `c`; otherwise `None`.
 pub fn before(bytes: &[u8], c: u8) -> Option<&[u8]>
     ensures { StripsLast c bytes.now result }
 {
@@ -137,7 +137,7 @@ pub fn is_helper_name(bytes: &[u8]) -> bool
     }
 }
 
-/// Whether the text is the same in lower case.
+/// Whether the text has no upper-case letter of ASCII.
 pub fn is_lowercase(bytes: &[u8]) -> bool
     ensures { IsTrue result ↔ IsLowercase bytes.now }
 {

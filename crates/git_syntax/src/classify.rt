@@ -1,7 +1,7 @@
 //! The form of a text, and the pieces that it is cut into.
 //!
-//! The form is the one that the definitions give the text. The pieces, joined by the marks of that form, are
-//! the text.
+//! The form is the one in which the definitions read the text. The pieces, joined by the marks of that form,
+//! are the text.
 
 ghost use Rattle.std.specs.Prelude.{◌≡◌, ◌<◌, ◌++◌, ◌∷◌, List, ℕ, MatchOption, length};
 ghost use Rattle.git_syntax.specs.Bytes.{FreeOf, colon, left_bracket, right_bracket, slash};
@@ -44,7 +44,7 @@ pub enum Form<'a> {
     Local,
 }
 
-/// The form of the text.
+/// Returns the form of the text, with its pieces.
 pub fn classify(bytes: &[u8]) -> Form<'_>
     ensures { Classifies bytes.now result }
 {

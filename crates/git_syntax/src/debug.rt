@@ -1,10 +1,10 @@
-//! The debug output that replaces bytes: their number.
+//! The debug output of bytes: their number.
 
 ghost use Rattle.std.specs.Prelude.{◌++◌, Some, codes, decimal};
 
 use std::fmt;
 
-/// Formats as a number of bytes, in place of the bytes.
+/// A number of bytes. `Debug` writes it as `12 bytes`, in place of the bytes.
 #[derive(Clone, Copy)]
 pub struct Length(pub usize);
 

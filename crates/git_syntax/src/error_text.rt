@@ -28,7 +28,7 @@ impl fmt::Display for UrlFault {
 
     ghost styled_output = { λ fault _. Some (url_fault_words fault) };
 
-    /// Writes what the URL has or lacks: the words continue `the URL has`, or `the scp form has`.
+    /// Writes the end of a sentence that begins with `the URL has` or `the scp form has`.
     fn fmt<W: fmt::Write>(&self, f: &mut fmt::Formatter<W>) -> fmt::Result {
         match self {
             UrlFault::NoScheme => f.write_str("no valid scheme"),

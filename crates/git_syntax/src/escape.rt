@@ -50,14 +50,15 @@ pub const PASSWORD: AsciiSet = ascii_set!(
 /// The bytes that are escaped in a user: those of the password, and `:`.
 pub const USER: AsciiSet = ascii_set!(PASSWORD.add(b':'));
 
-/// Each set of escaped bytes is the documented set, to which the definition of a location's text refers. It has
-/// exactly these bytes of ASCII; bytes that are not ASCII are always escaped.
+/// Each set of escaped bytes is the documented set, to which the definition of a location's text refers. It
+/// has exactly these bytes of ASCII. The law is about ASCII only: by the definition of percent-encoding,
+/// every other byte is escaped.
 ///
 /// - `path`: in a path of HTTP, the controls, the space, `"`, `%`, `<`, `>`, `` ` ``, `{` and `}`.
 /// - `password`: in a password, those and `#`, `/`, `?`, `@`, `[`, `\`, `]`, `^` and `|`.
 /// - `user`: in a user, those and `:`.
 ///
-/// By this law, users who compare written texts know which bytes are written unescaped.
+/// By this law a program that compares written texts knows which bytes of ASCII are written unescaped.
 pub fn law_sets()
     ensures path { PathSet }
     ensures password { PasswordSet }
@@ -148,7 +149,7 @@ fn decoded_block(text: &[u8]) -> ([u8; 64], &[u8])
     (block, rest)
 }
 
-/// The next four bytes of a decoding, or as many as are left, and their number.
+/// The first four bytes of the decoding, or all of it if it is shorter, and their number.
 pub fn front(text: &[u8]) -> ([u8; 4], usize)
     ensures small { result.1 ≤ 4 }
     ensures full { length (take result.1 result.0) ≡ result.1 }
@@ -168,7 +169,7 @@ pub fn front(text: &[u8]) -> ([u8; 4], usize)
     (window, count)
 }
 
-/// The first byte of the decoding of a text, and the rest of the text after it.
+/// The first byte of the decoding of a text, and the text after it; `None` if the text is empty.
 #[inline(always)]
 pub fn split_decoded(text: &[u8]) -> Option<(u8, &[u8])>
     ensures { SplitsDecoded text.now result }
@@ -222,7 +223,7 @@ pub fn lacks_white_space(text: &str) -> bool
     is_printable(text.as_bytes()) || !has_white_space(text)
 }
 
-/// The bytes that the text decodes to.
+/// Returns the decoding of the text. Fails only if an allocation fails.
 pub fn decode(alloc: Global, text: &[u8]) -> Result<Vec<u8>, AllocError>
     ensures { IfOk result (λ v. v.items ≡ percent.percent_decode text.now) }
 {
@@ -235,7 +236,7 @@ pub fn decode(alloc: Global, text: &[u8]) -> Result<Vec<u8>, AllocError>
     Ok(bytes)
 }
 
-/// Writes the decoding of the text to the front of the buffer and returns its length.
+/// Writes the decoding of the text to the front of the buffer and returns its length in bytes.
 pub fn decode_into(buffer: &mut [u8], text: &[u8]) -> usize
     requires { length (percent.percent_decode text.now) ≤ length buffer.old }
     ensures size { result ≡ length (percent.percent_decode text.now) }
@@ -251,7 +252,7 @@ pub fn decode_into(buffer: &mut [u8], text: &[u8]) -> usize
     size
 }
 
-/// The decoding of the text, which is UTF-8.
+/// Returns the decoding of the text, which is UTF-8. Fails only if an allocation fails.
 pub fn decoded_text(alloc: Global, text: &[u8]) -> Result<String, AllocError>
     requires { IsUtf8 (percent.percent_decode text.now) }
     ensures { IfOk result (λ s. string_bytes s ≡ percent.percent_decode text.now) }

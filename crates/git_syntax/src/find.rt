@@ -1,7 +1,6 @@
 //! Finds the form of a text and the slices that its location consists of.
 //!
-//! If an error is returned, the definitions spell no location with the text, and the flaw that it names is in
-//! the text.
+//! If an error is returned, the text spells no location, and it has the flaw that the error names.
 
 ghost use Rattle.std.specs.Prelude.{◌≡◌, ◌≤◌, [], Err, IfErr, IfOk, length};
 ghost use Rattle.git_syntax.specs.Flaws.{NamesFlaw};
@@ -15,7 +14,7 @@ use crate::refusal::Refusal;
 use crate::scp::{find_addressed, find_scp};
 use crate::url::find_url;
 
-/// The slices of the one location that the bytes spell.
+/// Returns the slices of the one location that the bytes spell, or a flaw of the bytes.
 pub fn find(bytes: &[u8]) -> Result<Found<'_>, Refusal>
     ensures found { IfOk result (λ found. Spells bytes.now (denoted found)) }
     ensures ready { IfOk result (λ found. IsReady found) }

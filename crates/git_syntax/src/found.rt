@@ -1,7 +1,7 @@
 //! The slices of a text that a location consists of.
 //!
 //! [`crate::find::find`] returns them. The definitions in `specs/Internal/FoundPieces.antt` say which location
-//! they mean.
+//! they denote.
 
 use crate::rules::Rules;
 use crate::url_syntax::ParsedUrl;
@@ -9,16 +9,16 @@ use crate::url_syntax::ParsedUrl;
 /// The slices that a location consists of, by its form.
 #[derive(Clone, Copy)]
 pub enum Found<'a> {
-    /// A remote helper: both slices stay as they are.
+    /// A remote helper: both slices are used unchanged.
     Helper {
         name: &'a [u8],
         address: &'a [u8],
     },
-    /// A local path, which stays as it is.
+    /// A local path, which is used unchanged.
     Local {
         path: &'a [u8],
     },
-    /// A file URL: both slices stay as they are. An empty host counts as a missing one.
+    /// A file URL: both slices are used unchanged. An empty host counts as a missing one.
     File {
         host: &'a [u8],
         path: &'a [u8],
@@ -32,7 +32,7 @@ pub enum Found<'a> {
         rules: Rules,
         url: ParsedUrl<'a>,
     },
-    /// The scp form: the user stays as it is, and so does the path, except for a `/` before a `~`.
+    /// The scp form: the user is used unchanged, and so is the path, except for a `/` before a `~`.
     Scp {
         user: Option<&'a [u8]>,
         host: ScpHost<'a>,
@@ -47,6 +47,6 @@ pub enum ScpHost<'a> {
     Literal(&'a [u8]),
     /// A host outside brackets: it is lowercased if it looks like a domain name.
     Name(&'a [u8]),
-    /// A simple host, or any other text that was in brackets: it stays as it is.
+    /// A simple host, or any other text that was in brackets: it is used unchanged.
     Kept(&'a [u8]),
 }

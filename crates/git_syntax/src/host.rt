@@ -1,7 +1,7 @@
 //! Host and port, which follow the user information in an authority.
 //!
-//! Both are read, as slices of the text, exactly if the definitions spell them. If an error is returned, the
-//! text has the flaw that it names. Only [`HostPort::build`] allocates.
+//! Both are returned, as slices of the text, exactly if the text spells a host and a port. If an error is
+//! returned, the text has the flaw that the error names. Only [`HostPort::build`] allocates.
 
 ghost use Rattle.std.specs.Prelude.{◌≡◌, ℕ, IsUtf8, ◌<◌, ◌↔◌, ◌++◌, ◌∷◌, List, Option, None, IsTrue, IfOk, IfErr, IfSome, MatchOption, false, length};
 ghost use Rattle.git_syntax.specs.Bytes.{FreeOf, begins_with, left_bracket, right_bracket};
@@ -21,14 +21,14 @@ use crate::refusal::UrlFault;
 use bytes::{are_http_host_bytes, are_simple_bytes, is_literal};
 use port::{are_digits, ends_host, with_port, with_rest};
 
-/// How strictly a host is read.
+/// The syntax of a host, which depends on the scheme.
 #[derive(Clone, Copy, PartialEq, Eq)]
 pub enum HostSyntax {
-    /// As in HTTP: escapes stay, and brackets contain an IPv6 literal.
+    /// The syntax of HTTP: escapes are kept, and brackets contain an IPv6 literal.
     Http,
-    /// As in Git's own transports: an IPv6 text needs no brackets.
+    /// The syntax of Git's own transports: an IPv6 text needs no brackets.
     Git,
-    /// As in any other scheme.
+    /// The syntax of any other scheme.
     Other,
 }
 
@@ -39,11 +39,11 @@ pub enum HostPiece<'a> {
     Simple(&'a [u8]),
     /// An IPv6 text without brackets, perhaps followed by a colon: it is lowercased.
     Address(&'a [u8]),
-    /// A host of HTTP: its escapes stay.
+    /// A host of HTTP: its escapes are kept.
     Kept(&'a [u8]),
     /// Any other host outside brackets: it is decoded.
     Decoded(&'a [u8]),
-    /// An IPv6 literal in brackets, in HTTP: the address is lowercased, the zone with its `%25` stays.
+    /// An IPv6 literal in brackets, in HTTP: the address is lowercased, the zone with its `%25` is kept.
     Literal(&'a [u8]),
     /// An IPv6 literal in brackets, in another scheme: it is decoded, and the address is lowercased.
     DecodedLiteral(&'a [u8]),
@@ -56,7 +56,7 @@ pub enum HostPiece<'a> {
 pub struct HostPort<'a> {
     /// The host.
     pub piece: HostPiece<'a>,
-    /// Whether a colon that follows the host stays with it.
+    /// Whether a colon that follows the host is part of it.
     pub keeps_colon: bool,
     /// The port.
     pub port: Option<u16>,
@@ -83,7 +83,7 @@ pub(crate) fn read_host(syntax: HostSyntax, piece: &[u8]) -> Result<Option<HostP
     Ok(Some(named))
 }
 
-/// The port of a host that may be missing.
+/// The port, if there is a host with a port.
 pub fn port_of(host: Option<HostPort<'_>>) -> Option<u16>
     ensures { result ≡ port_of host.entry }
 {
@@ -106,7 +106,7 @@ pub(crate) fn simple_host(piece: &[u8]) -> Option<HostPort<'_>>
     }
 }
 
-/// Whether the text is a simple host.
+/// Whether the text is known to be a simple host. If the result is `false`, nothing is known.
 pub fn is_simple_host(text: &[u8]) -> bool
     ensures { IsTrue result → IsSimpleHost text.now }
 {

@@ -1,8 +1,8 @@
 //! The length test of URLs.
 //!
-//! A check takes the text after the `://` of a URL in any number of pieces, so it also works for a text that is
-//! in no single buffer. It reads no further once the outcome is fixed. If the text is no longer than the limit,
-//! it passes without being read.
+//! A check receives the text after the `://` of a URL in any number of pieces, so it also works for a text
+//! that isn't in one buffer. It reads no further byte once the outcome is fixed, and none if the text is at
+//! most as long as the limit.
 
 ghost use Rattle.std.specs.Prelude.{◌≡◌, ◌↔◌, ◌++◌, [], List, ℕ, IsTrue, not};
 ghost use Rattle.std.specs.List.{count_by};
@@ -16,7 +16,7 @@ use crate::bytes::cut_before_path;
 use crate::scheme::is_web_scheme;
 use memchr::{memchr2, memchr3};
 
-/// The number of bytes that a scheme may have, and the number that may count of the text after `://`.
+/// The maximal length of a scheme, in bytes, and the maximal number of bytes after `://` that may count.
 pub const LIMIT: usize = 1024;
 
 /// The state of a check over the text after the `://` of a URL.

@@ -1,11 +1,11 @@
 //! The syntax of Git locations: the form of a text, and the slices that its location consists of.
 //!
 //! [`find::find`] returns slices of the text, or a flaw in it. The modules below it read texts, bytes, escapes,
-//! IPv6 addresses, schemes and hosts. The type of a location is in the crates above; here a location is the
-//! value of the definitions (`specs/Location.antt`).
+//! IPv6 addresses, schemes and hosts. The types of locations are in the crates above; contracts here describe
+//! a location by its eight fields (`specs/Location.antt`).
 //!
 //! No function here allocates, except [`host::HostPort::build`], [`escape::decode`] and
-//! [`escape::decoded_text`]. Each test is the definition of the same name.
+//! [`escape::decoded_text`]. A test of a text returns the result of the definition that its contract names.
 #![tactic(auto)]
 
 pub mod address_law;

@@ -5,8 +5,8 @@ ghost use Rattle.git_syntax.specs.Internal.Masks.{HasBit};
 
 /// A bit of a mask is set exactly if the byte of the text is of the class.
 ///
-/// A mask is defined by the list of tests, in the way the vectors compute it. This law gives the meaning of each bit,
-/// and says that no bit after the text is set.
+/// A mask is defined over the list of test results, as the vector operations compute it. This law states the
+/// meaning of each bit, and that no bit after the text is set.
 pub fn law_masks()
     ensures bits { (test : ℕ → Bool) (text : List ℕ) (i : ℕ) → HasBit test text i }
 {}

@@ -1,5 +1,5 @@
 //! Parse errors: why a text spells no location, the form that it was read as, and its flaw. They contain
-//! nothing of the text.
+//! no byte of the text.
 
 /// The form that a text was read as. `Display` names it, as in `the URL has no path`.
 ///
@@ -24,7 +24,7 @@ pub enum UrlKind {
     Local,
 }
 
-/// The flaw in a URL, or in the host of the scp form. `Display` says it in words.
+/// The flaw in a URL, or in the host of the scp form. `Display` writes it in words.
 ///
 /// ```
 /// fn has_bad_port(error: &Error) -> bool {
@@ -41,7 +41,7 @@ pub enum UrlKind {
 pub enum UrlFault {
     /// The text before `://` isn't a scheme.
     NoScheme,
-    /// The text in a port's place isn't a port.
+    /// The text after the colon of a port isn't a port.
     BadPort,
     /// A byte or a character is not allowed, or an escape is malformed or doesn't decode to text.
     BadCharacter,
@@ -49,8 +49,8 @@ pub enum UrlFault {
     HostRequired,
 }
 
-/// Why a text spells no location: a flaw that is in it. If the text has several flaws, it is the one that
-/// `find` returns; `git_refusals` defines the one reason for an error and its one place.
+/// Why a text spells no location: a flaw of the text. If the text has several flaws, no clause says which one
+/// is returned; `git_refusals` determines one reason and one place.
 #[derive(Clone, Copy)]
 pub enum Refusal {
     /// The text is empty.

@@ -1,4 +1,4 @@
-//! The rules that a URL's scheme has for the rest of it. They are decided once and passed on.
+//! The rules that the scheme of a URL sets for the rest of the URL. They are determined once for each URL.
 
 ghost use Rattle.std.specs.Prelude.{◌≡◌, false, true};
 ghost use Rattle.git_syntax.specs.Internal.HostPieces.{host_syntax};
@@ -8,18 +8,18 @@ ghost use Rattle.git_syntax.specs.Schemes.{is_web_scheme, host_syntax_of, scheme
 use crate::host::HostSyntax;
 use crate::scheme::{KnownScheme, is_ftp, is_named, scheme_of};
 
-/// The rules that a URL's scheme has for the rest of it.
+/// The rules that the scheme of a URL sets for the rest of the URL.
 #[derive(Clone, Copy)]
 pub struct Rules {
-    /// The known scheme that its text names.
+    /// The known scheme, or `Other`.
     pub known: KnownScheme,
-    /// The syntax of its host.
+    /// The syntax of the host.
     pub syntax: HostSyntax,
-    /// Whether it needs a host.
+    /// Whether the URL needs a host.
     pub needs_host: bool,
-    /// Whether it is one of HTTP's: a path may also begin with `?` or `#`, and an empty one is the root.
+    /// Whether the scheme is one of HTTP: a path may then begin with `?` or `#`, and an empty one is `/`.
     pub web: bool,
-    /// Whether it needs a path, in which a home folder has no `/` before it.
+    /// Whether the URL needs a path. The `/` before a home folder in it is then removed.
     pub needs_path: bool,
 }
 

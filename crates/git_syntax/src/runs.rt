@@ -1,19 +1,19 @@
-//! Runs of escapes, as they spell texts beyond ASCII. They are passed without a search for each `%`.
+//! Runs of consecutive escapes, as in texts beyond ASCII. They are read without a search for each `%`.
 
 ghost use Rattle.std.specs.Prelude.{◌≡◌, nat_le};
 ghost use Rattle.git_syntax.specs.Internal.Runs.{PassesDigits, StripsDigits, StripsEscape};
 
 use crate::escape::is_hexadecimal;
 
-/// Whether an escape with this first digit stands for a byte that isn't ASCII.
+/// Whether an escape with this first digit decodes to a byte that isn't ASCII.
 fn is_high(digit: u8) -> bool
     ensures { result ≡ nat_le 56 digit }
 {
     b'8' <= digit
 }
 
-/// The text after two hexadecimal digits and the escapes that follow them, and whether all of them, behind a `%`,
-/// stand for ASCII. `None` if the text doesn't begin with two digits.
+/// The text after two hexadecimal digits and the escapes that follow them, and whether these digits, after a
+/// `%`, and these escapes all decode to ASCII. `None` if the text doesn't begin with two digits.
 pub(crate) fn past_run(text: &[u8]) -> Option<(bool, &[u8])>
     ensures { PassesDigits text.now result }
 {

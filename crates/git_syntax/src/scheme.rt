@@ -9,7 +9,7 @@ ghost use Rattle.git_syntax.specs.Views.{borrowed_scheme};
 
 use crate::text::as_text;
 
-/// The scheme of a borrowed location: a [`Scheme`] whose name is a slice. Copying it allocates nothing.
+/// The scheme of a borrowed location: a [`Scheme`] whose name is a slice.
 ///
 /// ```
 /// fn is_encrypted(scheme: SchemeRef<'_>) -> bool {
@@ -52,7 +52,7 @@ impl<'a> SchemeRef<'a> {
         }
     }
 
-    /// The text that the scheme is written with, like [`Scheme::as_str`]. Allocates nothing.
+    /// The text that the scheme is written with, like [`Scheme::as_str`].
     ///
     /// ```
     /// /// The protocol of a location, for as long as what lends it.
@@ -75,8 +75,7 @@ impl<'a> SchemeRef<'a> {
         }
     }
 
-    /// The port of a location with this scheme that names none, like [`Scheme::default_port`]. Allocates
-    /// nothing.
+    /// The default port of the scheme, if it has one, like [`Scheme::default_port`].
     ///
     /// ```
     /// fn port_of(scheme: SchemeRef<'_>) -> u16 {
@@ -98,7 +97,7 @@ impl<'a> SchemeRef<'a> {
     }
 }
 
-/// The scheme of a remote helper with this name.
+/// Returns the scheme of a remote helper with this name.
 pub fn helper_scheme(name: &[u8]) -> SchemeRef<'_>
     requires { IsUtf8 name.now }
     ensures { borrowed_scheme result ≡ helper_scheme name.now }
@@ -109,7 +108,7 @@ pub fn helper_scheme(name: &[u8]) -> SchemeRef<'_>
     SchemeRef::Helper(as_text(name))
 }
 
-/// A known scheme, which a text names exactly.
+/// The known schemes, and one variant for all others. Names are compared byte for byte.
 #[derive(Clone, Copy)]
 pub enum KnownScheme {
     /// The local file system.
@@ -124,11 +123,11 @@ pub enum KnownScheme {
     Https,
     /// The remote helper `ext`.
     Ext,
-    /// Any other scheme, which has no name except its text.
+    /// Any other scheme: its text is its name.
     Other,
 }
 
-/// The scheme that a text names.
+/// The known scheme of which the text is the name, or `Other`.
 pub fn scheme_of(text: &[u8]) -> KnownScheme
     ensures { scheme_named result text.now ≡ scheme_of text.now }
 {
@@ -153,7 +152,7 @@ pub fn scheme_of(text: &[u8]) -> KnownScheme
     KnownScheme::Other
 }
 
-/// Whether the text is a known scheme.
+/// Whether the text is the name of a known scheme.
 pub fn is_known_scheme(text: &[u8]) -> bool
     ensures { result ≡ is_known_scheme text.now }
 {

@@ -38,16 +38,18 @@ pub struct SimplePieces<'a> {
     pub path: &'a [u8],
 }
 
-/// Whether the text is known to be a simple one, like [`simple_pieces`]. `false` says nothing.
+/// Whether the text is known to be a simple one, by [`simple_pieces`]. If the result is `false`, nothing is known.
 pub fn is_simple_text(bytes: &[u8]) -> bool
     ensures { IsTrue result → (v : Location) × IsSimpleText bytes.now v }
 {
     matches!(simple_pieces(bytes), Some(_))
 }
 
-/// The fields of the location that the text spells, if the text is known to be a simple one: a text of 16 to 64 bytes
-/// that are letters, digits, or one of `+`, `,`, `-`, `.`, `/`, `:`, `@`, `_` and `~`, with a simple host. Such a
-/// location is settled, and the text is its own. `None` says nothing.
+/// Returns the fields of the location that the text spells, if the text is known to be a simple one. Such a location is
+/// settled, and the text is its own. If the result is `None`, nothing is known.
+///
+/// The code accepts only texts of 16 to 64 bytes, each of which is a letter, a digit, or one of `+`, `,`, `-`, `.`, `/`,
+/// `:`, `@`, `_` and `~`.
 #[inline(always)]
 pub fn simple_pieces(bytes: &[u8]) -> Option<SimplePieces<'_>>
     ensures { IfSome result (λ pieces. IsSimpleText bytes.now (simple_location pieces)) }

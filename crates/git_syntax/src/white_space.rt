@@ -20,7 +20,8 @@ pub(crate) fn has_white_space(text: &str) -> bool
 fn may_hold_space(text: &[u8]) -> bool
     ensures { result ≡ list_any spec.may_begin_space text.now }
 {
-    // A loop without an early exit is compiled to test many bytes at once, but not where it is part of another function.
+    // A loop without an early exit is compiled to test many bytes at once, but not if it is part of another
+    // function.
     let mut may = false;
     for byte in text {
         may |= may_begin_space(*byte);

@@ -1,4 +1,4 @@
--- Components of a path: cut, lent, returned, compared.
+-- Components of a path: cut, borrowed, returned, compared.
 pub mod SameLemmas
 pub mod MeaningLemmas
 pub mod LentLemmas

@@ -1,4 +1,4 @@
--- A location from its fields: their text is read, and HTTP keeps the given path.
+-- A location from its fields: their text is read, and HTTP keeps the path of the fields.
 use Rattle.std.specs.Prelude.{◌≡◌, ℕ, Bool, List, [], ◌∷◌, Option, Some, None, Result, Ok, Err, if◌then◌else◌}
 use Rattle.bstr.specs.declared.bstring.BString.{BString}
 use Rattle.bstr.specs.Owned.{bstring_bytes}
@@ -35,12 +35,12 @@ invalid_name _ = None
 abbrev pub ReportsName : List ℕ → Error → Type 0
 ReportsName name e = (reported : BString) × (e ≡ error.HelperName reported) × (bstring_bytes reported ≡ name)
 
--- the given path, or the other one if it is empty
+-- the first path, or the other one if it is empty
 abbrev pub given_or : List ℕ → List ℕ → List ℕ
 given_or [] other = other
 given_or (b ∷ bs) other = b ∷ bs
 
--- the location that was read, with the given path and no spelling of it
+-- the location that was read, with this path and no spelling
 abbrev pub with_kept_path : List ℕ → Location → Location
 with_kept_path path read = record read { path = given_or path read.path; spelling = None }
 
@@ -61,7 +61,7 @@ abbrev pub GivesBack : Location → Result Location Error → Type 0
 GivesBack input (Ok v) = v ≡ input
 GivesBack input (Err e) = e ≡ error.Memory
 
--- the result of making a location from fields
+-- the result of building a location from fields
 pub record BuiltFrom (input : Location) (result : Result Location Error) : Type 0 where
   -- a name of a remote helper that isn't valid is refused, and reported
   pub helper_name : (name : List ℕ) → invalid_name input.scheme ≡ Some name
@@ -71,5 +71,5 @@ pub record BuiltFrom (input : Location) (result : Result Location Error) : Type 
       → result ≡ Err (error.Unwritable f)
   -- otherwise the text of the fields is read
   pub read : (t : List ℕ) → text input ≡ Ok t → ReadsKept input t result
-  -- settled fields come back unchanged
+  -- settled fields are returned unchanged
   pub settled : IsSettled input → GivesBack input result

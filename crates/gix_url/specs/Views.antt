@@ -1,4 +1,4 @@
--- The scheme of the definitions for that of the code.
+-- The scheme that a `Scheme` represents.
 use Rattle.std.specs.Prelude.{string_bytes}
 use Rattle.gix_url.specs.declared.scheme.Scheme as rust
 use Rattle.gix_url.specs.declared.scheme.Scheme.TheVariants.{File, Git, Ssh, Http, Https, Ext, Helper, HelperUrl}
@@ -7,7 +7,7 @@ use Rattle.git_syntax.specs.Location.Scheme.{file, git, ssh, http, https, ext, h
 pub use Rattle.git_location.specs.Views.{judgement}
 pub use Rattle.git_syntax.specs.Views.{borrowed_scheme}
 
--- the scheme that one of the code represents
+-- the scheme that a `Scheme` represents
 abbrev pub owned_scheme : rust.Scheme → Scheme
 owned_scheme File = file
 owned_scheme Git = git

@@ -18,7 +18,7 @@ impl Url {
     /// The empty location: the scheme is Secure Shell, the path is empty, all other fields are missing, and the
     /// flag isn't set. Allocates nothing.
     ///
-    /// It is a value whose fields are to be set. Without that it isn't settled: its text is `ssh:///`.
+    /// Set its fields before use: unchanged it isn't settled, and its text is `ssh:///`.
     ///
     /// ```
     /// fn at_host(alloc: Global, host: String) -> Url {
@@ -121,7 +121,7 @@ impl Url {
         self.as_ref().path_is_root()
     }
 
-    /// Whether a spelling of the path is retained, with its escapes. Allocates nothing.
+    /// Whether the location retains an escaped spelling of its path. Allocates nothing.
     ///
     /// Reading retains the escaped path if it has an escape. The spelling isn't a public field, but equality,
     /// order and hash depend on it, and the text of the location contains it if it still decodes to the path.

@@ -71,7 +71,7 @@ impl Url {
 
     /// A copy of a local location with the result of `resolve` as its path; a copy of any other location. The
     /// result is that of [`Url::clone`], and then [`Url::canonicalize`] of the copy. All other fields are those of
-    /// the location.
+    /// the location. Allocates the copy.
     ///
     /// # Errors
     ///

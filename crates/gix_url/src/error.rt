@@ -16,10 +16,10 @@ use git_syntax::refusal::{UrlFault, UrlKind};
 use std::alloc::AllocError;
 use thiserror::Error;
 
-/// Why a text or a value was refused.
+/// The error of a call: a text or a value was refused, or an allocation failed.
 ///
-/// `Display` says it in words, `Debug` by its fields. Neither shows bytes of a text that was refused, which may
-/// have a password; this is tested, no clause says it. `Debug` shows the number of these bytes, but the user of
+/// `Display` writes it in words, `Debug` by its fields. Neither shows bytes of a text that was refused, which
+/// may have a password (tested, not proved). `Debug` shows the number of these bytes, but the user of
 /// `NoHome` unchanged. The bytes are in the fields.
 ///
 /// [`Error::refusal`] returns the place and the reason of the flaw in the text of a parse error.
@@ -112,8 +112,8 @@ impl Error {
 
 impl Error {
     /// The reason and the place of the flaw in the text of a parse error: the one [`Refusal`] of that text,
-    /// also if the text is too long and the error has only its front. `None` for any other error, and for one
-    /// that a program made with a text that spells a location. The text is read again. Allocates nothing.
+    /// even if the text is too long and the error has only its front. `None` for any other error, and for one
+    /// that a program built with a text that spells a location. The text is read again. Allocates nothing.
     ///
     /// ```
     /// /// How many bytes of a text are before what is wrong with it.

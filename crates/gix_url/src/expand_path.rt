@@ -1,7 +1,7 @@
 //! Home folders: the user of a path's home folder, and the path below that folder.
 //!
-//! A closure or a text says which home folders there are. If a path can be expanded, the only possible errors
-//! are failed allocations.
+//! The caller supplies the home folders by a closure or by one folder. If a path can be expanded, the only
+//! possible errors are failed allocations.
 
 ghost use Rattle.std.specs.Prelude.{◌≡◌, Err, IfErr, IfOk, IfSome, IsOk, IsUtf8, None, Ok, Some, false, option_map, string_bytes};
 ghost use Rattle.std.specs.Fn.{FnOnceReturnsAt};
@@ -66,9 +66,9 @@ impl From<ForUser> for Option<BString> {
 
 /// The user in whose home folder a path begins, if it begins with `/~`, and the path below that folder.
 ///
-/// `/~` and `/~/rest` mean the current user, `/~name` and `/~name/rest` the user of that name. The path below
+/// `/~` and `/~/rest` name the current user, `/~name` and `/~name/rest` the user of that name. The path below
 /// the folder is `/` and the rest, with U+FFFD in place of invalid UTF-8. Any other path has no user, and is
-/// returned unchanged.
+/// returned unchanged. Allocates copies of the name and of the path.
 ///
 /// # Errors
 ///

@@ -1,4 +1,4 @@
-//! A location from its fields: their text is written and then read.
+//! A location from its fields, whose text is written and then read.
 
 ghost use Rattle.std.specs.Prelude.{◌≡◌, None, Some, IfErr, IfOk, option_map, string_bytes};
 ghost use Rattle.bstr.specs.Owned.{bstring_bytes};
@@ -13,18 +13,18 @@ use git_syntax::bytes::is_helper_name;
 use std::alloc::Global;
 
 impl Url {
-    /// The location that the text of these fields means: they are written as one text, and that is read.
+    /// Writes the fields as one text, and returns the location that this text spells.
     ///
     /// The result may have other fields than the arguments: a `https` host `h` with the path `repo` is written
-    /// `https://hrepo`, which names the host `hrepo`. Settled fields come back equal: every public field as it
-    /// was given, and no spelling. `Http` and `Https` keep the given path unless it is empty, and no spelling
-    /// of it; if the text meant another path, the result may be unsettled, see [`Url::is_settled`]. The last
-    /// argument requests the alternative form, which is not a URL, if the scheme has one; the result has the
-    /// form of the text.
+    /// `https://hrepo`, which names the host `hrepo`. Settled fields are returned unchanged, without a
+    /// spelling. For `Http` and `Https` the path of the result is `path`, unless that is empty, and it has no
+    /// spelling. If the text spells another path, the result may be unsettled (see [`Url::is_settled`]). The
+    /// last argument requests the alternative form, which is not a URL, if the scheme has one; the result has
+    /// the form of the text.
     ///
-    /// A path of HTTP includes the query and the fragment; an IPv6 text of Secure Shell has no brackets; the
-    /// port can be 0 except in HTTP; user and host can begin with `-`, so test them before they are passed to a
-    /// command.
+    /// A path of HTTP includes the query and the fragment. An IPv6 text of Secure Shell has no brackets. The
+    /// port can be 0 except in HTTP. The user and the host can begin with `-`, so test them before they are
+    /// passed to a command.
     ///
     /// Allocates once for the text, and then like [`crate::parse::parse`]. The arguments are consumed, even if
     /// an error is returned.
@@ -102,7 +102,7 @@ fn invalid(name: String) -> Error
     Error::HelperName { name }
 }
 
-/// The location that was read from the text of the given fields, with their path if it is kept.
+/// The location that was read from the text of the fields, with their path if it is kept.
 fn keep_path(input: Url, read: Url) -> Url
     ensures { result ≡ keeping input.scheme input.path read }
 {
@@ -112,7 +112,7 @@ fn keep_path(input: Url, read: Url) -> Url
     }
 }
 
-/// The location that was read, with the given path unless that is empty, and without a spelling.
+/// The location that was read, with this path unless that is empty, and without a spelling.
 fn with_kept_path(path: BString, mut read: Url) -> Url
     ensures { result ≡ with_kept_path (bstring_bytes path) read }
 {

@@ -1,5 +1,4 @@
-//! The classes of locations in whose texts Git, or every reader, reads the same place, like those of the
-//! borrowed location.
+//! The classes of locations in whose texts Git, or every reader of a family, reads the same fields.
 
 ghost use Rattle.std.specs.Prelude.{◌↔◌, IsTrue, IsNone, IfSome};
 ghost use Rattle.git_location.specs.GitClass.{AgreesWithGit};
@@ -14,9 +13,9 @@ use git_location::git::conditions::WebCondition;
 use git_readers::unambiguous::{Condition, is_unambiguous, unmet_condition};
 
 impl Url {
-    /// Whether Git reads this very place in the text of the location: the same scheme, user, host, port and
-    /// path; of `git://` the host without the brackets around it. The host of `git://[::1]/p` is `[::1]` here,
-    /// and Git connects to `::1`. Allocates nothing.
+    /// Whether Git is known to read this very place in the text of the location: the same scheme, user, host,
+    /// port and path; of `git://` the host without the brackets around it. The host of `git://[::1]/p` is
+    /// `[::1]` here, and Git connects to `::1`. Allocates nothing.
     ///
     /// Git passes a text of HTTP to curl, and asks its credential code for a password. For such a location,
     /// `true` means that this code reads in the text the location's own scheme, user, password, host with port,
@@ -29,8 +28,8 @@ impl Url {
     ///
     /// `docs/GIT.md` lists the conditions, and Git's readings of texts that don't meet them. The result is `false`
     /// for an unsettled location, for one that Git passes to another remote helper than that of HTTP, and for some
-    /// that Git reads alike. The definitions, such as `GitReads`, are a model of Git: that Git 2.39.5 on Linux
-    /// follows them is tested, not proved.
+    /// in which Git does read the same place. The definitions, such as `GitReads`, are a model of Git: that
+    /// Git 2.39.5 on Linux follows them is tested, not proved.
     ///
     /// ```
     /// /// The text for Git, if Git reads the same place in it.
@@ -66,14 +65,15 @@ impl Url {
         self.as_ref().unmet_web_condition()
     }
 
-    /// Whether every reader of a family finds the same fields in the text of the location. Allocates nothing.
+    /// Whether every reader of a family is known to find the same fields in the text of the location.
+    /// Allocates nothing.
     ///
     /// If the result is `true`, Git agrees as well, and every reader of a family (`LeavesPlain`) finds the
     /// location's own scheme, user, password, host, port and path in its text
     /// ([`law_unambiguous`](crate::laws::law_unambiguous)): whichever `@` or `:` it cuts at, whether `?`, `#`,
     /// `;` or `\` end its authority, and whatever it decodes. Pass on the text that [`Url::to_bstring`] writes.
     /// The result is `false` for many texts that most readers read alike. `docs/READERS.md` has the conditions,
-    /// and what readers in use find in texts that don't meet them.
+    /// and the hosts that readers in use find in texts that don't meet them.
     ///
     /// ```
     /// /// Whether what connects to a remote finds the host that was checked.

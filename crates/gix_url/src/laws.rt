@@ -1,9 +1,9 @@
 //! Laws of the library, over the definitions of its contracts alone.
 //!
-//! The functions have no effect: the contract of each is its laws. (`law_value` reads the fields of a
-//! location.) Most laws are in `git_laws`, and some in the modules that they are about; this module has those
-//! about errors that own a text. Users combine them with the contracts of `parse`, of the writer, of the
-//! settled test and of `lines`, which name the same definitions.
+//! The functions have no effect: the clauses of each are laws. (`law_value` reads the fields of a location.)
+//! Most laws are in `git_laws`, and some in the modules that they are about; this module has those about
+//! errors that own a text. Users combine them with the contracts of `parse`, of the writer, of the settled
+//! test and of `lines`, which name the same definitions.
 
 ghost use Rattle.gix_url.specs.Laws.{ReadersAgree, SameWithBuffer};
 ghost use Rattle.git_syntax.specs.Refusals.{Decided, Flawless};
@@ -22,13 +22,14 @@ pub use git_readers::law::{law_known_readers, law_unambiguous};
 pub use git_syntax::address_law::law_address_test;
 pub use git_syntax::escape::law_sets;
 
-/// Reading with allocation and reading without it have the same results.
+/// Reading with allocation and reading without it have the same results, unless memory or the buffer is too
+/// small.
 ///
 /// - `agree`: for the same bytes [`parse`](crate::parse::parse) and
 ///   [`UrlRef::parse_in`](crate::UrlRef::parse_in) return the same location, or both refuse them; otherwise an
 ///   allocation of the first failed, or the buffer of the second is shorter than the bytes.
 /// - `same`: with a buffer as long as the bytes, the second returns a location exactly if the first does when
-///   no allocation fails. So a program without an allocator reads every text like one that has one.
+///   no allocation fails. So a program without an allocator reads every text like a program with one.
 pub fn law_readers()
     ensures agree { ReadersAgree }
     ensures same { SameWithBuffer }

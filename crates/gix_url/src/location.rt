@@ -1,4 +1,4 @@
-//! The type of locations, [`Url`], and the same location borrowed. To contracts both are one value of eight
+//! The type of locations, [`Url`], and the same location borrowed. In contracts both are one value of eight
 //! fields.
 
 ghost use Rattle.std.specs.Prelude.{◌≡◌};
@@ -12,12 +12,13 @@ use std::marker::Model;
 
 /// A Git location: a URL, a location in the scp form, a local path or the address of a remote helper.
 ///
-/// Contracts see all eight fields of it as one value, including the retained spelling of its path.
+/// In contracts it is one value of eight fields: those below, and the retained spelling of the path.
 ///
 /// A program may change the fields. Afterwards a location may have no text, or one that is read as something else:
 /// [`Url::is_settled`] reports this. `Display` shows `redacted` in place of the field `password`
 /// ([`law_hidden_password`](crate::laws::law_hidden_password), for a formatter that doesn't indent), and so does
-/// `Debug` (tested). They hide nothing else: a secret in a path or a query, or in the user's place, is shown.
+/// `Debug` (tested). They hide nothing else: a secret in a path or a query, or in the place of the user, is
+/// shown.
 ///
 /// ```
 /// /// Whether a command of Secure Shell needs the option for a port.

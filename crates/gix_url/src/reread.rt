@@ -14,11 +14,11 @@ use std::alloc::Global;
 impl Url {
     /// Reads the text of the location by [`parse`].
     ///
-    /// A settled location, see [`Url::is_settled`], comes back with the same public fields and the same text,
-    /// and is settled again. Any other may come back as another location or not at all: after a program changed
-    /// a field, the text can name another host, or be missing. The retained spelling of the path is that of the
-    /// text, so the result need not be equal to the location: `http://h/a<b` is read without a spelling, and
-    /// its text `http://h/a%3Cb` with one.
+    /// A settled location (see [`Url::is_settled`]) is read as a location with the same public fields and the
+    /// same text, which is settled again. Any other may be read as another location or be refused: after a
+    /// program changed a field, the text can name another host, or there may be no text. The retained
+    /// spelling of the path is that of the text, so the result need not be equal to the location:
+    /// `http://h/a<b` is read without a spelling, and its text `http://h/a%3Cb` with one.
     ///
     /// Allocates once for the text, and then like [`parse`].
     ///

@@ -8,16 +8,16 @@ use crate::location::Url;
 impl Url {
     /// Whether the location is of the settled class. Allocates nothing.
     ///
-    /// The text of a settled location is read as the same public fields, and is written the same again. For
-    /// local files, HTTP, `ext` and remote helpers no other location has this property, if its spelling isn't
-    /// its path. For the other kinds some have: Git with the host `]` and the path `/p` is not settled, though
-    /// it comes back.
+    /// The text of a settled location is read as a location with the same public fields and the same text
+    /// ([`law_separation`](git_laws::laws::law_separation)). For local files, HTTP, `ext` and remote helpers
+    /// no other location has this property, if its spelling isn't its path. For the other kinds some have: a
+    /// location of `git` with the host `]` and the path `/p` is not settled, though its text is read as the
+    /// same fields.
     ///
-    /// Most locations that are read are settled. `[host]::path` isn't: its text `host::path` names a remote
-    /// helper. Nor is a location of which a program changed a field so that its text means another place.
+    /// Most locations that are read are settled. Exceptions are `[host]::path`, whose text `host::path` names
+    /// a remote helper, and locations that a program changed so that their text names another place.
     ///
-    /// The clause `value` of the contract is the premise of [`law_separation`](git_laws::laws::law_separation)
-    /// and of the other laws.
+    /// The clause `value` is the premise of `law_separation` and of the other laws.
     ///
     /// ```
     /// /// The text to store for a location, if others read it as the same.

@@ -18,7 +18,8 @@ use serde::{Deserialize, Serialize};
 use std::alloc::{AllocError, Global};
 use std::fmt;
 
-/// Every field of a location, to be stored and restored with `serde`.
+/// Every field of a location, to be stored and restored with `serde`. [`Url::to_stored`] and
+/// [`Url::from_stored`] have examples.
 ///
 /// The format is that of the Rust crate `gix-url` with its feature `serde`: the fields by the names below, in
 /// this order, and bytes as lists of numbers. As JSON:

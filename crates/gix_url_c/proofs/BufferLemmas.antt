@@ -1,14 +1,14 @@
--- Bytes that are put one behind the other at the front of a buffer.
+-- Bytes that are put one after the other at the front of a buffer.
 use Rattle.std.proofs.Common.{◌≡◌, ℕ, ◌+◌, List, ◌++◌, length, take, drop, ap, sym, ◌∙◌, append_assoc, length-append}
 use Rattle.std.proofs.Math.Seq.{drop-append_seam, take-append_seam}
 use Rattle.std.proofs.lemmas.List.{drop-drop}
 
--- the buffer begins with this front, which ends at this place, and what is behind it is as it was
+-- the buffer begins with this front, which ends at this place, and the text after it is as it was
 pub record BeginsWith (front old new : List ℕ) (at : ℕ) : Type 0 where
   pub here : at ≡ length front
   pub begins : new ≡ front ++ drop (length front) old
 
--- bytes that are put behind the front make it longer
+-- bytes that are put after the front make it longer
 pub put_behind : (front bytes old before after : List ℕ) (at end : ℕ) → BeginsWith front old before at
     → end ≡ at + length bytes
     → after ≡ take at before ++ (bytes ++ drop (length bytes) (drop at before))

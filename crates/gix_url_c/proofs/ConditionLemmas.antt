@@ -6,7 +6,8 @@ use Rattle.git_readers.specs.declared.unambiguous.Condition.{Condition}
 use Rattle.git_readers.specs.Conditions.{IsFirstUnmet, IsUnambiguous}
 use Rattle.gix_url_c.specs.Codes.{condition_number, condition_reported}
 
--- the number of what is answered is 0 for a location that meets all conditions, and else that of the first unmet one
+-- the number of the result is 0 for a location that meets all conditions, and else that of the first unmet
+-- one
 pub first_by_number :
     (answer : Option Condition) (v : Location) (n : ℕ) → n ≡ condition_reported answer → (IsNone answer ↔ IsUnambiguous v)
     → IfSome answer (λ unmet. IsFirstUnmet unmet v)

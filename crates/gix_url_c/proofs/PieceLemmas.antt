@@ -13,7 +13,7 @@ pieces_more : (done : List Piece) (piece : Piece) (next : List Part)
 pieces_more [] piece next = refl
 pieces_more (d ∷ done) piece next = ap (λ parts. piece_part d ∷ parts) (pieces_more done piece next)
 
--- what is left is cut once more
+-- the rest is cut once more
 pub cut_more : (all : List Part) (done : List Piece) (piece : Piece) (left next : List Part)
     → all ≡ map piece_part done ++ left → left ≡ piece_part piece ∷ next
     → all ≡ map piece_part (done ++ piece ∷ []) ++ next
@@ -33,7 +33,7 @@ numbers_more (d ∷ done) piece =
     append_assoc (part_numbers (piece_part d)) (flat_map part_numbers (map piece_part done)) (part_numbers (piece_part piece))
     ∙ ap (λ numbers. part_numbers (piece_part d) ++ numbers) (numbers_more done piece)
 
--- the numbers of all are those of some pieces, of the next one, and of what is left
+-- the numbers of all are those of some pieces, of the next one, and of the rest
 numbers_of_all : (all : List Part) (done : List Piece) (piece : Piece) (next : List Part)
     → all ≡ map piece_part done ++ piece_part piece ∷ next
     → length (flat_map part_numbers all) ≡ length (flat_map part_numbers (map piece_part done))

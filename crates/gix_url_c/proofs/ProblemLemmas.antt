@@ -1,4 +1,4 @@
--- Of an error of reading what is reported is that of the refusal of its text; beside the number of an error
+-- The report of an error of reading is that of the refusal of its text; beside the number of an error
 -- without details the problem is all 0.
 use Rattle.std.proofs.Common.{◌≡◌, ◌≢◌, ℕ, List, length, false, Option, Some, None, refl, ap, ◌∙◌}
 use Rattle.gix_url.specs.declared.error.Error.{Error}

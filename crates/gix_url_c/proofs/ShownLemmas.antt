@@ -1,4 +1,4 @@
--- A location is shown exactly where it has a text: hiding a password changes no form.
+-- A location is shown exactly if it has a text: hiding a password changes no form.
 use Rattle.std.proofs.Common.{◌≡◌, ℕ, List, Option, Some, None, is_some, is_none, IfSome, Result, Ok, Err, refl, ap, sym, subst}
 use Rattle.git_location.specs.declared.write_error.WriteFault.{WriteFault}
 use Rattle.gix_url.specs.Location.{Scheme, Location}
@@ -42,13 +42,13 @@ both_by (Err f) w v = tt
 pub both : (v : Location) → AreBoth (display v) (text v)
 both v = subst (λ c. AreBoth (shown_text (in_form c (hidden v))) (text v)) (sym (same_choice v.scheme v)) (both_by (choice v) (hidden v) v)
 
--- where the text has a length, what is shown is this
+-- if the text has a length, the shown text is this
 pub shown_as : (d : Option (List ℕ)) (r : Result (List ℕ) WriteFault) (n : ℕ) (t : List ℕ) → AreBoth d r → text_length r ≡ Ok n → IfSome d (λ s. t ≡ s) → d ≡ Some t
 shown_as (Some s) r n t b h same = ap Some (sym same)
 shown_as None (Ok text) n t b h same = absurd b
 shown_as None (Err f) n t b h same = let wrong : Err f ≡ Ok n = h in absurd (cc)
 
--- where it has none, there is a fault
+-- if it has none, there is a fault
 pub unwritten : (r : Result (List ℕ) WriteFault) (f : WriteFault) → text_length r ≡ Err f → r ≡ Err f
 unwritten (Ok t) f h = absurd (cc)
 unwritten (Err g) f h = let same : Err g ≡ Err f = h in cc

@@ -1,4 +1,4 @@
--- What the exports report: a result of the library, by numbers and bytes.
+-- The reports of the exports: a result of the library, by numbers and bytes.
 use Rattle.std.specs.Prelude.{◌≡◌, ℕ, ◌-◌, ◌^◌, min, Bool, IsTrue, ◌↔◌, ◌⊎◌, List, length, Option, Some, None, Result, Ok, Err}
 use Rattle.gix_url.specs.declared.error.Error.{Error}
 use Rattle.git_location.specs.declared.parse_error.ParseError.{ParseError}
@@ -47,8 +47,7 @@ ReportsSettled v settled code = (code ≡ ok) × (IsTrue settled ↔ IsSettled v
 abbrev pub ReportsAgreement : Location → Bool → ℕ → Type 0
 ReportsAgreement v agrees code = (code ≡ ok) × (IsTrue agrees ↔ AgreesWithGit v)
 
--- the first condition that the location doesn't meet is reported by its number, or 0 if it meets all: then every
--- reader finds the same parts in its text
+-- the first condition that the location doesn't meet is reported by its number, or 0 if it meets all
 abbrev pub ReportsCondition : Location → ℕ → ℕ → Type 0
 ReportsCondition v number code = (code ≡ ok)
     × (((number ≡ 0) × IsUnambiguous v) ⊎ ((unmet : Condition) × (number ≡ condition_number unmet) × IsFirstUnmet unmet v))

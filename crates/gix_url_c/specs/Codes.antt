@@ -196,9 +196,9 @@ error_total _ = 0
 
 -- this is the problem of an error
 pub record Tells (e : Error) (problem : Problem) : Type 0 where
-  -- of one of reading, whatever text it is of, what is reported of the refusal of that text
+  -- for an error of reading, whatever its text is, the report about the refusal of that text
   pub refused : (b : List ℕ) (r : Refusal) → Refused b r → IsErrorOf b r e → problem ≡ problem_of_refusal b r
-  -- of any other what it holds
+  -- for any other error, its fields
   pub other : IsNotOfReading e → problem ≡ problem_of_other e
 
 -- the number is that of an error that may have a problem: of reading or of writing

@@ -1,4 +1,4 @@
--- What Git's credential code takes from a configuration, for C.
+-- The settings of Git's credential code in a configuration, for C.
 use Rattle.std.specs.Prelude.{◌≡◌, ℕ, ◌⊎◌, true, false, List, length}
 use Rattle.git_reads.specs.Credentials.{CredentialReading, CredentialReads}
 use Rattle.git_rules.specs.Config.{ConfigEntry}
@@ -12,7 +12,7 @@ use Rattle.gix_url_c.specs.Output.{PutsBoth, is_there, or_nothing}
 use Rattle.gix_url_c.specs.ReadingNumbers.{LacksRequest}
 use Rattle.gix_url_c.specs.Stops.{StopsAt, no_boolean, no_stop, no_value}
 
--- the numbers of what Git uses
+-- the numbers of the settings that Git uses
 abbrev pub credential_numbers : CredentialUse → CredentialNumbers
 credential_numbers used = record {
   is_read = true;
@@ -26,7 +26,7 @@ credential_numbers used = record {
 abbrev pub no_credentials : CredentialNumbers
 no_credentials = record { is_read = false; has_user = false; use_http_path = false; helpers = 0; user = 0 }
 
--- what Git uses is copied
+-- the settings that Git uses are copied
 abbrev pub PutsCredentials : CredentialUse → CredentialNumbers → List ℕ → List ℕ → List ℕ → List ℕ → ℕ → Type 0
 PutsCredentials used built old new old_indices new_indices code = (built ≡ credential_numbers used)
     × PutsBoth (or_nothing used.user) used.helpers old new old_indices new_indices code
@@ -37,13 +37,13 @@ StopsFor r entries stop code =
     ((at : ℕ) × StopsFirst r entries (NoValue at) × StopsAt no_value at stop code)
     ⊎ ((at : ℕ) × StopsFirst r entries (NoBoolean at) × StopsAt no_boolean at stop code)
 
--- what Git uses for a request is reported, or the entry at which it stops
+-- the settings that Git uses for a request are reported, or the entry at which it stops
 abbrev pub FindsCredentials : CredentialReading → List ConfigEntry → CredentialNumbers → List ℕ → List ℕ → List ℕ → List ℕ → Stop → ℕ → Type 0
 FindsCredentials r entries built old new old_indices new_indices stop code = StopsFor r entries stop code
     ⊎ ((used : CredentialUse) × AreCredentials r entries used × (stop ≡ no_stop)
     × PutsCredentials used built old new old_indices new_indices code)
 
--- what Git uses for a text is reported, or that its credential code reads nothing in it
+-- the settings that Git uses for a text are reported, or that its credential code reads no request in it
 abbrev pub ReportsCredentials : List ConfigEntry → List ℕ → CredentialNumbers → List ℕ → List ℕ → List ℕ → List ℕ → Stop → ℕ → Type 0
 ReportsCredentials entries text built old new old_indices new_indices stop code =
     (LacksRequest text × (built ≡ no_credentials) × (new ≡ old) × (new_indices ≡ old_indices) × (stop ≡ no_stop)

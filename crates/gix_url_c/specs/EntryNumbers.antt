@@ -71,7 +71,7 @@ abbrev pub Unlists : List ℕ → Unlisted → Type 0
 Unlists text unlisted.Memory = Unit {0}
 Unlists text (unlisted.Flawed error) = IsFirstFlaw text error
 
--- what is reported about an item that is not an entry
+-- the report about an item that is not an entry
 abbrev pub flaw_stop : EntryError → Stop
 flaw_stop (line.NoKey place) = record { at = place; line = 0; flaw = 12 }
 flaw_stop (line.NoEnd place) = record { at = place; line = 0; flaw = 13 }

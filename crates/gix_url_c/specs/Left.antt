@@ -1,4 +1,4 @@
--- What an export leaves unchanged if it doesn't return 0.
+-- The outputs that an export leaves unchanged if it doesn't return 0.
 use Rattle.std.specs.Prelude.{◌≡◌, ℕ, false}
 use Rattle.gix_url_c.specs.declared.codes.Problem.{Problem}
 use Rattle.gix_url_c.specs.Codes.{ok, no_room, has_problem}

@@ -1,4 +1,4 @@
--- What Git reads in a text, as C gets it: numbers, and the bytes of all parts one after the other.
+-- Git's reading of a text, as C gets it: numbers, and the bytes of all parts one after the other.
 use Rattle.std.specs.Prelude.{◌≡◌, ℕ, ◌⊎◌, true, false, List, [], ◌∷◌, length}
 use Rattle.std.specs.List.{concat}
 use Rattle.git_syntax.specs.Location.{Scheme}
@@ -121,7 +121,7 @@ no_request = record {
 abbrev pub LacksRequest : List ℕ → Type 0
 LacksRequest text = (r : CredentialReading) → ¬ CredentialReads text r
 
--- the request that Git's credential code reads in the text is reported, or that it reads nothing
+-- the request that Git's credential code reads in the text is reported, or that it reads none
 abbrev pub ReportsRequest : List ℕ → RequestNumbers → List ℕ → List ℕ → ℕ → Type 0
 ReportsRequest text built old new code =
     (LacksRequest text × (built ≡ no_request) × (new ≡ old) × (code ≡ ok))

@@ -1,4 +1,4 @@
--- What C gets about a location without an allocation.
+-- The facts about a location that C gets without an allocation.
 use Rattle.std.specs.Prelude.{◌≡◌, ℕ, Bool, true, false, Option, Some, None, IsTrue, MatchOption, ◌↔◌, [], ◌∷◌, bytes_eq, if◌then◌else◌}
 use Rattle.std.specs.Option.{option_or}
 use Rattle.gix_url.specs.Location.{Location}

@@ -14,11 +14,11 @@ no_boolean = 105
 abbrev pub no_configuration : ℕ
 no_configuration = 106
 
--- what is reported if Git doesn't stop
+-- the report if Git doesn't stop
 abbrev pub no_stop : Stop
 no_stop = record { at = 0; line = 0; flaw = 0 }
 
--- what is reported about an entry
+-- the report about an entry
 abbrev pub entry_stop : ℕ → Stop
 entry_stop place = record { at = place; line = 0; flaw = 0 }
 

@@ -66,7 +66,7 @@ abbrev pub ChecksValue : ConfigEntry → Option Refused → Type 0
 ChecksValue e value = MatchOption value ((reason : Refused) → reason ≢ refused.Name → ¬ IsRefused e reason)
     (λ reason. (reason ≢ refused.Name) × IsRefused e reason)
 
--- what `git fsck` refuses of an entry is reported
+-- the parts of an entry that `git fsck` refuses are reported
 abbrev pub ChecksEntry : ConfigEntry → CheckNumbers → ℕ → Type 0
 ChecksEntry e built code = (name : Option Refused) × (value : Option Refused) × ChecksName e name × ChecksValue e value
     × (built ≡ record { name = refused_number name; value = refused_number value }) × (code ≡ ok)

@@ -22,7 +22,7 @@ pub const NO_LOCATION: u32 = 101;
 /// The result doesn't fit in the buffer.
 pub const NO_ROOM: u32 = 102;
 
-/// What is reported about an error, apart from its number.
+/// The report about an error, apart from its number.
 #[repr(C)]
 #[derive(Drop)]
 pub struct Problem {
@@ -62,7 +62,7 @@ pub(crate) fn error_code(error: &Error) -> u32
     }
 }
 
-/// What is reported about an error. An error about reading has the reason and the place of the flaw.
+/// The report about an error. An error about reading has the reason and the place of the flaw.
 pub(crate) fn problem_of(error: &Error) -> Problem
     ensures { Tells error.now result }
 {
@@ -72,7 +72,7 @@ pub(crate) fn problem_of(error: &Error) -> Problem
     }
 }
 
-/// What is reported about an error that is not about reading.
+/// The report about an error that is not about reading.
 fn problem_of_other(error: &Error) -> Problem
     ensures { result ≡ problem_of_other error.now }
 {
@@ -115,7 +115,7 @@ pub(crate) fn refusal_code(refusal: &Refusal) -> u32
     }
 }
 
-/// What is reported about the refusal of a text.
+/// The report about the refusal of a text.
 pub(crate) fn problem_of_refusal(text: &[u8], refusal: &Refusal) -> Problem
     requires { Refused text.now refusal.now }
     ensures { result ≡ problem_of_refusal text.now refusal.now }
@@ -126,7 +126,7 @@ pub(crate) fn problem_of_refusal(text: &[u8], refusal: &Refusal) -> Problem
     }
 }
 
-/// What is reported about a refusal, with these lengths of the front and the text.
+/// The report about a refusal, with these lengths of the front and the text.
 fn told(refusal: &Refusal, shown: usize, total: usize) -> Problem
     ensures { result ≡ refusal_problem refusal.now shown total }
 {
@@ -141,7 +141,7 @@ fn told(refusal: &Refusal, shown: usize, total: usize) -> Problem
     }
 }
 
-/// What is reported about an error that is only a number.
+/// The report about an error that is only a number.
 pub(crate) fn no_problem() -> Problem
     ensures { result ≡ no_problem }
 {
@@ -156,7 +156,7 @@ pub(crate) fn no_problem() -> Problem
     }
 }
 
-/// What is reported about a location without a text.
+/// The report about a location without a text.
 pub(crate) fn unwritable(fault: WriteFault) -> Problem
     ensures { result ≡ write_problem fault }
 {

@@ -1,4 +1,4 @@
-//! The export for what a command line needs to know of a location, its original path and its port.
+//! The export for the facts about a location that a command line needs, its original path and its port.
 
 ghost use Rattle.std.specs.Prelude.{◌≡◌, ◌↔◌, IsTrue, if◌then◌else◌};
 ghost use Rattle.gix_url.specs.Views.{judgement};
@@ -13,7 +13,7 @@ use crate::codes::{NO_LOCATION, OK};
 use crate::input::{PartBytes, location_of};
 use gix_url::{ArgumentSafety, UrlRef};
 
-/// What a command line needs to know of a location, its original path and its port.
+/// The facts about a location that a command line needs, its original path and its port.
 #[repr(C)]
 #[derive(Clone, Copy)]
 pub struct Seen {

@@ -30,7 +30,7 @@ pub extern "C" fn gix_url_c_reason_name(reason: u8, buffer: &mut [u8], len: &mut
 
 ///
 
-/// Returns what [`gix_url_c_reason_name`] returns.
+/// Returns the numbers of [`gix_url_c_reason_name`].
 #[unsafe(no_mangle)]
 pub extern "C" fn gix_url_c_reason_words(reason: u8, buffer: &mut [u8], len: &mut usize) -> u32
     ensures reported { PutsReason reason_words reason buffer.old buffer.new len.new result }

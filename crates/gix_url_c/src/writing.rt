@@ -39,7 +39,8 @@ pub extern "C" fn gix_url_c_is_settled(passed: &PartBytes<'_>, settled: &mut boo
     }
 }
 
-/// Reports whether Git reads the location's own fields in its text: [`gix_url::UrlRef::agrees_with_git`].
+/// Reports whether Git is known to read the location's own fields in its text:
+/// [`gix_url::UrlRef::agrees_with_git`].
 ///
 /// Returns 0, or 101 if the parts aren't a location.
 #[unsafe(no_mangle)]
@@ -104,8 +105,8 @@ pub extern "C" fn gix_url_c_write(
     }
 }
 
-/// Copies the text that the `Display` of [`gix_url::UrlRef`] shows, which has no password, to the buffer, and reports
-/// its length.
+/// Copies the text that the `Display` of [`gix_url::UrlRef`] writes, with `redacted` in place of the
+/// password, to the buffer, and reports its length.
 ///
 /// Returns 0; 1 if memory is refused; 8 if the location has no text, with the fault; 101 if the parts aren't a
 /// location; 102 if the text doesn't fit.
@@ -158,7 +159,7 @@ fn report_length(length: u128, size: usize, len: &mut usize) -> u32
     if (size as u128) < length { NO_ROOM } else { OK }
 }
 
-/// Copies the text that the location is shown as to the buffer.
+/// Copies the shown text of the location to the buffer.
 fn show(
     alloc: Global,
     url: &UrlRef<'_>,

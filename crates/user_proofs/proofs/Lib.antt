@@ -1,2 +1,2 @@
--- Lemmas of what users read.
+-- Lemmas of the examples for users.
 pub mod PickedLemmas

@@ -9,7 +9,7 @@ use Rattle.git_rules.specs.Normal.{NormalPlace, IsNormalOf}
 use Rattle.git_rules.specs.NormalLaws.{OneNormalForm}
 use Rattle.git_rules.specs.Places.{FrontPlacesIn, PlacesIn}
 
--- a text that has a normal form, with room for it, is not refused
+-- a text that has a normal form, with a buffer that suffices, is not refused
 kept : (t : List ℕ) (buffer_len : ℕ) (e : PlaceError) (place : NormalPlace) → IsNormalOf false t place → 4 * length t + 1 ≤ buffer_len → FrontPlacesIn t buffer_len (Err e) → ⊥
 kept t buffer_len (Fault f) place form fits h = h
 kept t buffer_len (Normal NoRoom) place form fits h = omega (arith, h, fits)

@@ -7,9 +7,9 @@ use Rattle.git_rules.specs.declared.ssh.SshVariant.TheVariants.{Ssh}
 use Rattle.git_rules.specs.SecureShell.{port_words}
 use Rattle.git_rules.specs.ShellWords.{shell_words}
 
--- with the words OpenSSH fetches from the location: options, of which the digits of a port alone are the location's; a
--- destination that is no option, and in which OpenSSH finds the location's user and host; and a command in which a POSIX
--- shell reads the service and the location's path
+-- with the words OpenSSH fetches from the location: options, in which only the digits of a port are the
+-- location's; a destination that isn't an option, and in which OpenSSH finds the location's user and host;
+-- and a command in which a POSIX shell reads the service and the location's path
 pub record FetchesFrom (v : Location) (words : List (List ℕ)) : Type 0 where
   pub destination : List ℕ
   pub remote : List ℕ

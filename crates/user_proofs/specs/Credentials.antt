@@ -10,8 +10,8 @@ use Rattle.git_rules.specs.Normal.{asterisk, NormalPlace, IsNormalOf}
 use Rattle.git_rules.specs.PatternLaws.{ReachesOwn}
 use Rattle.git_rules.specs.Settings.{AreSettings}
 
--- the entry is for a URL; and where the host of that has no `*`, Git's credential code and a reader of URIs reach the URL's
--- own scheme, host and port in the text of the location
+-- the entry is for a URL; and if the host of that has no `*`, Git's credential code and a reader of URIs
+-- reach the URL's own scheme, host and port in the text of the location
 pub record GoesToOwn (v : Location) (e : ConfigEntry) : Type 0 where
   pub url : List ℕ
   pub named : e.subsection ≡ Some url

@@ -1,3 +1,3 @@
--- What a user reads.
+-- The definitions that the examples for users cite.
 pub mod Commands
 pub mod Credentials

@@ -146,7 +146,7 @@ impl ByteVec for Vec<u8> {
 }
 
 impl fmt::Display for BStr {
-    /// Writes U+FFFD in place of each piece that is not UTF-8, and pads to a width if an alignment is given.
+    /// Writes U+FFFD in place of each piece that is not UTF-8, and with an alignment pads to a width.
     fn fmt(&self, f: &mut fmt::Formatter<'_>) -> fmt::Result {
         let text = String::from_utf8_lossy(&self.0);
         let align = match f.align() {

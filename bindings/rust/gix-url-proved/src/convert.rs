@@ -45,7 +45,7 @@ impl<const COUNT: usize> TryFrom<&[u8; COUNT]> for Url {
 }
 
 impl From<Infallible> for Error {
-    /// For a bound `Error: From<E>` on what becomes a location, which a location meets too.
+    /// Lets a location meet a bound `Error: From<E>` on values that become a location.
     fn from(never: Infallible) -> Error {
         match never {}
     }

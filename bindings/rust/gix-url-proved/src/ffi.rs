@@ -459,7 +459,7 @@ fn said(call: impl Fn(*mut u8, usize, &mut usize) -> u32) -> String {
     String::from_utf8(said).expect("names and words are UTF-8")
 }
 
-/// Builds the location that the text of these parts means.
+/// Writes these parts as one text, and returns the location that this text spells.
 pub(crate) fn from_parts(parts: &Url) -> Result<Url, Error> {
     let given = Given::of(parts);
     let (mut made, mut told, mut buffer) = (Made::default(), Problem::default(), Buffer::new());

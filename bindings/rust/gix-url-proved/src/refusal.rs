@@ -111,9 +111,9 @@ impl Reason {
 
 worded!(Reason, ffi::reason_name, ffi::reason_words);
 
-/// Why a text is not a location, and where: the flaw is the `len` bytes after the first `at` bytes of the text. If a
-/// text has several flaws, this is the first in the order of checks, so a text has one refusal. It holds no byte of the
-/// text, and `Display` writes the words of the reason.
+/// Why a text is not a location, and the place of the flaw: the `len` bytes after the first `at` bytes of the
+/// text. If a text has several flaws, this is the first in the order of checks, so a text has one refusal. It
+/// holds no byte of the text, and `Display` writes the words of the reason.
 ///
 /// ```
 /// let text = "http://h:abc/";

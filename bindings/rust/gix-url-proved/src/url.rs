@@ -57,9 +57,10 @@ pub enum ArgumentSafety<'a> {
 /// A name and its value in a query, decoded.
 pub type QueryPair<'a> = (Cow<'a, BStr>, Cow<'a, BStr>);
 
-/// The path of a location, split into the path, the query and the fragment that are in it. They are decoded if the
-/// escaped path has escapes. All parts borrow from the location, except names and values with a `+` that means a space,
-/// and perhaps a name that begins with an escaped `&` after more than eight empty fields.
+/// The path of a location, split into the path, the query and the fragment that are in it. They are decoded
+/// if the escaped path has escapes. All parts borrow from the location, except names and values with a `+`
+/// that denotes a space, and perhaps a name that begins with an escaped `&` after more than eight empty
+/// fields.
 #[derive(Clone, Debug, PartialEq, Eq)]
 pub struct PathComponents<'a> {
     /// The path before the query and the fragment.
@@ -90,8 +91,9 @@ impl Url {
         parse(bytes)
     }
 
-    /// Builds the location that the text of these parts means. Settled parts come back unchanged; others may come back
-    /// as another location. With `Http` and `Https` the path is kept as it is given, unless it is empty.
+    /// Writes these parts as one text, and returns the location that this text spells. Settled parts are
+    /// returned unchanged; others may become another location. With `Http` and `Https` a path that isn't
+    /// empty is unchanged.
     ///
     /// ```
     /// use gix_url_proved::{Scheme, Url};
@@ -457,7 +459,7 @@ impl Default for Url {
 
 impl fmt::Display for Url {
     /// Writes the text with `redacted` in place of the field `password`; a secret in another field is shown. Fails if
-    /// there is no text. The text is padded to a width if an alignment is given, as a byte string is, and never cut.
+    /// there is no text. With an alignment the text is padded to a width, as a byte string is, and never cut.
     ///
     /// ```
     /// let url = gix_url_proved::parse("host:repo")?;

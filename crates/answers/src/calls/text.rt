@@ -97,7 +97,7 @@ fn over_pieces(
     outcome
 }
 
-/// Reports what Git's credential code finds in pieces.
+/// Reports the request that Git's credential code reads in pieces.
 fn read_pieces(alloc: Global, pieces: TextPieces<'_>, out: &mut Out) -> Result<(), Halt> {
     let mut buffers = credential::Buffers::new(alloc);
     let reported = match decode_pieces(pieces, &mut buffers) {

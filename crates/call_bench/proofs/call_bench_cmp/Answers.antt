@@ -1,4 +1,4 @@
--- Both readings are what is compared.
+-- Both readings are compared.
 use Rattle.std.proofs.Common.{rules}
 use Rattle.call_bench.proofs.call_bench_cmp.Goals as goal
 

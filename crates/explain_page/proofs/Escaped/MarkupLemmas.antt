@@ -33,7 +33,7 @@ pub no_markup_escaped : (text : List ℕ) → has_no_markup (escaped text) ≡ t
 no_markup_escaped [] = refl
 no_markup_escaped (b ∷ text) = escaped_byte_before b (escaped text) (no_markup_escaped text)
 
--- what is added where a text is added
+-- the markup that is added if a text is added
 pub added_text : {T E : Type 0} (r : Result T E) (old new text : List ℕ) → OnOk r (new ≡ old ++ flat_map escaped_byte text)
     → OnOk r ((added : List ℕ) × (new ≡ old ++ added) × (has_no_markup added ≡ true))
 added_text (Ok t) old new text is = (escaped text, is, no_markup_escaped text)
@@ -51,7 +51,7 @@ pub no_tag_island : (text : List ℕ) → has_no_tag (island text) ≡ true
 no_tag_island [] = refl
 no_tag_island (b ∷ text) = island_byte_before b (island text) (no_tag_island text)
 
--- what is added where a text of JSON is added
+-- the markup that is added if a text of JSON is added
 pub added_island : {T E : Type 0} (r : Result T E) (old new text : List ℕ) → OnOk r (new ≡ old ++ flat_map island_byte text)
     → OnOk r ((added : List ℕ) × (new ≡ old ++ added) × (has_no_tag added ≡ true))
 added_island (Ok t) old new text is = (island text, is, no_tag_island text)

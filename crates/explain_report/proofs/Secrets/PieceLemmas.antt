@@ -10,18 +10,18 @@ pub hidden_now : (part : Part) (from next : List Part) → from ≡ part ∷ nex
 hidden_now part from next taken hides =
     sym (ap (λ all. list_any is_hidden all) taken ∙ ap (λ it. it || list_any is_hidden next) hides)
 
--- behind a piece that is shown, those that are hidden are left
+-- after a piece that is shown, those that are hidden are left
 pub hidden_later : (part : Part) (from next : List Part) → from ≡ part ∷ next → is_hidden part ≡ false → list_any is_hidden from ≡ list_any is_hidden next
 hidden_later part from next taken shows =
     ap (λ all. list_any is_hidden all) taken ∙ ap (λ it. it || list_any is_hidden next) shows
 
--- with a piece appended, what is left is shown behind it
+-- with a piece appended, the rest is shown after it
 pub shown_next : (part : Part) (from next : List Part) (out new all : List ℕ) → from ≡ part ∷ next → new ≡ out ++ part_shown part → out ++ parts_shown from ≡ all → new ++ parts_shown next ≡ all
 shown_next part from next out new all taken pushed so_far =
     ap (λ t. t ++ parts_shown next) pushed ∙ append_assoc out (part_shown part) (parts_shown next)
     ∙ sym (ap (λ parts. out ++ parts_shown parts) taken) ∙ so_far
 
--- where no piece is left, all is shown
+-- if no piece is left, all is shown
 pub shown_all : (from : List Part) (out all : List ℕ) → from ≡ [] → out ++ parts_shown from ≡ all → out ≡ all
 shown_all from out all empty so_far =
     sym (append-nil out) ∙ sym (ap (λ parts. out ++ parts_shown parts) empty) ∙ so_far
@@ -46,7 +46,7 @@ shown_outlined [] = refl
 shown_outlined (shown bytes ∷ parts) = ap (λ t. bytes ++ t) (shown_outlined parts)
 shown_outlined (hidden bytes ∷ parts) = ap (λ t. part_shown (hidden bytes) ++ t) (shown_outlined parts)
 
--- what may be a secret leaves no trace in what is shown
+-- a piece that may be a secret leaves no trace in the shown text
 pub leaves_secrets_out : LeavesSecretsOut
 leaves_secrets_out a b same =
     shown_outlined (parts_of a) ∙ ap parts_shown same ∙ sym (shown_outlined (parts_of b))

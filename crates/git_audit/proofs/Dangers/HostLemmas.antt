@@ -16,20 +16,20 @@ use Rattle.git_reads.proofs.Reading.CredentialUniqueLemmas.{one_credential}
 use Rattle.git_rules.specs.SameHost.{host_name}
 use Rattle.git_audit.specs.Dangers.{AsksForOtherHost, HasHostName, IsOtherHost, NamesOwnHost, NamesOwnPort, ReachesOtherHost, ReadsOtherHost, is_of_http}
 
--- what is said of the item that an option has
+-- a property of the item that an option has
 pub some_of : {X : Type 0} (N : Type 0) (P : X → Type 0) (o : Option X) (x : X) → o ≡ Some x → MatchOption o N P → P x
 some_of N P o x is found = subst (λ p. MatchOption p N P) is found
 
--- what is said where it has none
+-- the property if it has none
 pub none_of : {X : Type 0} (N : Type 0) (P : X → Type 0) (o : Option X) → o ≡ None → MatchOption o N P → N
 none_of N P o is found = subst (λ p. MatchOption p N P) is found
 
--- what follows of the value of a result
+-- the consequence for the value of a result
 pub if_ok : {A E : Type 0} {P Q : A → Type 0} (found : Result A E) → ((a : A) → P a → Q a) → IfOk found P → IfOk found Q
 if_ok (Ok a) follows given = follows a given
 if_ok (Err e) follows given = tt
 
--- before the last colon is the host, and behind it the port
+-- before the last colon is the host, and after it the port
 pub port_behind : (v : Location) (named host behind : List ℕ) (own : Bool) → FreeOf colon behind → named ≡ host ++ colon ∷ behind → IsTrue own ↔ ((list_all is_ascii_digit behind ≡ true) × HasHostName v (host_name host)) → IsTrue own ↔ NamesOwnPort v named
 port_behind v named host behind own free joined decided = (
   (λ is. (host, behind, joined, (decided.0 is).0, (decided.0 is).1)),

@@ -1,4 +1,5 @@
--- Where bytes of a class are: what is found behind a place is found in the text, if none was found before it.
+-- Positions of bytes of a class: a byte that is found after a place is found in the text, if none was found
+-- before it.
 use Rattle.std.proofs.Common.{◌≡◌, ◌∙◌, ℕ, ◌+◌, ◌<◌, Bool, true, false, if◌then◌else◌, List, ◌∷◌, length, drop, get_or, Some, None, option_map, sym, ap, arith}
 use Rattle.std.proofs.Math.Seq.{drop-length}
 use Rattle.git_audit.specs.declared.secret.mark.Class.{Class}

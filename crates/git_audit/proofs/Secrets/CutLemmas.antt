@@ -17,7 +17,7 @@ module _ (c : Class) where
   abbrev pub CutsRun : List ℕ → ℕ → Type 0
   CutsRun text n = runs c text ≡ take n text ∷ runs c (drop n text)
 
-  -- what is found of a text whose first byte may be of the class
+  -- the byte that is found in a text whose first byte may be of the class
   found_by : (b : ℕ) (bs : List ℕ) (is : Bool) (found : Option ℕ) → is_of c b ≡ is → first_of c (b ∷ bs) ≡ found → (if is then Some 0 else option_map (λ k. k + 1) (first_of c bs)) ≡ found
   found_by b bs is found e h = ap (λ (t : Bool). if t then Some 0 else option_map (λ k. k + 1) (first_of c bs)) (sym e) ∙ h
 
@@ -27,13 +27,13 @@ module _ (c : Class) where
   onto_by : (b d : ℕ) (more : List ℕ) (rest : List (List ℕ)) (is : Bool) → is_of c d ≡ is → onto_run c b ((d ∷ more) ∷ rest) ≡ (if is then (b ∷ []) ∷ (d ∷ more) ∷ rest else (b ∷ d ∷ more) ∷ rest)
   onto_by b d more rest is e = ap (λ (t : Bool). if t then (b ∷ []) ∷ (d ∷ more) ∷ rest else (b ∷ d ∷ more) ∷ rest) e
 
-  -- a byte of the class is found where it is first
+  -- a byte of the class is found at the place at which it is first
   is_here : (b : ℕ) (bs : List ℕ) (is : Bool) → is_of c b ≡ is → first_of c (b ∷ bs) ≡ Some 0 → is ≡ true
   is_here b bs true e found = refl
   is_here b bs false e found =
       let less = one_less (first_of c bs) 0 (found_by b bs false (Some 0) e found) in absurd (omega (arith, less.2))
 
-  -- it is found behind a byte that is none
+  -- it is found after a byte that is none
   is_behind : (b : ℕ) (bs : List ℕ) (n : ℕ) (is : Bool) → is_of c b ≡ is → first_of c (b ∷ bs) ≡ Some (suc n) → (is ≡ false) × (first_of c bs ≡ Some n)
   is_behind b bs n true e found =
       let wrong : ◌≡◌ {A = Option ℕ} (Some 0) (Some (suc n)) = found_by b bs true (Some (suc n)) e found in

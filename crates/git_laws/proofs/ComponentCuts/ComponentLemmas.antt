@@ -37,7 +37,7 @@ IsBytes text = All (λ b. b < 256) text
 
 -- ---- spaces
 
--- a text without `+` has nothing that stands for a space
+-- a text without `+` has nothing that denotes a space
 pub spaces_free : (x : List ℕ) → FreeOf plus_sign x → with_spaces x ≡ x
 spaces_free [] free = refl
 spaces_free (b ∷ x) free =
@@ -63,7 +63,7 @@ kept_not_percent : (b : ℕ) → should_percent_encode PATH b ≡ false → (b =
 kept_not_percent b kept =
     false_from_ne_true (b == percent_sign) (λ e. both_ways (contains PATH b) (outside_from_kept PATH b kept) (ap (contains PATH) (eqb-true b percent_sign e) ∙ path_holds percent_sign (omega arith)))
 
--- nor is what it stands for
+-- nor is its meaning
 meant_not_percent : (b : ℕ) → (b == percent_sign) ≡ false → ((if b == plus_sign then space else b) == percent_sign) ≡ false
 meant_not_percent b other = grind (arith, nat_tests)
 
@@ -71,11 +71,11 @@ meant_not_percent b other = grind (arith, nat_tests)
 spaces_escaped : (b : ℕ) (bs : List ℕ) → b < 256 → should_percent_encode PATH b ≡ true → percent_decode (with_spaces (percent_encode PATH (b ∷ bs))) ≡ b ∷ percent_decode (with_spaces (percent_encode PATH bs))
 spaces_escaped b bs h2 h3 = grind (arith, nat_tests, percent_encode_escaped, map-append, spaces_escape, percent_decode-percent_encode_byte)
 
--- a byte that is kept decodes to what it stands for
+-- a byte that is kept decodes to its meaning
 spaces_kept : (b : ℕ) (bs : List ℕ) → should_percent_encode PATH b ≡ false → percent_decode (with_spaces (percent_encode PATH (b ∷ bs))) ≡ (if b == plus_sign then space else b) ∷ percent_decode (with_spaces (percent_encode PATH bs))
 spaces_kept b bs h2 = grind (arith, nat_tests, percent_encode_kept, decode_byte, meant_not_percent, kept_not_percent)
 
--- decoding undoes the encoding of a path, where both have spaces for `+`
+-- decoding undoes the encoding of a path, if both have spaces for `+`
 spaces_decoded : (t : List ℕ) → IsBytes t → percent_decode (with_spaces (percent_encode PATH t)) ≡ with_spaces t
 spaces_decoded [] small = ap (λ t. percent_decode (with_spaces t)) (percent_encode-nil PATH) ∙ percent_decode-nil
 spaces_decoded (b ∷ bs) small =
@@ -90,7 +90,7 @@ spaces_decoded (b ∷ bs) small =
 
 -- ---- bytes
 
--- the parts of a text around a byte are made of bytes where it is
+-- the parts of a text around a byte are made of bytes if it is
 bytes_around : (c : ℕ) (x y : List ℕ) → IsBytes (x ++ c ∷ y) → IsBytes x × IsBytes y
 bytes_around c [] y small = (All-nil (λ b. b < 256), All-tail (λ b. b < 256) c y small)
 bytes_around c (b ∷ x) y small =
@@ -102,11 +102,11 @@ bytes_off : (c : ℕ) (t front : List ℕ) (behind : Option (List ℕ)) → IsBy
 bytes_off c t front None small (free, e) = (subst IsBytes (sym e) small, tt)
 bytes_off c t front (Some x) small (free, e) = bytes_around c front x (subst IsBytes e small)
 
--- the pieces of a path are made of bytes where it is
+-- the pieces of a path are made of bytes if it is
 bytes_cut : (t front : List ℕ) (query fragment : Option (List ℕ)) → IsBytes t → CutsPath t front query fragment → IsBytes front × IfSome query IsBytes × IfSome fragment IsBytes
 bytes_cut t front query fragment h4 h5 = grind (arith, nat_tests, bytes_off)
 
--- the fields of a text are made of bytes where it is
+-- the fields of a text are made of bytes if it is
 bytes_fields : (fields : List (List ℕ)) → IsBytes (join_with_byte ampersand fields) → All IsBytes fields
 bytes_fields [] small = All-nil IsBytes
 bytes_fields (t ∷ []) small = All-cons IsBytes t [] small (All-nil IsBytes)
@@ -114,7 +114,7 @@ bytes_fields (t ∷ u ∷ us) small =
     let parts = bytes_around ampersand t (join_with_byte ampersand (u ∷ us)) small in
     All-cons IsBytes t (u ∷ us) parts.0 (bytes_fields (u ∷ us) parts.1)
 
--- name and value of a field are made of bytes where it is
+-- name and value of a field are made of bytes if it is
 bytes_split : (field name value : List ℕ) → IsBytes field → SplitsField field name value → IsBytes name × IsBytes value
 bytes_split field name value h3 h4 = grind (arith, nat_tests, All-nil, bytes_around)
 
@@ -242,7 +242,7 @@ joined_written f (t ∷ u ∷ us) way =
 fields_written : (f : List ℕ → List ℕ) (t : List ℕ) (fields : List (List ℕ)) → IsWay f → CutsFields t fields → CutsFields (f t) (map f fields)
 fields_written f t fields way cut = record { each = each_written f fields way cut.each; joined = ap f cut.joined ∙ joined_written f fields way }
 
--- one field more comes before others, where there are any
+-- one field more comes before others, if there are any
 joined_more : (f : List ℕ → List ℕ) (c : ℕ) (t : List ℕ) (fields : List (List ℕ)) (k : List ℕ) (ks : List (List ℕ)) → k ∷ ks ≡ map f fields → join_with_byte c (t ∷ fields) ≡ t ++ c ∷ join_with_byte c fields
 joined_more f c t [] k ks e = let wrong : k ∷ ks ≡ [] = e in cc
 joined_more f c t (u ∷ us) k ks e = refl
@@ -272,9 +272,9 @@ split_back f field name value way (SplitsField.with_value free e) =
     let (x, y, lone, cut, is_x, is_y) = cut_back f equals_sign field name value way equals_sign_mark free e in
     (x, y, is_x, is_y, SplitsField.with_value lone cut)
 
--- ---- what the pieces stand for
+-- ---- the meaning of the pieces
 
--- the path of the second location is written of that of the first, and the pieces stand for the same
+-- the path of the second location is written of that of the first, and the pieces denote the same
 record IsRewritten (f : List ℕ → List ℕ) (v w : Location) : Type 0 where
   way : IsWay f
   bytes : IsBytes (original_path v)
@@ -282,7 +282,7 @@ record IsRewritten (f : List ℕ → List ℕ) (v w : Location) : Type 0 where
   denoted : (x : List ℕ) → IsBytes x → stands_for w (f x) ≡ stands_for v x
   term : (x : List ℕ) → IsBytes x → term_of w (f x) ≡ term_of v x
 
--- what a field that isn't empty adds to the names and values
+-- the names and values that a field that isn't empty adds
 abbrev AddsPair : Location → List ℕ → List (List ℕ) → List (List ℕ × List ℕ) → Type 0
 AddsPair v field fields pairs =
     (name : List ℕ) × (value : List ℕ) × (others : List (List ℕ × List ℕ))
@@ -293,11 +293,11 @@ adds_pair : (v : Location) (field : List ℕ) (fields : List (List ℕ)) (pairs 
 adds_pair v [] fields pairs some = absurd (some refl)
 adds_pair v (b ∷ bs) fields pairs some = (λ h. h, λ h. h)
 
--- what is written of a text that isn't empty isn't empty
+-- the writing of a text that isn't empty isn't empty
 some_written : (f : List ℕ → List ℕ) (b : ℕ) (bs : List ℕ) → IsWay f → ¬ (f (b ∷ bs) ≡ [])
 some_written f b bs way e = let wrong : b ∷ bs ≡ [] = way.empty (b ∷ bs) e in cc
 
--- fields stand for what their writings stand for
+-- fields and their writings have the same meaning
 pairs_written : (f : List ℕ → List ℕ) (v w : Location) (fields : List (List ℕ)) (pairs : List (List ℕ × List ℕ)) → IsRewritten f v w → All IsBytes fields → PairsOf v fields pairs → PairsOf w (map f fields) pairs
 pairs_written f v w [] pairs h small of = of
 pairs_written f v w ([] ∷ fields) pairs h small of =
@@ -310,7 +310,7 @@ pairs_written f v w ((b ∷ bs) ∷ fields) pairs h small (name, value, others, 
     (λ i. (sym (h.term name bytes.0) i, sym (h.term value bytes.1) i) ∷ others) in
     (adds_pair w (f field) (map f fields) pairs (some_written f b bs h.way)).1 (f name, f value, others, split_written f field name value h.way split, more, e ∙ same)
 
--- and the writings for what the fields stand for
+-- and the writings for the meaning of the fields
 pairs_back : (f : List ℕ → List ℕ) (v w : Location) (fields : List (List ℕ)) (pairs : List (List ℕ × List ℕ)) → IsRewritten f v w → All IsBytes fields → PairsOf w (map f fields) pairs → PairsOf v fields pairs
 pairs_back f v w [] pairs h small of = of
 pairs_back f v w ([] ∷ fields) pairs h small of =
@@ -325,20 +325,20 @@ pairs_back f v w ((b ∷ bs) ∷ fields) pairs h small of =
     let two : term_of w value ≡ term_of v second = ap (term_of w) is_second ∙ h.term second bytes.1 in
     (first, second, others, cut, more, e ∙ (λ i. (one i, two i) ∷ others))
 
--- a query stands for what its writing stands for
+-- a query and its writing have the same meaning
 query_written : (f : List ℕ → List ℕ) (v w : Location) (text : Option (List ℕ)) (query : Option (List (List ℕ × List ℕ))) → IsRewritten f v w → IfSome text IsBytes → QueryOf v text query → QueryOf w (option_map f text) query
 query_written f v w None query h small of = of
 query_written f v w (Some t) query h small (fields, pairs, cut, of, e) =
     (map f fields, pairs, fields_written f t fields h.way cut, pairs_written f v w fields pairs h (bytes_fields fields (subst IsBytes cut.joined small)) of, e)
 
--- and the writing for what the query stands for
+-- and the writing for the meaning of the query
 query_back : (f : List ℕ → List ℕ) (v w : Location) (text : Option (List ℕ)) (query : Option (List (List ℕ × List ℕ))) → IsRewritten f v w → IfSome text IsBytes → QueryOf w (option_map f text) query → QueryOf v text query
 query_back f v w None query h small of = of
 query_back f v w (Some t) query h small (given, pairs, cut, of, e) =
     let (fields, back, same) = fields_back f given t h.way cut.each cut.joined in
     (fields, pairs, back, pairs_back f v w fields pairs h (bytes_fields fields (subst IsBytes back.joined small)) (subst (λ z. PairsOf w z pairs) same of), e)
 
--- a fragment stands for what its writing stands for
+-- a fragment and its writing have the same meaning
 fragment_written : (f : List ℕ → List ℕ) (v w : Location) (text : Option (List ℕ)) → IsRewritten f v w → IfSome text IsBytes → option_map (stands_for w) (option_map f text) ≡ option_map (stands_for v) text
 fragment_written f v w None h small = refl
 fragment_written f v w (Some t) h small = ap Some (h.denoted t small)
@@ -378,25 +378,25 @@ parts_rewritten f v w components h = (parts_back f v w components h, parts_writt
 
 -- ---- the spelling that is read
 
--- the spelling stands for the path where it matches it
+-- the spelling denotes the path if it matches it
 pub matched : (spelling : Option (List ℕ)) (path other : List ℕ) → matches spelling path ≡ true → (s : List ℕ) × (spelling ≡ Some s) × (percent_decode s ≡ path) × (matching_or spelling path other ≡ s)
 matched None path other h = absurd (false≢true h)
 matched (Some s) path other h = (s, refl, (bytes_eq-Decides (percent_decode s) path).0 h, cond-true _ _ _ h)
 
--- and something else is taken where it doesn't
+-- and something else is taken if it doesn't
 pub unmatched : (spelling : Option (List ℕ)) (path other : List ℕ) → matches spelling path ≡ false → matching_or spelling path other ≡ other
 unmatched None path other h = refl
 unmatched (Some s) path other h = cond-false _ _ _ h
 
--- where the spelling matches, it is read again
+-- if the spelling matches, it is read again
 spelled_again : (v : Location) → IsWeb v → HasFairSpelling v → matches v.spelling v.path ≡ true → retained_spelling (canonical_path v) ≡ v.spelling
 spelled_again v h1 h2 h3 = grind (arith, nat_tests, matched, web_path, cond-true)
 
--- where no spelling matches and the encoding of the path is read as one, it is the encoding of the path
+-- if no spelling matches and the encoding of the path is read as one, it is the encoding of the path
 encoded_rewritten : (v : Location) → IsUtf8 v.path → matches v.spelling v.path ≡ false → IsRewritten (λ x. percent_encode PATH x) v (spelled_as v (Some (percent_encode PATH v.path)))
 encoded_rewritten v h1 h2 = grind (arith, nat_tests, unmatched, bytes_eq-Decides, decode_encode_utf8, path_way, bytes_from_utf8, cond-true, round_trip, cond-false, spaces_decoded)
 
--- where no spelling matches and none is read, the path stays
+-- if no spelling matches and none is read, the path stays
 plain_rewritten : (v : Location) → IsUtf8 v.path → matches v.spelling v.path ≡ false → IsRewritten (λ x. x) v (spelled_as v None)
 plain_rewritten v h1 h2 = grind (arith, nat_tests, unmatched, same_way, bytes_from_utf8, cond-false)
 
@@ -405,7 +405,7 @@ retained_parts : (v : Location) (b : Bool) (components : Components) → IsUtf8 
 retained_parts v true components text h = parts_rewritten (λ x. percent_encode PATH x) v (spelled_as v (Some (percent_encode PATH v.path))) components (encoded_rewritten v text h)
 retained_parts v false components text h = parts_rewritten (λ x. x) v (spelled_as v None) components (plain_rewritten v text h)
 
--- the components with the spelling that is read, by whether the given one matches
+-- the components with the spelling that is read, by whether the location's one matches
 parts_by : (v : Location) (b : Bool) (components : Components) → IsWeb v → IsSettledUrl v → matches v.spelling v.path ≡ b → WebComponents (as_read v) components ↔ WebComponents v components
 parts_by v true components web settled h =
     subst (λ o. WebComponents (spelled_as v o) components ↔ WebComponents v components) (sym (spelled_again v web settled.path.spelling h)) (λ parts. parts, λ parts. parts)
@@ -413,7 +413,7 @@ parts_by v false components web settled h =
     let read : retained_spelling (percent_encode PATH v.path) ≡ retained_spelling (canonical_path v) = ap retained_spelling (sym (web_path v web ∙ unmatched v.spelling v.path (percent_encode PATH v.path) h)) in
     subst (λ o. WebComponents (spelled_as v o) components ↔ WebComponents v components) read (retained_parts v (has_percent (percent_encode PATH v.path)) components settled.path.path_text h)
 
--- ---- what is read of a settled location
+-- ---- a location that is read from the text of a settled one
 
 -- the components of a location of HTTP are those of its kind
 pub web_parts : (v : Location) (components : Components) → IsWeb v → ComponentsOf v components ↔ WebComponents v components
@@ -424,7 +424,7 @@ web_parts v components (inr e) = (λ h. subst (λ p. ComponentsBy p v components
 web_text : (v : Location) (t : List ℕ) → IsWeb v → IsSettledUrl v → text v ≡ Ok t → t ≡ canonical_text v
 web_text v t web h has = one_text has ((written_web v web).canonical h.unflagged h.hosted)
 
--- what is read of a settled location of HTTP has the same components
+-- a location that is read from the text of a settled location of HTTP has the same components
 pub same_components : SameComponents
 same_components v w t is web settled has spelled components =
     let h = settled_as_web v web settled in

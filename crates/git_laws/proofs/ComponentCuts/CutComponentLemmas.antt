@@ -41,7 +41,7 @@ some_fields : (v : Location) (text : List ℕ) (fields : List (List ℕ)) (pairs
 some_fields v text [] pairs cut of = record { field = []; fields = []; cut = record { each = All-cons (FreeOf ampersand) [] [] refl (All-nil (FreeOf ampersand)); joined = cut.joined }; denoted = of }
 some_fields v text (field ∷ fields) pairs cut of = record { field = field; fields = fields; cut = cut; denoted = of }
 
--- the fields of a text are determined, where there is at least one
+-- the fields of a text are determined, if there is at least one
 fields_unique : (f g : List ℕ) (fs gs : List (List ℕ)) → All (FreeOf ampersand) (f ∷ fs) → All (FreeOf ampersand) (g ∷ gs) → join_with_byte ampersand (f ∷ fs) ≡ join_with_byte ampersand (g ∷ gs) → f ∷ fs ≡ g ∷ gs
 fields_unique f g [] [] a b e = ap (λ t. t ∷ []) e
 fields_unique f g [] (h ∷ gs) a b e = absurd (not_free ampersand g (join_with_byte ampersand (h ∷ gs)) (subst (FreeOf ampersand) e (All-head (FreeOf ampersand) f [] a)))
@@ -93,7 +93,7 @@ split_some field = elim (free_or_cut equals_sign field) [
   | inr (x, y, free, cut) ↦ (x, y, SplitsField.with_value free cut)
 ]
 
--- what fields stand for is determined
+-- the meaning of fields is determined
 pairs_unique : (v : Location) (fields : List (List ℕ)) (p q : List (List ℕ × List ℕ)) → PairsOf v fields p → PairsOf v fields q → p ≡ q
 pairs_unique v [] p q h k = h ∙ sym k
 pairs_unique v ([] ∷ fields) p q h k = pairs_unique v fields p q h k
@@ -102,7 +102,7 @@ pairs_unique v ((b ∷ bs) ∷ fields) p q (n, x, ps, split, rest, e) (m, y, qs,
     let others = pairs_unique v fields ps qs rest rest_2 in
     e ∙ (λ i. (term_of v (both.0 i), term_of v (both.1 i)) ∷ others i) ∙ sym k
 
--- and all fields stand for something
+-- and all fields denote something
 pairs_some : (v : Location) (fields : List (List ℕ)) → (pairs : List (List ℕ × List ℕ)) × PairsOf v fields pairs
 pairs_some v [] = ([], refl)
 pairs_some v ([] ∷ fields) = pairs_some v fields
@@ -111,7 +111,7 @@ pairs_some v ((b ∷ bs) ∷ fields) =
     let (name, value, split) = split_some (b ∷ bs) in
     ((term_of v name, term_of v value) ∷ pairs, (name, value, pairs, split, of, refl))
 
--- what a query stands for is determined
+-- the meaning of a query is determined
 query_unique : (v : Location) (text : Option (List ℕ)) (p q : Option (List (List ℕ × List ℕ))) → QueryOf v text p → QueryOf v text q → p ≡ q
 query_unique v None p q h k = h ∙ sym k
 query_unique v (Some text) p q (fields, ps, cut, of, e) (fields_2, qs, cut_2, of_2, k) =
@@ -120,7 +120,7 @@ query_unique v (Some text) p q (fields, ps, cut, of, e) (fields_2, qs, cut_2, of
     let same = fields_unique one.field two.field one.fields two.fields one.cut.each two.cut.each (sym one.cut.joined ∙ two.cut.joined) in
     e ∙ ap Some (pairs_unique v (two.field ∷ two.fields) ps qs (subst (λ fs. PairsOf v fs ps) same one.denoted) two.denoted) ∙ sym k
 
--- and each query stands for something
+-- and each query denotes something
 query_some : (v : Location) (text : Option (List ℕ)) → (query : Option (List (List ℕ × List ℕ))) × QueryOf v text query
 query_some v None = (None, refl)
 query_some v (Some text) =
@@ -128,7 +128,7 @@ query_some v (Some text) =
     let (pairs, of) = pairs_some v (field ∷ fields) in
     (Some pairs, (field ∷ fields, pairs, cut, of, refl))
 
--- a query that stands for nothing is none
+-- a query that denotes nothing is none
 pub no_query : (v : Location) (text : Option (List ℕ)) → QueryOf v text None → text ≡ None
 no_query v None of = refl
 no_query v (Some text) (fields, pairs, cut, of, e) = absurd (cc)

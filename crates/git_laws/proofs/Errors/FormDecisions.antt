@@ -42,11 +42,11 @@ helper_or_not b =
 
 -- ---- the host of the scp form
 
--- a host of the scp form stands for one, or is flawed
+-- a host of the scp form denotes one, or is flawed
 abbrev HostOrFlawed : List ℕ → Type 0
 HostOrFlawed host = ((denoted : List ℕ) × ScpHost host denoted) ⊎ ((named : UrlFault) × ScpHostFlaw host named)
 
--- a host is read where each `%` is its own escape, or is flawed
+-- a host is read if each `%` is its own escape, or is flawed
 abbrev PieceOrFlawed : List ℕ → Type 0
 PieceOrFlawed host = ((denoted : List ℕ) × SpellsHost (escaped_percents host) denoted) ⊎ ((named : UrlFault) × ScpNameFlaw host named)
 
@@ -86,7 +86,7 @@ open_decided host some open_front text inside =
           ]
     ]
 
--- what isn't empty, with a bracket in front or without
+-- a text that isn't empty, with a bracket in front or without
 piece_decided : (host : List ℕ) → 0 < length host → IsUtf8 host → ColonsInside host → PieceOrFlawed host
 piece_decided host some text inside =
     elim (cases_Bool (begins_with left_bracket host)) [
@@ -212,7 +212,7 @@ open_cut b lacks =
       | inr (front, path, free, e) ↦ inl (front, path, record { joined = e; form = ScpFront.plain free (unbracketed_front b front path e lacks) })
     ]
 
--- the first colon behind brackets cuts a text with brackets at its front
+-- the first colon after brackets cuts a text with brackets at its front
 closed_cut : (b inside behind : List ℕ) → FreeOf right_bracket inside → b ≡ left_bracket ∷ (inside ++ right_bracket ∷ behind) → Decides (HasFrontCut b)
 closed_cut b inside behind free e =
     elim (free_or_cut colon behind) [

@@ -48,7 +48,7 @@ number_or_not syntax t =
 
 -- ---- hosts
 
--- a text stands for a host, or for none
+-- a text denotes a host, or none
 text_or_not : (syntax : HostSyntax) (t : List ℕ) → ((host : List ℕ) × HostText syntax t host) ⊎ IsNoHost syntax t
 text_or_not http_hosts t =
     elim (cases_Bool (list_all is_http_host_byte t)) [ inl each ↦ inl (normal_host t, (each, refl)) | inr other ↦ inr (λ host h. both_ways _ other h.0) ]
@@ -57,12 +57,12 @@ text_or_not git_hosts t =
 text_or_not other_hosts t =
     elim (utf8_or_not (percent_decode t)) [ inl text ↦ inl (normal_host (percent_decode t), (text, refl)) | inr bad ↦ inr (λ host h. bad h.0) ]
 
--- no literal, and no text when it is decoded: it stands for nothing
+-- no literal, and no text when it is decoded: it denotes nothing
 not_bracketed : (t : List ℕ) → ¬ ((n : List ℕ) × Literal t n) → ¬ IsUtf8 (percent_decode t) → (inner : List ℕ) → ¬ Bracketed t inner
 not_bracketed t none bad inner (Bracketed.literal n h e u) = none (n, h)
 not_bracketed t none bad inner (Bracketed.other h e u) = bad (subst IsUtf8 e u)
 
--- a text between brackets stands for another, or for nothing
+-- a text between brackets denotes another, or nothing
 bracketed_or_not : (t : List ℕ) → ((inner : List ℕ) × Bracketed t inner) ⊎ ((inner : List ℕ) → ¬ Bracketed t inner)
 bracketed_or_not t =
     elim (literal_or_not t) [
@@ -77,7 +77,7 @@ inner_or_not http_hosts t = elim (literal_or_not t) [ inl h ↦ inl h | inr none
 inner_or_not git_hosts t = bracketed_or_not t
 inner_or_not other_hosts t = bracketed_or_not t
 
--- a piece is an address, with or without a colon behind it, or not
+-- a piece is an address, with or without a colon after it, or not
 address_piece_or_not : (piece : List ℕ) → Decides (IsAddressPiece piece)
 address_piece_or_not piece =
     elim (address_or_not piece) [
@@ -99,7 +99,7 @@ address_piece_or_not piece =
 abbrev pub NamesOrFlawed : HostSyntax → List ℕ → Type 0
 NamesOrFlawed syntax piece = ((host : Option (List ℕ)) × (port : Option ℕ) × SpellsHostPort syntax piece host port) ⊎ ((named : UrlFault) × HostPortFlaw syntax piece named)
 
--- what follows brackets and a colon
+-- the text after brackets and a colon
 behind_colon : (syntax : HostSyntax) (x digits inner : List ℕ) → FreeOf right_bracket x → Inner syntax x inner → NamesOrFlawed syntax (left_bracket ∷ (x ++ right_bracket ∷ (colon ∷ digits)))
 behind_colon syntax x [] inner free h = inl (_, _, SpellsHostPort.bracketed_colon x inner free h refl refl refl)
 behind_colon syntax x (d ∷ digits) inner free h =
@@ -108,7 +108,7 @@ behind_colon syntax x (d ∷ digits) inner free h =
       | inr none ↦ inr (fault.BadPort, HasBadPort.bracketed x (d ∷ digits) free refl (omega arith, none))
     ]
 
--- what follows brackets
+-- the text after brackets
 behind_brackets : (syntax : HostSyntax) (x rest inner : List ℕ) → FreeOf right_bracket x → Inner syntax x inner → EndsHost rest → NamesOrFlawed syntax (left_bracket ∷ (x ++ right_bracket ∷ rest))
 behind_brackets syntax x rest inner free h (inl e) =
     subst (λ t. NamesOrFlawed syntax (left_bracket ∷ (x ++ right_bracket ∷ t))) (sym e) (inl (_, _, SpellsHostPort.bracketed x inner free h refl refl refl))
@@ -150,7 +150,7 @@ plain_named syntax piece h =
       | inr none ↦ inr (fault.BadCharacter, HasBadHost.plain piece [] h (inl refl) (sym (append-nil piece)) none)
     ]
 
--- what follows it and a colon
+-- the text after it and a colon
 port_named : (syntax : HostSyntax) (front named digits : List ℕ) → IsPlainHost front → HostText syntax front named → FreeOf colon digits → NamesOrFlawed syntax (front ++ colon ∷ digits)
 port_named syntax front named [] h t free = inl (_, _, SpellsHostPort.plain_colon front named h t refl refl refl)
 port_named syntax front named (d ∷ digits) h t free =
@@ -167,7 +167,7 @@ colon_named syntax front digits h free =
       | inr none ↦ inr (fault.BadCharacter, HasBadHost.plain front (colon ∷ digits) h (inr (digits, free, refl)) refl none)
     ]
 
--- colons that mark no port, where no address is read
+-- colons that mark no port, if no address is read
 other_named : (syntax : HostSyntax) (piece : List ℕ) → ¬ (syntax ≡ http_hosts) → ¬ ReadsAddress syntax piece → begins_with left_bracket piece ≡ false → IsManyColoned piece → NamesOrFlawed syntax piece
 other_named syntax piece lax unread open_front many =
     elim (text_or_not syntax piece) [

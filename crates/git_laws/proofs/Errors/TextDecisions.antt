@@ -53,7 +53,7 @@ utf8_or_not bs = by_test (is_utf8 bs) (IsUtf8-from_is_utf8 bs) (is_utf8-from_IsU
 pub address_or_not : (t : List ℕ) → Decides (IsIpv6Text t)
 address_or_not t = by_test (is_ipv6_text t) (ipv6_text_from t) (ipv6_text_to t)
 
--- a scheme and what follows it are short enough, or not
+-- a scheme and the text after it are short enough, or not
 pub fits_or_not : (scheme rest : List ℕ) → Decides (Fits scheme rest)
 fits_or_not scheme rest =
     elim (cases_lt 1024 (length scheme)) [
@@ -113,7 +113,7 @@ literal_or_not t =
 
 -- ---- cuts
 
--- a text is free of a byte, or is the text before the last such byte, the byte, and the text behind it
+-- a text is free of a byte, or is the text before the last such byte, the byte, and the text after it
 pub free_or_last_cut : (c : ℕ) (bs : List ℕ) → FreeOf c bs ⊎ ((x : List ℕ) × (y : List ℕ) × FreeOf c y × (bs ≡ x ++ c ∷ y))
 free_or_last_cut c [] = inl refl
 free_or_last_cut c (b ∷ bs) =
@@ -126,7 +126,7 @@ free_or_last_cut c (b ∷ bs) =
           ]
     ]
 
--- the text behind a `://` at the front
+-- the text after a `://` at the front
 abbrev StartsAtMark : List ℕ → Type 0
 StartsAtMark bs = (rest : List ℕ) × (bs ≡ url_mark ++ rest)
 
@@ -145,16 +145,16 @@ starts_or_not (a ∷ b ∷ c ∷ bs) =
           inr (λ (rest, e). both_ways _ other (and_from _ _ (eq-eqb a colon (heads e)) (and_from _ _ (eq-eqb b slash (heads (tails e))) (eq-eqb c slash (heads (tails (tails e)))))))
     ]
 
--- a text that holds `://` begins with it, or holds it behind its first byte
+-- a text that holds `://` begins with it, or holds it after its first byte
 held_behind : (b : ℕ) (bs : List ℕ) → Holds url_mark (b ∷ bs) → StartsAtMark (b ∷ bs) ⊎ Holds url_mark bs
 held_behind b bs ([], rest, e) = inl (rest, e)
 held_behind b bs (c ∷ front, rest, e) = inr (front, rest, tails e)
 
--- what holds `://` at its front holds it there with another text behind it
+-- a text that holds `://` at its front holds it there with another text after it
 starts_further : (b : ℕ) (front behind bs : List ℕ) → bs ≡ front ++ behind → StartsAtMark (b ∷ front) → StartsAtMark (b ∷ bs)
 starts_further b front behind bs e (rest, is) = (rest ++ behind, ap (λ t. b ∷ t) e ∙ ap (λ t. t ++ behind) is)
 
--- a text holds no `://`, or is the text before the first one, the mark, and the text behind it
+-- a text holds no `://`, or is the text before the first one, the mark, and the text after it
 pub mark_or_cut : (bs : List ℕ) → (¬ Holds url_mark bs) ⊎ ((front : List ℕ) × (rest : List ℕ) × (¬ Holds url_mark front) × (bs ≡ front ++ (url_mark ++ rest)))
 mark_or_cut [] = inl (λ (front, rest, e). absurd (omega (arith, ap length e, length-append front (url_mark ++ rest))))
 mark_or_cut (b ∷ bs) =

@@ -29,7 +29,7 @@ use Rattle.git_laws.proofs.Errors.HostDecisions.{named_or_flawed}
 
 -- ---- authorities
 
--- user information holds a user and a password, or what isn't text
+-- user information holds a user and a password, or isn't text
 credentials_or_not : (text : List ℕ) → ((user : Option (List ℕ)) × (password : Option (List ℕ)) × Credentials text user password) ⊎ HasNoText text
 credentials_or_not text =
     elim (free_or_cut colon text) [
@@ -46,7 +46,7 @@ credentials_or_not text =
           ]
     ]
 
--- an authority holds these, and a host where one is needed, or is flawed
+-- an authority holds these, and a host if one is needed, or is flawed
 abbrev pub HeldOrFlawed : HostSyntax → Bool → List ℕ → Type 0
 HeldOrFlawed syntax needed authority =
     ((user : Option (List ℕ)) × (password : Option (List ℕ)) × (host : Option (List ℕ)) × (port : Option ℕ) × HoldsHosted syntax needed authority user password host port)
@@ -69,7 +69,7 @@ behind_held syntax needed authority information piece (Some host) port free e n 
       | inl (user, password, c) ↦ inl (_, _, _, _, record { named = Authority.with_user information piece free e c n refl; hosted = λ e. refl })
     ]
 
--- an authority holds what is needed, or is flawed
+-- an authority has the host that is needed, or is flawed
 held_or_flawed : (syntax : HostSyntax) (needed : Bool) (authority : List ℕ) → HeldOrFlawed syntax needed authority
 held_or_flawed syntax needed authority =
     elim (free_or_last_cut at_sign authority) [

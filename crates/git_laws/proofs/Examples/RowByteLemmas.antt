@@ -3,11 +3,11 @@ use Rattle.std.proofs.Common.{refl, arith}
 use Rattle.percent_encoding.proofs.OnLiterals.{percent_encoding_on_literals}
 use Rattle.git_laws.specs.Examples.ByteRows.{NameByteRows, HostByteRows, WhiteSpaceRows, GitByteRows, QuickByteRows, EscapedByteRows, EscapeSetRows}
 
--- what names are made of
+-- the bytes of names
 pub name_byte_rows : NameByteRows
 name_byte_rows = (refl, refl, refl, refl, refl, refl, refl, refl)
 
--- what hosts and zones are made of, and marks
+-- the bytes of hosts and zones, and marks
 pub host_byte_rows : HostByteRows
 host_byte_rows = (refl, refl, refl, refl, refl, refl, refl, refl)
 
@@ -15,11 +15,11 @@ host_byte_rows = (refl, refl, refl, refl, refl, refl, refl, refl)
 pub white_space_rows : WhiteSpaceRows
 white_space_rows = (refl, refl, refl, refl, refl)
 
--- what Git looks at
+-- the bytes that Git tests
 pub git_byte_rows : GitByteRows
 git_byte_rows = (refl, refl)
 
--- what quick tests pass
+-- the bytes that pass quick tests
 pub quick_byte_rows : QuickByteRows
 quick_byte_rows = (refl, refl, refl)
 
@@ -27,7 +27,7 @@ quick_byte_rows = (refl, refl, refl)
 pub escaped_byte_rows : EscapedByteRows
 escaped_byte_rows = (refl, refl, refl)
 
--- what the sets escape
+-- the bytes that the sets escape
 pub escape_set_rows : EscapeSetRows
 unfolding percent_encoding_on_literals
 escape_set_rows = grind arith

@@ -1,4 +1,4 @@
--- What a written-out text holds and what it doesn't, by searching it.
+-- The bytes that a written-out text has and those that it lacks, by searching it.
 use Rattle.std.proofs.Common.{◌≡◌, ℕ, Bool, true, false, nat_le, ◌&&◌, ◌||◌, ◌==◌, List, [], ◌∷◌, ◌++◌, length, refl, sym, ap, ◌∙◌, eqb}
 use Rattle.std.proofs.lemmas.Bool.{both_ways, and_from, eq-eqb, leb-true, or_left, or_right}
 use Rattle.git_syntax.specs.Bytes.{colon, Lacks, FreeOf, Holds, begins_by, begins_with, is_helper_name, is_path_start, StartsPath}
@@ -11,7 +11,7 @@ use Rattle.git_syntax.proofs.Texts.CutLemmas.{cut_unique, helper_name_free}
 pub other_byte : {A : Type 0} (a b : ℕ) → eqb a b ≡ false → a ≡ b → A
 other_byte a b h e = absurd (both_ways (eqb a b) h (eq-eqb a b e))
 
--- ---- what a text doesn't hold
+-- ---- the bytes that a text lacks
 
 -- the text begins with the mark
 abbrev pub begins_as : List ℕ → List ℕ → Bool
@@ -40,7 +40,7 @@ held (b ∷ front) mark rest = or_right _ _ (held front mark rest)
 pub not_held : (mark bs : List ℕ) → holds mark bs ≡ false → ¬ Holds mark bs
 not_held mark bs h (front, rest, e) = both_ways _ h (ap (holds mark) e ∙ held front mark rest)
 
--- a text has no helper form where no helper's name comes before its first colon, or no colon behind that
+-- a text has no helper form if no helper's name comes before its first colon, or no colon after that
 pub no_helper_at : (bs front rest : List ℕ) → bs ≡ front ++ colon ∷ rest → FreeOf colon front → (is_helper_name front && begins_with colon rest) ≡ false → ¬ HasHelperForm bs
 no_helper_at bs front rest e free other (name, address, parts) =
     let same = cut_unique colon front name rest (colon ∷ address) free (helper_name_free name colon parts.named refl) (sym e ∙ parts.joined) in

@@ -1,4 +1,4 @@
--- Rows on what Git reads: by giving the cuts, and what it doesn't.
+-- Rows on texts that Git reads, by their cuts, and on texts that it doesn't read.
 use Rattle.std.proofs.Common.{◌≡◌, ◌∙◌, ◌==◌, ◌&&◌, ◌<◌, ℕ, true, false, inl, inr, List, [], ◌∷◌, ◌++◌, Option, Some, None, length, codes, refl, sym, ap, subst, arith, lit<}
 use Rattle.std.proofs.lemmas.Bool.Decides.{nat_tests}
 use Rattle.std.proofs.lemmas.Bool.{false≢true, true≢false}
@@ -22,11 +22,11 @@ use Rattle.git_reads.proofs.Texts.PlaceLemmas.{host_end_unique}
 at_front : (inside behind : List ℕ) → ¬ Holds host_mark (left_bracket ∷ (inside ++ right_bracket ∷ behind)) → FreeOf right_bracket inside → BracketCut (left_bracket ∷ (inside ++ right_bracket ∷ behind)) [] inside behind
 at_front inside behind none next = record { opened = OpensHost.at_front none refl refl; next = next }
 
--- or the first one behind an `@`
+-- or the first one after an `@`
 behind_at : (user inside behind : List ℕ) → ¬ Holds host_mark user → FreeOf right_bracket inside → BracketCut (user ++ (host_mark ++ (inside ++ right_bracket ∷ behind))) (user ++ at_sign ∷ []) inside behind
 behind_at user inside behind none next = record { opened = OpensHost.behind_at user none refl refl; next = next }
 
--- the place goes to the first c behind the brackets
+-- the place goes to the first c after the brackets
 bracket_cut : (c : ℕ) (t front inside between rest : List ℕ) → BracketCut t front inside (between ++ c ∷ rest) → (right_bracket == c) ≡ false → FreeOf c between → CutsPlace c t ((front ++ left_bracket ∷ inside) ++ right_bracket ∷ between) rest
 bracket_cut c t front inside between rest h other first = record {
   passed = front ++ left_bracket ∷ inside;
@@ -42,7 +42,7 @@ bracket_cut c t front inside between rest h other first = record {
 url : (p : Scheme) (scheme spelled rest : List ℕ) → scheme_of scheme ≡ p → rest ≡ git_decode spelled → OwnUrl p (scheme ++ (codes "://" ++ spelled)) rest
 url p scheme spelled rest own decoded = record { scheme = scheme; spelled = spelled; own = own; joined = refl; decoded = decoded }
 
--- what Secure Shell gets
+-- the word that Secure Shell gets
 reached : (place path named word host : List ℕ) (found port : Option ℕ) (user : Option (List ℕ)) → HostAndPort place named found → SecurePort named found word port → UserCut word user host → is_option_like word ≡ false → is_option_like path ≡ false → holds (codes "ssh://") word ≡ false → ReachesSecure place path (by_ssh user (unless_empty host) port path)
 reached place path named word host found port user cut secure split first second other = record {
   named = named;
@@ -66,7 +66,7 @@ plain_word word host path user unbracketed free split first second other =
     let portless = portless_free word free in
     reached word path word word host None None user (HostAndPort.none (lacks_brackets word unbracketed) portless.before) portless.secure split first second other
 
--- a place in brackets, with only the place's own rest behind them
+-- a place in brackets, with only the place's own rest after them
 enclosed : (place front inside behind dropped : List ℕ) (found : Option ℕ) → BracketCut place front inside behind → BeforePort behind dropped found → HostAndPort place (front ++ inside) found
 enclosed place front inside behind dropped found h port = HostAndPort.brackets front inside behind dropped h refl port
 
@@ -142,13 +142,13 @@ git_url_rows = (
       let inner = at_front (codes "h:22") [] (not_held host_mark place refl) refl in
       let word = reached place (codes "/p") (codes "h:22") (codes "h") (codes "h") None (Some 22) None (enclosed place [] (codes "h:22") [] [] None inner (BeforePort.no_colon refl refl refl)) (SecurePort.inside (codes "22") 22 refl refl refl refl refl) (UserCut.host_alone refl refl refl) refl refl refl in
       record { whole = refl; no_option = refl; reads = ReadsInput.secure_url (codes "[h:22]/p") place (codes "p") (url ssh (codes "ssh") (codes "[h:22]/p") (codes "[h:22]/p") refl refl) (bracket_cut slash (codes "[h:22]/p") [] (codes "h:22") [] (codes "p") opened refl refl) word },
-  -- a port behind an address in brackets
+  -- a port after an address in brackets
   let place = codes "[::1]:22" in
       let opened = at_front (codes "::1") (codes ":22/p") (not_held host_mark (codes "[::1]:22/p") refl) refl in
       let inner = at_front (codes "::1") (codes ":22") (not_held host_mark place refl) refl in
       let word = reached place (codes "/p") (codes "::1") (codes "::1") (codes "::1") (Some 22) (Some 22) None (enclosed place [] (codes "::1") (codes ":22") [] (Some 22) inner (BeforePort.marked (codes "22") 22 refl refl refl refl)) (SecurePort.behind 22 refl refl refl) (UserCut.host_alone refl refl refl) refl refl refl in
       record { whole = refl; no_option = refl; reads = ReadsInput.secure_url (codes "[::1]:22/p") place (codes "p") (url ssh (codes "ssh") (codes "[::1]:22/p") (codes "[::1]:22/p") refl refl) (bracket_cut slash (codes "[::1]:22/p") [] (codes "::1") (codes ":22") (codes "p") opened refl refl) word },
-  -- the text behind a bracket is dropped
+  -- the text after a bracket is dropped
   let place = codes "[x]u@h" in
       let opened = at_front (codes "x") (codes "u@h/p") (not_held host_mark (codes "[x]u@h/p") refl) refl in
       let inner = at_front (codes "x") (codes "u@h") (not_held host_mark place refl) refl in
@@ -176,7 +176,7 @@ git_url_rows = (
 
 -- ---- other texts
 
--- a text with a colon behind neither a helper's name nor `rsync`
+-- a text with a colon after neither a helper's name nor `rsync`
 no_url : (t front rest : List ℕ) → t ≡ front ++ colon ∷ rest → FreeOf colon front → ¬ Holds (codes "://") t → (is_helper_name front && begins_with colon rest) ≡ false → ¬ (front ≡ []) → ¬ (front ≡ codes "rsync") → IsNoUrl t
 no_url t front rest e free none other some apart = record {
   no_mark = none;
@@ -209,7 +209,7 @@ git_text_rows = (
       let none = not_held host_mark (codes "[u@h]:p") refl in
       let word = reached place (codes "p") (codes "u@h") (codes "u@h") (codes "h") None None (Some (codes "u")) (enclosed place [] (codes "u@h") [] [] None (at_front (codes "u@h") [] (not_held host_mark place refl) refl) (BeforePort.no_colon refl refl refl)) (SecurePort.no_colon refl refl refl refl) (UserCut.with_user (codes "u") (lit< tt) refl refl refl) refl refl refl in
       record { whole = refl; no_option = refl; reads = ReadsInput.scp_form place (codes "p") (no_url (codes "[u@h]:p") place (codes "p") refl refl (not_held (codes "://") (codes "[u@h]:p") refl) refl (λ e. cc) (λ e. different_bytes 91 114 refl e)) record { front = place; rest = codes "p"; joined = refl; no_slash = refl } (bracket_cut colon (codes "[u@h]:p") [] (codes "u@h") [] (codes "p") (at_front (codes "u@h") (codes ":p") none refl) refl refl) word },
-  -- brackets behind a colon
+  -- brackets after a colon
   let place = codes "u:p@[h]" in
       let none = not_held host_mark (codes "u:p") refl in
       let word = reached place (codes "q") (codes "u:p@h") (codes "u:p@h") (codes "h") None None (Some (codes "u:p")) (enclosed place (codes "u:p@") (codes "h") [] [] None (behind_at (codes "u:p") (codes "h") [] none refl) (BeforePort.no_colon refl refl refl)) (SecurePort.unmarked (codes "u") (codes "p@h") refl refl refl refl refl refl) (UserCut.with_user (codes "u:p") (lit< tt) refl refl refl) refl refl refl in
@@ -247,7 +247,7 @@ git_text_rows = (
 not_own : {A : Type 0} (p : Scheme) (t rest : List ℕ) → ¬ Holds (codes "://") t → OwnUrl p t rest → A
 not_own p t rest none h = absurd (none (h.scheme, h.spelled, h.joined))
 
--- what is neither a URL nor another text that Git reads itself
+-- a text that is neither a URL nor another text that Git reads itself
 neither_read : (t : List ℕ) (reading : GitReading) → ¬ Holds (codes "://") t → ¬ IsNoUrl t → ReadsInput t reading → ⊥
 neither_read t reading h2 h3 h4 = grind (arith, nat_tests, not_own)
 

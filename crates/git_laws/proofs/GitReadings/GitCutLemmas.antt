@@ -45,7 +45,7 @@ place_cut c t place rest free first e = record {
   joined = refl;
 }
 
--- behind a user, or at the front, a bracket opens a host where no second one follows
+-- after a user, or at the front, a bracket opens a host if no second one follows
 opens_host : (user : Option (List ℕ)) (rest : List ℕ) → FreeOf left_bracket (raw_user user) → FreeOf left_bracket rest → OpensHost (raw_user user ++ left_bracket ∷ rest) (raw_user user) rest
 opens_host None rest free behind = OpensHost.at_front (no_mark_behind rest behind) refl refl
 opens_host (Some u) rest free behind =
@@ -56,15 +56,15 @@ in_brackets : (user : Option (List ℕ)) (inside behind t : List ℕ) → t ≡ 
 in_brackets user inside behind t e free left right =
     subst (λ x. BracketCut x (raw_user user) inside behind) (sym e) record { opened = opens_host user (inside ++ right_bracket ∷ behind) free left; next = right }
 
--- a user, a host in brackets and the text behind these
+-- a user, a host in brackets and the text after these
 abbrev pub bracketed_place : Option (List ℕ) → List ℕ → List ℕ → List ℕ
 bracketed_place user inside between = raw_user user ++ left_bracket ∷ (inside ++ right_bracket ∷ between)
 
--- with a text behind it
+-- with a text after it
 bracketed_joined : (user : Option (List ℕ)) (inside between rest : List ℕ) → bracketed_place user inside between ++ rest ≡ raw_user user ++ left_bracket ∷ (inside ++ right_bracket ∷ (between ++ rest))
 bracketed_joined user inside between rest = grind (arith, nat_tests, append_assoc)
 
--- such a text is cut at the first c behind the brackets
+-- such a text is cut at the first c after the brackets
 pub bracketed_cut : (c : ℕ) (user : Option (List ℕ)) (inside between rest : List ℕ) → FreeOf left_bracket (raw_user user) → FreeOf left_bracket (inside ++ right_bracket ∷ (between ++ c ∷ rest)) → FreeOf right_bracket inside → FreeOf c (right_bracket ∷ between) → CutsPlace c (bracketed_place user inside between ++ c ∷ rest) (bracketed_place user inside between) rest
 bracketed_cut c user inside between rest free left right first = record {
   passed = raw_user user ++ left_bracket ∷ inside;
@@ -138,7 +138,7 @@ signed_port_colon [] y = refl
 signed_port_colon (b ∷ x) y =
     signed_by (b == plus_sign) (b == hyphen) b (x ++ colon ∷ y) (digits_port_colon x y) (digits_port_colon (b ∷ x) y)
 
--- nor behind white space
+-- nor after white space
 spaced_by : (space : Bool) (b : ℕ) (bs : List ℕ) → git_port bs ≡ None → signed_port (b ∷ bs) ≡ None → (if space then git_port bs else signed_port (b ∷ bs)) ≡ None
 spaced_by true b bs behind whole = behind
 spaced_by false b bs behind whole = whole
@@ -148,7 +148,7 @@ git_port_colon : (x y : List ℕ) → git_port (x ++ colon ∷ y) ≡ None
 git_port_colon [] y = refl
 git_port_colon (b ∷ x) y = spaced_by (is_c_space b) b (x ++ colon ∷ y) (git_port_colon x y) (signed_port_colon (b ∷ x) y)
 
--- digits are a port where their value is one
+-- digits are a port if their value is one
 digit_begins : (b : ℕ) → is_ascii_digit b ≡ true → (is_c_space b ≡ false) × ((b == plus_sign) ≡ false) × ((b == hyphen) ≡ false)
 digit_begins b digit = (grind (arith, nat_tests), grind (arith, nat_tests), grind (arith, nat_tests))
 
@@ -163,7 +163,7 @@ git_port_digits (b ∷ bs) some digits small =
     let (space, plus, minus) = digit_begins b (and_parts (is_ascii_digit b) (list_all is_ascii_digit bs) digits).0 in
     cond-false _ _ _ space ∙ cond-false _ _ _ plus ∙ cond-false _ _ _ minus ∙ cond-true _ _ _ (and_from _ _ digits (small_value (digits_value 10 (b ∷ bs)) small))
 
--- what a port is written with is that port
+-- the digits with which a port is written spell that port
 pub git_port_written : (port : ℕ) → port < 65536 → git_port (decimal port) ≡ Some port
 git_port_written port small =
     let number = number_written git_hosts port small tt in
@@ -192,7 +192,7 @@ pub some_behind : (p q : List ℕ) → 0 < length (p ++ colon ∷ q)
 some_behind [] q = omega arith
 some_behind (b ∷ p) q = omega arith
 
--- nor does one with a colon behind its first one
+-- nor does one with a colon after its first one
 portless_cut : (word host other p q : List ℕ) → FreeOf colon host → word ≡ host ++ colon ∷ other → other ≡ p ++ colon ∷ q → IsPortless word
 portless_cut word host other p q free e behind =
     let none : git_port other ≡ None = ap git_port behind ∙ git_port_colon p q in
@@ -211,12 +211,12 @@ portless_coloned front host free (x, y, z, e) =
           portless_cut (front ++ host) (front ++ a) b p q (free-append colon front a free first) (ap (λ t. front ++ t) cut ∙ sym (append_assoc front a (colon ∷ b))) behind
     ]
 
--- a place is read as a word and the port that is written behind it
+-- a place is read as a word and the port that is written after it
 pub record ReadsPlace (place word : List ℕ) (port : Option ℕ) : Type 0 where
   pub cut : HostAndPort place word port
   pub secure : SecurePort word port word port
 
--- where there is a port, the word has no colon
+-- if there is a port, the word has no colon
 pub place_with_port : (word : List ℕ) (port : ℕ) → port < 65536 → FreeOf colon word → FreeOf left_bracket (word ++ port_part (Some port)) → ReadsPlace (word ++ port_part (Some port)) word (Some port)
 place_with_port word port small free unbracketed = record {
   cut = HostAndPort.none (lacks_brackets (word ++ port_part (Some port)) unbracketed) (BeforePort.marked (decimal port) port free refl (git_port_written port small) refl);
@@ -230,12 +230,12 @@ place_without_port word portless unbracketed = record {
   secure = portless.secure;
 }
 
--- behind the brackets the port is marked
+-- after the brackets the port is marked
 port_behind : (port : Option ℕ) → IfSome port (λ p. p < 65536) → BeforePort (port_part port) [] port
 port_behind None small = BeforePort.no_colon refl refl refl
 port_behind (Some p) small = BeforePort.marked (decimal p) p refl refl (git_port_written p small) refl
 
--- and where it isn't, the word names none
+-- and if it isn't, the word names none
 secure_behind : (word : List ℕ) (port : Option ℕ) → IsPortless word → SecurePort word port word port
 secure_behind word None portless = portless.secure
 secure_behind word (Some p) portless = SecurePort.behind p refl refl refl

@@ -128,7 +128,7 @@ scp_user_free v h1 h2 c h4 h5 = grind (arith, nat_tests, IfSome, user_free, free
 scp_plain_host : (v : Location) (host : List ℕ) → v.flag ≡ true → v.scheme ≡ ssh → HasPlainParts v → v.host ≡ Some host → Lacks is_contested host
 scp_plain_host v host h2 h3 h4 h5 = grind (arith, nat_tests, IfSome)
 
--- the text is free of such a byte, where the host is a name
+-- the text is free of such a byte, if the host is a name
 scp_free : (v : Location) (host : List ℕ) → v.flag ≡ true → HasPlainParts v → v.scheme ≡ ssh → v.host ≡ Some host → (c : ℕ) → is_contested c ≡ true → (at_sign == c) ≡ false → (colon == c) ≡ false → FreeOf c (word_of v.user host ++ colon ∷ v.path)
 scp_free v host h2 h3 h4 h5 c h7 h8 h9 = grind (arith, nat_tests, scp_plain_host, free-append, word_of, scp_user_free, free_of_lacked, free-cons, path_free)
 
@@ -157,7 +157,7 @@ scp_no_url v host h t other = record {
       other record { scp = h.flagged; no_user = none; host = t.there ∙ ap Some same };
 }
 
--- Git reads in it what the location holds
+-- Git reads in it the location's own fields
 scp_reads : (v : Location) (host : List ℕ) → IsSettledScp v → (t : IsScpText v host) → AgreesByTransport v → is_tilde_second v.path ≡ false → ¬ IsRsync v → ¬ (v.user ≡ Some []) → FreeOf left_bracket (word_of v.user host ++ colon ∷ v.path) → ReadsInput (word_of v.user host ++ colon ∷ v.path) (secure_reading v.user (Some host) None v.path)
 scp_reads v host h t a second other named free =
     let word = word_of v.user host in
@@ -166,11 +166,11 @@ scp_reads v host h t a second other named free =
     let reached = secure_reached v.user host None word v.path (HostAndPort.none (lacks_brackets word front) portless.before) portless.secure t.no_slash t.name.no_at t.name.normal.unbracketed.nonempty named a.no_option.user (host_safe v host t.there a.no_option) a.no_option.path in
     ReadsInput.scp_form word v.path (scp_no_url v host h t other) record { front = word; rest = v.path; joined = refl; no_slash = t.no_slash } (place_cut colon (word ++ colon ∷ v.path) word v.path free t.no_colon refl) (subst (λ p. ReachesSecure word p (secure_reading v.user (Some host) None v.path)) (sym (from_tilde_kept v.path second)) reached)
 
--- with a path behind it a word isn't an option where it isn't one itself
+-- with a path after it a word isn't an option if it isn't one itself
 word_option : (user : Option (List ℕ)) (host path : List ℕ) → 0 < length host → IfSome user (λ u. is_option_like u ≡ false) → is_option_like host ≡ false → is_option_like (word_of user host ++ colon ∷ path) ≡ false
 word_option user host path h3 h4 h5 = grind (arith, nat_tests)
 
--- what the location holds, as Git reads it
+-- the location's own fields, as Git reads them
 scp_reading : (v : Location) (host : List ℕ) → v.scheme ≡ ssh → IsSettledScp v → own_reading v (Some host) ≡ secure_reading v.user (Some host) None v.path
 scp_reading v host e h = λ i. record { protocol = e i; user = v.user; host = Some host; port = h.no_port i; path = v.path }
 
@@ -210,7 +210,7 @@ addressed_text v host a h there address has =
       written = has.written ∙ ap Ok joined;
     }
 
--- its place is free of what neither user nor address holds
+-- its place is free of each byte that neither user nor address holds
 addressed_free : (v : Location) (host : List ℕ) → IsAddressedText v host → (c : ℕ) → is_address_byte c ≡ false → (left_bracket == c) ≡ false → (right_bracket == c) ≡ false → FreeOf c (raw_user v.user) → FreeOf c (bracketed_place v.user host [])
 addressed_free v host t c other left right free =
     free-append c (raw_user v.user) (left_bracket ∷ (host ++ right_bracket ∷ [])) free (free-cons c left_bracket (host ++ right_bracket ∷ []) left (free-append c host (right_bracket ∷ []) (address_free c host other t.address) (free-cons c right_bracket [] right refl)))
@@ -235,7 +235,7 @@ address_nonempty host address =
     let (x, y, z, e) = address_two_colons host address in
     subst (λ t. 0 < length t) (sym e) (some_behind x (y ++ colon ∷ z))
 
--- Git reads in it what the location holds
+-- Git reads in it the location's own fields
 addressed_reads : (v : Location) (host : List ℕ) → IsAddressedText v host → AgreesByTransport v → is_tilde_second v.path ≡ false → ¬ (v.user ≡ Some []) → ReadsInput (bracketed_place v.user host [] ++ colon ∷ v.path) (secure_reading v.user (Some host) None v.path)
 addressed_reads v host t a second named =
     let place = bracketed_place v.user host [] in
@@ -245,7 +245,7 @@ addressed_reads v host t a second named =
     let reached = secure_reached v.user host None place v.path read.cut read.secure (free-append slash (raw_user v.user) host t.no_slash (free slash refl)) (free at_sign refl) (address_nonempty host t.address) named a.no_option.user (host_safe v host t.there a.no_option) a.no_option.path in
     ReadsInput.scp_form place v.path (addressed_no_url v host t) record { front = place; rest = v.path; joined = refl; no_slash = addressed_free v host t slash refl refl refl t.no_slash } (bracketed_cut colon v.user host [] v.path t.no_left (closed (colon ∷ v.path) (path_free v a.plain left_bracket refl)) (free right_bracket refl) refl) (subst (λ p. ReachesSecure place p (secure_reading v.user (Some host) None v.path)) (sym (from_tilde_kept v.path second)) reached)
 
--- a bracket or a user comes first, so the text isn't an option where the user isn't
+-- a bracket or a user comes first, so the text isn't an option if the user isn't
 addressed_option : (user : Option (List ℕ)) (inside path : List ℕ) → IfSome user (λ u. is_option_like u ≡ false) → is_option_like (bracketed_place user inside [] ++ colon ∷ path) ≡ false
 addressed_option user inside path h3 = grind (arith, nat_tests)
 

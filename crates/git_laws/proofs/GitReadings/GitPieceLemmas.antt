@@ -44,7 +44,7 @@ unescaped set (b ∷ bs) kept =
 pub kept_free : (set : AsciiSet) (t : List ℕ) → Lacks (should_percent_encode set) t → (c : ℕ) → contains set c ≡ true → FreeOf c t
 kept_free set t kept c inside = free_of_lacked (should_percent_encode set) c t kept (escaped_from_inside set c inside)
 
--- a byte of a user is written as it is where that of a password is, except a colon
+-- a byte of a user is written unescaped if that of a password is, except a colon
 user_byte_kept : (b : ℕ) → should_percent_encode PASSWORD b ≡ false → (b == colon) ≡ false → should_percent_encode USER b ≡ false
 user_byte_kept b kept other =
     let ascii = ascii_from_kept PASSWORD b kept in
@@ -66,7 +66,7 @@ pub record IsUserRaw (user : Option (List ℕ)) : Type 0 where
   pub written : user_information user None ≡ raw_user user
   pub free : (c : ℕ) → contains USER c ≡ true → (at_sign == c) ≡ false → FreeOf c (raw_user user)
 
--- it does where no byte of it is written as an escape
+-- it does if no byte of it is written as an escape
 pub user_raw : (user : Option (List ℕ)) → IfSome user (λ u. Lacks (should_percent_encode USER) u) → IsUserRaw user
 user_raw user kept = grind (arith, nat_tests, unescaped, kept_free, free-append, free-cons)
 
@@ -81,21 +81,21 @@ pub record IsHostRaw (v : Location) (host : List ℕ) : Type 0 where
 open_written : (host : List ℕ) → Lacks (should_percent_encode PASSWORD) host → IsIpv6Text host ⊎ FreeOf colon host → (if is_ipv6_text host then percent_encode PASSWORD host else percent_encode USER host) ≡ host
 open_written host h1 h2 = grind (arith, nat_tests, cond-true, ipv6_text_to, unescaped, cases_Bool, cond-false, user_kept)
 
--- it does where no byte of it is written as an escape
+-- it does if no byte of it is written as an escape
 pub host_raw : (v : Location) (host : List ℕ) → keeps_host v.scheme ≡ false → needs_brackets v.port host ≡ false → Lacks (should_percent_encode PASSWORD) host → IsIpv6Text host ⊎ FreeOf colon host → IsHostRaw v host
 host_raw v host escapes unmarked kept kind = grind (arith, nat_tests, kept_free, open_written, unmarked, cond-false)
 
--- and goes without brackets where it has no colon beside a port
+-- and goes without brackets if it has no colon beside a port
 pub unmarked : (port : Option ℕ) (host : List ℕ) → FreeOf percent_sign host → (IsSome port → FreeOf colon host) → needs_brackets port host ≡ false
 unmarked port host free beside = grind arith
 
--- the text holds the host of the scp form as it is where it has no colon
+-- the text has the host of the scp form unescaped if it has no colon
 pub scp_host_raw : (host : List ℕ) → FreeOf colon host → raw_host (Some host) ≡ host
 scp_host_raw host free = cond-false _ _ _ (and_left _ _ free)
 
 -- ---- the port
 
--- digits are free of what isn't a digit
+-- digits are free of each byte that isn't a digit
 pub port_free : (c : ℕ) (port : Option ℕ) → is_ascii_digit c ≡ false → (colon == c) ≡ false → IfSome port (λ p. p < 65536) → FreeOf c (port_part port)
 port_free c None other mark small = refl
 port_free c (Some p) other mark small =
@@ -103,7 +103,7 @@ port_free c (Some p) other mark small =
 
 -- ---- the path
 
--- the path is decoded to a text behind a `/`, and Git reads it as it is
+-- the path is decoded to a text after a `/`, and Git reads it as it is
 pub record IsPathRaw (v : Location) : Type 0 where
   pub rest : List ℕ
   pub decoded : percent_decode (canonical_path v) ≡ slash ∷ rest
@@ -114,11 +114,11 @@ pub record IsPathRaw (v : Location) : Type 0 where
 pub from_tilde_kept : (path : List ℕ) → is_tilde_second path ≡ false → from_tilde path ≡ path
 from_tilde_kept path other = grind arith
 
--- behind a `/` that is one below a home folder
+-- after a `/` that is one below a home folder
 homeless_second : (rest : List ℕ) → begins_at_home (slash ∷ rest) ≡ false → is_tilde_second (slash ∷ rest) ≡ false
 homeless_second rest other = grind arith
 
--- what begins with `~` doesn't begin with `/`
+-- a text that begins with `~` doesn't begin with `/`
 unrooted_tilde : (path rest : List ℕ) → path ≡ tilde ∷ rest → begins_with slash path ≡ false
 unrooted_tilde path rest e = ap (begins_with slash) e
 
@@ -136,7 +136,7 @@ path_decoded : (v : Location) → HasPlainPaths v.scheme → IsRawPath v → per
 path_decoded v facts raw =
     matching_cases (λ t. percent_decode t ≡ v.path) v.spelling v.path (plain_path v.scheme v.path) (λ s is same. same) (λ none. ap percent_decode (facts.plain v.path) ∙ decode_kept v.path (raw none).0)
 
--- by where the path is
+-- by the place of the path
 path_raw_by : (v : Location) → requires_path v.scheme ≡ true → percent_decode (matching_or v.spelling v.path (plain_path v.scheme v.path)) ≡ v.path → IsTransportPath v → IsPathRaw v
 path_raw_by v roots same (inl (rooted, homeless)) =
     let (rest, e) = begins_cut slash v.path rooted in

@@ -37,7 +37,7 @@ use Rattle.git_location.proofs.Writing.WrittenAsUrlLemmas.{written_git, written_
 abbrev pub IsReadBy : Scheme → Location → Type 0
 IsReadBy p v = (t : List ℕ) × (text v ≡ Ok t) × ReadsOwnBy p t v
 
--- of Git's own transports, where they are what Git reads in it
+-- of Git's own transports, if this is the place that Git reads in it
 pub own_read : (v : Location) (host : Option (List ℕ)) (whole : List ℕ) (reading : GitReading) → HostForGit v.scheme v.host host → own_reading v host ≡ reading → text v ≡ Ok whole → FreeOf 0 whole → is_option_like whole ≡ false → ReadsInput whole reading → (t : List ℕ) × (text v ≡ Ok t) × ReadsOwnPlace t v
 own_read v host whole reading own value has zero_free safe reads = (
   whole,
@@ -53,7 +53,7 @@ own_read v host whole reading own value has zero_free safe reads = (
 pub secure_host : (v : Location) (host : Option (List ℕ)) → v.scheme ≡ ssh → v.host ≡ host → HostForGit v.scheme v.host host
 secure_host v host e there = subst (λ p. HostForGit p v.host host) (sym e) (sym there)
 
--- ---- what Secure Shell reaches
+-- ---- the place that Secure Shell reaches
 
 -- a user, a host, a port and a path of Secure Shell
 abbrev pub secure_reading : Option (List ℕ) → Option (List ℕ) → Option ℕ → List ℕ → GitReading
@@ -63,11 +63,11 @@ secure_reading name place number whole = record { protocol = ssh; user = name; h
 abbrev pub word_of : Option (List ℕ) → List ℕ → List ℕ
 word_of user host = raw_user user ++ host
 
--- the word isn't an option where user and host aren't
+-- the word isn't an option if user and host aren't
 word_safe : (user : Option (List ℕ)) (host : List ℕ) → IfSome user (λ u. is_option_like u ≡ false) → is_option_like host ≡ false → is_option_like (word_of user host) ≡ false
 word_safe user host h2 h3 = grind (arith, nat_tests)
 
--- it is cut at its last `@`, where a user isn't empty
+-- it is cut at its last `@`, if a user isn't empty
 word_split : (user : Option (List ℕ)) (host : List ℕ) → ¬ (user ≡ Some []) → FreeOf at_sign host → UserCut (word_of user host) user host
 word_split None host named free = UserCut.host_alone free refl refl
 word_split (Some []) host named free = absurd (named refl)
@@ -81,7 +81,7 @@ nonempty_kept t some = some_kept t (λ e. absurd (omega (arith, ap length e, som
 no_secure_url : (word : List ℕ) → FreeOf slash word → (rest : List ℕ) → ¬ (word ≡ codes "ssh://" ++ rest)
 no_secure_url word free rest e = not_free slash (codes "ssh:") (slash ∷ rest) (subst (λ t. FreeOf slash t) e free)
 
--- it is reached where user and host are one word
+-- it is reached if user and host are one word
 pub secure_reached : (user : Option (List ℕ)) (host : List ℕ) (port : Option ℕ) (place path : List ℕ) → HostAndPort place (word_of user host) port → SecurePort (word_of user host) port (word_of user host) port → FreeOf slash (word_of user host) → FreeOf at_sign host → 0 < length host → ¬ (user ≡ Some []) → IfSome user (λ u. is_option_like u ≡ false) → is_option_like host ≡ false → is_option_like path ≡ false → ReachesSecure place path (secure_reading user (Some host) port path)
 secure_reached user host port place path cut secure no_slash free some named user_safe host_safe path_safe = record {
   named = word_of user host;
@@ -101,12 +101,12 @@ secure_reached user host port place path cut secure no_slash free some named use
 
 -- ---- written places
 
--- the word names itself and the port that is written behind it
+-- the word names itself and the port that is written after it
 word_read : (word : List ℕ) (port : Option ℕ) → IfSome port (λ p. p < 65536) → (IsSome port → FreeOf colon word) → IsPortless word → FreeOf left_bracket (word ++ port_part port) → ReadsPlace (word ++ port_part port) word port
 word_read word None small marked portless free = place_without_port word portless (free_parts left_bracket word [] free).0
 word_read word (Some p) small marked portless free = place_with_port word p small (marked refl) free
 
--- the text is a URL of the transport, and this is what the rest is decoded to
+-- the text is a URL of the transport, and this is the decoding of the rest
 pub own_url : (known : Scheme) (scheme spelled rest : List ℕ) → scheme_of scheme ≡ known → git_decode spelled ≡ rest → OwnUrl known (scheme ++ (codes "://" ++ spelled)) rest
 own_url known scheme spelled rest own decoded = record { scheme = scheme; spelled = spelled; own = own; joined = refl; decoded = sym decoded }
 
@@ -121,7 +121,7 @@ pub record HasPlace (v : Location) (word : List ℕ) : Type 0 where
   pub cut : (rest : List ℕ) → FreeOf left_bracket rest → CutsPlace slash (place ++ slash ∷ rest) place rest
   pub read : ReadsPlace place word v.port
 
--- what the text of a location holds behind `://`: it is decoded to the place and a path
+-- the text of a location after `://`: it is decoded to the place and a path
 record IsTransportText (v : Location) (place : List ℕ) : Type 0 where
   pathed : IsPathRaw v
   behind : git_decode (authority_text v ++ canonical_path v) ≡ place ++ slash ∷ pathed.rest
@@ -169,7 +169,7 @@ place_free : (v : Location) (host : List ℕ) → IfSome v.port (λ p. p < 65536
 place_free v host small user hosted c in_user in_host other mark digit =
     free-append c (word_of v.user host) (port_part v.port) (free-append c (raw_user v.user) host (user.free c in_user other) (hosted.free c in_host)) (port_free c v.port digit mark small)
 
--- a host that is written as it is, beside no port where it has a colon, is read as it is
+-- a host that is written as it is, beside no port if it has a colon, is read as it is
 open_place : (v : Location) (host : List ℕ) → IsValue v → HasHostGiven v host → IsHostRaw v host → (IsSome v.port → FreeOf colon host) → IsPortless (word_of v.user host) → HasPlace v (word_of v.user host)
 open_place v host is h hosted beside portless =
     let user = user_raw v.user h.user in
@@ -194,17 +194,18 @@ name_place v host is h kept free =
 
 -- ---- addresses
 
--- a place with an address in brackets is free of what is written as an escape, and isn't a mark of the place
+-- a place with an address in brackets is free of each byte that is written as an escape, and isn't a mark of
+-- the place
 address_free_place : (user : Option (List ℕ)) (address : List ℕ) (port : Option ℕ) → IsIpv6Text address → IfSome port (λ p. p < 65536) → IsUserRaw user → (c : ℕ) → contains USER c ≡ true → is_address_byte c ≡ false → (at_sign == c) ≡ false → (left_bracket == c) ≡ false → (right_bracket == c) ≡ false → (colon == c) ≡ false → is_ascii_digit c ≡ false → FreeOf c (bracketed_place user address (port_part port))
 address_free_place user address port h small raw c in_user other mark left right separator digit =
     free-append c (raw_user user) (left_bracket ∷ (address ++ right_bracket ∷ port_part port)) (raw.free c in_user mark) (free-cons c left_bracket (address ++ right_bracket ∷ port_part port) left (free-append c address (right_bracket ∷ port_part port) (address_free c address other h) (free-cons c right_bracket (port_part port) right (port_free c port digit separator small))))
 
--- behind its bracket nothing opens another
+-- after its bracket nothing opens another
 address_closed : (address behind : List ℕ) → IsIpv6Text address → FreeOf left_bracket behind → FreeOf left_bracket (address ++ right_bracket ∷ behind)
 address_closed address behind h free =
     free-append left_bracket address (right_bracket ∷ behind) (address_free left_bracket address refl h) (free-cons left_bracket right_bracket behind refl free)
 
--- with a port, an address is read so where it is decoded to itself in brackets
+-- with a port, an address is read so if it is decoded to itself in brackets
 address_place : (v : Location) (address : List ℕ) → IsValue v → IsIpv6Text address → IsUserRaw v.user → ((t : List ℕ) → percent_decode (authority_text v ++ t) ≡ bracketed_place v.user address (port_part v.port) ++ percent_decode t) → HasPlace v (word_of v.user address)
 address_place v address is h user decoded =
     let place = bracketed_place v.user address (port_part v.port) in
@@ -221,11 +222,11 @@ address_place v address is h user decoded =
       read = place_in_brackets v.user address v.port is.port front (address_closed address (port_part v.port) h ported) right (portless_coloned (raw_user v.user) address (user.free colon refl refl) (address_two_colons address h));
     }
 
--- a host in brackets and the text behind it, joined
+-- a host in brackets and the text after it, joined
 brackets_joined : (address behind : List ℕ) → (left_bracket ∷ (address ++ right_bracket ∷ [])) ++ behind ≡ left_bracket ∷ (address ++ right_bracket ∷ behind)
 brackets_joined address behind = ap (λ t. left_bracket ∷ t) (append_assoc address (right_bracket ∷ []) behind)
 
--- so is one of Secure Shell beside a port, where it is written in brackets
+-- so is one of Secure Shell beside a port, if it is written in brackets
 marked_place : (v : Location) (host : List ℕ) (p : ℕ) → v.port ≡ Some p → IsValue v → HasHostGiven v host → IsIpv6Text host → HasPlace v (word_of v.user host)
 marked_place v host p ported is h address =
     let user = user_raw v.user h.user in
@@ -248,7 +249,7 @@ address_place_by v host (Some p) e is h kept address = marked_place v host p e i
 
 -- ---- texts of URLs
 
--- this is the text, where its place is read
+-- this is the text, if its place is read
 transport_text : (v : Location) (host word : List ℕ) → HasHostGiven v host → (p : HasPlace v word) → IsTransportText v p.place
 transport_text v host word h p =
     let pathed = path_raw v h.transport h.raw h.path in
@@ -288,7 +289,7 @@ secure_place : (v : Location) (host : List ℕ) → v.scheme ≡ ssh → IsValue
 secure_place v host e is h (inl name) = name_place v host is h (secure_kept v host e h) name.unbracketed.no_colon
 secure_place v host e is h (inr address) = address_place_by v host v.port refl is h (secure_kept v host e h) address.address
 
--- Git reads in the text what the location holds
+-- Git reads in the text the location's own fields
 secure_url_reads : (v : Location) (host : List ℕ) → Lacks (should_percent_encode PASSWORD) host → HasHostGiven v host → (p : HasPlace v (word_of v.user host)) → (t : IsTransportText v p.place) → IsBareHost host → HasNoOption v → ¬ (v.user ≡ Some []) → ReadsInput (codes "ssh://" ++ (authority_text v ++ canonical_path v)) (secure_reading v.user (Some host) v.port v.path)
 secure_url_reads v host kept h p t kind safe named =
     let no_slash = free-append slash (raw_user v.user) host ((user_raw v.user h.user).free slash refl refl) (kept_free PASSWORD host kept slash refl) in
@@ -313,7 +314,7 @@ secure_url_alike v e is a named h =
 abbrev git_reading : Option (List ℕ) → Option (List ℕ) → Option ℕ → List ℕ → GitReading
 git_reading name place number whole = record { protocol = git; user = name; host = place; port = number; path = whole }
 
--- what Git has for a host of its own protocol, and that it reads it
+-- the host that Git has for its own protocol, and that it reads it
 record HasGitHost (v : Location) (own : List ℕ) : Type 0 where
   host : List ℕ
   bare : Unbrackets own host
@@ -360,7 +361,7 @@ git_host v host is h none (inr (address, normal, e)) = record {
   placed = address_place v address is normal.address (user_raw v.user h.user) (escaped_address v host address h (subst (λ o. IfSome o IsUtf8) h.there is.host) is.port none e);
 }
 
--- Git reads in the text what the location holds
+-- Git reads in the text the location's own fields
 git_url_reads : (v : Location) (host : List ℕ) → (p : HasPlace v (word_of v.user host)) → (t : IsTransportText v p.place) → 0 < length host → v.user ≡ None → FreeOf newline v.path → ReadsInput (codes "git://" ++ (authority_text v ++ canonical_path v)) (git_reading None (Some host) v.port v.path)
 git_url_reads v host p t some none path_line =
     let reached : ReachesGit p.place v.path (git_reading None (Some host) v.port v.path) = record {

@@ -32,7 +32,7 @@ use Rattle.git_laws.proofs.GitReadings.WebTextLemmas.{web_authority, web_scheme}
 
 -- ---- decoding
 
--- where no byte 0 comes of it Git decodes as anyone
+-- if no byte 0 comes of it Git decodes as anyone
 git_decode_whole : (t : List ℕ) → FreeOf 0 (percent_decode t) → git_decode t ≡ percent_decode t
 unfolding percent_decode
 git_decode_whole [] free = refl
@@ -121,7 +121,7 @@ named_odd host port kind small = lacks-append is_odd host (port_part port) (host
 
 -- ---- paths
 
--- a text lacks what it lacks without the slashes at its end
+-- a text lacks each byte that it lacks without the slashes at its end
 trimmed_lacks : (test : ℕ → Bool) (t : List ℕ) → Lacks test t → Lacks test (without_last_slashes t)
 trimmed_lacks test [] h = refl
 trimmed_lacks test (b ∷ t) h =
@@ -135,7 +135,7 @@ trimmed_lacks test (b ∷ t) h =
 trimmed_line : (t : List ℕ) → Lacks is_control t → IfSome (trimmed_path t) IsOneLine
 trimmed_line t h1 = grind (arith, nat_tests, lacks_head_tail, one_line, lacks-cons, trimmed_lacks)
 
--- the text behind the one `/` of a written path
+-- the text after the one `/` of a written path
 record IsRootedPath (path written : List ℕ) : Type 0 where
   rest : List ℕ
   joined : written ≡ slash ∷ rest
@@ -150,12 +150,12 @@ one_root rest h1 = grind (arith, nat_tests, cases_Bool, decode_byte, both_ways)
 rooted_path : (path written : List ℕ) → first_byte written ≡ first_byte path → percent_decode written ≡ path → begins_with slash path ≡ true → begins_with_slashes path ≡ false → IsRootedPath path written
 rooted_path path written h2 h3 h4 h5 = grind (arith, nat_tests, begins_cut, false≢true, same_Some, decode_byte, one_root)
 
--- behind a byte a piece is decoded whole where it is with it
+-- after a byte a piece is decoded whole if it is with it
 whole_behind : (b : ℕ) (t : List ℕ) → IsDecodedWhole (b ∷ t) → IsDecodedWhole t
 whole_behind b t (inl free) = inl (free_head_tail colon b t free).1
 whole_behind b t (inr plain) = inr (free_head_tail percent_sign b t plain).1
 
--- the path is read behind its `/`
+-- the path is read after its `/`
 path_read : (path written : List ℕ) → IsRootedPath path written → IsDecodedWhole written → FreeOf 0 path → CredentialPath written (below_root path)
 path_read path written p whole zero =
     let behind = (free_head_tail 0 slash (percent_decode p.rest) (subst (λ t. FreeOf 0 t) p.decoded zero)).1 in record {

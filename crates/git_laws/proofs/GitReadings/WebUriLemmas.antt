@@ -112,7 +112,7 @@ record IsUriHost (host : List ℕ) : Type 0 where
   lower : IsLowercase host
   read : (behind : List ℕ) → UriHost (host ++ behind) host behind
 
--- it is where it has the bytes of a plain host
+-- it is if it has the bytes of a plain host
 plain_host : (host : List ℕ) → list_all is_plain_host_byte host ≡ true → IsUriHost host
 plain_host host h = record {
   bytes = inr (all_weaker is_plain_host_byte is_host_byte (λ b is. grind (arith, nat_tests)) host h, sound_free host (free_of_all is_plain_host_byte percent_sign host h refl));
@@ -120,7 +120,7 @@ plain_host host h = record {
   read = λ behind. UriHost.unbracketed (free_of_all is_plain_host_byte colon host h refl) (free_begins left_bracket host (free_of_all is_plain_host_byte left_bracket host h refl)) refl;
 }
 
--- and where it is an address in brackets
+-- and if it is an address in brackets
 bracketed_host : (host : List ℕ) → IsBracketedAddress host → IsUriHost host
 bracketed_host host (address, normal, e) = record {
   bytes = inl (ap (begins_with left_bracket) e);
@@ -128,7 +128,7 @@ bracketed_host host (address, normal, e) = record {
   read = λ behind. UriHost.bracketed address normal.address e refl;
 }
 
--- the port is read behind its colon
+-- the port is read after its colon
 port_read : (port : Option ℕ) → IfSome port (λ p. p < 65536) → UriPort (port_part port) (option_map decimal port)
 port_read None small = UriPort.absent refl refl
 port_read (Some p) small = UriPort.there (decimal p) refl (decimal_digits p small).1 refl
@@ -159,7 +159,7 @@ uri_path t h =
 query_decoded : (path : List ℕ) (query : Option (List ℕ)) → is_sound path ≡ true → percent_decode (with_query path query) ≡ with_query (percent_decode path) (option_map percent_decode query)
 query_decoded path query sound = grind (arith, nat_tests, decode_byte, decodes_in_parts)
 
--- what ends a segment of a path ends it before a query, too
+-- a text that ends a segment of a path ends it before a query, too
 end_joined : (behind query : List ℕ) → (behind ≡ []) ⊎ (begins_by is_segment_end behind ≡ true) → begins_by is_segment_end (behind ++ question_mark ∷ query) ≡ true
 end_joined behind query end = grind arith
 
@@ -167,11 +167,11 @@ end_joined behind query end = grind arith
 dots_joined : (path : List ℕ) (query : Option (List ℕ)) → HasDotSegment path → HasDotSegment (with_query path query)
 dots_joined path query h = grind (arith, nat_tests, end_joined, append_assoc)
 
--- what ends a segment ends it in the decoded text
+-- a text that ends a segment ends it in the decoded text
 end_decoded : (behind : List ℕ) → (behind ≡ []) ⊎ (begins_by is_segment_end behind ≡ true) → (percent_decode behind ≡ []) ⊎ (begins_by is_segment_end (percent_decode behind) ≡ true)
 end_decoded behind h = grind (arith, nat_tests, decode_byte, nothing_decoded)
 
--- so such a segment of an escaped text is one of what that decodes to
+-- so such a segment of an escaped text is one of its decoding
 dots_decoded : (t : List ℕ) → is_sound t ≡ true → HasDotSegment t → HasDotSegment (percent_decode t)
 dots_decoded t sound h =
     let front = (sound_around h.front (h.dots ++ h.behind) slash refl (subst (λ x. is_sound x ≡ true) h.joined sound)).0 in

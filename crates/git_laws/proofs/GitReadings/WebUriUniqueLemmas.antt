@@ -20,7 +20,7 @@ port_begins behind port h = grind arith
 port_unique : (behind beyond : List ℕ) (port other : Option (List ℕ)) → behind ≡ beyond → UriPort behind port → UriPort beyond other → port ≡ other
 port_unique behind beyond port other same h k = grind arith
 
--- the text behind `[` where a host is in brackets
+-- the text after `[` if a host is in brackets
 behind_bracket : (named host inside behind : List ℕ) → host ≡ left_bracket ∷ (inside ++ right_bracket ∷ []) → named ≡ host ++ behind → named ≡ left_bracket ∷ (inside ++ right_bracket ∷ behind)
 behind_bracket named host inside behind is e = e ∙ ap (λ h. h ++ behind) is ∙ ap (λ t. left_bracket ∷ t) (append_assoc inside (right_bracket ∷ []) behind)
 

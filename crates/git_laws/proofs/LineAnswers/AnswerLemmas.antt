@@ -1,4 +1,4 @@
--- The answer to a line is one line: what is printed for a line without byte 10 holds none.
+-- The answer to a line is one line: the text that is printed for a line without byte 10 has none.
 use Rattle.std.proofs.Common.{◌≡◌, ℕ, ◌<◌, Bool, false, not, ◌⊎◌, inl, inr, List, [], ◌∷◌, ◌++◌, append_assoc, append-nil, All, Option, Some, IfSome, IsUtf8, Ok, codes, refl, sym, ap, subst, ◌∙◌, arith}
 use Rattle.std.proofs.lemmas.Bool.Decides.{nat_tests}
 use Rattle.std.proofs.lemmas.Bool.{and_left, both_ways, cases_Bool, cond-true, cond-false, false≢true}
@@ -47,7 +47,7 @@ user_line user password = grind (arith, nat_tests, free-append, encode_free, use
 open_line : (p : Scheme) (host : List ℕ) → keeps_host p ≡ false → FreeOf newline (open_host p host)
 open_line p host h2 = grind (arith, nat_tests, cond-false, cond-true, encode_free, password_holds, user_holds, cases_Bool)
 
--- brackets hold no line's end where neither what they enclose nor what follows does
+-- brackets hold no line's end if neither the text in them nor the rest does
 bracketed_line : (inner rest : List ℕ) → FreeOf newline inner → FreeOf newline rest → FreeOf newline (left_bracket ∷ (inner ++ right_bracket ∷ rest))
 bracketed_line inner rest free behind =
     free-cons newline left_bracket (inner ++ right_bracket ∷ rest) refl (free-append newline inner (right_bracket ∷ rest) free (free-cons newline right_bracket rest refl behind))
@@ -165,7 +165,7 @@ other_settled v t name e small h is =
     let scheme = subst (λ q. FreeOf newline (scheme_text q)) (sym e) (scheme_text_free name newline h.scheme_text refl) in
     url_line v t (written_other v name e h.scheme_text) h.url.common small scheme (part_line v v.host (ap keeps_host e) h.host) (raw_line v (helper_url name) e refl h.url.common h.url.raw) is
 
--- what a URL means that is settled is written without a line's end, by its scheme
+-- a settled location of a URL is written without a line's end, by its scheme
 abbrev IsWrittenLine : List ℕ → UrlSyntax → Location → List ℕ → Scheme → Type 0
 IsWrittenLine b parts v t p = DenotesAs p b parts v → v.scheme ≡ p → IsSettledBy p v → FreeOf newline t
 
@@ -184,16 +184,16 @@ parts_line b parts v t free spelled is =
 
 -- ---- the other forms
 
--- an optional text behind its mark
+-- an optional text after its mark
 unless_empty_line : (v : Location) (host : List ℕ) → FreeOf newline host → FreeOf newline (host_part v (unless_empty host))
 unless_empty_line v [] free = refl
 unless_empty_line v (b ∷ bs) free = host_line v (b ∷ bs) free
 
--- a file URL is written without a line's end where it was read without one
+-- a file URL is written without a line's end if it was read without one
 file_line : (b : List ℕ) (v : Location) (t : List ℕ) → FreeOf newline b → SpellsFile b v → text v ≡ Ok t → FreeOf newline t
 file_line b v t h3 h4 h5 = grind (arith, nat_tests, free_parts, codes, one_text, free-append, unless_empty_line)
 
--- a path below a home folder holds none where the path that it is read from holds none
+-- a path below a home folder holds none if the path that it is read from holds none
 from_home_line : (path : List ℕ) → FreeOf newline path → FreeOf newline (from_home path)
 from_home_line path h1 = grind (arith, nat_tests, cond-true, free_head_tail, cond-false, cases_Bool)
 
@@ -201,7 +201,7 @@ from_home_line path h1 = grind (arith, nat_tests, cond-true, free_head_tail, con
 raw_host_line : (host : List ℕ) → FreeOf newline host → FreeOf newline (raw_host (Some host))
 raw_host_line host h1 = grind (arith, nat_tests, cond-true, bracketed_line, cond-false, cases_Bool)
 
--- a location in the scp form is written without a line's end where its parts hold none
+-- a location in the scp form is written without a line's end if its parts hold none
 scp_line : (v : Location) (t : List ℕ) (user : Option (List ℕ)) (host path : List ℕ) → v ≡ scp_location user host path → FreeOf newline (raw_user user) → FreeOf newline host → FreeOf newline path → text v ≡ Ok t → FreeOf newline t
 scp_line v t user host path h5 h6 h7 h8 h9 = grind (arith, nat_tests, scp_written, one_text, free-append, raw_host_line, free-cons, from_home_line)
 
@@ -237,7 +237,7 @@ scp_addressed_line b v t free h is =
 
 -- ---- all forms
 
--- what a line spells that is settled is written without a line's end
+-- a settled location that a line spells is written without a line's end
 spelled_line : (line : List ℕ) (v : Location) (t : List ℕ) → FreeOf newline line → Spells line v → IsSettled v → text v ≡ Ok t → FreeOf newline t
 spelled_line line v t free (Spells.url h) settled is =
     let e = means_scheme (scheme_of h.parts.scheme) line h.parts v h.means in
@@ -276,12 +276,12 @@ refusal_line r = error_line (kind_of r.reason)
 
 -- ---- answers
 
--- a word and what it is said of are one line
+-- a word and the text after it are one line
 said_line : (word of_what answer : List ℕ) → FreeOf newline word → FreeOf newline of_what → answer ≡ reported_line word of_what → IsEndedLine answer
 said_line word of_what answer word_free free e =
     (word ++ tab ∷ of_what, free-append newline word (tab ∷ of_what) word_free (free-cons newline tab of_what refl free), e ∙ sym (append_assoc word (tab ∷ of_what) (newline ∷ [])))
 
--- what is printed for a location that a line spells is one line
+-- the text that is printed for a location that a line spells is one line
 location_line : (line answer : List ℕ) (v : Location) (good : Bool) → FreeOf newline line → Spells line v → IsReported v answer good → IsEndedLine answer
 location_line line answer v good free spelled (IsReported.settled t is settled e k) = said_line (codes "settled") t answer refl (spelled_line line v t free spelled settled is) e
 location_line line answer v good free spelled (IsReported.unsettled t is other e k) = said_line (codes "unsettled") (scheme_text v.scheme) answer refl (scheme_line line v spelled) e

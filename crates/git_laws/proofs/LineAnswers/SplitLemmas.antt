@@ -7,11 +7,11 @@ use Rattle.git_lines.specs.Answers.{ended_lines}
 use Rattle.git_laws.specs.AnswerLaws.{OneLineSplit}
 use Rattle.git_syntax.proofs.Texts.CutLemmas.{cut_unique, not_free}
 
--- the first line, and the text behind its end
+-- the first line, and the text after its end
 first_line : (line : List ℕ) (lines : List (List ℕ)) (last : List ℕ) → ended_lines (line ∷ lines) ++ last ≡ line ++ newline ∷ (ended_lines lines ++ last)
 first_line line lines last = append_assoc (line ++ newline ∷ []) (ended_lines lines) last ∙ append_assoc line (newline ∷ []) (ended_lines lines ++ last)
 
--- the lines with an end are determined, and so is the text behind the last end
+-- the lines with an end are determined, and so is the text after the last end
 ended_unique : (f g : List (List ℕ)) (x y : List ℕ) → All (FreeOf newline) f → All (FreeOf newline) g → FreeOf newline x → FreeOf newline y → ended_lines f ++ x ≡ ended_lines g ++ y → (f ≡ g) × (x ≡ y)
 ended_unique [] [] x y a b free freed e = (refl, e)
 ended_unique [] (k ∷ g) x y a b free freed e = absurd (not_free newline k (ended_lines g ++ y) (subst (FreeOf newline) (e ∙ first_line k g y) free))

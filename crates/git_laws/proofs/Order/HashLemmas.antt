@@ -8,7 +8,7 @@ use Rattle.git_syntax.specs.Location.{Scheme, Location}
 use Rattle.git_location.specs.Settled.{IsValue}
 use Rattle.git_laws.specs.Order.{rank, held_name, as_byte, there, fed_bytes, fed_part, fed_text, fed_scheme, outline, fed_location}
 
--- a part and what is fed behind it
+-- a part and the input that is fed after it
 record Alike {K : Type 0} (x y : K) (us vs : HashWrites) : Type 0 where
   part : x ≡ y
   rest : us ≡ vs
@@ -23,7 +23,7 @@ bytes_apart xs ys us vs e = record { part = cc; rest = cc }
 two_numbers : (a b : ℕ) → a ≡ 0 → b ≡ 1 → ¬ (a ≡ b)
 two_numbers a b p q e = omega arith
 
--- parts that may be missing, where both are there or both aren't
+-- parts that may be missing, if both are there or both aren't
 part_apart : {K : Type 0} (feed : K → HashWrites) (p q : Option K) (us vs : HashWrites) → ((x y : K) → (us vs : HashWrites) → feed x ++ us ≡ feed y ++ vs → Alike x y us vs) → there p ≡ there q → fed_part feed p ++ us ≡ fed_part feed q ++ vs → Alike p q us vs
 part_apart feed p q us vs apart t e = grind arith
 
@@ -41,7 +41,7 @@ port_number p q small other e = grind arith
 port_apart : (p q : Option ℕ) (us vs : HashWrites) → IfSome p (λ n. n < 65536) → IfSome q (λ n. n < 65536) → there p ≡ there q → fed_part fed.u16 p ++ us ≡ fed_part fed.u16 q ++ vs → Alike p q us vs
 port_apart p q us vs hp hq t e = grind (arith, nat_tests, two_numbers, port_number)
 
--- what the outlines of two locations have alike, and what is fed behind them
+-- the equal parts of the outlines of two locations, and the input that is fed after them
 record Outlined (v w : Location) (us vs : HashWrites) : Type 0 where
   scheme : rank v.scheme ≡ rank w.scheme
   user : there v.user ≡ there w.user
@@ -55,7 +55,7 @@ record Outlined (v w : Location) (us vs : HashWrites) : Type 0 where
 outlines_apart : (v w : Location) (us vs : HashWrites) → outline v ∷ us ≡ outline w ∷ vs → Outlined v w us vs
 outlines_apart v w us vs e = record { scheme = cc; user = cc; password = cc; host = cc; flag = cc; port = cc; spelling = cc; rest = cc }
 
--- ---- what the code feeds
+-- ---- the input that the code feeds
 
 -- a truth value is fed as a byte
 pub byte_fed : (b : Bool) → bool_byte b ≡ as_byte b
@@ -67,7 +67,7 @@ there_fed see p b e = grind arith
 
 -- ---- laws
 
--- what is fed alike of two schemes is fed of one
+-- inputs that are fed alike for two schemes are fed for one
 pub schemes_apart : (p q : Scheme) → fed_scheme p ≡ fed_scheme q → p ≡ q
 schemes_apart p q e = grind arith
 

@@ -5,7 +5,7 @@ use Rattle.std.specs.Cmp.{Equal-is}
 use Rattle.std.specs.Ordering.{MatchOrdering, eq_by_cmp, ordering_then}
 use Rattle.git_laws.specs.Laws.{TiedIsEqual, SpellingLast}
 
--- the order is the first one, or the second where the first doesn't decide
+-- the order is the first one, or the second if the first doesn't decide
 pub record IsThen (first second order : Ordering) : Type 0 where
   pub is : order ≡ ordering_then first second
 
@@ -27,7 +27,7 @@ known {second = second} e p = record { is = p.is ∙ ap (λ o. ordering_then o s
 
 -- ---- laws
 
--- an order that answers `Equal` where the test passes leaves open what is equal
+-- an order that answers `Equal` if the test passes leaves it open which values are equal
 pub tied_is_equal : {K : Type 0} (equal : K → K → Bool) (order : K → K → Ordering) → ((x y : K) → equal x y ≡ eq_by_cmp order x y) → TiedIsEqual equal order
 tied_is_equal equal order ties x y = (λ e. ties x y ∙ (Equal-is (order x y)).1 e, λ t. (Equal-is (order x y)).0 (sym (ties x y) ∙ t))
 
@@ -35,7 +35,7 @@ tied_is_equal equal order ties x y = (λ e. ties x y ∙ (Equal-is (order x y)).
 last : (a b : Ordering) → ordering_then a b ≡ ordering_then (ordering_then a Equal) b
 last a b = grind arith
 
--- what goes last may be taken out of what comes behind the first
+-- a comparison that goes last may be removed from the others
 out : (a rest front b : Ordering) → rest ≡ ordering_then front b → ordering_then a rest ≡ ordering_then (ordering_then a front) b
 out a rest front b e = ap (ordering_then a) e ∙ sym (regroup a front b)
 

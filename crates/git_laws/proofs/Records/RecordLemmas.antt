@@ -1,5 +1,5 @@
 -- Stored locations: the new spelling of a legacy path is one, and
--- stands for the same bytes; what is migrated stays.
+-- denotes the same bytes; a migrated record stays unchanged.
 use Rattle.std.proofs.Common.{◌≡◌, ℕ, ◌<◌, ◌≤◌, ◌+◌, ◌*◌, Bool, true, false, ◌||◌, ◌==◌, nat_lt, ⊎_elim, List, [], ◌∷◌, ◌++◌, take, drop, length, All, Option, Some, None, refl, sym, ap, subst, ◌∙◌, arith, bytes_eq}
 use Rattle.std.specs.Char.{is_digit, digit_value}
 use Rattle.std.proofs.lemmas.Bool.{cond-true, cond-false, cases_Bool, and_parts, and_from, eqb-true, true≢false, and_right}
@@ -170,7 +170,7 @@ unmigrated_as : (spelling : Option (List ℕ)) (v : Location) → ¬ (spelling �
 unmigrated_as None v differs = refl
 unmigrated_as (Some s) v differs = unmigrated_by (bytes_eq s v.path) s v refl (λ e. differs (ap (λ t. Some t) e))
 
--- a location whose spelling isn't its path stands for itself when it was stored
+-- a location whose spelling isn't its path represents itself when it was stored
 pub unmigrated : (v : Location) → ¬ (v.spelling ≡ Some v.path) → migrated v ≡ v
 unmigrated v differs = unmigrated_as v.spelling v differs
 
@@ -193,10 +193,10 @@ legacy_stays v h1 h2 = grind (arith, nat_tests, keeps_meaning, respells, spellin
 again_legacy : (v : Location) → All (λ b. b < 256) v.path → migrated (from_legacy v) ≡ from_legacy v
 again_legacy v h1 = grind (arith, nat_tests, cond-true, legacy_stays, bytes_eq-Decides, cond-false, cases_Bool, bytes_eq)
 
--- what a record with this spelling stands for stays
+-- the location of a record with this spelling stays unchanged
 again : (spelling : Option (List ℕ)) (v : Location) → v.spelling ≡ spelling → All (λ b. b < 256) v.path → migrated (migrated v) ≡ migrated v
 again spelling v h2 h3 = grind (arith, nat_tests, unmigrated, migrated_legacy, bytes_eq-Decides, again_legacy, true≢false, cases_Bool, bytes_eq)
 
--- what was migrated stays
+-- a migrated record stays unchanged
 pub migrated_once : MigratedOnce
 migrated_once v small = again v.spelling v refl small

@@ -100,7 +100,7 @@ web_closed_by b v (Some host) there h web =
 spelled_by_file : (b : List ℕ) (v : Location) → v.scheme ≡ file → v.flag ≡ false → Spells b v → SpellsFile b v
 spelled_by_file b v e unflagged h = grind arith
 
--- what keeps its bytes is settled
+-- a location that keeps its bytes is settled
 bytes_closed : (b : List ℕ) (v : Location) (p : Scheme) (flag : Bool) → v.scheme ≡ p → v.flag ≡ flag → keeps_bytes p flag ≡ true → Spells b v → IsSettled v ⊎ IsException v
 bytes_closed b v p flag e f keeps s = inl (kept_closed b v s (ap (λ q. keeps_bytes q v.flag) e ∙ ap (keeps_bytes p) f ∙ keeps))
 
@@ -122,7 +122,7 @@ closed_by ext b v e h s = bytes_closed b v ext v.flag e refl refl s
 closed_by (helper name) b v e h s = bytes_closed b v (helper name) v.flag e refl refl s
 closed_by _ b v e h s = absurd (false≢true h)
 
--- what is read of these kinds is settled, or is an exception
+-- a location of these kinds that is read is settled, or is an exception
 pub closed : Closed
 closed b v s h = closed_by v.scheme b v refl h s
 
@@ -145,6 +145,6 @@ exact_by ext v e h other back = kept_exact v (ap (λ q. keeps_bytes q v.flag) e)
 exact_by (helper name) v e h other back = kept_exact v (ap (λ q. keeps_bytes q v.flag) e) back.written back.reread back.spelled back.same_fields
 exact_by _ v e h other back = absurd (false≢true h)
 
--- what comes back is settled, and nothing else
+-- a location that is read back is settled, and no other is
 pub exact : Exact
 exact v is h other = (λ settled. (settled_again v is settled).0, exact_by v.scheme v refl h other)

@@ -1,4 +1,4 @@
--- Locations of HTTP: what is read is settled, with two exceptions.
+-- Locations of HTTP: a location that is read is settled, with two exceptions.
 use Rattle.std.proofs.Common.{◌≡◌, ◌≢◌, ℕ, ◌<◌, Bool, true, false, ◌==◌, ◌⊎◌, inl, inr, List, [], ◌∷◌, ◌++◌, length, Option, Some, None, IsSome, IsUtf8, refl, sym, ap, subst, ◌∙◌, arith, append_assoc, codes, lit<}
 use Rattle.std.specs.Prelude.{IfSome}
 use Rattle.std.specs.List.{list_all}
@@ -43,7 +43,7 @@ normal_bytes : (text : List ℕ) (is_domain : Bool) → list_all is_dns_byte tex
 normal_bytes text true domain bytes = ap (list_all is_http_host_byte) (cond-true _ _ _ domain) ∙ all_lowercase is_http_host_byte http_byte_lowercase text bytes
 normal_bytes text false other bytes = ap (list_all is_http_host_byte) (cond-false _ _ _ other) ∙ bytes
 
--- what a text stands for in HTTP is made of such bytes
+-- a text that denotes a host in HTTP consists of such bytes
 pub meant_bytes : (text name : List ℕ) → HostText http_hosts text name → list_all is_http_host_byte name ≡ true
 meant_bytes text name denoted = ap (list_all is_http_host_byte) denoted.1 ∙ normal_bytes text (list_all is_dns_byte text) refl denoted.0
 
@@ -56,14 +56,14 @@ normal_facts text false other some sound =
     let same : normal_host text ≡ text = cond-false _ _ _ other in
     (subst (λ t. 0 < length t) (sym same) some, ap is_sound same ∙ sound)
 
--- what a sound text stands for in HTTP is a name that stays as it is
+-- the host that a sound text denotes in HTTP is a name that stays unchanged
 web_name_of : (text name : List ℕ) → 0 < length text → is_sound text ≡ true → HostText http_hosts text name → IsWebName name
 web_name_of text name some sound denoted =
     let facts = normal_facts text (list_all is_dns_byte text) refl some sound in
     let is : name ≡ normal_host text = denoted.1 in
     record { nonempty = subst (λ t. 0 < length t) (sym is) facts.0; bytes = meant_bytes text name denoted; sound = ap is_sound is ∙ facts.1; normal = ap normal_host is ∙ normal_again text ∙ sym is }
 
--- a name of HTTP with a colon behind it has no bracket at its front
+-- a name of HTTP with a colon after it has no bracket at its front
 no_bracket_before_colon : (name : List ℕ) → IsWebName name → begins_with left_bracket (name ++ colon ∷ []) ≡ false
 no_bracket_before_colon name h =
     free_begins left_bracket (name ++ colon ∷ []) (free-append left_bracket name (colon ∷ []) (free_of_all is_http_host_byte left_bracket name h.bytes refl) refl)
@@ -90,7 +90,7 @@ port_not_zero : (port : Option ℕ) (number : ℕ) → port ≡ Some number → 
 port_not_zero port number is some zero = omega (arith, some, same_Some number 0 (sym is ∙ zero))
 
 -- a host and a port that a sound piece names in HTTP are settled,
--- except a name with `%` and a colon behind it
+-- except a name with `%` and a colon after it
 pub web_host_closed : (piece host : List ℕ) (port : Option ℕ) → is_sound piece ≡ true → SpellsHostPort http_hosts piece (Some host) port → IsApart host → IsWebHost port host × (port ≢ Some 0)
 web_host_closed piece host port sound (nothing e named_as at) apart = absurd (none-some host (sym named_as))
 web_host_closed piece host port sound (bracketed x inner free spelled e named_as at) apart =
@@ -112,7 +112,7 @@ web_host_closed piece host port sound (plain_port text name digits number is_pla
     (named (subst IsWebName (same_Some _ _ (sym named_as)) (web_name_of text name is_plain.nonempty before.0 denoted)), port_not_zero port number at numbered.allowed)
 web_host_closed piece host port sound (colons name not_strict other begins many denoted named_as at) apart = absurd (not_strict refl)
 
--- ---- what a URL of HTTP means
+-- ---- the location of a URL of HTTP
 
 -- the scheme is one of HTTP
 abbrev is_known_web_scheme : Scheme → Bool
@@ -125,7 +125,7 @@ pub not_web : {A : Type 0} (scheme : Scheme) (v : Location) → is_known_web_sch
 not_web scheme v other e (inl web) = absurd (both_ways _ other (ap is_known_web_scheme (sym e ∙ web)))
 not_web scheme v other e (inr web) = absurd (both_ways _ other (ap is_known_web_scheme (sym e ∙ web)))
 
--- what the parts of a URL of HTTP mean
+-- the location of the parts of a URL of HTTP
 abbrev pub web_meant : Scheme → UrlSyntax → Location
 web_meant scheme parts = record {
   scheme = scheme;
@@ -138,7 +138,7 @@ web_meant scheme parts = record {
   spelling = retained_spelling parts.path;
 }
 
--- a URL that is read as a location of HTTP has such a scheme, and its parts mean that
+-- a URL that is read as a location of HTTP has such a scheme, and its parts denote that
 pub web_read : (b : List ℕ) (v : Location) → (h : SpellsUrl b v) → IsWeb v → (is_web_scheme h.parts.scheme ≡ true) × (v ≡ web_meant (scheme_of h.parts.scheme) h.parts)
 web_read b v h web =
     let parts = h.parts in
@@ -195,12 +195,12 @@ start_no_digit c h = grind (arith, nat_tests)
 start_no_percent : (c : ℕ) → is_path_start true c ≡ true → (c == 37) ≡ false
 start_no_percent c h = grind (arith, nat_tests)
 
--- what is retained of a path, by whether it holds a `%`, is the path
+-- the retained spelling of a path, by whether the path has a `%`, is the path
 pub retained_by : (path s : List ℕ) (escaped : Bool) → has_percent path ≡ escaped → retained_spelling path ≡ Some s → (path ≡ s) × (has_percent path ≡ true)
 retained_by path s true holds e = (same_Some path s (sym (cond-true _ _ _ holds) ∙ e), holds)
 retained_by path s false lacks e = absurd (none-some s (sym (cond-false _ _ _ lacks) ∙ e))
 
--- a path of a URL of HTTP, behind a sound front, and what it means
+-- a path of a URL of HTTP, after a sound front, and its location
 pub record IsWebPath (front path : List ℕ) : Type 0 where
   pub front_sound : is_sound front ≡ true
   pub meant_text : IsUtf8 (or_root (percent_decode path))
@@ -245,12 +245,12 @@ path_closed front path h2 h3 h4 h5 h6 = grind (arith, nat_tests, no_path, append
 
 -- ---- locations
 
--- what is at the end of a sound text is sound
+-- the end of a sound text is sound
 pub sound_behind : (xs ys : List ℕ) → is_sound (xs ++ ys) ≡ true → is_sound ys ≡ true
 sound_behind [] ys sound = sound
 sound_behind (x ∷ xs) ys sound = sound_behind xs ys (sound_tail x (xs ++ ys) sound)
 
--- what is there
+-- the fields that are there
 some_there : {A : Type 0} (o : Option A) → IsSome o → (x : A) × (o ≡ Some x)
 some_there None some = absurd (false≢true some)
 some_there (Some x) some = (x, refl)
@@ -265,7 +265,7 @@ url_path_closed {b} {parts} web h =
     let joined = parts_joined h in
     path_closed (parts.scheme ++ (codes "://" ++ h.authority)) parts.path (subst (λ w. StartsPath w parts.path) web h.path_starts) (subst IsUtf8 joined h.text) (subst (λ t. is_sound t ≡ true) joined h.sound) (subst LacksWhiteSpace joined h.no_white_space) h.path_text
 
--- what the parts of a URL of HTTP mean is settled
+-- the location of the parts of a URL of HTTP is settled
 parts_closed : {b : List ℕ} {parts : UrlSyntax} → (scheme : Scheme) → is_web_scheme parts.scheme ≡ true → HasUrlSyntax b parts → ((host : List ℕ) → parts.host ≡ Some host → IsApart host) → HasFittingText (web_meant scheme parts) → IsSettledWeb (web_meant scheme parts)
 parts_closed {b} {parts} scheme web h apart fits =
     let syntax : host_syntax_of parts.scheme ≡ http_hosts = cond-true _ _ _ web in
@@ -288,8 +288,8 @@ parts_closed {b} {parts} scheme web h apart fits =
       path = way.meant_starts;
     }
 
--- a location of HTTP that is read is settled where its text is short
--- enough, except for a host with `%` and a colon behind it
+-- a location of HTTP that is read is settled if its text is short
+-- enough, except for a host with `%` and a colon after it
 pub web_closed : (b : List ℕ) (v : Location) → SpellsUrl b v → IsWeb v → ((h : List ℕ) → v.host ≡ Some h → IsApart h) → HasFittingText v → IsSettledWeb v
 web_closed b v h web apart fits =
     let (is_web, value) = web_read b v h web in

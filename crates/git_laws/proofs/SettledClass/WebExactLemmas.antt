@@ -48,7 +48,7 @@ no_colon_behind : {A : Type 0} (host front named : List ℕ) → list_all is_htt
 no_colon_behind host front named bytes same ends =
     absurd (not_free colon front [] (subst (λ t. FreeOf colon t) (sym same ∙ ends) (free_of_all is_http_host_byte colon named bytes refl)))
 
--- with a colon behind it a text still has neither `@` nor a path start
+-- with a colon after it a text still has neither `@` nor a path start
 lacks_before_colon : (host named : List ℕ) → host ≡ named ++ colon ∷ [] → Lacks ends_host named → Lacks ends_host host
 lacks_before_colon host named e lacks = subst (λ t. Lacks ends_host t) (sym e) (lacks-append ends_host named (colon ∷ []) lacks refl)
 
@@ -87,7 +87,7 @@ bracket_named piece host port h3 h4 = grind (arith, nat_tests, none-some, same_S
 abbrev in_brackets : List ℕ → List ℕ
 in_brackets host = left_bracket ∷ (escaped_percents host ++ right_bracket ∷ [])
 
--- it has neither `@` nor a path start where the host has none
+-- it has neither `@` nor a path start if the host has none
 brackets_lack : (host : List ℕ) → Lacks ends_host host → Lacks ends_host (in_brackets host)
 brackets_lack host h1 = grind (arith, nat_tests, lacks-cons, lacks-append, lacks_escaped_percents)
 
@@ -112,7 +112,7 @@ user_written : (user password : Option (List ℕ)) → IfSome user IsUtf8 → If
 user_written user password user_text password_text credentials u e =
     information_written u password (subst (λ o. IfSome o IsUtf8) e user_text) password_text (IfSome_then password credentials.0 (λ p parts. parts.0)) (λ empty. credentials.1 (e ∙ ap Some empty))
 
--- the user information and a host in brackets behind it
+-- the user information and a host in brackets after it
 abbrev bracketed_text : Option (List ℕ) → Option (List ℕ) → List ℕ → List ℕ
 bracketed_text user password host = user_information user password ++ in_brackets host
 
@@ -137,7 +137,7 @@ bracketed_names (Some x) password host information lacks u p named port held =
     let parts = authority_cut http_hosts (bracketed_text (Some x) password host) i.information (in_brackets host) u p (Some named) port (brackets_no_at host lacks) (bracketed_cut x password host i) held in
     bracket_named (in_brackets host) named port refl parts.1
 
--- ---- the text of what is read
+-- ---- the text of a location that is read
 
 -- the authority of a URL of HTTP is the written one of a location whose text the URL is
 authority_same : {t : List ℕ} {parts : UrlSyntax} → (w : Location) → IsWeb w → is_web_scheme parts.scheme ≡ true → (h : HasUrlSyntax t parts) → canonical_text w ≡ t → Lacks (is_path_start true) (authority_text w) → StartsPath true (canonical_path w) → h.authority ≡ authority_text w
@@ -150,13 +150,13 @@ authority_same {t} {parts} w web is_web h same lacks starts =
 authority_bracketed : (w : Location) (host : List ℕ) → w.host ≡ Some host → w.port ≡ None → needs_brackets w.port host ≡ true → authority_text w ≡ bracketed_text w.user w.password host
 authority_bracketed w host h2 h3 h4 = grind (arith, nat_tests, cond-true, append-nil)
 
--- the path of what is read is written with a start of a path
+-- the path of a location that is read is written with a start of a path
 path_shown : {t : List ℕ} {parts : UrlSyntax} → (scheme : Scheme) → IsWeb (web_meant scheme parts) → is_web_scheme parts.scheme ≡ true → HasUrlSyntax t parts → StartsPath true (canonical_path (web_meant scheme parts))
 path_shown {t} {parts} scheme web is_web h =
     let way = url_path_closed is_web h in
     (web_path_written (web_meant scheme parts) web way.meant_starts record { path_text = way.meant_text; spelling = λ s e matches. way.fair s e }).starts
 
--- what is read has its canonical text
+-- a location that is read has its canonical text
 canonical_shown : (t : List ℕ) (scheme : Scheme) (parts : UrlSyntax) → IsWeb (web_meant scheme parts) → IsSome parts.host → text (web_meant scheme parts) ≡ Ok t → canonical_text (web_meant scheme parts) ≡ t
 canonical_shown t scheme parts web hosted written =
     one_text ((written_web (web_meant scheme parts) web).canonical refl (λ given. hosted, λ given. hosted)) written
@@ -194,7 +194,7 @@ spelled_by_url t w web (Spells.scp_form (inl h)) = not_web ssh w refl (ap (λ l.
 spelled_by_url t w web (Spells.scp_form (inr h)) = not_web ssh w refl (ap (λ l. l.scheme) h.value) web
 spelled_by_url t w web (Spells.local_path h) = not_web file w refl (ap (λ l. l.scheme) h.value) web
 
--- one of two tests passes, where they don't fail together
+-- one of two tests passes, if they don't fail together
 either_by : (bracket escaped : Bool) → (bracket ≡ false → escaped ≡ true → ⊥) → (bracket ≡ true) ⊎ (escaped ≡ false)
 either_by bracket escaped h2 = grind (arith, nat_tests)
 

@@ -1,4 +1,4 @@
--- What is read has a text, and isn't taken for a stored location of the legacy form.
+-- A location that is read has a text, and isn't taken for a stored location of the legacy form.
 use Rattle.std.proofs.Common.{◌≡◌, ℕ, ◌<◌, ◌≤◌, true, false, ◌==◌, inl, inr, ◌⊎◌, ⊎_elim, List, [], ◌∷◌, ◌++◌, length, Option, Some, None, Ok, IsSome, refl, sym, ap, subst, ◌∙◌, arith, codes}
 use Rattle.std.proofs.lemmas.Bool.Decides.{nat_tests}
 use Rattle.std.specs.Option.{is_some}
@@ -36,7 +36,7 @@ use Rattle.git_location.proofs.Writing.WrittenAsUrlLemmas.{host_given, not_relat
 abbrev pub HasText : Location → Type 0
 HasText v = (t : List ℕ) × (text v ≡ Ok t)
 
--- a location whose form is that of a URL has a text where its user comes with a host
+-- a location whose form is that of a URL has a text if its user comes with a host
 canonical_there : (v : Location) → choice v ≡ with_host v canonical_form → (IsSome v.user → IsSome v.host) → HasText v
 canonical_there v chosen hosted = (canonical_text v, ap (λ form. in_form form v) (chosen ∙ host_given v canonical_form hosted))
 
@@ -49,7 +49,7 @@ user_hosted syntax authority user password host port (with_user information piec
 parts_hosted : (b : List ℕ) (parts : UrlSyntax) → HasUrlSyntax b parts → IsSome parts.user → IsSome parts.host
 parts_hosted b parts h given = user_hosted (host_syntax_of parts.scheme) h.authority parts.user parts.password parts.host parts.port h.named given
 
--- what a URL means whose location has the host that the URL names has a text, where it is written as a URL
+-- the location of a URL that has the host that the URL names has a text, if it is written as a URL
 named_there : (scheme : Scheme) (parts : UrlSyntax) (v : Location) → (h : DenotesByScheme scheme parts v) → h.host ≡ parts.host → (IsSome parts.user → IsSome parts.host) → choice (meant_with scheme parts h.host) ≡ with_host (meant_with scheme parts h.host) canonical_form → HasText v
 named_there scheme parts v h same hosted chosen =
     subst HasText (sym h.value) (canonical_there (meant_with scheme parts h.host) chosen (λ given. ap is_some same ∙ hosted given))
@@ -72,12 +72,12 @@ begins_rooted path h1 h2 = grind (arith, nat_tests, length, false≢true, or_cas
 path_begins : (path : List ℕ) → begins_with slash path ≡ true → (begins_with slash (from_home (percent_decode path)) ≡ true) ⊎ (begins_with tilde (from_home (percent_decode path)) ≡ true)
 path_begins path h1 = grind (arith, nat_tests, begins_cut, decode_byte, from_home_begins)
 
--- the host of Secure Shell is there where the URL names one
+-- the host of Secure Shell is there if the URL names one
 ssh_host_there : (named host : Option (List ℕ)) → HostFor ssh named host → IsSome named → IsSome host
 ssh_host_there None host h some = absurd (false≢true some)
 ssh_host_there (Some named) host h some = ap is_some h.2
 
--- what a URL of Secure Shell means has a text
+-- the location of a URL of Secure Shell has a text
 secure_there : (b : List ℕ) (parts : UrlSyntax) (v : Location) → is_ssh_scheme parts.scheme ≡ true → HasUrlSyntax b parts → DenotesByScheme ssh parts v → HasText v
 secure_there b parts v is_ssh spelled h =
     let starts = subst (λ web. StartsPath web parts.path) (ssh_not_web parts.scheme is_ssh) spelled.path_starts in
@@ -125,7 +125,7 @@ has_a_text b v (Spells.local_path h) = (b, (local_unchanged b v h).1)
 escape_shorter : (b : ℕ) (bs : List ℕ) → (b == 37) ≡ true → begins_with_digits bs ≡ true → length (percent_decode (b ∷ bs)) < length (b ∷ bs)
 escape_shorter b bs h2 h3 = grind (arith, nat_tests, false≢true, and_parts, length, decode_escape, length-percent_decode)
 
--- where a first byte begins an escape, two digits follow it
+-- if a first byte begins an escape, two digits follow it
 digits_behind : (b : ℕ) (bs : List ℕ) → (b == 37) ≡ true → is_sound (b ∷ bs) ≡ true → begins_with_digits bs ≡ true
 digits_behind b bs percent sound = rw percent at (sound_head b bs sound)
 
@@ -158,7 +158,7 @@ held_nonempty : (bs : List ℕ) → has_percent bs ≡ true → 0 < length bs
 held_nonempty [] held = absurd (false≢true held)
 held_nonempty (b ∷ bs) held = omega arith
 
--- what is retained of the spelling of a sound path isn't the path that it is read as
+-- the retained spelling of a sound path isn't the path that it is read as
 retained_other : (scheme : Scheme) (path : List ℕ) → is_sound path ≡ true → ¬ (retained_spelling path ≡ Some (path_for scheme (percent_decode path)))
 retained_other scheme path sound e =
     let meaning = path_for scheme (percent_decode path) in
@@ -174,12 +174,12 @@ path_sound : (b : List ℕ) (parts : UrlSyntax) → HasUrlSyntax b parts → is_
 path_sound b parts h =
     sound_behind (parts.scheme ++ (codes "://" ++ h.authority)) parts.path (subst (λ t. is_sound t ≡ true) (parts_joined h) h.sound)
 
--- the spelling isn't the path in what the parts of a URL mean
+-- the spelling isn't the path in the location of the parts of a URL
 meant_other : (scheme : Scheme) (b : List ℕ) (parts : UrlSyntax) (v : Location) → HasUrlSyntax b parts → DenotesByScheme scheme parts v → ¬ (v.spelling ≡ Some v.path)
 meant_other scheme b parts v spelled h =
     subst (λ l. ¬ (l.spelling ≡ Some l.path)) (sym h.value) (retained_other scheme parts.path (path_sound b parts spelled))
 
--- nor where there is no spelling
+-- nor if there is no spelling
 unspelled_other : (v : Location) → v.spelling ≡ None → ¬ (v.spelling ≡ Some v.path)
 unspelled_other v none e = absurd (none-some v.path (sym none ∙ e))
 
@@ -200,7 +200,7 @@ scp_unspelled b v (inr h) = ap (λ l. l.spelling) h.value
 pub spelling_other : (b : List ℕ) (v : Location) → Spells b v → ¬ (v.spelling ≡ Some v.path)
 spelling_other b v h2 = grind (arith, nat_tests, url_other, unspelled_other, scp_unspelled)
 
--- a spelled location has a text, and stands for itself when it was stored
+-- a spelled location has a text, and represents itself when it was stored
 pub writable : Writable
 writable b v spelled =
     let other = spelling_other b v spelled in

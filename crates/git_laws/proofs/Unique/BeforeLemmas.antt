@@ -5,11 +5,11 @@ use Rattle.git_syntax.specs.Grammar.{SpellsLocal, Spells, IsAddressed}
 use Rattle.git_laws.specs.Laws.{SpellsLocalBefore, SpellsBefore}
 use Rattle.git_syntax.proofs.Parsing.FormLemmas.{not_scp}
 
--- what was a local path is one
+-- a local path of the earlier grammar is one
 was_local : (b : List ℕ) (v : Location) → SpellsLocalBefore b v → SpellsLocal b v
 was_local b v h = record { nonempty = h.nonempty; neither = h.neither; no_scp = not_scp b h.no_scp; value = h.value }
 
--- what was spelled is
+-- a location of the earlier grammar is spelled
 pub spelled_from_before : (b : List ℕ) (v : Location) → SpellsBefore b v → Spells b v
 spelled_from_before b v (SpellsBefore.url h) = Spells.url h
 spelled_from_before b v (SpellsBefore.file_url h) = Spells.file_url h

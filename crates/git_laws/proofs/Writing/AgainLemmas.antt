@@ -33,7 +33,7 @@ http_scheme = record { scheme_text = refl; not_file = refl; known = refl; not_ex
 https_scheme : IsUrlScheme https
 https_scheme = record { scheme_text = refl; not_file = refl; known = refl; not_ext = λ e. cc }
 
--- what a reader finds in the text of a settled location of HTTP
+-- the fields that a reader finds in the text of a settled location of HTTP
 pub web_readable : (v : Location) → IsWeb v → IsValue v → IsSettledWeb v → (host : List ℕ) × IsReadable v (Some host)
 web_readable v (inl e) is h =
     let (host, there, web) = h.host in
@@ -48,7 +48,7 @@ web_readable v (inr e) is h =
 pub web_spelled : (v : Location) → IsWeb v → IsValue v → IsSettledWeb v → Spells (canonical_text v) (as_read v)
 web_spelled v web is h = grind (arith, nat_tests, web_readable, readable_spelled)
 
--- what is read has the host, the port and the path of the location
+-- a location that is read has the host, the port and the path of the location
 web_as_read : (v : Location) → IsSettledWeb v → IsSettledUrl (as_read v) → IsSettledWeb (as_read v)
 web_as_read v h common = record { common = common; host = h.host; port = h.port; path = h.path }
 
@@ -66,7 +66,7 @@ web_again v (inr e) is h =
 ssh_scheme : IsUrlScheme ssh
 ssh_scheme = record { scheme_text = refl; not_file = refl; known = refl; not_ext = λ e. cc }
 
--- what a reader finds in the text of a settled URL of Secure Shell
+-- the fields that a reader finds in the text of a settled URL of Secure Shell
 pub secure_readable : (v : Location) → v.scheme ≡ ssh → IsValue v → IsSettledSecure v → (named : List ℕ) × IsReadable v (Some named)
 secure_readable v e is h =
     let (host, there, unbracketed) = h.host in
@@ -86,7 +86,7 @@ secure_again v e is h =
 git_scheme : IsUrlScheme git
 git_scheme = record { scheme_text = refl; not_file = refl; known = refl; not_ext = λ e. cc }
 
--- what a reader finds in the text of a settled URL of Git's own protocol
+-- the fields that a reader finds in the text of a settled URL of Git's own protocol
 pub git_readable : (v : Location) → v.scheme ≡ git → IsValue v → IsSettledGit v → (host : List ℕ) × IsReadable v (Some host)
 git_readable v e is h =
     let (host, there, bracketed) = h.host in
@@ -103,7 +103,7 @@ git_again v e is h =
 
 -- ---- other schemes
 
--- what a scheme isn't that has no name of its own
+-- the schemes that a scheme isn't that has no name of its own
 pub record IsOther (name : List ℕ) : Type 0 where
   pub not_ssh : is_ssh_scheme name ≡ false
   pub not_web : is_web_scheme name ≡ false
@@ -118,14 +118,14 @@ other_scheme name h = grind arith
 other_mode : (name : List ℕ) → IsOther name → host_syntax_of name ≡ other_hosts
 other_mode name h = cond-false _ _ _ h.not_web ∙ cond-false _ _ _ (or_from _ _ h.not_ssh h.not_git)
 
--- it needs a host where it is one of FTP
+-- it needs a host if it is one of FTP
 other_hosted : (name : List ℕ) → IsOther name → requires_host name ≡ is_ftp name
 other_hosted name h = grind arith
 
 helper_url_scheme : (name : List ℕ) → is_scheme_text name ≡ true → IsOther name → IsUrlScheme (helper_url name)
 helper_url_scheme name spelled h = grind arith
 
--- what a reader finds in the text of a settled URL of another scheme, with its host or without one
+-- the fields that a reader finds in the text of a settled URL of another scheme, with its host or without one
 pub other_readable : (name : List ℕ) (v : Location) (host : Option (List ℕ)) → v.scheme ≡ helper_url name → v.host ≡ host → IsValue v → IsSettledHelperUrl name v → IsReadable v host
 other_readable name v None e there is h =
     let other = other_scheme name h.unknown in

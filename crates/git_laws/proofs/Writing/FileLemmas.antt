@@ -1,4 +1,4 @@
--- File URLs: what is read as one is settled with one exception, a
+-- File URLs: a location that is read as one is settled with one exception, a
 -- settled one comes back, and nothing else does.
 use Rattle.std.proofs.Common.{◌≡◌, ℕ, Bool, true, false, not, ◌&&◌, ◌⊎◌, inr, List, [], ◌∷◌, ◌++◌, length, Option, Some, None, Ok, Err, refl, sym, ap, subst, ◌∙◌, arith, codes, lit<, if◌then◌else◌}
 use Rattle.std.proofs.lemmas.Bool.Decides.{nat_tests}
@@ -41,7 +41,7 @@ file_value : (v : Location) → v.scheme ≡ file → IsSettledFile v → v ≡ 
 file_value v scheme h =
     value_of v file false scheme h.unflagged h.alone.1 h.alone.2 ∙ ap (λ user. record (at_file v.host v.path v.spelling) { user = user }) h.alone.0
 
--- such a value is settled where its host and its path are, and no spelling matches
+-- such a value is settled if its host and its path are, and no spelling matches
 settled_at : (host : Option (List ℕ)) (path : List ℕ) (spelling : Option (List ℕ)) → ¬ HasMatch (at_file host path spelling) → IfSome host IsFileHost → IsUtf8 path → begins_with slash path ≡ true → IsSettledFile (at_file host path spelling)
 settled_at host path spelling apart hosted is_text rooted = record {
   unflagged = refl;
@@ -138,7 +138,7 @@ file_again v scheme valid h =
     let value = file_value v scheme h in
     subst (λ l. (back : ComesBack l) × IsSettled back.reread) (sym value) (back_at v.host v.path v.spelling valid.host (subst (λ l. IsSettledFile l) value h))
 
--- ---- what is read is settled
+-- ---- a location that is read is settled
 
 -- a bracket begins the host, or it has no colon or no escape
 abbrev pub StaysOpen : List ℕ → Type 0
@@ -156,7 +156,7 @@ path_utf8 host path is_text rooted =
     let behind : IsUtf8 (host ++ path) = utf8_behind (codes "file://") (host ++ path) is_text file_mark_utf8 in
     subst IsUtf8 (sym cut) (utf8_seam host rest slash (subst (λ p. IsUtf8 (host ++ p)) cut behind) (lit< tt)).1
 
--- what is read as a file URL is settled, except a host with a colon
+-- a location that is read as a file URL is settled, except a host with a colon
 -- and an escape that has no bracket at its front
 pub file_closed : (b : List ℕ) (v : Location) → SpellsFile b v → ((h : List ℕ) → v.host ≡ Some h → StaysOpen h) → IsSettledFile v
 file_closed b v h stays =
@@ -166,7 +166,7 @@ file_closed b v h stays =
 
 -- ---- nothing else comes back
 
--- the text that is written, where there is one, is that of a URL
+-- the text that is written, if there is one, is that of a URL
 canonical_by : (v : Location) (t : List ℕ) (fault : Bool) → in_form (if fault then Err UserWithoutHost else Ok canonical_form) v ≡ Ok t → canonical_text v ≡ t
 canonical_by v t true e = absurd (false≢true (ap is_ok e))
 canonical_by v t false e = one_text refl e
@@ -175,7 +175,7 @@ canonical_by v t false e = one_text refl e
 file_canonical : (v : Location) (t : List ℕ) → v.scheme ≡ file → v.flag ≡ false → text v ≡ Ok t → canonical_text v ≡ t
 file_canonical v t h2 h3 h4 = grind (arith, nat_tests, cond-false, and_left, canonical_by)
 
--- the text behind `://` in the text of a URL
+-- the text after `://` in the text of a URL
 abbrev behind_mark : Location → List ℕ
 behind_mark v = user_information v.user v.password ++ (host_part v v.host ++ (port_part v.port ++ canonical_path v))
 
@@ -204,7 +204,7 @@ host_stays host path h2 h h4 = grind (arith, nat_tests, none-some, append_cancel
 spelling_is_path : (host : Option (List ℕ)) (path s t : List ℕ) → percent_decode s ≡ path → text (at_file host path (Some s)) ≡ Ok t → text (at_file host path None) ≡ Ok t → s ≡ path
 spelling_is_path host path s t h4 h5 h6 = grind (arith, nat_tests, matched, codes, one_text, append_cancel_left)
 
--- what is read from the text of a location is settled where it has that text too
+-- the location that is read from the text of a location is settled if it has that text too
 reread_settled : (w : Location) (t : List ℕ) → SpellsFile t w → text w ≡ Ok t → IsSettledFile w
 reread_settled w t k written =
     let again : text (at_file (unless_empty k.host) k.path None) ≡ Ok (codes "file://" ++ (k.host ++ k.path)) = ap (λ l. text l) (sym k.value) ∙ written ∙ ap (λ b. Ok b) k.joined in
@@ -214,7 +214,7 @@ reread_settled w t k written =
 abbrev spelled_with : Option (List ℕ) → Location → Location
 spelled_with spelling v = record v { spelling = spelling }
 
--- a location with the fields of what is read from its text is settled
+-- a location with the fields of the one that is read from its text is settled
 exact_at : (v w : Location) (t : List ℕ) → ¬ (v.spelling ≡ Some v.path) → text v ≡ Ok t → SpellsFile t w → fields w ≡ fields v → text w ≡ Ok t → IsSettledFile v
 exact_at v w t apart written k same again =
     let host = unless_empty k.host in

@@ -1,5 +1,5 @@
--- Remote helpers and local paths: what is read as one is settled and is written as it was read; a settled one
--- comes back, and nothing else does.
+-- Remote helpers and local paths: a location that is read as one is settled and is written as it was read; a
+-- settled one comes back, and nothing else does.
 use Rattle.std.proofs.Common.{◌≡◌, ℕ, true, false, inl, List, ◌∷◌, ◌++◌, Option, None, Ok, refl, sym, ap, subst, ◌∙◌, codes, bytes_eq, Bool, arith}
 use Rattle.std.proofs.lemmas.Bool.Decides.{nat_tests}
 use Rattle.std.proofs.lemmas.Bool.{false≢true}
@@ -57,11 +57,11 @@ kept_closed b v (Spells.local_path h) keeps = (local_unchanged b v h).0
 
 -- ---- exactness
 
--- of the kinds that keep their bytes, the class looks at the fields alone
+-- of the kinds that keep their bytes, the class depends on the fields alone
 pub settled_by_fields : (scheme : Scheme) (v w : Location) → fields w ≡ fields v → keeps_bytes scheme v.flag ≡ true → IsSettledBy scheme w → IsSettledBy scheme v
 settled_by_fields scheme v w same keeps h = grind arith
 
--- a location that keeps its bytes is settled where bytes spell its fields
+-- a location that keeps its bytes is settled if bytes spell its fields
 pub kept_exact : (v : Location) → KeepsBytes v → (b : List ℕ) (w : Location) → Spells b w → fields w ≡ fields v → IsSettled v
 kept_exact v keeps b w spelled same =
     let scheme : w.scheme ≡ v.scheme = ap (λ l. l.scheme) same in

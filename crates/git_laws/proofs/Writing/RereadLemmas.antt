@@ -1,4 +1,4 @@
--- What a settled location is read as, from its own text.
+-- The location that is read from the text of a settled location.
 use Rattle.std.proofs.Common.{◌≡◌, ℕ, List, Ok, Err, subst, arith}
 use Rattle.std.proofs.lemmas.Bool.Decides.{nat_tests}
 use Rattle.git_location.specs.declared.write_error.WriteFault.{WriteFault}

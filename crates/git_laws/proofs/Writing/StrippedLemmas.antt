@@ -41,7 +41,7 @@ keeps b = not (is_ascii_whitespace b)
 kept_length : (x y : List ℕ) → length (without_white_space (x ++ y)) ≡ length (without_white_space x) + length (without_white_space y)
 kept_length x y = ap length (filter-append keeps x y) ∙ length-append (without_white_space x) (without_white_space y)
 
--- the rest of a text lacks what the text lacks
+-- the rest of a text lacks each byte that the text lacks
 lacks_kept : (test : ℕ → Bool) (bs : List ℕ) → Lacks test bs → Lacks test (without_white_space bs)
 lacks_kept test [] h = refl
 lacks_kept test (b ∷ bs) h =
@@ -58,7 +58,7 @@ start_kept false b h = grind (arith, nat_tests)
 path_kept : (web : Bool) (p : List ℕ) → StartsPath web p → StartsPath web (without_white_space p)
 path_kept web p h2 = grind (arith, nat_tests, other_left_in, start_kept)
 
--- and there is one where there was one
+-- and there is one if there was one
 path_left : (web : Bool) (p : List ℕ) → StartsPath web p → without_white_space p ≡ [] → p ≡ []
 path_left web p h2 h3 = grind (arith, nat_tests, length, other_left_in, start_kept)
 
@@ -93,7 +93,7 @@ pub record IsFront (web : Bool) (a : List ℕ) : Type 0 where
   pub before_path : Lacks (is_path_start web) a
   pub some : 0 < length (without_white_space a)
 
--- the front is no longer than the limit, and where no path is behind it, nor is the whole
+-- the front is no longer than the limit, and if no path is after it, nor is the whole
 pub record IsShortFront (a p : List ℕ) : Type 0 where
   pub front : length (without_white_space a) ≤ 1024
   pub whole : p ≡ [] → length a ≤ 1024
@@ -107,7 +107,7 @@ no_slashes (b ∷ a) rest (s ∷ slashes) back lacks some all e =
     let same : b ≡ s = cc in
     absurd (both_ways _ other (ap is_any_slash same ∙ (and_parts (is_any_slash s) (list_all is_any_slash slashes) all).0))
 
--- the limit holds for the front, and where nothing is behind it, for the whole
+-- the limit holds for the front, and if nothing is after it, for the whole
 limit_front : (front back whole : List ℕ) → IsWithinLimit front back whole → length front ≤ length whole → length front ≤ 1024
 limit_front front [] whole h shorter = omega (arith, h, shorter)
 limit_front front (b ∷ back) whole h shorter = h
@@ -135,7 +135,7 @@ front_short scheme a p h starts fits =
       whole = λ empty. omega (arith, limit_whole fits.front fits.back (a ++ p) fits.short (sym cut.1 ∙ ap without_white_space empty), length-append a p);
     }
 
--- what a text begins with that lacks such bytes is none
+-- a front of a text that lacks such bytes is empty
 begins_lacked : (test : ℕ → Bool) (x y : List ℕ) → Lacks test x → 0 < length x → begins_by test (x ++ y) ≡ false
 begins_lacked test [] y lacks some = absurd (omega (arith, some))
 begins_lacked test (b ∷ x) y lacks some = (lacks_head_tail test b x lacks).0
@@ -160,7 +160,7 @@ short_fits scheme a p known h starts short =
 
 -- ---- the authority of a URL
 
--- what names a host isn't empty
+-- a text that names a host isn't empty
 names_some : (syntax : HostSyntax) (piece host : List ℕ) (port : Option ℕ) → SpellsHostPort syntax piece (Some host) port → 0 < length piece
 names_some syntax [] host port n =
     absurd (none-some host (sym (names_unique syntax [] (Some host) None port None n (nothing refl refl refl)).0))
@@ -179,7 +179,7 @@ lacks_slashes (b ∷ a) starts free =
     let back = lacks_head_tail (λ c. c == backslash) b a free in
     lacks-cons is_any_slash b a (or_from (b == slash) (b == backslash) (or_parts (b == slash) _ start.0).0 back.0) (lacks_slashes a start.1 back.1)
 
--- the authority of a readable location with a host is what the length test counts
+-- the authority of a readable location with a host is the part that the length test counts
 pub authority_front : (v : Location) (named : List ℕ) → IsReadable v (Some named) → IsFront (is_web_scheme (scheme_text v.scheme)) (authority_text v)
 authority_front v named r =
     let web = is_web_scheme (scheme_text v.scheme) in
@@ -235,7 +235,7 @@ with_secret user secret host = (user ++ (secret ++ at_sign ∷ [])) ++ host
 lacks_secret : (test : ℕ → Bool) (user secret host : List ℕ) → Lacks test (at_sign ∷ []) → Lacks test (with_secret user secret host) → Lacks test (with_secret user [] host)
 lacks_secret test user secret host h4 h5 = grind (arith, nat_tests, lacks_parts, lacks-append)
 
--- what counts of it
+-- the bytes of it that count
 secret_length : (user secret host : List ℕ) → length (without_white_space (with_secret user secret host)) ≡ length (without_white_space user) + (length (without_white_space secret) + 1) + length (without_white_space host)
 secret_length user secret host =
     omega (arith, kept_length (user ++ (secret ++ at_sign ∷ [])) host, kept_length user (secret ++ at_sign ∷ []), kept_length secret (at_sign ∷ []))
@@ -245,7 +245,7 @@ whole_length : (user secret host : List ℕ) → length (with_secret user secret
 whole_length user secret host =
     omega (arith, length-append (user ++ (secret ++ at_sign ∷ [])) host, length-append user (secret ++ at_sign ∷ []), length-append secret (at_sign ∷ []))
 
--- it is still what the length test counts
+-- it is still the part that the length test counts
 front_stripped : (web : Bool) (user secret host : List ℕ) → IsFront web (with_secret user secret host) → IsFront web (with_secret user [] host)
 front_stripped web user secret host h = record {
   no_slash = lacks_secret is_any_slash user secret host refl h.no_slash;
@@ -273,7 +273,7 @@ stripped_fits v user password named known secret r =
     let short : IsShortFront (with_secret u [] host) (canonical_path v) = short_stripped u s host (canonical_path v) (subst (λ a. IsShortFront a (canonical_path v)) whole (authority_short v named r)) in
     text_fits (stripped v) r.scheme.scheme_text (scheme_short v named r) (subst (λ a. IsFront web a) (sym less) front) r.path.starts (subst (λ a. IsShortFront a (canonical_path v)) (sym less) short)
 
--- what settled URLs have in common stays, where the user isn't empty
+-- the common conditions of settled URLs stay, if the user isn't empty
 url_stripped : (v : Location) → IsSettledUrl v → ¬ (v.user ≡ Some []) → IsWrittenAsUrl (stripped v) → FitsText (canonical_text (stripped v)) → IsSettledUrl (stripped v)
 url_stripped v h some written fits = record {
   unflagged = h.unflagged;
@@ -289,7 +289,7 @@ web_stripped v user password web known secret some is h =
     let (named, r) = web_readable v web is h in
     record { common = url_stripped v h.common some (written_web (stripped v) web) (stripped_fits v user password named known secret r); host = h.host; port = h.port; path = h.path }
 
--- a URL of another scheme has a host, where it has a user
+-- a URL of another scheme has a host, if it has a user
 other_stripped : (name : List ℕ) (v : Location) (user password : List ℕ) (host : Option (List ℕ)) → v.host ≡ host → v.scheme ≡ helper_url name → v.user ≡ Some user → v.password ≡ Some password → ¬ (v.user ≡ Some []) → IsValue v → IsSettledHelperUrl name v → IsSettledHelperUrl name (stripped v)
 other_stripped name v user password None there e known secret some is h =
     absurd (false≢true (subst (λ o. IsSome o) there (h.url.common.hosted.0 (ap is_some known))))
@@ -341,11 +341,11 @@ without_password_by v None user secret known is h (inr some) = subst IsSettled (
 without_password_by v (Some password) None secret known is h (inr some) = absurd (false≢true (subst (λ o. IsSome o) known (user_beside v.scheme v password secret h)))
 without_password_by v (Some password) (Some user) secret known is h (inr some) = stripped_by v.scheme v user password refl known secret some is h
 
--- an empty user comes with a password, where the location is settled as a URL
+-- an empty user comes with a password, if the location is settled as a URL
 empty_user : (p : Scheme) (v : Location) → v.flag ≡ false → v.user ≡ Some [] → IsSettledBy p v → IsSome v.password
 empty_user p v h2 h3 h4 = grind (arith, nat_tests, url_or_plain, none-some)
 
--- so what is settled without its password has none, or a user that isn't empty
+-- so a location that is settled without its password has none, or a user that isn't empty
 kept_user : (v : Location) (password : Option (List ℕ)) → v.password ≡ password → IsSettled v → IsSettled (stripped v) → (v.password ≡ None) ⊎ ¬ (v.user ≡ Some [])
 kept_user v None secret h less = inl secret
 kept_user v (Some password) secret h less = inr (λ e. false≢true (empty_user v.scheme (stripped v) (url_with_password v.scheme v password secret h).unflagged e less))

@@ -44,7 +44,7 @@ unspelled_fits v named r starts empty =
     let known : IsShortFront (authority_text v) (canonical_path (fields v)) = record { front = short.front; whole = λ none. short.whole (empty none) } in
     text_fits (fields v) r.scheme.scheme_text (scheme_short v named r) (subst (λ a. IsFront web a) same (authority_front v named r)) starts (subst (λ a. IsShortFront a (canonical_path (fields v))) same known)
 
--- a text with nothing before or behind it
+-- a text with nothing before or after it
 right_empty : (x y : List ℕ) → x ++ y ≡ [] → y ≡ []
 right_empty x [] e = refl
 right_empty x (b ∷ y) e = absurd (omega (arith, ap length e, length-append x (b ∷ y)))
@@ -60,7 +60,7 @@ path_empty v e = plain_empty v.scheme v.path (right_empty (root_part v) (plain_p
 begins_written : {A : Type 0} (test : ℕ → Bool) (v : Location) → begins_by test v.path ≡ true → canonical_path (fields v) ≡ [] → A
 begins_written test v begins e = absurd (false≢true (sym (ap (begins_by test) (path_empty v e)) ∙ begins))
 
--- ---- what settled URLs have in common
+-- ---- the common conditions of settled URLs
 
 -- without a spelling none matches
 no_match : (v : Location) → ¬ HasMatch (fields v)
@@ -122,7 +122,7 @@ git_unspelled v e is h raw =
     let fits = unspelled_fits v named r starts (λ empty. transport_written v h.path empty) in
     record { url = record { common = url_unspelled v h.url.common (fitting v h.url.common (written_git (fields v) e) fits); raw = λ none. raw }; host = h.host; path = path }
 
--- another scheme, where the text is short enough
+-- another scheme, if the text is short enough
 other_unspelled : (name : List ℕ) (v : Location) → IsSettledHelperUrl name v → (has_percent v.path ≡ false) × LacksWhiteSpace v.path → HasFittingText (fields v) → IsSettledHelperUrl name (fields v)
 other_unspelled name v h raw fits = grind arith
 
@@ -144,7 +144,7 @@ other_fitting name v (Some host) there e is h raw fits =
 needs_none : (p : Scheme) (v : Location) → IsSettledBy p (fields v) → is_raw_url p v.flag ≡ true → ((has_percent v.path ≡ false) × LacksWhiteSpace v.path) × HasFittingText (fields v)
 needs_none p v h kind = grind arith
 
--- and what needs none is settled without it
+-- and a text that needs none is settled without it
 unspelled_by : (p : Scheme) (v : Location) → v.scheme ≡ p → IsValue v → IsSettledBy p v → (is_raw_url p v.flag ≡ true → (has_percent v.path ≡ false) × LacksWhiteSpace v.path) → (is_raw_url p v.flag ≡ true → v.host ≡ None → HasFittingText (fields v)) → IsSettledBy p (fields v)
 unspelled_by file v e is (inl h) raw fits = settled_by_fields file (fields v) v refl h.bare.0 (inl h)
 unspelled_by file v e is (inr h) raw fits = inr record {

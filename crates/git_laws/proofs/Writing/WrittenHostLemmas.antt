@@ -34,7 +34,7 @@ use Rattle.git_laws.proofs.Writing.PieceTextLemmas.{IsHostPiece, joined_hosts, h
 port_allowed : (syntax : HostSyntax) (port : ℕ) → ¬ (syntax ≡ http_hosts) → AllowsPort syntax port
 port_allowed syntax port h2 = grind (arith, nat_tests)
 
--- outside HTTP a text stands for what it decodes to, where that is text in its normal form
+-- outside HTTP a text denotes its decoding, if that is text in its normal form
 text_read : (syntax : HostSyntax) (text host : List ℕ) → ¬ (syntax ≡ http_hosts) → percent_decode text ≡ host → IsUtf8 host → normal_host host ≡ host → HostText syntax text host
 text_read syntax text host h3 h4 h5 h6 = grind (arith, nat_tests)
 
@@ -46,7 +46,7 @@ user_plain t some = record {
   no_bracket = free_begins left_bracket (percent_encode USER t) (encode_free USER t left_bracket (user_holds left_bracket (lit< tt)) refl);
 }
 
--- a host outside brackets and its port name what the host stands for and the port
+-- a host outside brackets and its port name the host that it denotes and the port
 plain_named : (syntax : HostSyntax) (text host : List ℕ) (port : Option ℕ) → ¬ (syntax ≡ http_hosts) → IsPlainHost text → HostText syntax text host → IfSome port (λ p. p < 65536) → SpellsHostPort syntax (text ++ port_part port) (Some host) port
 plain_named syntax text host None other is h small = rw append-nil (SpellsHostPort.plain host is h refl refl)
 plain_named syntax text host (Some p) other is h small = SpellsHostPort.plain_port text host (decimal p) p is h (number_written syntax p small (port_allowed syntax p other)) refl refl refl
@@ -151,7 +151,7 @@ pub address_in_brackets : (scheme : Scheme) (p : ℕ) (a : List ℕ) → IsIpv6T
 address_in_brackets scheme p a h3 = grind (arith, nat_tests, address_wants, escaped_percents_kept, address_free)
 
 -- the text is a piece of an authority and names a port and a host
--- out of which Secure Shell takes the given one
+-- from which Secure Shell takes the location's own
 record SpellsSshHost (text : List ℕ) (host : List ℕ) (port : Option ℕ) : Type 0 where
   named : List ℕ
   names : SpellsHostPort git_hosts text (Some named) port

@@ -1,4 +1,4 @@
--- The written path of a settled URL means the same path, and is written the same again.
+-- The written path of a settled URL denotes the same path, and is written the same again.
 use Rattle.std.proofs.Common.{◌≡◌, ℕ, ◌<◌, Bool, true, false, not, ◌⊎◌, inl, inr, List, [], ◌∷◌, ◌++◌, length, bytes_eq, Option, Some, None, IsUtf8, if◌then◌else◌, refl, sym, ap, subst, ◌∙◌, arith}
 use Rattle.std.proofs.lemmas.Bool.{cases_Bool, cond-true, cond-false, both_ways, false≢true, and_left, and_right, and_from, not_from_true}
 use Rattle.std.proofs.lemmas.Bool.Decides.{nat_tests}
@@ -22,30 +22,30 @@ use Rattle.std.proofs.lemmas.Str.{IsUtf8-append}
 
 -- ---- a path and its writing
 
--- the text stands for the path, begins as it does, and is the plain one where it holds no escape
+-- the text denotes the path, begins as it does, and is the plain one if it has no escape
 pub record IsWriting (path plain t : List ℕ) : Type 0 where
   pub escaped : IsEscapedPiece t
   pub front : first_byte t ≡ first_byte path
   pub decoded : percent_decode t ≡ path
   unescaped : has_percent t ≡ false → t ≡ plain
 
--- a spelling is given, and stands for the path
+-- a spelling is there, and denotes the path
 abbrev Matches : Option (List ℕ) → List ℕ → Type 0
 Matches spelling path = (s : List ℕ) × (spelling ≡ Some s) × (percent_decode s ≡ path)
 
--- the given spelling is fair where it stands for the path
+-- the spelling is fair if it denotes the path
 abbrev IsFair : Option (List ℕ) → List ℕ → Type 0
 IsFair spelling path = (s : List ℕ) → spelling ≡ Some s → percent_decode s ≡ path → IsFairSpelling s path
 
--- a spelling that stands for the path is the written text
+-- a spelling that denotes the path is the written text
 pub matched : (s path plain : List ℕ) → percent_decode s ≡ path → matching_or (Some s) path plain ≡ s
 matched s path plain same = cond-true _ _ _ ((bytes_eq-Decides (percent_decode s) path).1 same)
 
--- the written text is a spelling that stands for the path, or the text that replaces it where none does
+-- the written text is a spelling that denotes the path, or the text that replaces it if none does
 pub matching_cases : (P : List ℕ → Type 0) (spelling : Option (List ℕ)) (path plain : List ℕ) → ((s : List ℕ) → spelling ≡ Some s → percent_decode s ≡ path → P s) → (¬ Matches spelling path → P plain) → P (matching_or spelling path plain)
 matching_cases P spelling path plain h4 h5 = grind (arith, nat_tests, none-some, bytes_eq-Decides, matched, both_ways, same_Some, cond-false, cases_Bool, bytes_eq)
 
--- where none does, the plain path is written
+-- if none does, the plain path is written
 pub unmatched : (spelling : Option (List ℕ)) (path plain : List ℕ) → ¬ Matches spelling path → matching_or spelling path plain ≡ plain
 unmatched spelling path plain none = matching_cases (λ t. t ≡ plain) spelling path plain (λ s is same. absurd (none (s, is, same))) (λ apart. refl)
 
@@ -94,17 +94,17 @@ retained_again path plain t w = retained_again_by (has_percent t) path plain t r
 
 -- ---- fronts
 
--- a text that begins as another starts a path where that one does
+-- a text that begins as another starts a path if that one does
 pub starts_alike : (web : Bool) (t path : List ℕ) → first_byte t ≡ first_byte path → StartsPath web path → StartsPath web t
 starts_alike web t path h3 h4 = grind (arith, nat_tests, false≢true)
 
--- and isn't empty where that one isn't
+-- and isn't empty if that one isn't
 some_alike : (t path : List ℕ) → first_byte t ≡ first_byte path → 0 < length path → 0 < length t
 some_alike t path h2 h3 = grind (arith, nat_tests, false≢true)
 
 -- ---- a path without a root before it
 
--- what is needed of a path that is written as it is, or as one of its spellings
+-- the conditions on a path that is written as it is, or as one of its spellings
 record IsPlainly (web : Bool) (v : Location) : Type 0 where
   root : root_part v ≡ []
   starts : StartsPath web v.path
@@ -119,7 +119,7 @@ plainly_writing web v p fair =
     let plain = plain_path v.scheme v.path in
     subst (IsWriting v.path plain) (ap (λ r. r ++ matching_or v.spelling v.path plain) (sym p.root)) (matching_writing v.spelling v.path plain fair p.writing)
 
--- and means the path, and is written the same again
+-- and denotes the path, and is written the same again
 plainly_written : (web : Bool) (v : Location) → IsPlainly web v → HasFairSpelling v → WritesPath web v
 plainly_written web v p fair =
     let plain = plain_path v.scheme v.path in
@@ -137,7 +137,7 @@ plainly_written web v p fair =
 
 -- ---- HTTP
 
--- what the scheme of a location of HTTP says of its path
+-- the facts about its path that follow from the scheme of a location of HTTP
 record HasWebPaths (scheme : Scheme) : Type 0 where
   plain : (path : List ℕ) → plain_path scheme path ≡ percent_encode PATH path
   denoted : (path : List ℕ) → path_for scheme path ≡ or_root path
@@ -178,7 +178,7 @@ web_writing path begins text = record {
 plain_writing : (v : Location) → IsWeb v → begins_by (is_path_start true) v.path ≡ true → IsUtf8 v.path → IsWriting v.path (plain_path v.scheme v.path) (plain_path v.scheme v.path)
 plain_writing v web begins text = subst (λ p. IsWriting v.path p p) (sym ((web_paths v web).plain v.path)) (web_writing v.path begins text)
 
--- a spelling is fair that is what is written of the path of a settled location of HTTP, and isn't the path
+-- a spelling is fair if it is the writing of the path of a settled location of HTTP, and isn't the path
 pub written_fair : (v : Location) → IsWeb v → begins_by (is_path_start true) v.path ≡ true → HasUrlPath v → (s : List ℕ) → matching_or v.spelling v.path (plain_path v.scheme v.path) ≡ s → ¬ (s ≡ v.path) → IsFairSpelling s v.path
 written_fair v web begins url s same other =
     let plain = plain_path v.scheme v.path in
@@ -200,11 +200,11 @@ web_plainly v web begins url =
       writing = λ none. plain_writing v web begins url.path_text;
     }
 
--- what is written of it is a writing of it
+-- the text that is written of it is a writing of it
 pub web_path_writing : (v : Location) → IsWeb v → begins_by (is_path_start true) v.path ≡ true → HasUrlPath v → IsWriting v.path (plain_path v.scheme v.path) (canonical_path v)
 web_path_writing v web begins url = plainly_writing true v (web_plainly v web begins url) url.spelling
 
--- the written path of a settled location of HTTP means its path, and is written the same again
+-- the written path of a settled location of HTTP denotes its path, and is written the same again
 pub web_path_written : (v : Location) → IsWeb v → begins_by (is_path_start true) v.path ≡ true → HasUrlPath v → WritesPath true v
 web_path_written v web begins url = plainly_written true v (web_plainly v web begins url) url.spelling
 
@@ -219,18 +219,18 @@ raw_writing path text raw = record {
   unescaped = λ none. refl;
 }
 
--- a writing stands for its path, so where its spelling doesn't match, the path is raw
+-- a writing denotes its path, so if its spelling doesn't match, the path is raw
 raw_by : (b : Bool) (path t : List ℕ) → has_percent t ≡ b → IsWriting path path t → ¬ Matches (if b then Some t else None) path → (has_percent path ≡ false) × LacksWhiteSpace path
 raw_by true path t holds w none = absurd (none (t, refl, w.decoded))
 raw_by false path t lacks w none =
     let same : t ≡ path = w.unescaped lacks in
     (sym (ap has_percent same) ∙ lacks, subst LacksWhiteSpace same w.escaped.no_white_space)
 
--- the path is raw where the retained spelling of its writing doesn't match it
+-- the path is raw if the retained spelling of its writing doesn't match it
 raw_again : (path t : List ℕ) → IsWriting path path t → ¬ Matches (retained_spelling t) path → (has_percent path ≡ false) × LacksWhiteSpace path
 raw_again path t w none = raw_by (has_percent t) path t refl w none
 
--- what is needed of a path that is written raw, or as one of its spellings
+-- the conditions on a path that is written raw, or as one of its spellings
 record IsRawly (v : Location) : Type 0 where
   root : root_part v ≡ []
   starts : StartsPath false v.path
@@ -249,7 +249,7 @@ rawly_plainly v r url raw = record {
   writing = λ none. subst (λ p. IsWriting v.path p p) (sym r.plain) (raw_writing v.path url.path_text (raw none));
 }
 
--- such a path is written so that it means the path, the same again, and raw again
+-- such a path is written so that it denotes the path, the same again, and raw again
 rawly_written : (v : Location) → IsRawly v → HasUrlPath v → IsRawPath v → WritesPath false v × IsRawPath (as_read v)
 rawly_written v r url raw =
     let p = rawly_plainly v r url raw in
@@ -262,7 +262,7 @@ rawly_written v r url raw =
 other_starts : (path : List ℕ) → IsRootedOrEmpty path → StartsPath false path
 other_starts path h1 = grind (arith, nat_tests)
 
--- the written path of a settled URL of another scheme means its path, and is written the same again
+-- the written path of a settled URL of another scheme denotes its path, and is written the same again
 pub other_path_written : (v : Location) (name : List ℕ) → v.scheme ≡ helper_url name → IsRootedOrEmpty v.path → HasUrlPath v → IsRawPath v → WritesPath false v × IsRawPath (as_read v)
 other_path_written v name e rooted url raw = rawly_written v record {
   root = cond-false _ _ _ (and_left _ _ (ap requires_path e));
@@ -274,7 +274,7 @@ other_path_written v name e rooted url raw = rawly_written v record {
 
 -- ---- Secure Shell and Git's own protocol
 
--- what the scheme says of a path that may be below a home folder
+-- the facts about a path that may be below a home folder that follow from the scheme
 record HasHomes (scheme : Scheme) : Type 0 where
   roots : requires_path scheme ≡ true
   plain : (path : List ℕ) → plain_path scheme path ≡ path
@@ -316,7 +316,7 @@ home_meant : (path : List ℕ) → begins_with tilde path ≡ true → from_home
 home_meant [] begins = absurd (false≢true begins)
 home_meant (b ∷ path) begins = cond-true _ _ _ begins
 
--- a raw path behind a `/`
+-- a raw path after a `/`
 home_piece : (path : List ℕ) → IsUtf8 path → (has_percent path ≡ false) × LacksWhiteSpace path → IsEscapedPiece (slash ∷ path)
 home_piece path text raw =
     let byte = utf8_byte slash (omega arith) in
@@ -333,7 +333,7 @@ record IsRawHome (v : Location) : Type 0 where
   text : IsUtf8 v.path
   raw : (has_percent v.path ≡ false) × LacksWhiteSpace v.path
 
--- with no spelling it is written behind a `/`
+-- with no spelling it is written after a `/`
 home_unspelled : (v : Location) → HasHomes v.scheme → IsRawHome v → root_part v ++ plain_path v.scheme v.path ≡ slash ∷ v.path
 home_unspelled v h1 h2 = grind (arith, nat_tests, cond-true, and_from, home_unrooted)
 
@@ -346,7 +346,7 @@ home_whole v facts h =
 home_none : (v : Location) → HasHomes v.scheme → IsRawHome v → retained_spelling (canonical_path v) ≡ None
 home_none v facts h = ap retained_spelling (home_whole v facts h) ∙ cond-false _ _ _ h.raw.0
 
--- it means the path, and is written the same again
+-- it denotes the path, and is written the same again
 home_written : (v : Location) → HasHomes v.scheme → IsRawHome v → WritesPath false v
 home_written v facts h =
     let whole = home_whole v facts h in
@@ -363,7 +363,7 @@ home_written v facts h =
       fair = λ s is same. absurd (none-some s (sym none ∙ is));
     }
 
--- by where the path is
+-- by the place of the path
 transport_by : (v : Location) → HasHomes v.scheme → IsTransportPath v → HasUrlPath v → IsRawPath v → WritesPath false v × IsTransportPath (as_read v) × IsRawPath (as_read v)
 transport_by v facts (inl rooted) url raw =
     let both = rawly_written v (rooted_rawly v facts rooted.0 rooted.1) url raw in
@@ -374,6 +374,6 @@ transport_by v facts (inr home) url raw =
     (home_written v facts h, inr (home.0, λ (s, is, same). none-some s (sym (home_none v facts h) ∙ is)), λ none. all)
 
 -- the written path of a settled URL of Secure Shell or of Git's own
--- protocol means its path, and is written the same again
+-- protocol denotes its path, and is written the same again
 pub transport_path_written : (v : Location) → (v.scheme ≡ ssh) ⊎ (v.scheme ≡ git) → IsTransportPath v → HasUrlPath v → IsRawPath v → WritesPath false v × IsTransportPath (as_read v) × IsRawPath (as_read v)
 transport_path_written v transport path url raw = transport_by v (homes v transport) path url raw

@@ -1,4 +1,4 @@
--- The pieces of a written URL, and what its reader finds in each.
+-- The pieces of a written URL, and the fields that its reader finds in each.
 use Rattle.std.specs.Prelude.{◌≡◌, ℕ, ◌<◌, Bool, true, List, [], ◌∷◌, ◌++◌, length, Option, Some, IsUtf8}
 use Rattle.percent_encoding.specs.Percent.{percent_decode}
 use Rattle.git_syntax.specs.Location.{Location}
@@ -44,7 +44,7 @@ pub record WritesHost (syntax : HostSyntax) (v : Location) (host named : List �
 abbrev pub as_read : Location → Location
 as_read v = record v { spelling = retained_spelling (canonical_path v) }
 
--- the written path means the path, and is written the same again
+-- the written path denotes the path, and is written the same again
 pub record WritesPath (web : Bool) (v : Location) : Type 0 where
   pub starts : StartsPath web (canonical_path v)
   pub escaped : IsEscapedPiece (canonical_path v)

@@ -56,7 +56,7 @@ scp_written_by relative user host path spelling h5 = grind (arith, nat_tests)
 pub scp_written : (user : Option (List ℕ)) (host path : List ℕ) (spelling : Option (List ℕ)) → text (scp_value user host path spelling) ≡ Ok (raw_user user ++ (raw_host (Some host) ++ colon ∷ path))
 scp_written user host path spelling = scp_written_by (is_relative path) user host path spelling refl
 
--- such a text is UTF-8 where its pieces are
+-- such a text is UTF-8 if its pieces are
 scp_text_utf8 : (user : Option (List ℕ)) (host path : List ℕ) → IfSome user IsUtf8 → IsUtf8 host → IsUtf8 path → IsUtf8 (raw_user user ++ (host ++ colon ∷ path))
 scp_text_utf8 None host path u h p = utf8_joined host path colon h (omega arith) p
 scp_text_utf8 (Some user) host path u h p =
@@ -64,7 +64,7 @@ scp_text_utf8 (Some user) host path u h p =
 
 -- ---- neither a URL nor a remote helper
 
--- no `://` begins in a front without `/`, or at the colon behind it
+-- no `://` begins in a front without `/`, or at the colon after it
 no_mark_at : (front path x rest : List ℕ) → FreeOf slash front → begins_with_slashes path ≡ false → ¬ Holds (codes "://") path → front ++ colon ∷ path ≡ x ++ (codes "://" ++ rest) → ⊥
 no_mark_at [] path [] rest free other none e = both_ways (begins_with_slashes path) other (ap begins_with_slashes (tails e))
 no_mark_at [] path (c ∷ x) rest free other none e = none (x, rest, tails e)
@@ -159,7 +159,7 @@ name_named h text n =
 not_bracketed : (h : List ℕ) → FreeOf left_bracket h → ¬ IsBracketed h
 not_bracketed h free (inner, e) = false≢true (sym (free_head_tail left_bracket left_bracket (inner ++ right_bracket ∷ []) (subst (λ t. FreeOf left_bracket t) e free)).0)
 
--- so a settled name stands for itself in the scp form
+-- so a settled name denotes itself in the scp form
 name_hosted : (h : List ℕ) → IsUtf8 h → IsScpName h → ScpHost h h
 name_hosted h text n = record {
   named = h;
@@ -204,7 +204,7 @@ holds_colon (b ∷ x) y = or_right (b == colon) (has_colon (x ++ colon ∷ y)) (
 pub address_raw : (h : List ℕ) → IsNormalAddress h → raw_host (Some h) ≡ in_brackets h
 address_raw h h1 = grind (arith, nat_tests, address_cut, holds_colon, free_begins, address_free, and_from, not, cond-true)
 
--- an address in brackets is free of what no address holds
+-- an address in brackets is free of each byte that no address holds
 in_brackets_free : (c : ℕ) (h : List ℕ) → is_address_byte c ≡ false → (left_bracket == c) ≡ false → (right_bracket == c) ≡ false → IsNormalAddress h → FreeOf c (in_brackets h)
 in_brackets_free c h other left right a =
     free-cons c left_bracket (h ++ right_bracket ∷ []) left (free-append c h (right_bracket ∷ []) (address_free c h other a.address) (free-cons c right_bracket [] right refl))
@@ -218,7 +218,7 @@ in_brackets_utf8 : (h : List ℕ) → IsNormalAddress h → IsUtf8 (in_brackets 
 in_brackets_utf8 h a =
     IsUtf8-append (left_bracket ∷ []) (h ++ right_bracket ∷ []) (utf8_byte left_bracket (omega arith)) (IsUtf8-append h (right_bracket ∷ []) (address_utf8 h a.address) (utf8_byte right_bracket (omega arith)))
 
--- what holds of each byte that an address may hold holds of all of its bytes
+-- a property of each byte that an address may hold holds of all of its bytes
 all_address_bytes : (P : ℕ → Type 0) → ((b : ℕ) → is_address_byte b ≡ true → P b) → (t : List ℕ) → list_all is_address_byte t ≡ true → All P t
 all_address_bytes P each [] h = All-nil P
 all_address_bytes P each (b ∷ t) h =
@@ -243,7 +243,7 @@ in_brackets_no_white_space h a =
     let right = white_space_byte right_bracket (omega arith) refl in
     white_space-append (left_bracket ∷ []) (h ++ right_bracket ∷ []) (utf8_byte left_bracket (omega arith)) left (white_space-append h (right_bracket ∷ []) text (address_no_white_space h a.address) right)
 
--- it stands for the address in the scp form
+-- it denotes the address in the scp form
 address_hosted : (h : List ℕ) → IsNormalAddress h → ScpHost (in_brackets h) h
 address_hosted h a = record {
   named = in_brackets h;

@@ -26,7 +26,7 @@ use Rattle.git_syntax.proofs.Parsing.LengthLemmas.{fits_from_text}
 
 -- ---- the authority
 
--- a host that is written is read, behind user information or alone
+-- a host that is written is read, after user information or alone
 pub hosted_written : (syntax : HostSyntax) (v : Location) (host named : List ℕ) (user password : Option (List ℕ)) → ((u : List ℕ) → user ≡ Some u → WritesInformation u password) → (IsSome password → IsSome user) → WritesHost syntax v host named → Authority syntax (user_information user password ++ host_and_port v host) user password (Some named) v.port × IsAuthorityPiece (user_information user password ++ host_and_port v host)
 hosted_written syntax v host named None None information beside h = (host_alone h.no_at h.names refl refl, h.piece)
 hosted_written syntax v host named None (Some p) information beside h = absurd (false≢true (beside refl))
@@ -51,7 +51,7 @@ pub record IsUrlScheme (p : Scheme) : Type 0 where
   pub not_ext : ¬ (p ≡ ext)
   pub scheme_text : is_scheme_text (scheme_text p) ≡ true
 
--- what the reader of a location's text finds in it
+-- the fields that the reader of a location's text finds in it
 pub record IsReadable (v : Location) (named : Option (List ℕ)) : Type 0 where
   pub scheme : IsUrlScheme v.scheme
   pub unflagged : v.flag ≡ false
@@ -190,7 +190,7 @@ url_as_read v h fits written fair = record {
   fits = (canonical_text v, written, fits);
 }
 
--- a settled URL is readable, where its authority and its path are written so that they are read
+-- a settled URL is readable, if its authority and its path are written so that they are read
 pub url_readable : (v : Location) (p : Scheme) (named : Option (List ℕ)) → v.scheme ≡ p → IsUrlScheme p → IsSettledUrl v → Authority (host_syntax_of (scheme_text p)) (authority_text v) v.user v.password named v.port × IsAuthorityPiece (authority_text v) → (requires_host (scheme_text p) ≡ true → IsSome named) → HostFor p named v.host → WritesPath (is_web_scheme (scheme_text p)) v → IsWrittenAsUrl v → IsReadable v named
 url_readable v p named e known h authority required hosted path written =
     let (t, is, short) = h.fits in

@@ -10,7 +10,7 @@ use Rattle.git_syntax.specs.Authority.Credentials.{user_alone, with_password}
 use Rattle.git_laws.proofs.Writing.WrittenPieces.{WritesInformation}
 use Rattle.git_laws.proofs.Writing.PieceTextLemmas.{joined_hosts, host_piece, user_piece, password_piece, user_no_colon, user_decoded, password_decoded}
 
--- a text that is not empty stands for itself
+-- a text that is not empty denotes itself
 not_empty_kept : (t : List ℕ) → ¬ (t ≡ []) → Some t ≡ unless_empty t
 not_empty_kept t some = grind arith
 
@@ -43,6 +43,6 @@ both_written user password first second some =
     }
 
 -- the written user information is read as the same user and password,
--- where neither is an empty text that would be read as none
+-- if neither is an empty text that would be read as none
 pub information_written : (user : List ℕ) (password : Option (List ℕ)) → IsUtf8 user → IfSome password IsUtf8 → IfSome password (λ p. 0 < length p) → (user ≡ [] → IsSome password) → WritesInformation user password
 information_written user password text secret some given = grind (arith, nat_tests, alone_written, both_written)

@@ -42,7 +42,7 @@ name_piece t h = host_piece t (all_weaker is_http_host_byte is_host_byte (λ b i
 literal_no_bracket : (t n : List ℕ) → Literal t n → FreeOf right_bracket t
 literal_no_bracket t n h = grind (arith, nat_tests, address_free, free-append, free_of_all)
 
--- ---- what is named
+-- ---- the host that is named
 
 -- a port that isn't zero is allowed
 port_allowed : (p : ℕ) → Some p ≢ Some 0 → 0 < p
@@ -52,14 +52,14 @@ port_allowed p other = grind arith
 port_spelled : (p : ℕ) → Some p ≢ Some 0 → p < 65536 → Number http_hosts (decimal p) p
 port_spelled p other within = number_written http_hosts p within (port_allowed p other)
 
--- a literal in brackets, with or without a port behind it, names itself
+-- a literal in brackets, with or without a port after it, names itself
 literal_named : (port : Option ℕ) (n : List ℕ) → Literal n n → port ≢ Some 0 → IfSome port (λ p. p < 65536) → SpellsHostPort http_hosts ((left_bracket ∷ (n ++ right_bracket ∷ [])) ++ port_part port) (Some (left_bracket ∷ (n ++ right_bracket ∷ []))) port
 literal_named None n l other within =
     SpellsHostPort.bracketed n n (literal_no_bracket n n l) l (append-nil (left_bracket ∷ (n ++ right_bracket ∷ []))) refl refl
 literal_named (Some p) n l other within =
     SpellsHostPort.bracketed_port n n (decimal p) p (literal_no_bracket n n l) l (port_spelled p other within) (append_assoc (left_bracket ∷ n) (right_bracket ∷ []) (colon ∷ decimal p)) refl refl
 
--- so does one with a colon behind it
+-- so does one with a colon after it
 literal_colon_named : (n : List ℕ) → Literal n n → SpellsHostPort http_hosts ((left_bracket ∷ (n ++ right_bracket ∷ (colon ∷ []))) ++ []) (Some (left_bracket ∷ (n ++ right_bracket ∷ (colon ∷ [])))) None
 literal_colon_named n l =
     SpellsHostPort.bracketed_colon n n (literal_no_bracket n n l) l (append-nil (left_bracket ∷ (n ++ right_bracket ∷ (colon ∷ [])))) refl refl
@@ -68,16 +68,16 @@ literal_colon_named n l =
 name_plain : (t : List ℕ) → IsWebName t → IsPlainHost t
 name_plain t h = grind (arith, nat_tests, free_begins, free_of_all)
 
--- and stands for itself
+-- and denotes itself
 name_text : (t : List ℕ) → IsWebName t → HostText http_hosts t t
 name_text t h = (h.bytes, sym h.normal)
 
--- a name, with or without a port behind it, names itself
+-- a name, with or without a port after it, names itself
 name_named : (port : Option ℕ) (t : List ℕ) → IsWebName t → port ≢ Some 0 → IfSome port (λ p. p < 65536) → SpellsHostPort http_hosts (t ++ port_part port) (Some t) port
 name_named None t h other within = subst (λ x. SpellsHostPort http_hosts x (Some t) None) (sym (append-nil t)) (SpellsHostPort.plain t (name_plain t h) (name_text t h) refl refl)
 name_named (Some p) t h other within = SpellsHostPort.plain_port t t (decimal p) p (name_plain t h) (name_text t h) (port_spelled p other within) refl refl refl
 
--- so does one with a colon behind it
+-- so does one with a colon after it
 name_colon_named : (t : List ℕ) → IsWebName t → SpellsHostPort http_hosts ((t ++ colon ∷ []) ++ []) (Some (t ++ colon ∷ [])) None
 name_colon_named t h = SpellsHostPort.plain_colon t t (name_plain t h) (name_text t h) (append-nil (t ++ colon ∷ [])) refl refl
 
@@ -91,13 +91,13 @@ bracketed_unwanted port t = and_left _ _ (and_right (has_colon (left_bracket ∷
 plain_unwanted : (port : Option ℕ) (t : List ℕ) → FreeOf colon t → needs_brackets port t ≡ false
 plain_unwanted port t free = and_left _ _ (and_left _ _ free)
 
--- a text without `%` takes none where there is no port
+-- a text without `%` takes none if there is no port
 portless_unwanted : (t : List ℕ) → has_percent t ≡ false → needs_brackets None t ≡ false
 portless_unwanted t free = and_right (wants_brackets t) _ free
 
 -- ---- the host and the port of a location
 
--- a host takes no brackets, names itself with the port behind it, and is a piece of a host
+-- a host takes no brackets, names itself with the port after it, and is a piece of a host
 record IsWebWritten (port : Option ℕ) (host : List ℕ) : Type 0 where
   pub unbracketed : needs_brackets port host ≡ false
   pub names : SpellsHostPort http_hosts (host ++ port_part port) (Some host) port
@@ -111,7 +111,7 @@ literal_written port n l other within = record {
   piece = brackets_piece n (right_bracket ∷ []) (literal_piece n n l) (host_piece (right_bracket ∷ []) refl refl);
 }
 
--- one with a colon behind it
+-- one with a colon after it
 literal_colon_written : (n : List ℕ) → Literal n n → IsWebWritten None (left_bracket ∷ (n ++ right_bracket ∷ (colon ∷ [])))
 literal_colon_written n l = record {
   unbracketed = bracketed_unwanted None (n ++ right_bracket ∷ (colon ∷ []));
@@ -127,7 +127,7 @@ name_written port t h other within = record {
   piece = name_piece t h;
 }
 
--- one with a colon behind it
+-- one with a colon after it
 name_colon_written : (t : List ℕ) → IsWebName t → has_percent t ≡ false → IsWebWritten None (t ++ colon ∷ [])
 name_colon_written t h free = record {
   unbracketed = portless_unwanted (t ++ colon ∷ []) (free-append percent_sign t (colon ∷ []) free refl);

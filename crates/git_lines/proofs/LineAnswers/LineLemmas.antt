@@ -33,7 +33,7 @@ answers_push (l ∷ ls) out good line answer first (a, m, f, o, is, others, join
     and_grouped true y z = refl
     and_grouped false y z = refl
 
--- a line and its end go from the rest to what is done
+-- a line and its end go from the rest to the lines that are done
 pub ended_push : (done : List (List ℕ)) (line rest : List ℕ) → ended_lines (done ++ line ∷ []) ++ rest ≡ ended_lines done ++ (line ++ newline ∷ rest)
 ended_push [] line rest = append_assoc (line ++ newline ∷ []) [] rest ∙ append_assoc line (newline ∷ []) rest
 ended_push (l ∷ ls) line rest =
@@ -41,7 +41,7 @@ ended_push (l ∷ ls) line rest =
     ∙ ap (λ t. (l ++ newline ∷ []) ++ t) (ended_push ls line rest)
     ∙ sym (append_assoc (l ++ newline ∷ []) (ended_lines ls) (line ++ newline ∷ rest))
 
--- what follows some lines: the lines that are done, and their answers
+-- the text after some lines: the lines that are done, and their answers
 pub record Done (whole rest out : List ℕ) (good : Bool) : Type 0 where
   pub lines : List (List ℕ)
   pub each : All (FreeOf newline) lines
@@ -94,19 +94,19 @@ done_last whole (b ∷ bs) out new good first done free filled (answer, one, joi
       answers_push done.lines out good (b ∷ bs) answer first done.answered one,
     )
 
--- what is printed for a location is the answer to a line that spells it
+-- the line that is printed for a location is the answer to a line that spells it
 pub reported_answer : (line old new : List ℕ) (v : Location) (r : Result Bool RunError) → Spells line v → AppendsReport v old new r → AppendsAnswer line old new r
 reported_answer line old new v (Ok good) spelled (answer, is, joined) = (answer, reported v spelled is, joined)
 reported_answer line old new v (Err fault) spelled memory = memory
 
--- what is printed for a refusal is the answer to a line that is refused so
+-- the line that is printed for a refusal is the answer to a line that is refused so
 pub refused_answer : (line old new : List ℕ) (refusal : Refusal) (r : Result Bool RunError) → Refused line refusal → AppendsRefusal refusal old new r → AppendsAnswer line old new r
 refused_answer line old new refusal (Ok good) flaw (bad, joined) = (_, refused refusal flaw refl bad, joined)
 refused_answer line old new refusal (Err fault) flaw memory = memory
 
 -- ---- the longest line
 
--- what a text begins with that has no line end is no longer than its first line
+-- a front of a text that has no line end is no longer than its first line
 first_within : (line behind first after : List ℕ) → FreeOf newline first → line ++ newline ∷ behind ≡ first ++ after → length first ≤ length line
 first_within line behind [] after free joined = omega arith
 first_within [] behind (b ∷ bs) after free joined = different_bytes b newline (free_head_tail newline b bs free).0 (sym joined)
@@ -114,7 +114,7 @@ first_within (l ∷ ls) behind (b ∷ bs) after free joined =
     let shorter = first_within ls behind bs after (free_head_tail newline b bs free).1 (tails joined) in
     omega arith
 
--- what is in a text without a line end is no longer than its first line, or follows that line
+-- a part of a text without a line end is no longer than its first line, or follows that line
 within_cut : (most : ℕ) (line behind : List ℕ) → length line ≤ most → HasLinesWithin most behind → HasLinesWithin most (line ++ newline ∷ behind)
 within_cut most line behind short others [] other rest free joined =
     let shorter = first_within line behind other rest free joined in
@@ -124,30 +124,30 @@ within_cut most (l ∷ ls) behind short others (b ∷ bs) other rest free joined
     let shorter : length ls ≤ most = omega arith in
     within_cut most ls behind shorter others bs other rest free (tails joined)
 
--- the lines behind a cut are lines of the text
+-- the lines after a cut are lines of the text
 within_behind : (most : ℕ) (line behind : List ℕ) → HasLinesWithin most (line ++ newline ∷ behind) → HasLinesWithin most behind
 within_behind most line behind within before other rest free joined =
     within (line ++ newline ∷ before) other rest free (ap (λ t. line ++ newline ∷ t) joined ∙ sym (append_assoc line (newline ∷ before) (other ++ rest)))
 
--- a text has lines within a length exactly where its first line and those behind it are
+-- a text has lines within a length exactly if its first line and those after it are
 pub lines_cut : (most : ℕ) (b line behind : List ℕ) → FreeOf newline line → b ≡ line ++ newline ∷ behind → HasLinesWithin most b ↔ ((length line ≤ most) × HasLinesWithin most behind)
 lines_cut most b line behind free cut = (
   λ within. (within [] line (newline ∷ behind) free cut, within_behind most line behind (subst (HasLinesWithin most) cut within)),
   λ (short, others). subst (HasLinesWithin most) (sym cut) (within_cut most line behind short others),
 )
 
--- one line alone is within a length exactly where it is no longer
+-- one line alone is within a length exactly if it is no longer
 pub line_alone : (most : ℕ) (b : List ℕ) → FreeOf newline b → HasLinesWithin most b ↔ (length b ≤ most)
 line_alone most b free = (
   λ within. within [] b [] free (sym (append-nil b)),
   λ short before line rest whole joined. omega (arith, ap length joined, length-append {A = ℕ}),
 )
 
--- so the lines behind a cut are within it
+-- so the lines after a cut are within it
 pub within_next : (most buffer_len : ℕ) (b line behind : List ℕ) → HasLinesWithin most b → FreeOf newline line × (b ≡ line ++ newline ∷ behind) → buffer_len ≡ most → HasLinesWithin buffer_len behind
 within_next most buffer_len b line behind within (free, cut) same = subst (λ n. HasLinesWithin n behind) (sym same) ((lines_cut most b line behind free cut).0 within).1
 
--- what the lines in front of the rest say of the whole: its lines are within a length exactly where that is
+-- the whole and its rest: the lines of the whole are within a length exactly if those of the rest are
 -- no shorter than the longest of those in front, and the lines of the rest are within it
 abbrev pub Measured : List ℕ → List ℕ → ℕ → Type 0
 Measured whole rest longest = (most : ℕ) → HasLinesWithin most whole ↔ ((longest ≤ most) × HasLinesWithin most rest)

@@ -46,7 +46,7 @@ at_place condition.PathColon = refl
 none_before : (v : Location) → MeetsBefore condition.Settled v
 none_before v other earlier = absurd (omega (arith, earlier))
 
--- where a condition and those before it are met, those before the next one are met
+-- if a condition and those before it are met, those before the next one are met
 next : (this that : WebCondition) (v : Location) → place that ≡ place this + 1 → MeetsBefore this v → ¬ IsUnmet this v → MeetsBefore that v
 next this that v follows before met other earlier = elim (cases_lt (place other) (place this)) [
   | inl less ↦ before other less
@@ -55,7 +55,7 @@ next this that v follows before met other earlier = elim (cases_lt (place other)
       subst (λ c. ¬ IsUnmet c v) (sym (at_place this) ∙ ap at same ∙ at_place other) met
 ]
 
--- a settled location meets what comes before the conditions of hosts
+-- a settled location meets the text before the conditions of hosts
 pub settled_met : (v : Location) → IsSettled v → MeetsBefore condition.NoZone v
 settled_met v settled = next condition.Settled condition.NoZone v refl (none_before v) (λ unmet. unmet settled)
 

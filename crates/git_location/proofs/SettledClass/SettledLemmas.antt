@@ -29,26 +29,26 @@ use Rattle.git_location.proofs.Writing.WrittenAsUrlLemmas.{one_text}
 
 -- ---- tests in a row
 
--- the second test of two decides, where the first holds
+-- the second test of two decides, if the first holds
 pub second_decides : {A B R : Type 0} (b : Bool) → A → (IsTrue b ↔ B) → ((A × B) ↔ R) → IsTrue b ↔ R
 second_decides b first second both = (λ yes. both.0 (first, second.0 yes), λ all. second.1 (both.1 all).1)
 
--- the first test of two decides, where it fails
+-- the first test of two decides, if it fails
 pub first_fails : {A B R : Type 0} (b : Bool) → b ≡ false → (IsTrue b ↔ A) → ((A × B) ↔ R) → IsTrue b ↔ R
 first_fails b fails first both = (λ yes. absurd (both_ways b fails yes), λ all. absurd (both_ways b fails (first.1 (both.1 all).0)))
 
--- the first test of two decides, where it holds and one is enough
+-- the first test of two decides, if it holds and one is enough
 pub first_suffices : {A B R : Type 0} (b : Bool) → b ≡ true → A → ((A ⊎ B) ↔ R) → IsTrue b ↔ R
 first_suffices b holds first either = (λ yes. either.0 (inl first), λ all. holds)
 
--- the second test of two decides, where the first fails and one is enough
+-- the second test of two decides, if the first fails and one is enough
 pub second_needed : {A B R : Type 0} (a b : Bool) → a ≡ false → (IsTrue a ↔ A) → (IsTrue b ↔ B) → ((A ⊎ B) ↔ R) → IsTrue b ↔ R
 second_needed a b fails first second either = (
   λ yes. either.0 (inr (second.0 yes)),
   λ all. ⊎_elim (λ x. absurd (both_ways a fails (first.1 x))) (λ y. second.1 y) (either.1 all),
 )
 
--- `is_none` is true exactly where there is no value
+-- `is_none` is true exactly if there is no value
 pub none_tested : {A : Type 0} (o : Option A) (b : Bool) → is_some o ≡ not b → IsTrue b ↔ (o ≡ None)
 none_tested None b e = (λ yes. refl, λ none. not-false b (sym e))
 none_tested (Some x) b e = (λ yes. absurd (true≢false (e ∙ ap not yes)), λ none. cc)
@@ -61,17 +61,17 @@ address_without_zone t free (address a e) = record { address = a; lower = sym e 
 address_without_zone t free (zoned a z addressed zone joined normal) =
     absurd (not_free percent_sign a (50 ∷ 53 ∷ z) (subst (λ x. FreeOf percent_sign x) joined free))
 
--- a text without `%` is a settled literal where it is a settled address
+-- a text without `%` is a settled literal if it is a settled address
 pub literal_without_zone : (t : List ℕ) → FreeOf percent_sign t → IsNormalAddress t ↔ IsNormalLiteral t
 literal_without_zone t free = (λ n. address n.address (sym n.lower), λ l. address_without_zone t free l)
 
--- an address and an escaped zone behind it are a literal
+-- an address and an escaped zone after it are a literal
 literal_of_parts : (t a e : List ℕ) → t ≡ a ++ percent_sign ∷ e → IsNormalAddress a → IsEscapedZone e → Literal t t
 literal_of_parts t a e joined normal (z, zone, escaped) =
     let whole : t ≡ a ++ (percent_sign ∷ 50 ∷ 53 ∷ z) = joined ∙ ap (λ x. a ++ percent_sign ∷ x) escaped in
     zoned a z normal.address zone whole (whole ∙ ap (λ x. x ++ (percent_sign ∷ 50 ∷ 53 ∷ z)) (sym normal.lower))
 
--- a literal with `%` is an address and an escaped zone behind it
+-- a literal with `%` is an address and an escaped zone after it
 parts_of_literal : (t a e : List ℕ) → FreeOf percent_sign a → t ≡ a ++ percent_sign ∷ e → Literal t t → IsNormalAddress a × IsEscapedZone e
 parts_of_literal t a e free joined (address whole n) =
     absurd (not_free percent_sign a e (subst (λ x. FreeOf percent_sign x) joined (address_free percent_sign t refl whole)))
@@ -82,7 +82,7 @@ parts_of_literal t a e free joined (zoned b z addressed zone same normal) =
       (z, zone, cuts.1),
     )
 
--- a text with `%` is a settled literal where an address comes before its first `%` and a zone follows
+-- a text with `%` is a settled literal if an address comes before its first `%` and a zone follows
 pub literal_with_zone : (t a e : List ℕ) → FreeOf percent_sign a → t ≡ a ++ percent_sign ∷ e → (IsNormalAddress a × IsEscapedZone e) ↔ IsNormalLiteral t
 literal_with_zone t a e free joined =
     (λ parts. literal_of_parts t a e joined parts.0 parts.1, λ l. parts_of_literal t a e free joined l)
@@ -91,7 +91,7 @@ literal_with_zone t a e free joined =
 inside_brackets : (x y : List ℕ) → left_bracket ∷ (x ++ right_bracket ∷ []) ≡ left_bracket ∷ (y ++ right_bracket ∷ []) → x ≡ y
 inside_brackets x y e = (same_from_push x y right_bracket right_bracket (tails e)).0
 
--- brackets hold a literal that stays as it is where the text between them is one
+-- brackets hold a literal that stays unchanged if the text between them is one
 pub literal_in_brackets : (b : Bool) (host inner : List ℕ) → host ≡ left_bracket ∷ (inner ++ right_bracket ∷ []) → (IsTrue b ↔ IsNormalLiteral inner) → IsTrue b ↔ IsBracketedLiteral host
 literal_in_brackets b host inner joined test = (
   λ yes. (inner, test.0 yes, joined),
@@ -110,11 +110,11 @@ name_or_colon host front name e =
     let all = sym (list_all-append is_http_host_byte front (colon ∷ [])) ∙ ap (list_all is_http_host_byte) (sym e) ∙ name.bytes in
     absurd (false≢true (and_parts _ _ all).1)
 
--- the colon behind brackets follows what they are part of
+-- the colon after brackets follows the piece that they are part of
 colon_behind : (n : List ℕ) → left_bracket ∷ (n ++ right_bracket ∷ (colon ∷ [])) ≡ (left_bracket ∷ (n ++ right_bracket ∷ [])) ++ colon ∷ []
 colon_behind n = sym (append_assoc (left_bracket ∷ n) (right_bracket ∷ []) (colon ∷ []))
 
--- a closed host and a colon are a settled host where there is no port
+-- a closed host and a colon are a settled host if there is no port
 colon_host_from : (port : Option ℕ) (host front : List ℕ) → host ≡ front ++ colon ∷ [] → port ≡ None → IsClosedHost front → IsWebHost port host
 colon_host_from port host front joined none (inl (n, l, e)) =
     literal_colon n l none (joined ∙ ap (λ x. x ++ colon ∷ []) e ∙ sym (colon_behind n))
@@ -130,12 +130,12 @@ colon_host_to port host front joined (named_colon n name plain none e) =
     let same : n ≡ front = (same_from_push n front colon colon (sym e ∙ joined)).0 in
     (none, inr (subst IsWebName same name, subst (λ x. has_percent x ≡ false) same plain))
 
--- a host with a colon behind it is settled where there is no port, and it is closed before the colon
+-- a host with a colon after it is settled if there is no port, and it is closed before the colon
 pub web_host_colon : (port : Option ℕ) (host front : List ℕ) → host ≡ front ++ colon ∷ [] → ((port ≡ None) × IsClosedHost front) ↔ IsWebHost port host
 web_host_colon port host front joined =
     (λ parts. colon_host_from port host front joined parts.0 parts.1, λ settled. colon_host_to port host front joined settled)
 
--- a host with no colon behind it is settled where it is a literal in brackets or a name
+-- a host with no colon after it is settled if it is a literal in brackets or a name
 bare_host_from : (port : Option ℕ) (host : List ℕ) → IsBracketedLiteral host ⊎ IsWebName host → IsWebHost port host
 bare_host_from port host (inl (n, l, e)) = literal n l e
 bare_host_from port host (inr name) = named name
@@ -182,14 +182,14 @@ simple_scp_name host h =
 
 -- ---- hosts that are there
 
--- there is a host that passes where the one that is there does
+-- there is a host that passes if the one that is there does
 pub host_tested : (P : List ℕ → Type 0) (host : Option (List ℕ)) (h : List ℕ) (b : Bool) → host ≡ Some h → (IsTrue b ↔ P h) → IsTrue b ↔ ((x : List ℕ) × (host ≡ Some x) × P x)
 host_tested P host h b is test = (
   λ yes. (h, is, test.0 yes),
   λ (x, e, passes). let same : Some x ≡ Some h = sym e ∙ is in let equal : x ≡ h = cc in test.1 (subst P equal passes),
 )
 
--- ---- paths, and what there is beside them
+-- ---- paths, and the other conditions
 
 -- a plain path without a spelling is one of a settled URL, and raw
 pub plain_raw_path : (v : Location) → v.spelling ≡ None → is_plain v.path ≡ true → HasRawPath v
@@ -198,7 +198,7 @@ plain_raw_path v none plain = (
   λ unmatched. (plain_free v.path plain, plain_white_space v.path plain),
 )
 
--- a settled URL has a path and what there is beside it
+-- a settled URL has a path and meets the other conditions
 pub url_by_parts : (v : Location) → (HasUrlPath v × IsSettledBesidePath v) ↔ IsSettledUrl v
 url_by_parts v = (
   λ parts. record { unflagged = parts.1.unflagged; credentials = parts.1.credentials; hosted = parts.1.hosted; path = parts.0; fits = parts.1.fits },
@@ -226,7 +226,7 @@ settled_as_web v (inr e) h = subst (λ p. IsSettledBy p v) e h
 
 -- ---- the texts of settled URLs
 
--- the text of a URL is short enough where the walk over it is
+-- the text of a URL is short enough if the walk over it is
 pub fitting_text : (v : Location) (t : List ℕ) → FreeOf colon (scheme_text v.scheme) → text v ≡ Ok (canonical_text v) → Ok t ≡ text v → IsPiecesShort (scheme_text v.scheme) t ↔ HasFittingText v
 fitting_text v t free canonical is =
     let okay : Ok t ≡ Ok (canonical_text v) = is ∙ canonical in
@@ -237,7 +237,7 @@ fitting_text v t free canonical is =
       λ (x, e, fits). test.1 (subst FitsText (one_text e (sym is)) fits),
     )
 
--- so it is where it has no more bytes than the limit
+-- so it is if it has no more bytes than the limit
 pub short_text : (v : Location) → FreeOf colon (scheme_text v.scheme) → text v ≡ Ok (canonical_text v) → length (canonical_text v) ≤ 1024 → HasFittingText v
 short_text v free canonical short =
     let rest = codes "://" ++ (user_information v.user v.password ++ (host_part v v.host ++ (port_part v.port ++ canonical_path v))) in
@@ -247,7 +247,7 @@ short_text v free canonical short =
     let fits = fits_tested (scheme_text v.scheme) behind (omega (arith, whole, short)) in
     (fitting_text v (canonical_text v) free canonical (sym canonical)).0 (fits.0 (or_left _ _ (le-leb (length behind) 1024 few)))
 
--- and a test of its scheme and of what it is made of decides it
+-- and a test of its scheme and of its pieces decides it
 pub text_tested : (v : Location) (s t : List ℕ) (b : Bool) → s ≡ scheme_text v.scheme → FreeOf colon (scheme_text v.scheme) → text v ≡ Ok (canonical_text v) → Ok t ≡ text v
     → (IsTrue b ↔ IsPiecesShort s t) → IsTrue b ↔ HasFittingText v
 text_tested v s t b same_scheme free canonical is test =

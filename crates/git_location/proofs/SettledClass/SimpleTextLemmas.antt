@@ -104,7 +104,7 @@ no_empty_user : (user : Option (List ℕ)) {A : Type 0} → IfSome user IsSimple
 no_empty_user None simple e = absurd cc
 no_empty_user (Some user) simple e = let same : user ≡ [] = cc in absurd (omega (arith, simple.nonempty, ap length same))
 
--- what settled URLs have in common
+-- the common conditions of settled URLs
 url_common : (b : List ℕ) (p : Scheme) (user : Option (List ℕ)) (host path : List ℕ) (port : Option ℕ) → IsRemoteScheme p → IfSome user IsSimpleHost → is_common path ≡ true
     → text (simple_value p false user host port path) ≡ Ok b → FitsText b → IsSettledRaw (simple_value p false user host port path)
 url_common b p user host path port remote simple_user common is fits =

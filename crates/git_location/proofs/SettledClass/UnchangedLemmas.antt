@@ -32,10 +32,10 @@ helper_settled name path named = grind arith
 helper_text : (name path : List ℕ) → is_helper_name name ≡ true → text (path_alone (helper_scheme name) true path) ≡ Ok (name ++ colon ∷ (colon ∷ path))
 helper_text name path named = grind (arith, nat_tests, helper_written, bytes_eq-Decides, helper_cases)
 
--- what a remote helper's form spells is settled, and written as it was read
+-- the location of a remote helper's form is settled, and written as it was read
 pub helper_unchanged : (b : List ℕ) (v : Location) → SpellsHelper b v → IsSettled v × (text v ≡ Ok b)
 helper_unchanged b v h = grind (arith, nat_tests, helper_settled, helper_text)
 
--- what a local path spells is settled, and written as it was read
+-- the location of a local path is settled, and written as it was read
 pub local_unchanged : (b : List ℕ) (v : Location) → SpellsLocal b v → IsSettled v × (text v ≡ Ok b)
 local_unchanged b v h = grind arith

@@ -1,5 +1,5 @@
 -- The class of HTTP locations by its tests: hosts by their last label, paths by their bytes and segments, and
--- what is written for a text by what it holds.
+-- the text that is written for a text, by its bytes.
 use Rattle.std.proofs.Common.{⊎_elim, ◌≡◌, ◌≢◌, ◌↔◌, ◌∙◌, ◌<◌, ℕ, Bool, true, false, not, ◌&&◌, ◌||◌, ◌==◌, ◌⊎◌, inl, inr, List, [], ◌∷◌, ◌++◌, length, codes, decimal, Option, Some, None, IfSome, IsUtf8, if◌then◌else◌, refl, sym, ap, subst, append_assoc, length-append, arith}
 use Rattle.std.specs.List.{list_all, list_any, count_by}
 use Rattle.std.specs.Char.{is_ascii_digit, is_ascii_lowercase, to_ascii_lowercase}
@@ -115,7 +115,7 @@ ends_from_cases [] cases = refl
 ends_from_cases (b ∷ bs) (inl none) = cc
 ends_from_cases (b ∷ bs) (inr ends) = ends
 
--- dots behind a `/` are a dot segment
+-- dots after a `/` are a dot segment
 dots_from : (x behind : List ℕ) → (ends_segment behind ≡ true) ⊎ EndsSecondDot behind → HasDotSegment (x ++ slash ∷ (dot ∷ behind))
 dots_from x behind (inl ends) = record { front = x; dots = codes "."; behind = behind; joined = refl; segment = inl refl; end = ends_by_cases behind ends }
 dots_from x behind (inr (last, second, ends)) =
@@ -126,7 +126,7 @@ dots_to : (dots rest : List ℕ) → (dots ≡ codes ".") ⊎ (dots ≡ codes ".
 dots_to dots rest (inl one) end = (rest, ap (λ x. x ++ rest) one, inl (ends_from_cases rest end))
 dots_to dots rest (inr two) end = (dot ∷ rest, ap (λ x. x ++ rest) two, inr (rest, refl, ends_from_cases rest end))
 
--- a dot segment of the text behind a front is one of the whole
+-- a dot segment of the text after a front is one of the whole
 dots_behind : (front behind : List ℕ) → HasDotSegment behind → HasDotSegment (front ++ dot ∷ behind)
 dots_behind front behind h = record {
   front = front ++ dot ∷ h.front;
@@ -156,7 +156,7 @@ segment_at_cut front behind free h = elim (free_or_cut dot h.front) [
       inr (record { front = y; dots = h.dots; behind = h.behind; joined = (cut_unique dot front x behind (y ++ slash ∷ (h.dots ++ h.behind)) free none whole).1; segment = h.segment; end = h.end })
 ]
 
--- so a text with a `.` has one exactly where it begins at the first `.`, or follows that
+-- so a text with a `.` has one exactly if it begins at the first `.`, or follows that
 pub segment_cut : (t front behind : List ℕ) → FreeOf dot front → t ≡ front ++ dot ∷ behind → (IsDotSegment front behind ⊎ HasDotSegment behind) ↔ HasDotSegment t
 segment_cut t front behind free joined = (
   λ either. subst HasDotSegment (sym joined) (⊎_elim
@@ -167,14 +167,14 @@ segment_cut t front behind free joined = (
 
 -- ---- the written text
 
--- a colon is written where the text has one
+-- a colon is written if the text has one
 pub colon_written : (set : AsciiSet) (t : List ℕ) → contains set 58 ≡ false → FreeOf colon t ↔ FreeOf colon (percent_encode set t)
 colon_written set t out = (
   λ free. encode_lacks_kept (λ b. b == colon) set t (λ b escape. grind (arith, nat_tests)) free,
   λ free. lacks_from_encode (λ b. b == colon) set t (λ b escaped. false_from_ne_true _ (λ is. true≢false (sym escaped ∙ ap (should_percent_encode set) (eqb-true b colon is) ∙ kept_from_outside set 58 (omega arith) out))) free,
 )
 
--- no `%` is written where no byte is escaped
+-- no `%` is written if no byte is escaped
 no_percent : (set : AsciiSet) (t : List ℕ) → contains set 37 ≡ true → count_by (should_percent_encode set) t ≡ 0 → FreeOf percent_sign (percent_encode set t)
 no_percent set [] has none = ap (list_any (λ b. b == percent_sign)) (percent_encode-nil set)
 no_percent set (b ∷ bs) has none = elim (cases_Bool (should_percent_encode set b)) [
@@ -206,7 +206,7 @@ percent_written set t has = (λ none. no_percent set t has none, λ free. none_e
 -- ---- bytes of paths
 
 -- the written text passes a test of each byte that escapes pass,
--- where each byte of the text passes it or is escaped
+-- if each byte of the text passes it or is escaped
 all_written : (test : ℕ → Bool) (set : AsciiSet) (t : List ℕ) → ((b : ℕ) → IsEscapeByte b → test b ≡ true) → list_all test (percent_encode set t) ≡ list_all (λ b. should_percent_encode set b || test b) t
 all_written test set [] escapes = ap (list_all test) (percent_encode-nil set)
 all_written test set (b ∷ bs) escapes =
@@ -228,7 +228,7 @@ escape_in_uri b h = grind (arith, nat_tests)
 stray_in_ascii : (b : ℕ) → is_stray b ≡ true → b < 128
 stray_in_ascii b stray = grind (arith, nat_tests)
 
--- the strays of ASCII are the controls, `#`, and what is neither escaped nor of a URI
+-- the strays of ASCII are the controls, `#`, and the bytes that are neither escaped nor of a URI
 strays : (b : ℕ) → b < 128 → is_stray b ≡ (is_control b || (b == number_sign || not (contains PATH b || is_uri_byte b)))
 strays b ascii = agree_below_at is_stray (λ c. is_control c || (c == number_sign || not (contains PATH c || is_uri_byte c))) 128 b refl ascii
 
@@ -268,7 +268,7 @@ no_strays (b ∷ bs) control fragment written =
     let all = and_parts _ _ written in
     or_from _ _ (no_stray b controls.0 fragments.0 all.0) (no_strays bs controls.1 fragments.1 all.1)
 
--- a path is written as a URI where it has no stray, and is decoded whole
+-- a path is written as a URI if it has no stray, and is decoded whole
 pub uri_path_by_bytes : (t : List ℕ) → (Lacks is_stray t × IsDecodedWhole (percent_encode PATH t)) ↔ IsUriPath t (percent_encode PATH t)
 uri_path_by_bytes t = (
   λ parts. record {
@@ -280,7 +280,7 @@ uri_path_by_bytes t = (
   λ path. (no_strays t path.no_control path.no_fragment (sym (all_written is_uri_byte PATH t escape_in_uri) ∙ path.bytes), path.whole),
 )
 
--- a text without control characters and `#` is written in the bytes of a URI where it has no stray
+-- a text without control characters and `#` is written in the bytes of a URI if it has no stray
 bytes_by_strays : (t : List ℕ) → Lacks is_control t → FreeOf number_sign t → not (list_any is_stray t) ≡ list_all is_uri_byte (percent_encode PATH t)
 bytes_by_strays t control fragment = elim (cases_Bool (list_any is_stray t)) [
   | inl stray ↦ ap not stray ∙ sym (false_from_ne_true _ (λ all. true≢false (sym stray ∙ no_strays t control fragment (sym (all_written is_uri_byte PATH t escape_in_uri) ∙ all))))
@@ -310,7 +310,7 @@ web_path v (inr e) = ap (λ p. (if requires_path p && not (begins_with slash v.p
 other_text : (s : List ℕ) → ¬ (s ≡ 0 ∷ s)
 other_text s e = omega (arith, ap length e)
 
--- a spelling that stands for the path whatever else would is the one that matches it
+-- a spelling that denotes the path whatever else would is the one that matches it
 taken : (spelling : Option (List ℕ)) (path s : List ℕ) → ((other : List ℕ) → s ≡ matching_or spelling path other) → (spelling ≡ Some s) × DecodesTo s path
 taken None path s is = absurd (other_text s (is (0 ∷ s)))
 taken (Some found) path s is = elim (cases_Bool (matches (Some found) path)) [
@@ -320,12 +320,12 @@ taken (Some found) path s is = elim (cases_Bool (matches (Some found) path)) [
   | inr other ↦ absurd (other_text s (is (0 ∷ s) ∙ cond-false _ _ _ other))
 ]
 
--- where anything else is taken, none matches
+-- if anything else is taken, none matches
 none_taken : (spelling : Option (List ℕ)) (path s : List ℕ) → ((other : List ℕ) → other ≡ matching_or spelling path other) → spelling ≡ Some s → ¬ DecodesTo s path
 none_taken spelling path s is some decodes =
     other_text s (sym (is (0 ∷ s) ∙ ap (λ o. matching_or o path (0 ∷ s)) some ∙ cond-true _ _ _ ((bytes_eq-Decides (percent_decode s) path).1 decodes)))
 
--- a path without a spelling that matches is one of a settled URL where it is text
+-- a path without a spelling that matches is one of a settled URL if it is text
 pub unspelled_path : (v : Location) (path : List ℕ) → IsWeb v → path ≡ v.path → ((other : List ℕ) → other ≡ matching_or v.spelling v.path other) → (IsUtf8 path × IsUriPath path (percent_encode PATH path)) ↔ (IsUriPath v.path (canonical_path v) × HasUrlPath v)
 unspelled_path v path web same is =
     let written = web_path v web ∙ sym (is (percent_encode PATH v.path)) in
@@ -337,7 +337,7 @@ unspelled_path v path web same is =
       λ (uri, url). (url.path_text, subst (λ w. IsUriPath v.path w) written uri),
     )
 
--- and one with such a spelling where that is fair too
+-- and one with such a spelling if that is fair too
 pub spelled_path : (v : Location) (path s : List ℕ) → IsWeb v → path ≡ v.path → ((other : List ℕ) → s ≡ matching_or v.spelling v.path other) → (IsUtf8 path × (IsUriPath path s × IsFairSpelling s path)) ↔ (IsUriPath v.path (canonical_path v) × HasUrlPath v)
 spelled_path v path s web same is =
     let written = web_path v web ∙ sym (is (percent_encode PATH v.path)) in
@@ -350,7 +350,7 @@ spelled_path v path s web same is =
       λ (uri, url). (url.path_text, (subst (λ w. IsUriPath v.path w) written uri, url.spelling s some decodes)),
     )
 
--- without such a spelling a path is written in the bytes of a URI where it has no stray
+-- without such a spelling a path is written in the bytes of a URI if it has no stray
 pub unspelled_bytes : (v : Location) (path : List ℕ) → IsWeb v → path ≡ v.path → ((other : List ℕ) → other ≡ matching_or v.spelling v.path other) → Lacks is_control v.path → FreeOf number_sign v.path → not (list_any is_stray path) ≡ list_all is_uri_byte (canonical_path v)
 unspelled_bytes v path web same is control fragment =
     ap (λ p. not (list_any is_stray p)) same ∙ bytes_by_strays v.path control fragment ∙ ap (list_all is_uri_byte) (is (percent_encode PATH v.path) ∙ sym (web_path v web))
@@ -362,7 +362,8 @@ pub rooted_starts : (path : List ℕ) → begins_with slash path ≡ true → be
 rooted_starts [] rooted = rooted
 rooted_starts (b ∷ bs) rooted = or_left _ _ rooted
 
--- a location of HTTP is of the class by its parts, and by what settled URLs have beside their paths
+-- a location of HTTP is of the class by its parts, and by the conditions of settled URLs except for those on
+-- paths
 pub class_by_parts : (v : Location) → IsWeb v
     → ((HasUnambiguousHost v × (v.port ≢ Some 0) × IfSome v.user IsUnambiguousUser × IfSome v.password IsUnambiguousPassword × HasUnambiguousPath v × HasUrlPath v) × IsSettledBesidePath v) ↔ AgreesOverWeb v
 class_by_parts v web = (

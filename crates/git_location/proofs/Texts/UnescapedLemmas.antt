@@ -25,7 +25,7 @@ path_ascii b ready = grind (arith, nat_tests)
 user_ascii : (b : ℕ) → is_unescaped_in_user b ≡ true → b < 128
 user_ascii b ready = grind (arith, nat_tests)
 
--- of two tests that no byte passes both, the second fails where the first is passed
+-- of two tests that no byte passes both, the second fails if the first is passed
 other_fails : (p q : Bool) → (p && q) ≡ false → p ≡ true → q ≡ false
 other_fails true q none yes_p = none
 other_fails false q none yes_p = cc

@@ -1,4 +1,4 @@
--- What is shown of a text whose front is UTF-8.
+-- The shown text of a text whose front is UTF-8.
 use Rattle.std.proofs.Common.{◌≡◌, ℕ, List, ◌++◌, IsUtf8, encode_utf8_all, refl, sym, ap, subst, ◌∙◌}
 use mathlib.Core.Bool.{true≢false}
 use Rattle.std.specs.declared.fmt.Error.{Error}
@@ -20,11 +20,11 @@ lossy_front front rest h =
     ∙ (ap encode_utf8_all (lossy_chars-front cs rest h.1.0) ∙ (encodes-append cs (lossy_chars rest) ∙ ap (λ x. x ++ lossy_text rest) h.1.1))
 
 module _ {W : Type 0} (took : W → List ℕ → W → Type 0) where
-  -- two texts that were shown, one behind the other
+  -- two texts that were shown, one after the other
   pub shown_on : (f g h : Formatter W) (a b all : List ℕ) → HasWrittenStyled took f a g → HasWrittenStyled took g b h → a ++ b ≡ all → HasWrittenStyled took f all h
   shown_on f g h a b all first second whole = has_written_styled_of_eq took f (a ++ b) all h whole (has_written_styled_append took f a g b h first second)
 
-  -- a formatter that took a text that is UTF-8 shows it as it is, whatever comes behind it
+  -- a formatter that took a text that is UTF-8 shows it unchanged, whatever comes after it
   pub shown_text : (f g : Formatter W) (r : Result (Unit {0}) Error) (text : List ℕ) → IsUtf8 text → WritesStyledOnOk took f r text g → OnOk r (ShowsText took f text g)
   shown_text f g (Ok u) text utf8 writes = (λ behind. lossy_front text behind utf8, λ flush. writes flush refl)
   shown_text f g (Err e) text utf8 writes = tt
@@ -39,7 +39,7 @@ module _ {W : Type 0} (took : W → List ℕ → W → Type 0) where
   shown_whole f g (Ok u) text shows = λ flush ok. shows flush
   shown_whole f g (Err e) text shows = λ flush ok. absurd (true≢false (sym ok))
 
-  -- what is shown whatever options a formatter has is shown without any
+  -- a text that is shown whatever options a formatter has is shown without any
   pub shown_plain : (f g : Formatter W) (bs : List ℕ) (r : Result (Unit {0}) Error) → WritesStyledOnOk took f r bs g → WritesOnOk took f r bs g
   shown_plain f g bs r shown = λ plain ok.
       let written = shown plain.flush ok in

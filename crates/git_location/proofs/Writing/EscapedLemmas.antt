@@ -26,14 +26,14 @@ escape_of set b x y small escaped high low =
     let within : b / 16 % 16 ≡ b / 16 = omega arith in
     ap (λ d. 37 ∷ d ∷ y ∷ []) (high ∙ ap (digit_glyph true) (sym within)) ∙ ap (λ d. 37 ∷ digit_glyph true (b / 16 % 16) ∷ d ∷ []) low ∙ sym (cond-true _ _ _ escaped)
 
--- what is written for one byte more
+-- the text that is written for one more byte
 pub encoded_more : (set : AsciiSet) (bs : List ℕ) (i : ℕ) → i < length bs → percent_encode set (take i bs) ++ encode_byte set (get_or bs i 0) ≡ percent_encode set (take (i + 1) bs)
 unfolding percent_encode
 encoded_more set bs i within =
     let one : encode_byte set (get_or bs i 0) ≡ percent_encode set (get_or bs i 0 ∷ []) = sym (append-nil (encode_byte set (get_or bs i 0))) in
     ap (λ l. percent_encode set (take i bs) ++ l) one ∙ sym (percent_encode-append set (take i bs) (get_or bs i 0 ∷ [])) ∙ ap (percent_encode set) (sym (take_more bs i 0 within))
 
--- what is written for a block, and for what follows it
+-- the text that is written for a block, and for the text after it
 pub block_put : (set : AsciiSet) (rest block behind written chunk : List ℕ) (n : ℕ) → block ≡ take n rest → behind ≡ drop n rest → written ≡ percent_encode set block → chunk ≡ written → percent_encode set rest ≡ chunk ++ percent_encode set behind
 block_put set rest block behind written chunk n front back is same =
     ap (percent_encode set) (sym (take-append-drop n rest)) ∙ percent_encode-append set (take n rest) (drop n rest)

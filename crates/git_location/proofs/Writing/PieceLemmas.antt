@@ -1,4 +1,4 @@
--- Pieces of a text: what escapes and written percents make up, and how long they are.
+-- Pieces of a text: the text of escapes and written percents, and its length.
 use Rattle.std.proofs.Common.{◌≡◌, ℕ, ◌+◌, ◌*◌, ◌<◌, Bool, true, not, cond, ◌==◌, Option, Some, None, Result, Ok, Err, List, [], ◌∷◌, ◌++◌, length, take, drop, get_or, inl, inr, refl, sym, ap, ◌∙◌, arith, append_assoc, length-append}
 use Rattle.std.specs.Borrow.{Bor}
 use Rattle.std.specs.List.{count_by, list_all, position_or_len}
@@ -70,7 +70,7 @@ kept_text set (b ∷ bs) all =
 
 -- ---- percents
 
--- a text is written as the text before the first `%`, its escape, and what is written behind it
+-- a text is written as the text before the first `%`, its escape, and the text that is written after it
 pub percents_cut : (t x y : List ℕ) → FreeOf percent_sign x → t ≡ x ++ percent_sign ∷ y → escaped_percents t ≡ x ++ 37 ∷ 50 ∷ 53 ∷ escaped_percents y
 percents_cut t x y free whole =
     ap escaped_percents whole ∙ escaped_percents-append x (percent_sign ∷ y) ∙ ap (λ z. z ++ escaped_percents (percent_sign ∷ y)) (escaped_percents_kept x free)
@@ -97,7 +97,7 @@ handed_on whole done rest chunk left first second = first ∙ (ap (λ x. done ++
 
 -- ---- results
 
--- what follows where a call succeeds
+-- the consequence of a call that succeeds
 pub on_ok : {T E P Q : Type 0} (r : Result T E) → (P → Q) → OnOk r P → OnOk r Q
 on_ok (Ok x) follows h = follows h
 on_ok (Err e) follows h = tt

@@ -66,14 +66,14 @@ pieces_text p = scheme_piece_text p.scheme
 
 -- ---- forms
 
--- the form of the definitions for that of the code
+-- the form that a `Form` represents
 abbrev pub form_of : Code → Form
 form_of code.Helper = helper_form
 form_of code.Path = path_form
 form_of code.Scp = scp_form
 form_of code.Canonical = canonical_form
 
--- the form of the definitions that the code's form represents, or the fault
+-- the form that a `Form` represents, or the fault
 abbrev pub form_chosen : Result Code WriteFault → Result Form WriteFault
 form_chosen (Ok form) = Ok (form_of form)
 form_chosen (Err fault) = Err fault

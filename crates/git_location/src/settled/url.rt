@@ -217,14 +217,14 @@ fn is_hosted(url: &UrlRef<'_>) -> bool
     url.host.is_some() || (url.user.is_none() && url.port.is_none())
 }
 
-/// Whether the path is text, and a spelling that matches it is fair.
+/// Whether the path is text, and a spelling that decodes to it is fair (`IsFairSpelling`).
 fn has_url_path(url: &UrlRef<'_>) -> bool
     ensures { IsTrue result ↔ HasUrlPath url.now }
 {
     is_text(url.path) && has_fair_spelling(url)
 }
 
-/// Whether the spelling of the path is fair if it matches.
+/// Whether the spelling of the path is fair if it decodes to the path.
 fn has_fair_spelling(url: &UrlRef<'_>) -> bool
     ensures { IsTrue result ↔ HasFairSpelling url.now }
 {

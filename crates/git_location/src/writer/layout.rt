@@ -1,6 +1,7 @@
 //! The layout of a text: its pieces and their order.
 
 ghost use Rattle.std.specs.Prelude.{◌≡◌, ℕ, List, ◌++◌, option_map, unwrap_or};
+ghost use Rattle.git_syntax.specs.Hosts.{port_part};
 ghost use Rattle.git_syntax.specs.Location.Scheme.{ssh};
 ghost use Rattle.git_syntax.specs.Views.{borrowed_scheme};
 ghost use Rattle.git_syntax.specs.AddressTest.{is_ipv6_text};
@@ -216,7 +217,7 @@ impl<'a> UrlRef<'a> {
 
 /// The port in decimal.
 fn port_digits<'a>(port: Option<u16>, digits: &'a mut Buffer) -> Option<&'a str>
-    ensures { port_text result ≡ spec.port_part port }
+    ensures { port_text result ≡ port_part port }
 {
     match port {
         None => None,

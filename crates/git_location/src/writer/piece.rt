@@ -16,7 +16,7 @@ use crate::writer::unescaped::{needs_no_escape, user_needs_no_escape};
 use git_syntax::escape::{PASSWORD, PATH, USER};
 use percent_encoding::AsciiSet;
 
-/// A slice and the way that it is written. The written text is UTF-8.
+/// A slice and the way in which it is written. The written text is UTF-8.
 #[derive(Clone, Copy)]
 pub enum Piece<'a> {
     /// The slice, unescaped.

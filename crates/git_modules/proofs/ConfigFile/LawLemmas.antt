@@ -14,7 +14,7 @@ one_item r i j s t a b =
     let both : p ≡ q = cc in
     (ap (λ (x : Item × List ℕ). x.0) both, ap (λ (x : Item × List ℕ). x.1) both)
 
--- a turn is what is left and its item
+-- a turn is the rest and its item
 one_turn : (t u : Turn) (left : List ℕ) → t.0 ≡ left → u.0 ≡ left → t.1 ≡ u.1 → t ≡ u
 one_turn t u left a b e = let f : t.0 ≡ u.0 = a ∙ sym b in λ i. (f i, e i)
 
@@ -33,11 +33,11 @@ items_same text (t ∷ ts) (u ∷ us) h k =
 not_both : (r : Result (Item × List ℕ) Refusal) (i : Item) (s : List ℕ) (e : Refusal) → r ≡ Ok (i, s) → r ≡ Err e → ⊥
 not_both r i s e a b = cc
 
--- no item begins where nothing is left
+-- no item begins if nothing is left
 none_at_end : (e : Refusal) → item_of [] ≡ Err e → ⊥
 none_at_end e h = cc
 
--- where all items are read, no front of them ends in a refusal
+-- if all items are read, no front of them ends in a refusal
 pub read_or_stopped : (text : List ℕ) (a b : List Turn) (left : List ℕ) (e : Refusal) → AreItems text a [] → AreItems text b left → item_of left ≡ Err e → ⊥
 read_or_stopped text [] [] left e h k s = none_at_end e (ap item_of (sym h ∙ k) ∙ s)
 read_or_stopped text [] (u ∷ us) left e h k s = k.0 h
@@ -55,7 +55,7 @@ stopped_once text (p ∷ ps) (u ∷ us) left other e f h k s t =
     let same = one_item (item_of text) p.1 u.1 h.2.0 k.2.0 h.2.1 k.2.1 in
     stopped_once h.2.0 ps us left other e f h.2.2 (subst (λ (x : List ℕ). AreItems x us other) (sym same.1) k.2.2) s t
 
--- what follows a byte order mark is one text
+-- the text after a byte order mark is one text
 one_start : (r : Result (List ℕ) Refusal) (s t : List ℕ) → r ≡ Ok s → r ≡ Ok t → s ≡ t
 one_start r s t a b = cc
 

@@ -1,4 +1,4 @@
--- What the parts of a value add to it.
+-- The bytes that the parts of a value add to it.
 use Rattle.std.proofs.Common.{◌≡◌, ℕ, ◌+◌, ◌-◌, ◌<◌, ◌≤◌, Bool, true, false, List, [], ◌∷◌, ◌++◌, length, take, set, Ok, refl, ap, ◌∙◌, arith, append_assoc, nat_lt, if◌then◌else◌}
 use Rattle.std.proofs.lemmas.Bool.Decides.{nat_tests}
 use Rattle.std.proofs.lemmas.Grind.{replicate_next, common_steps}
@@ -18,7 +18,7 @@ blank_step mode b n c left e = rw (e, value_text) refl
 pub has_byte : (k : ℕ) → nat_lt 0 (k + 1) ≡ true
 has_byte k = grind (arith, nat_tests)
 
--- white space behind a byte
+-- white space after a byte
 pub blank_goes : (old : List ℕ) (end kept c : ℕ) (mode : Mode) (left : List ℕ) → kept ≤ end → 0 < end → part_of mode c ≡ part.Blank → behind (take kept old) (value_text mode (nat_lt 0 end) (end - kept) (c ∷ left)) ≡ behind (take kept (set old end 32)) (value_text mode (nat_lt 0 (end + 1)) ((end + 1) - kept) left)
 blank_goes old end kept c mode left h some e =
     let yes_now : nat_lt 0 end ≡ true = grind (arith, nat_tests) in

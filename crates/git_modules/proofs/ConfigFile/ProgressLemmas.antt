@@ -19,8 +19,8 @@ pub one_more : (left : List ℕ) (ts : List Turn) (last rest : List ℕ) (item :
 one_more left [] last rest item h some e = ((λ z. some (sym h ∙ z)), sym h, (rest, ap item_of h ∙ e, refl))
 one_more left (t ∷ ts) last rest item h some e = (h.0, h.1, (h.2.0, h.2.1, one_more h.2.0 ts last rest item h.2.2 some e))
 
--- the items up to a place have these entries, and the keys behind it begin with a stem: whatever the entries of
--- what follows are, they come behind these
+-- the items up to a place have these entries, and the keys after it begin with a stem: whatever the entries
+-- of the text after are, they come after these
 abbrev pub HasFront : List ℕ → List Turn → List FileEntry → List ℕ → Type 0
 HasFront text done found stem = (ts : List Turn) (others : List FileEntry) → AreEntries text stem ts others → AreEntries text [] (done ++ ts) (found ++ others)
 
@@ -29,7 +29,7 @@ abbrev pub IsAt : List ℕ → ℕ → ℕ → Owner → List FileEntry → Type
 IsAt text at line owner found = (first : List ℕ) × (done : List Turn) × (stem : List ℕ) × (start_of (unix_text text) ≡ Ok first)
     × AreItems first done (left_at text at) × Owns stem owner × HasFront text done found stem × (line ≡ line_at text at) × (at ≤ length text)
 
--- what is read of an item is the front with the item
+-- the text that is read of an item is the front with the item
 front_gap : (text : List ℕ) (done : List Turn) (found : List FileEntry) (stem left : List ℕ) → HasFront text done found stem → HasFront text (done ++ (left, gap) ∷ []) found stem
 front_gap text done found stem left front ts others h = subst (λ (x : List Turn). AreEntries text [] x (found ++ others)) (sym (append_assoc done ((left, gap) ∷ []) ts)) (front ((left, gap) ∷ ts) others h)
 
@@ -66,7 +66,7 @@ goes_on text at line next last (Setting key value) owner heir old new h some ite
     let front = subst (λ (x : List FileEntry). HasFront text (h.1 ++ (left_at text at, setting key.now v) ∷ []) x h.2) (sym kept.1.1) (front_setting text h.1 old h.2 (left_at text at) key.now v kept.1.0 h.6 is) in
     (h.0, h.1 ++ (left_at text at, setting key.now v) ∷ [], h.2, h.3, one_more h.0 h.1 (left_at text at) (left_at text next) (setting key.now v) h.4 some item, subst (λ (o : Owner). Owns h.2 o) (sym kept.0) h.5, front, counted, within)
 
--- nothing is read behind the mark
+-- nothing is read after the mark
 pub begins : (text : List ℕ) (at line : ℕ) (owner : Owner) (found : List FileEntry) → start_of (unix_text text) ≡ Ok (left_at text at) → Owns [] owner → line ≡ line_at text at → at ≤ length text → found ≡ [] → IsAt text at line owner found
 begins text at line owner found start owns counted within none =
     let front : HasFront text [] [] [] = λ ts others h. h in

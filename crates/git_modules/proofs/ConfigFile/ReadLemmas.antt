@@ -1,3 +1,3 @@
--- What is read, with bytes before it.
+-- The reading of a text, with bytes before it.
 use Rattle.std.proofs.Common.{◌≡◌, ℕ, List, [], ◌++◌, Ok, Err, refl, sym, ap, append_assoc}
 use Rattle.git_modules.specs.ConfigFileFlaws.{Read, behind}

@@ -1,4 +1,4 @@
--- The names of submodules, each where it comes first, with one entry more.
+-- The names of submodules, each if it comes first, with one entry more.
 use Rattle.std.proofs.Common.{◌≡◌, ◌∙◌, ℕ, ◌+◌, ◌<◌, Bool, true, false, not, ◌||◌, bytes_eq, if◌then◌else◌, inl, inr, List, [], ◌∷◌, ◌++◌, Some, None, length, take, get_or, refl, sym, ap, append-nil}
 use Rattle.std.specs.Prelude.{filter, filter_map}
 use Rattle.std.specs.List.{cons_option, list_any}
@@ -100,7 +100,7 @@ seen_pushed entries i e n q was after within at some so now =
 pub seen_same : (entries : List ConfigEntry) (i : ℕ) (e : ConfigEntry) (q : List ℕ) (was : Bool) → i < length entries → e ≡ get_or entries i e → None ≡ taken_name e → was ≡ list_any (λ o. bytes_eq o q) (filter_map taken_name (take i entries)) → was ≡ list_any (λ o. bytes_eq o q) (filter_map taken_name (take (i + 1) entries))
 seen_same entries i e q was within at none so = so ∙ sym (ap (list_any (λ o. bytes_eq o q)) (taken_same entries i e within at none))
 
--- what is new wasn't noted, and what isn't new was
+-- a new name wasn't noted, and a name that isn't new was
 pub noted_is : (new noted : Bool) → new ≡ not noted → noted ≡ not new
 noted_is new true h = sym (ap not h)
 noted_is new false h = sym (ap not h)

@@ -41,7 +41,7 @@ count_lacks : (p : List ℕ) (all : List GitSubmodule) (i : ℕ) (s : GitSubmodu
 count_lacks p all i s within at lacks =
     count_more p all i s within at ∙ ap (λ xs. path_count p (take i all) + length xs) (cond-false _ _ _ lacks) ∙ add-zero (path_count p (take i all))
 
--- what is noted of one more
+-- the record of one more submodule
 note_next : (n : ℕ) → count_note (n + 1) ≡ Some (is_some (count_note n))
 note_next zero = refl
 note_next (suc n) =
@@ -56,7 +56,7 @@ paths_same all i s paths within at none before q =
     let lacks : has_path q s ≡ false = ap (λ o. option_map_or (λ (path : UsedValue). bytes_eq path.value q) o false) none in
     before q ∙ ap count_note (sym (count_lacks q all i s within at lacks))
 
--- one with a path changes what is noted for that
+-- one with a path changes the record for that path
 pub paths_more : (all : List GitSubmodule) (i : ℕ) (s : GitSubmodule) (u : UsedValue) (paths after : BTreeMap (Bor (List ℕ)) Bool) → i < length all → s ≡ get_or all i s → s.path ≡ Some u → HasPaths (take i all) paths → NotesPath paths u.value after → HasPaths (take (i + 1) all) after
 paths_more all i s u paths after within at some before noted q =
     let told : has_path q s ≡ bytes_eq u.value q = ap (λ o. option_map_or (λ (path : UsedValue). bytes_eq path.value q) o false) some in

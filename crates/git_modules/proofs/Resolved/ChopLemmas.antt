@@ -1,4 +1,4 @@
--- What is left of a parent is a front of it.
+-- The rest of a parent is a front of it.
 use Rattle.std.proofs.Common.{◌≡◌, ℕ, ◌==◌, ◌⊎◌, inl, inr, suc, zero, Bool, true, false, List, [], ◌∷◌, ◌++◌, Option, Some, None, IfSome, bytes_eq, refl, sym, ap, subst, ◌∙◌, append_assoc}
 use Rattle.std.proofs.lemmas.Bool.{cases_Bool, eqb-true}
 use Rattle.std.proofs.lemmas.Option.{option_and_then_some, same_Some}
@@ -23,7 +23,7 @@ before_last_none c [] e = refl
 before_last_none c (b ∷ bs) e =
     let parts = or_before_none c b (before_last c bs) e in free-cons c b bs parts.1 (before_last_none c bs parts.0)
 
--- something is before a last byte: in the text behind, or the byte is the first
+-- something is before a last byte: in the text after, or the byte is the first
 or_before_some : (c b : ℕ) (found : Option (List ℕ)) (front : List ℕ) → or_before c b found ≡ Some front → ((rest : List ℕ) × (found ≡ Some rest) × (front ≡ b ∷ rest)) ⊎ ((b ≡ c) × (front ≡ []))
 or_before_some c b (Some rest) front e = inl (rest, refl, sym (same_Some (b ∷ rest) front e))
 or_before_some c b None front e =
@@ -42,12 +42,13 @@ before_last_some c (b ∷ bs) front e =
       | inr (same, none) ↦ (bs, ap (λ z. z ∷ bs) same ∙ ap (λ z. z ++ c ∷ bs) (sym none))
     ]
 
--- what was taken off begins with a `:` where one was taken off, and else with a `/`, if the text ends so too
+-- the text that was removed begins with a `:` if a `:` was removed, and else with a `/`, if the text ends so
+-- too
 abbrev pub Follows : List ℕ → Bool → List ℕ → Type 0
 Follows whole true rest = begins_with colon rest ≡ true
 Follows whole false rest = ((rest ≡ []) × (without_last_slash whole ≡ whole)) ⊎ (begins_with slash rest ≡ true)
 
--- what is left is a front of the whole, and has no `/` where a `:` was taken off
+-- the rest is a front of the whole, and has no `/` if a `:` was taken off
 pub record IsLeftOf (whole : List ℕ) (left : LeftOver) : Type 0 where
   pub front : IfSome left.text (λ text. (rest : List ℕ) × (whole ≡ text ++ rest) × Follows whole left.by_colon rest)
   pub no_slash : left.by_colon ≡ true → IfSome left.text (λ text. FreeOf slash text)
@@ -56,7 +57,7 @@ pub record IsLeftOf (whole : List ℕ) (left : LeftOver) : Type 0 where
 shorter : (whole text rest front behind : List ℕ) (c : ℕ) → whole ≡ text ++ rest → text ≡ front ++ c ∷ behind → whole ≡ front ++ c ∷ (behind ++ rest)
 shorter whole text rest front behind c e f = e ∙ ap (λ z. z ++ rest) f ∙ append_assoc front (c ∷ behind) rest
 
--- a `/` is taken off where no `:` was
+-- a `/` is taken off if no `:` was
 follows_slash : (whole rest : List ℕ) (by_colon : Bool) → (by_colon ≡ true → ⊥) → Follows whole by_colon (slash ∷ rest)
 follows_slash whole rest true no_colon = absurd (no_colon refl)
 follows_slash whole rest false no_colon = inr refl

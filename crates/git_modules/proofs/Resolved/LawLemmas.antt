@@ -1,4 +1,4 @@
--- What is spelled by texts with one scheme and one authority.
+-- The locations that texts with one scheme and one authority spell.
 use Rattle.std.proofs.Common.{◌≡◌, ℕ, ◌==◌, ◌⊎◌, inl, inr, Bool, true, List, [], ◌∷◌, ◌++◌, take, drop, codes, refl, sym, ap, subst, ◌∙◌, append_assoc}
 use Rattle.std.specs.List.{position_or_len}
 use Rattle.std.proofs.lemmas.List.{append_cancel_left}
@@ -47,7 +47,7 @@ slash_or_none web path (inr begins) = inr (slash_starts web path begins)
 
 -- ---- locations
 
--- parts with one user, password, host and port mean one place
+-- parts with one user, password, host and port denote one place
 by_scheme_place : (scheme : Scheme) (p q : UrlSyntax) (v w : Location) → DenotesByScheme scheme p v → DenotesByScheme scheme q w → p.user ≡ q.user → p.password ≡ q.password → p.host ≡ q.host → p.port ≡ q.port → IsSamePlace v w
 by_scheme_place scheme p q v w h k user password host port =
     let hosts = host_for_unique scheme p.host h.host k.host h.hosted (subst (λ z. HostFor scheme z k.host) (sym host) k.hosted) in

@@ -1,4 +1,4 @@
--- What precedes a last byte.
+-- The text before a last byte.
 use Rattle.std.proofs.Common.{◌≡◌, ℕ, List, [], ◌∷◌, ◌++◌, Option, Some, None, option_map, refl, sym, ap, ◌∙◌}
 use Rattle.std.proofs.lemmas.Bool.{eq-eqb}
 use Rattle.std.specs.Borrow.{Bor}
@@ -13,7 +13,7 @@ before_last_free c [] free = refl
 before_last_free c (b ∷ bs) free =
     let parts = free_head_tail c b bs free in rw (before_last_free c bs parts.1) (rw parts.0 refl)
 
--- what precedes the last byte
+-- the text before the last byte
 pub before_last_cut : (c : ℕ) (front rest : List ℕ) → FreeOf c rest → before_last c (front ++ c ∷ rest) ≡ Some front
 before_last_cut c [] rest free = rw (before_last_free c rest free) (rw (eq-eqb c c refl) refl)
 before_last_cut c (b ∷ front) rest free = rw (before_last_cut c front rest free) refl

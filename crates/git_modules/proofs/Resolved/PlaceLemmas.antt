@@ -14,9 +14,9 @@ use Rattle.git_modules.proofs.Resolved.StepLemmas.{behind_here_joined}
 use Rattle.git_modules.proofs.Resolved.ChopLemmas.{Follows, IsLeftOf, chopped_left}
 use Rattle.git_modules.proofs.Resolved.RootLemmas.{IsName, authority_ends, keeps_some, name_remote, root_of-url}
 
--- ---- what is left
+-- ---- the rest
 
--- a text is its front without a last `/`, and what was left out
+-- a text is its front without a last `/`, and the text that was left out
 trimmed_front : (text : List ℕ) → (rest : List ℕ) × (text ≡ without_last_slash text ++ rest) × Follows text false rest
 trimmed_front text =
     elim (ends_or_not slash text) [
@@ -51,12 +51,12 @@ whole_left parent remote =
       no_slash = λ e. absurd (both_ways false refl e);
     }
 
--- what is left of a remote parent is a front of it
+-- the rest of a remote parent is a front of it
 pub left_front : (parent : List ℕ) (n : ℕ) (left : LeftOver) → is_remote parent ≡ true → left_of parent n ≡ Some left → IsLeftOf parent left
 left_front parent n left remote e =
     chopped_left (form_of (without_last_slash parent)) parent n (whole_of (without_last_slash parent)) left (whole_left parent remote) e
 
--- where a URL is resolved, something is left
+-- if a URL is resolved, something is left
 joined_some : (found : Option LeftOver) (rest : List ℕ) (r : Resolution) → joined found rest ≡ Ok r → (left : LeftOver) × (found ≡ Some left) × (join left.text left.by_colon (without_last_slash rest) ≡ r)
 joined_some None rest r e = cc
 joined_some (Some left) rest r e = (left, refl, cc)
@@ -81,7 +81,7 @@ pub not_false : (b : Bool) → not b ≡ false → b ≡ true
 not_false true e = refl
 not_false false e = cc
 
--- what is behind a front that is left begins with a `/`
+-- the text after a front that is left begins with a `/`
 behind_begins : (more back path rest : List ℕ) → path ≡ more ++ back → (path ≡ []) ⊎ (begins_with slash path ≡ true) → begins_with slash (more ++ slash ∷ rest) ≡ true
 behind_begins [] back path rest e h = refl
 behind_begins (b ∷ bs) back path rest e (inl none) = let wrong : [] ≡ b ∷ (bs ++ back) = sym none ∙ e in cc
@@ -90,7 +90,7 @@ behind_begins (b ∷ bs) back path rest e (inr begins) = subst (λ z. begins_wit
 regroup : (n m a x z : List ℕ) → ((n ++ (m ++ a)) ++ x) ++ z ≡ n ++ (m ++ (a ++ (x ++ z)))
 regroup n m a x z = simp append_assoc
 
--- behind the root of a URL is what follows its authority
+-- after the root of a URL is the text after its authority
 behind_root : (name rest text more back : List ℕ) → text ≡ (name ++ (codes "://" ++ take (authority_length rest) rest)) ++ more → name ++ (codes "://" ++ rest) ≡ text ++ back → drop (authority_length rest) rest ≡ more ++ back
 behind_root name rest text more back e whole =
     let a = take (authority_length rest) rest in
@@ -105,7 +105,7 @@ root_not_free name a more free =
     let parts = free_parts slash name (codes "://" ++ a) (free_parts slash (name ++ (codes "://" ++ a)) more free).0 in
     let wrong : true ≡ false = parts.1 in cc
 
--- the resolved text of what is left
+-- the resolved text of the rest
 text_of_left : (text : Option (List ℕ)) (by_colon : Bool) (front rest : List ℕ) (r : Resolution) → text ≡ Some front → by_colon ≡ false → join text by_colon rest ≡ r → resolved_text r ≡ front ++ slash ∷ rest
 text_of_left text by_colon front rest r e f h =
     let joined : join (Some front) false rest ≡ r = subst (λ z. join z false rest ≡ r) e (subst (λ z. join text z rest ≡ r) f h) in

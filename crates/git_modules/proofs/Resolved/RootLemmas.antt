@@ -10,7 +10,7 @@ use Rattle.git_reads.specs.Transports.{BeginsBy}
 use Rattle.git_modules.specs.ResolveParents.{is_remote}
 use Rattle.git_modules.specs.ResolveRoots.{authority_length, keeps_root, mark_length, name_length, root_of}
 
--- the text begins with a name, which is behind no `/` and no bracket
+-- the text begins with a name, which is after no `/` and no bracket
 pub record IsName (name : List ℕ) : Type 0 where
   pub no_colon : FreeOf colon name
   pub no_slash : FreeOf slash name
@@ -24,13 +24,13 @@ is_name_tail b bs h = record {
   no_bracket = (free_head_tail left_bracket b bs h.no_bracket).1;
 }
 
--- a colon behind a name is before each `/`
+-- a colon after a name is before each `/`
 pub name_remote : (name rest : List ℕ) → IsName name → is_remote (name ++ colon ∷ rest) ≡ true
 name_remote [] rest h = refl
 name_remote (b ∷ bs) rest h =
     rw (free_head_tail colon b bs h.no_colon).0 (rw (free_head_tail slash b bs h.no_slash).0 (name_remote bs rest (is_name_tail b bs h)))
 
--- the name is what precedes its colon
+-- the name is the text before its colon
 pub name_length-name : (name rest : List ℕ) → IsName name → name_length false (name ++ colon ∷ rest) ≡ length name
 name_length-name [] rest h = refl
 name_length-name (b ∷ bs) rest h =
@@ -54,7 +54,7 @@ root_of-name name rest h =
     rw (name_length-name name rest h) (rw (drop-append_seam name (colon ∷ rest)) refl) in
     rw (name_remote name rest h) (ap (λ n. take n whole) size ∙ take-append-add name (colon ∷ rest) (mark_length (colon ∷ rest)))
 
--- behind an authority is nothing or a `/`
+-- after an authority is nothing or a `/`
 pub authority_ends : (text : List ℕ) → (drop (authority_length text) text ≡ []) ⊎ (begins_with slash (drop (authority_length text) text) ≡ true)
 authority_ends [] = inl refl
 authority_ends (b ∷ bs) =
@@ -63,7 +63,7 @@ authority_ends (b ∷ bs) =
       | inr differs ↦ rw differs (authority_ends bs)
     ]
 
--- what begins with a root keeps it
+-- a text that begins with a root keeps it
 pub keeps_some : (root : List ℕ) (left : Option (List ℕ)) → keeps_root root left ≡ true → (text : List ℕ) × (left ≡ Some text) × BeginsBy root text
 keeps_some root None e = cc
 keeps_some root (Some text) e =

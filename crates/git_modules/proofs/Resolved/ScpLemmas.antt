@@ -23,14 +23,15 @@ use Rattle.git_modules.proofs.Resolved.PlaceLemmas.{against_some, left_front, no
 
 -- ---- the text
 
--- the resolved text keeps the name and its colon, and begins neither by `::` nor by `://` where its parent doesn't
+-- the resolved text keeps the name and its colon, and begins neither by `::` nor by `://` if its parent
+-- doesn't
 pub record KeepsName (name path text : List ℕ) : Type 0 where
   pub behind : List ℕ
   pub joined : text ≡ name ++ colon ∷ behind
   pub no_helper : begins_with colon behind ≡ true → begins_with colon path ≡ true
   pub no_url : begins_with_slashes behind ≡ true → begins_with_slashes path ≡ true
 
--- the byte between what is left and the rest
+-- the byte between the rest and the rest
 abbrev separator : Bool → ℕ
 separator true = colon
 separator false = slash
@@ -81,7 +82,7 @@ one_left false x back rest name path parent e whole (inl (none, kept)) h =
 one_left false x back rest name path parent e whole (inr begins) h =
     ap begins_with_slashes e ∙ byte_slashes x back (and_parts (x == slash) true h).0 begins
 
--- what is behind the colon begins as the path does
+-- the text after the colon begins as the path does
 behind_helper : (by_colon : Bool) (m back rest path parent : List ℕ) → path ≡ m ++ back → Follows parent by_colon back → begins_with colon (m ++ separator by_colon ∷ rest) ≡ true → begins_with colon path ≡ true
 behind_helper true [] back rest path parent e follows h = ap (begins_with colon) e ∙ follows
 behind_helper false [] back rest path parent e follows h = absurd (both_ways false refl h)

@@ -1,4 +1,4 @@
--- The steps at the front of a URL: what one of them leaves.
+-- The steps at the front of a URL: the rest after one of them.
 use Rattle.std.proofs.Common.{◌≡◌, ℕ, ◌==◌, inl, inr, suc, List, [], ◌∷◌, Option, Some, None, option_map, refl, sym, ap, ◌∙◌}
 use Rattle.std.proofs.lemmas.Bool.{cases_Bool, eqb-true, eq-eqb}
 use Rattle.std.proofs.lemmas.Option.{option_and_then_some, same_Some}
@@ -8,7 +8,7 @@ use Rattle.git_syntax.specs.Internal.Cuts.{StripsFirst}
 use Rattle.git_syntax.proofs.Texts.CutLemmas.{heads, tails}
 use Rattle.git_modules.specs.ResolveSteps.{behind_byte, behind_here, behind_steps, behind_up, ups}
 
--- what is cut behind a first byte
+-- the text that is cut after a first byte
 pub strips_first : (c : ℕ) (text : List ℕ) (found : Option (Bor (List ℕ))) → StripsFirst c text found → option_map (λ t. t.now) found ≡ behind_byte c text
 strips_first c [] None h = refl
 strips_first c (b ∷ bs) None h = rw h refl

@@ -1,4 +1,4 @@
--- What curl would get by a URL: the text determines it.
+-- The URL that curl would get for a URL: the text determines it.
 use Rattle.std.proofs.Common.{◌≡◌, ◌∙◌, ℕ, true, false, ◌||◌, inl, inr, List, ◌∷◌, ◌++◌, refl, sym, ap, subst, bytes_eq, codes}
 use Rattle.std.proofs.lemmas.Bool.{eq-eqb}
 use Rattle.std.proofs.lemmas.Slice.Eq.{bytes_eq-Decides}
@@ -22,7 +22,7 @@ curl_free s h =
       ]
     ]
 
--- what follows the first colon of a URL for curl
+-- the text after the first colon of a URL for curl
 pub data BehindScheme (t behind text : List ℕ) : Type 0 where
   named : behind ≡ colon ∷ text → BehindScheme t behind text
   whole : (rest : List ℕ) → behind ≡ slash ∷ slash ∷ rest → text ≡ t → BehindScheme t behind text

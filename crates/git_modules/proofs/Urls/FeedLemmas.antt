@@ -14,11 +14,11 @@ use Rattle.git_modules.specs.SubmoduleInternal.{TellsFeed}
 
 -- ---- truths
 
--- what holds and doesn't
+-- a fact that holds and doesn't
 pub clash : (t : Bool) → t ≡ true → t ≡ false → ⊥
 clash t so_it_is it_isnt = both_ways t it_isnt so_it_is
 
--- one of two holds where either does
+-- one of two holds if either does
 pub one_holds : (a b : Bool) → (a || b) ≡ true → (a ≡ true) ⊎ (b ≡ true)
 one_holds true b h = inl refl
 one_holds false b h = inr h
@@ -89,7 +89,7 @@ escape_same b high low rest so_it_is so =
           decoded ∙ ap (λ x. (escaped_byte high low == newline) || x) so ∙ sym (ap has_feed (cond-true _ _ _ git))
     ]
 
--- Git, which leaves the escape of byte 0, finds a line feed where there is one with all escapes decoded
+-- Git, which leaves the escape of byte 0, finds a line feed if there is one with all escapes decoded
 pub feeds_same : (t : List ℕ) → has_feed (percent_decode t) ≡ has_feed (git_decode t)
 unfolding percent_decode
 feeds_same [] = refl
@@ -105,11 +105,11 @@ feeds_same (b ∷ high ∷ low ∷ rest) =
 
 -- ---- pieces
 
--- what precedes the first colon and what follows it
+-- the text before the first colon and the text after it
 pub feed_behind : (front rest : List ℕ) → has_feed (front ++ colon ∷ rest) ≡ (has_feed front || has_feed rest)
 feed_behind front rest = list_any-append (λ b. b == newline) front (colon ∷ rest)
 
--- what precedes the first colon has a line feed where it isn't one line
+-- the text before the first colon has a line feed if it isn't one line
 not_line : (front : List ℕ) (line : Bool) → (line ≡ true → FreeOf newline front) × (FreeOf newline front → line ≡ true) → not line ≡ has_feed front
 not_line front true k = sym (k.0 refl)
 not_line front false k =
@@ -118,7 +118,7 @@ not_line front false k =
       | inr it_isnt ↦ absurd (clash false (k.1 it_isnt) refl)
     ]
 
--- and is one line where it has none
+-- and is one line if it has none
 pub line_tells : (front : List ℕ) (line : Bool) → (line ≡ true → FreeOf newline front) × (FreeOf newline front → line ≡ true) → line ≡ not (has_feed front)
 line_tells front true k = sym (ap not (k.0 refl))
 line_tells front false k =
@@ -132,17 +132,17 @@ pub feed_cut : (piece front rest : List ℕ) (line inner : Bool) → FreeOf colo
 feed_cut piece front rest line inner free e k so =
     (front ++ colon ∷ git_decode rest, CredentialDecodes.behind front rest free e refl, ap (λ x. x || inner) (not_line front line k) ∙ ap (λ x. has_feed front || x) so ∙ sym (feed_behind front (git_decode rest)))
 
--- what a piece decodes to has a line feed or has none
+-- the decoding of a piece has a line feed or has none
 same_feed : (piece one two : List ℕ) → CredentialDecodes piece one → CredentialDecodes piece two → has_feed one ≡ has_feed two
 same_feed piece one two h k =
     let same : one ≡ two = grind (arith, nat_tests, cut_unique, not_free) in
     ap has_feed same
 
--- there are several lines where there is a line feed
+-- there are several lines if there is a line feed
 pub tells_lines : (t : List ℕ) (feed : Bool) → TellsFeed t feed → (feed ≡ true → DecodesToLines t) × (DecodesToLines t → feed ≡ true)
 tells_lines t feed h =
     (λ e. (h.0, h.1, sym h.2 ∙ e), λ k. h.2 ∙ same_feed t h.0 k.0 h.1 k.1 ∙ k.2)
 
--- all escapes decoded, there is a line feed where Git has one
+-- all escapes decoded, there is a line feed if Git has one
 pub feeds_of : (t bytes : List ℕ) → bytes ≡ percent_decode t → has_feed (git_decode t) ≡ has_feed bytes
 feeds_of t bytes e = sym (feeds_same t) ∙ ap has_feed (sym e)

@@ -1,4 +1,4 @@
--- What Git's credential code finds in a text: whether it has a host, and no line feed.
+-- The host that Git's credential code finds in a text, if there is one, and that it has no line feed.
 use Rattle.std.proofs.Common.{◌≡◌, ◌∙◌, ℕ, ◌<◌, Bool, true, false, not, ◌==◌, ◌||◌, ◌&&◌, inl, inr, List, [], ◌∷◌, ◌++◌, length, Option, Some, None, refl, sym, ap, subst, arith, append_assoc}
 use Rattle.std.proofs.Math.Bool.{or-false}
 use Rattle.std.proofs.lemmas.Bool.{cases_Bool, cond-false, cond-true, eqb-true, and_parts, and_from, not-true}
@@ -49,7 +49,7 @@ not_empty b x =
       | inr other ↦ other
     ]
 
--- a text is empty where it is empty when decoded
+-- a text is empty if it is empty when decoded
 decode_empty : (t : List ℕ) → (length (git_decode t) == 0) ≡ (length t == 0)
 decode_empty [] = refl
 decode_empty (b ∷ []) = refl
@@ -97,7 +97,7 @@ slashes_feed (b ∷ bs) rest h =
     let parts = and_parts (b == slash) (are_slashes bs) h in
     ap (λ x. x || has_feed (bs ++ rest)) (subst (λ x. (x == newline) ≡ false) (sym (eqb-true b slash parts.0)) refl) ∙ slashes_feed bs rest parts.1
 
--- what is behind the slashes decodes to what is behind them in the decoding
+-- the text after the slashes decodes to the text after them in the decoding
 behind_decodes : (t rest decoded : List ℕ) (h : StripsSlashes t rest) → CredentialDecodes t decoded → (other : List ℕ) × CredentialDecodes rest other × (decoded ≡ h.slashes ++ other)
 behind_decodes t rest decoded h (CredentialDecodes.whole free e) =
     let parts = free_parts colon h.slashes rest (subst (λ x. FreeOf colon x) h.joined free) in
@@ -123,7 +123,7 @@ last_feed (b ∷ bs) =
       | inr other ↦ ap has_feed (cond-false _ _ _ other) ∙ ap (λ x. (b == newline) || x) others
     ]
 
--- nor does what is left out of a path
+-- nor does the rest out of a path
 trimmed_feed : (path : List ℕ) → part_has_feed (trimmed_path path) ≡ has_feed path
 trimmed_feed [] = refl
 trimmed_feed (b ∷ bs) = ap (λ x. (b == newline) || x) (last_feed bs)
@@ -161,7 +161,7 @@ alone_tells authority taken free h = record {
   tells = h.2 ∙ sym (and_true _);
 }
 
--- a host behind a user, or behind a user and a password
+-- a host after a user, or after a user and a password
 pub cut_tells : (authority information named : List ℕ) (feed taken : Bool) → FreeOf at_sign information → authority ≡ information ++ at_sign ∷ named → TellsInformation information feed → TellsHost named taken → TellsAuthority authority (taken && not feed)
 cut_tells authority information named feed taken free e (TellsInformation.user_alone plain u) h = record {
   user = Some u.0;
@@ -219,7 +219,7 @@ some_bytes host h = grind (arith, nat_tests)
 no_bytes : (host : List ℕ) → 0 < length host → not (length host == 0) ≡ true
 no_bytes host h = grind (arith, nat_tests)
 
--- a host is found where the pieces have one
+-- a host is found if the pieces have one
 pub finds_host : (t protocol authority behind : List ℕ) (taken : Bool) → CutsText t protocol authority behind → TellsPieces protocol authority behind taken → (taken ≡ true → FindsHost t) × (FindsHost t → taken ≡ true)
 finds_host t protocol authority behind taken cut h =
     let own : CutsText t h.parts.protocol authority behind = subst (λ p. CutsText t p authority behind) (sym h.same) cut in (
@@ -249,7 +249,7 @@ finds_host t protocol authority behind taken cut h =
 
 -- ---- URLs for curl
 
--- there is a host, or none, in what curl would get
+-- there is a host, or none, in the URL that curl would get
 pub lacks_host : (t text : List ℕ) (found : Bool) → IsForCurl t text → (found ≡ true → FindsHost text) × (FindsHost text → found ≡ true) → (not found ≡ true → LacksHost t) × (LacksHost t → not found ≡ true)
 lacks_host t text found given tells = (
   λ e. (text, given, λ h. clash found (tells.1 h) (not-true found e)),

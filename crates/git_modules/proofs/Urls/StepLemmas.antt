@@ -42,7 +42,7 @@ separators x h =
       | inr e ↦ inr (eqb-true x backslash e)
     ]
 
--- what has the form of a step is one
+-- a text that has the form of a step is one
 pub step_here : (x : ℕ) → is_separator x ≡ true → (is_step (dot ∷ x ∷ []) ≡ true) × (false ≡ is_step_up (dot ∷ x ∷ []))
 step_here x h =
     elim (separators x h) [
@@ -88,7 +88,7 @@ concat_push : (steps : List (List ℕ)) (step : List ℕ) → concat (steps ++ s
 concat_push [] step = append-nil step
 concat_push (s ∷ steps) step = ap (λ x. s ++ x) (concat_push steps step) ∙ sym (append_assoc s (concat steps) step)
 
--- a step begins with a dot, so what begins with a `:` or a `/` doesn't begin with one
+-- a step begins with a dot, so a text that begins with a `:` or a `/` doesn't begin with one
 pub no_step : {A : Type 0} (s rest t : List ℕ) → is_step s ≡ true → t ≡ s ++ rest → begins_by is_colon_or_slash t ≡ true → A
 no_step s rest t h e begins =
     elim (step_form s h) [
@@ -112,11 +112,11 @@ steps_same (s ∷ steps) (other ∷ others) x y h k none begins e =
     let rest = steps_same steps others x y parts.1 parts'.1 none begins one.1 in
     (ap (λ a. a ∷ steps) one.0 ∙ ap (λ a. other ∷ a) rest.0, rest.1)
 
--- a step of one dot, and what follows it
+-- a step of one dot, and the text after it
 pub found_here : (t behind rest : List ℕ) (x : ℕ) → t ≡ dot ∷ behind → is_separator x ≡ true → behind ≡ x ∷ rest → (step : List ℕ) × (is_step step ≡ true) × (false ≡ is_step_up step) × (t ≡ step ++ rest)
 found_here t behind rest x e is e' = (dot ∷ x ∷ [], (step_here x is).0, (step_here x is).1, e ∙ ap (λ u. dot ∷ u) e')
 
--- a step up, and what follows it
+-- a step up, and the text after it
 pub found_up : (t behind more rest : List ℕ) (x : ℕ) → t ≡ dot ∷ behind → behind ≡ dot ∷ more → is_separator x ≡ true → more ≡ x ∷ rest → (step : List ℕ) × (is_step step ≡ true) × (true ≡ is_step_up step) × (t ≡ step ++ rest)
 found_up t behind more rest x e e' is e'' = (dot ∷ dot ∷ x ∷ [], (step_up x is).0, (step_up x is).1, e ∙ ap (λ u. dot ∷ u) (e' ∙ ap (λ u. dot ∷ u) e''))
 
@@ -150,6 +150,6 @@ last_of_all t a b c d same second third fourth p q r (IsRefusedUrl.several_lines
 last_of_all t a b c d same second third fourth p q r (IsRefusedUrl.other_host h) = absurd (clash c (third.1 h) r)
 last_of_all t a b c d same second third fourth p q r (IsRefusedUrl.no_host h) = fourth.1 h
 
--- a URL is refused for the last of four reasons where it isn't for another
+-- a URL is refused for the last of four reasons if it isn't for another
 pub refused_last : (t : List ℕ) (a b c d : Bool) → a ≡ is_option_like t → (b ≡ true → (IsRelative t ⊎ IsOwnUrl t) × DecodesToLines t) × ((IsRelative t ⊎ IsOwnUrl t) × DecodesToLines t → b ≡ true) → (c ≡ true → ReplacesHost t) × (ReplacesHost t → c ≡ true) → (d ≡ true → LacksHost t) × (LacksHost t → d ≡ true) → a ≡ false → b ≡ false → c ≡ false → (d ≡ true → IsRefusedUrl t) × (IsRefusedUrl t → d ≡ true)
 refused_last t a b c d same second third fourth p q r = (λ e. IsRefusedUrl.no_host (fourth.0 e), λ h. last_of_all t a b c d same second third fourth p q r h)

@@ -24,11 +24,11 @@ pub struct Defects {
 
 /// Returns the defects of each of the submodules of a file, in their order.
 ///
-/// - `no_path`: Git uses no path for the submodule, or an empty one. It finds no submodule for a folder by it.
+/// - `no_path`: Git uses no path for the submodule, or an empty one, which is the path of no folder.
 /// - `no_url`: Git uses no URL for the submodule. Git 2.39.5 stops at its folder ("No url found for submodule
 ///   path"), unless a URL is in `.git/config`.
-/// - `same_path`: another submodule has the same path, byte for byte. Of these Git 2.39.5 uses the one whose `path`
-///   is the last in the file, in whatever order their names and URLs are (`cache_put_path` in
+/// - `same_path`: another submodule has the same path, byte for byte. Git 2.39.5 then uses the one whose
+///   `path` is the last in the file, in whatever order their names and URLs are (`cache_put_path` in
 ///   `submodule-config.c`).
 ///
 /// A path that a later path of the same submodule replaces is ignored. Git then forgets it, also for the other

@@ -18,7 +18,7 @@ pub enum Refused {
     /// The name of the submodule is empty, or has a component `..`.
     #[error("the name of the submodule leads out of its folder")]
     Name,
-    /// The URL looks like an option, has several lines, or has no host.
+    /// The URL begins with `-`, has several lines, or has no host.
     #[error("the URL of the submodule is dangerous")]
     Url,
     /// The path begins with `-`.

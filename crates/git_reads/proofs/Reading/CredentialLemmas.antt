@@ -1,4 +1,4 @@
--- What Git's credential code reads in a text: its pieces, paths without slashes around them, and lines.
+-- The reading of a text by Git's credential code: its pieces, paths without slashes around them, and lines.
 use Rattle.std.proofs.Common.{◌≡◌, ◌∙◌, ℕ, suc, ◌+◌, ◌≤◌, true, false, ◌==◌, inl, inr, List, [], ◌∷◌, ◌++◌, length, take, Option, Some, None, refl, sym, ap, subst, append_assoc, arith}
 use Rattle.std.proofs.lemmas.Bool.{and_from, and_parts, cases_Bool, cond-false, cond-true, eqb-true}
 use Rattle.std.proofs.lemmas.Bool.Decides.{nat_tests}
@@ -27,7 +27,7 @@ cut_with_password authority information named user password free e plain e' =
 
 -- ---- decoding
 
--- what precedes the first colon, the colon and what follows it, decoded, one after the other
+-- the text before the first colon, the colon and the text after it, decoded, one after the other
 pub decoded_behind : (piece front rest cleared put marked out : List ℕ) → FreeOf colon front → piece ≡ front ++ colon ∷ rest → cleared ≡ [] → put ≡ cleared ++ front → marked ≡ put ++ colon ∷ [] → out ≡ marked ++ git_decode rest → CredentialDecodes piece out
 decoded_behind piece front rest cleared put marked out free e empty first second third =
     let begun : put ≡ front = first ∙ ap (λ t. t ++ front) empty in
@@ -59,7 +59,7 @@ cut_decoded a u w user password named (CutsInformation.with_password name secret
 
 -- ---- the text
 
--- what is read in a text whose parts are of one line each
+-- the reading of a text whose parts are of one line each
 pub reading_of_pieces : (t protocol authority behind : List ℕ) (r : CredentialReading) → CutsText t protocol authority behind → r.protocol ≡ protocol → ReadsPieces authority behind r → AreOneLine r → CredentialReads t r
 reading_of_pieces t protocol authority behind r cut same pieces lines =
     let own : CutsText t r.protocol authority behind = subst (λ p. CutsText t p authority behind) (sym same) cut in
@@ -134,7 +134,7 @@ no_last_slash (b ∷ bs) h =
       | inr other ↦ first_left b bs other ∙ ap (λ t. b ∷ t) (no_last_slash bs (λ front e. h (b ∷ front) (ap (λ t. b ∷ t) e)))
     ]
 
--- what is left is the front of the text
+-- the rest is the front of the text
 pub left_front : (t : List ℕ) → (length (without_last_slashes t) ≤ length t) × (take (length (without_last_slashes t)) t ≡ without_last_slashes t)
 left_front [] = (omega arith, refl)
 left_front (b ∷ bs) =
@@ -145,7 +145,7 @@ left_front (b ∷ bs) =
           rw (first_left b bs other) (omega (arith, rest.0), ap (λ t. b ∷ t) rest.1)
     ]
 
--- a path is as long as its first byte and what is left behind it, or longer
+-- a path is as long as its first byte and the rest after it, or longer
 pub trimmed_fits : (path rest kept : List ℕ) (b : ℕ) → path ≡ b ∷ rest → kept ≡ without_last_slashes rest → 1 + length kept ≤ length path
 trimmed_fits path rest kept b e left = omega (arith, ap length e, ap length left, (left_front rest).0)
 

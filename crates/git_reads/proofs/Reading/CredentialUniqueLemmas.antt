@@ -12,7 +12,7 @@ decodes_unique piece decoded other h k = grind (arith, nat_tests, cut_unique, no
 
 -- ---- the authority
 
--- what precedes the first `@`, of a user and a password
+-- the text before the first `@`, of a user and a password
 information_free : (u w : List ℕ) → FreeOf at_sign u → FreeOf at_sign w → FreeOf at_sign (u ++ colon ∷ w)
 information_free u w first second = free-append at_sign u (colon ∷ w) first second
 
@@ -49,7 +49,7 @@ cut_same a user other password secret named name (CredentialCut.with_password u 
 
 -- ---- the path
 
--- what follows the slashes is empty or begins with another byte
+-- the text after the slashes is empty or begins with another byte
 behind_slashes : (rest : List ℕ) → begins_with slash rest ≡ false → (rest ≡ []) ⊎ (begins_by (λ b. not (b == slash)) rest ≡ true)
 behind_slashes rest other = grind arith
 
@@ -81,7 +81,7 @@ pieces_same authority behind r other schemes h k =
     let paths = path_same behind r.path other.path h.path k.path in
     λ i. record { protocol = schemes i; user = credentials.0 i; password = credentials.1 i; host = hosts i; path = paths i }
 
--- so a text is read in one way, also where a part is of several lines
+-- so a text is read in one way, also if a part is of several lines
 pub one_of_pieces : (t authority behind place rest : List ℕ) (r other : CredentialReading) → CutsText t r.protocol authority behind → ReadsPieces authority behind r → CutsText t other.protocol place rest → ReadsPieces place rest other → r ≡ other
 one_of_pieces t authority behind place rest r other cut h cut' k =
     let same = text_same t r.protocol other.protocol authority place behind rest cut cut' in
@@ -98,7 +98,7 @@ reading_cut t r h = record {
   path_start = h.path_start;
 }
 
--- and what is read in its pieces
+-- and the reading of its pieces
 pub reading_pieces : (t : List ℕ) (r : CredentialReading) (h : CredentialReads t r) → ReadsPieces h.authority h.behind r
 reading_pieces t r h = record { named = h.named; cut = h.cut; host = h.host; path = h.path }
 

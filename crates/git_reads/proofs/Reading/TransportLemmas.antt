@@ -1,4 +1,5 @@
--- Which texts name a remote helper, have the scp form or are a local path, and what Secure Shell reaches.
+-- Which texts name a remote helper, have the scp form or are a local path, and the places that Secure Shell
+-- reaches.
 use Rattle.std.proofs.Common.{◌≡◌, ◌∙◌, ◌↔◌, ◌==◌, ℕ, ◌<◌, Bool, true, false, inl, inr, List, [], ◌∷◌, ◌++◌, length, Option, IsTrue, codes, refl, sym, ap, subst, arith, append_assoc}
 use Rattle.std.proofs.lemmas.Bool.{both_ways, false≢true}
 use Rattle.git_syntax.specs.Location.Scheme.{ssh}
@@ -13,7 +14,7 @@ use Rattle.git_reads.proofs.Reading.UniqueLemmas.{host_unique, remote_not_local,
 
 -- ---- remote helpers
 
--- a text with two colons behind a name names a helper if the name is one
+-- a text with two colons after a name names a helper if the name is one
 pub helper_decided : (t name address : List ℕ) (b : Bool) → FreeOf colon name → t ≡ name ++ colon ∷ address → begins_with colon address ≡ true → (length name == 0) ≡ false → b ≡ is_helper_name name → IsTrue b ↔ NamesHelper t
 helper_decided t name address b free e double some is =
     let (rest, begins) = begins_cut colon address double in
@@ -24,7 +25,7 @@ helper_decided t name address b free e double some is =
     ] in
     (found, back)
 
--- a text with one colon behind a name names no helper
+-- a text with one colon after a name names no helper
 pub helper_single : (t name address : List ℕ) → FreeOf colon name → t ≡ name ++ colon ∷ address → begins_with colon address ≡ false → ¬ NamesHelper t
 helper_single t name address free e single (inl h) = no_helper_alone t name address free e single h
 helper_single t name address free e single (inr (more, whole)) =
@@ -32,12 +33,12 @@ helper_single t name address free e single (inr (more, whole)) =
 
 -- ---- the scp form and local paths
 
--- a text whose first colon is behind a `/` is a local path
+-- a text whose first colon is after a `/` is a local path
 local_behind : (t front rest x y : List ℕ) → FreeOf colon front → t ≡ front ++ colon ∷ rest → front ≡ x ++ slash ∷ y → IsLocal t
 local_behind t front rest x y free e is =
     inr (x, y ++ colon ∷ rest, (free_parts colon x (slash ∷ y) (subst (λ s. FreeOf colon s) is free)).0, e ∙ ap (λ s. s ++ colon ∷ rest) is ∙ append_assoc x (slash ∷ y) (colon ∷ rest))
 
--- a text has the scp form where its first colon is before any `/`
+-- a text has the scp form if its first colon is before any `/`
 pub remote_decided : (t front rest : List ℕ) (b : Bool) → FreeOf colon front → t ≡ front ++ colon ∷ rest → (IsTrue b ↔ FreeOf slash front) → IsTrue b ↔ IsRemote t
 remote_decided t front rest b free e decided = (
   λ h. record { front = front; rest = rest; joined = e; no_slash = decided.0 h },
@@ -106,7 +107,7 @@ split_refused place path word port h other uncut = (
   λ k. other (k.behind, url_word place path word port h k),
 )
 
--- Secure Shell gets a URL where its word begins with `ssh://`
+-- Secure Shell gets a URL if its word begins with `ssh://`
 pub gets_url : (place path word : List ℕ) (port : Option ℕ) → GivesWord place word port → is_option_like path ≡ false → BeginsBy (codes "ssh://") word → GetsUrl place path
 gets_url place path word port h safe (behind, begins) = record {
   named = h.named;
@@ -118,7 +119,7 @@ gets_url place path word port h safe (behind, begins) = record {
   path_safe = safe;
 }
 
--- Secure Shell reaches nothing where it gets a URL
+-- Secure Shell reaches nothing if it gets a URL
 pub url_lacks : (place path : List ℕ) → GetsUrl place path → LacksAny (ReachesSecure place path)
 url_lacks place path h r k =
     let word : GivesWord place (codes "ssh://" ++ h.behind) h.port = record { named = h.named; found = h.found; cut = h.cut; secure = h.word } in
@@ -128,7 +129,7 @@ url_lacks place path h r k =
 abbrev secure_of : List ℕ → Option (List ℕ) → Option ℕ → Option (List ℕ) → GitReading
 secure_of whole name number place = record { protocol = ssh; user = name; host = place; port = number; path = whole }
 
--- Secure Shell reaches a place where its word isn't an option, isn't a URL and doesn't have an empty user
+-- Secure Shell reaches a place if its word isn't an option, isn't a URL and doesn't have an empty user
 pub secure_reached : (place path word host : List ℕ) (port : Option ℕ) (user kept : Option (List ℕ)) → GivesWord place word port → is_option_like word ≡ false → is_option_like path ≡ false → ¬ BeginsBy (codes "ssh://") word → UserCut word user host → kept ≡ unless_empty host → ReachesSecure place path (record { protocol = ssh; user = user; host = kept; port = port; path = path })
 secure_reached place path word host port user kept h word_safe path_safe other split is = record {
   named = h.named;

@@ -29,7 +29,7 @@ place_unique c t place rest other more h k =
 abbrev both : List ℕ → Option ℕ → List ℕ × Option ℕ
 both text port = (text, port)
 
--- what the first colon of a text and the text behind it make of the text
+-- the pieces of a text around its first colon make up the text
 abbrev outcome : List ℕ → List ℕ → List ℕ → Option ℕ → List ℕ × Option ℕ
 outcome t front behind (Some number) = (front, Some number)
 outcome t front [] None = (front, None)
@@ -48,7 +48,7 @@ record ComesOfNone (t front : List ℕ) (port : Option ℕ) : Type 0 where
   free : FreeOf colon t
   value : both front port ≡ both t None
 
--- what isn't a port leaves the text as it is
+-- a text that isn't a port leaves the text unchanged
 unmarked_outcome : (t front behind : List ℕ) → 0 < length behind → outcome t front behind None ≡ both t None
 unmarked_outcome t front [] some = absurd (omega arith)
 unmarked_outcome t front (b ∷ bs) some = refl
@@ -97,12 +97,12 @@ host_unique place host other port number (HostAndPort.none lacks p) (HostAndPort
 
 -- ---- Secure Shell
 
--- a port was found, and no more is looked for
+-- a port was found, and no other is searched for
 abbrev secure_outcome : List ℕ → List ℕ → Option ℕ → List ℕ × Option ℕ
 secure_outcome named front (Some number) = (front, Some number)
 secure_outcome named front None = (named, None)
 
--- what comes of what was in brackets
+-- the place of the text in brackets
 data SecureComes (named : List ℕ) (found : Option ℕ) (word : List ℕ) (port : Option ℕ) : Type 0 where
   of_found : (number : ℕ) → found ≡ Some number → both word port ≡ both named found → SecureComes named found word port
   of_cut : (front digits : List ℕ) → found ≡ None → FreeOf colon front → named ≡ front ++ colon ∷ digits
@@ -118,7 +118,7 @@ secure_comes named found word port (SecurePort.unmarked h o none first e is w p)
     SecureComes.of_cut h o none first e (pair word named port None w p ∙ ap (secure_outcome named h) (sym is))
 secure_comes named found word port (SecurePort.no_colon none free w p) = SecureComes.of_none none free (pair word named port None w p)
 
--- what was found is there
+-- the port that was found is there
 found_not_none : {A : Type 0} (found : Option ℕ) (n : ℕ) → found ≡ Some n → found ≡ None → A
 found_not_none found n is none = absurd (none-some n (sym none ∙ is))
 
@@ -138,7 +138,7 @@ user_unique word host other user name h5 h6 = grind (arith, nat_tests, not_free,
 
 -- ---- transports
 
--- what is reached by Secure Shell, by its parts
+-- the place that Secure Shell reaches, by its parts
 abbrev secure_of : List ℕ → Option (List ℕ) → List ℕ → Option ℕ → GitReading
 secure_of whole name place number = record { protocol = ssh; user = name; host = unless_empty place; port = number; path = whole }
 
@@ -146,7 +146,7 @@ secure_of whole name place number = record { protocol = ssh; user = name; host =
 same_secure : (path : List ℕ) (user name : Option (List ℕ)) (host other : List ℕ) (port number : Option ℕ) → user ≡ name → host ≡ other → port ≡ number → secure_of path user host port ≡ secure_of path name other number
 same_secure path user name host other port number e f g = λ i. secure_of path (e i) (f i) (g i)
 
--- what is reached by Git's own protocol, by its parts
+-- the place that Git's own protocol reaches, by its parts
 abbrev git_of : List ℕ → List ℕ → Option ℕ → GitReading
 git_of whole place number = record { protocol = git; user = None; host = unless_empty place; port = number; path = whole }
 
@@ -192,7 +192,7 @@ own_unique p q t rest other first second h k =
 pub own_no_other : {A : Type 0} (p : Scheme) (t rest : List ℕ) → OwnUrl p t rest → IsNoUrl t → A
 own_no_other p t rest h k = absurd (k.no_mark (h.scheme, h.spelled, h.joined))
 
--- a colon before any `/` isn't behind one
+-- a colon before any `/` isn't after one
 not_both_first : (x y p q : List ℕ) → FreeOf slash x → FreeOf colon p → x ++ colon ∷ y ≡ p ++ slash ∷ q → ⊥
 not_both_first [] y [] q f g e = different_bytes 58 47 refl e
 not_both_first [] y (b ∷ p) q f g e = both_ways (b == colon) (free_head_tail colon b p g).0 (eq-eqb b colon (sym (heads e)))

@@ -42,11 +42,11 @@ own_not_foreign ext scheme own h e = false≢true own
 own_not_foreign (helper n) scheme own h e = false≢true own
 own_not_foreign (helper_url n) scheme own h e = false≢true own
 
--- a URL of Git's own transports is rewritten where a text is behind its mark
+-- a URL of Git's own transports is rewritten if a text is after its mark
 pub own_rewritten : (scheme spelled : List ℕ) (p : Scheme) → is_own p ≡ true → scheme_of scheme ≡ p → 0 < length spelled → IsRewritten (url_text scheme spelled)
 own_rewritten scheme spelled p own is some = IsRewritten.url scheme spelled (λ foreign. own_not_foreign p scheme own foreign is) some refl
 
--- and where its decoding is cut
+-- and the cut of its decoding
 own_cut_rewritten : (p : Scheme) (t rest place path : List ℕ) → is_own p ≡ true → OwnUrl p t rest → CutsPlace slash rest place path → IsRewritten t
 own_cut_rewritten p t rest place path own u c =
     let some = decoded_some u.spelled (subst (λ s. 0 < length s) u.decoded (cut_some slash rest place path c)) in
@@ -99,7 +99,7 @@ gets_of p t rest place path own u (IsForSecureShell.url x behind v c is) h =
     same_url GetsUrlOf p ssh t rest x own refl u v record { place = place; path = behind; cut = c; gets = subst (λ s. GetsUrl place s) is h }
 gets_of p t rest place path own u (IsForSecureShell.scp_form behind n m c is) h = own_no_other p t rest u n
 
--- a transport's URL is refused where nothing is reached and no URL is got
+-- a transport's URL is refused if nothing is reached and no URL is got
 own_refused : (p : Scheme) (t rest : List ℕ) → is_own p ≡ true → OwnUrl p t rest → ((r : GitReading) → ¬ ReachesUrl r p rest) → ¬ GetsUrlOf p rest → Fails t why.Refused
 own_refused p t rest own u none other = (
   λ r h. none r (own_reached p t rest r own u h),
@@ -116,7 +116,7 @@ own_refused p t rest own u none other = (
 pub own_uncut : (p : Scheme) (t rest : List ℕ) → is_own p ≡ true → OwnUrl p t rest → ((place path : List ℕ) → ¬ CutsPlace slash rest place path) → Fails t why.Refused
 own_uncut p t rest own u uncut = own_refused p t rest own u (λ r h. uncut h.place h.path h.cut) (λ h. uncut h.place h.path h.cut)
 
--- what the transport reaches is read
+-- the place that the transport reaches is read
 pub own_reads : (p : Scheme) (t rest place path : List ℕ) (r : GitReading) → OwnUrl p t rest → CutsPlace slash rest place path → ReachesBy p place (slash ∷ path) r → ReadsInput t r
 own_reads ssh t rest place path r u c h = ReadsInput.secure_url rest place path u c h
 own_reads git t rest place path r u c h = ReadsInput.git_url rest place path u c h
@@ -127,7 +127,7 @@ own_reads ext t rest place path r u c h = absurd h
 own_reads (helper n) t rest place path r u c h = absurd h
 own_reads (helper_url n) t rest place path r u c h = absurd h
 
--- a text gives Secure Shell a URL where the transport gets one
+-- a text gives Secure Shell a URL if the transport gets one
 own_gives : (p : Scheme) (t rest place path : List ℕ) → OwnUrl p t rest → CutsPlace slash rest place path → GetsUrlBy p place (slash ∷ path) → GivesUrl t
 own_gives ssh t rest place path u c h = record { place = place; path = from_tilde (slash ∷ path); secure = IsForSecureShell.url rest path u c refl; gets = h }
 own_gives git t rest place path u c h = absurd h
@@ -138,7 +138,7 @@ own_gives ext t rest place path u c h = absurd h
 own_gives (helper n) t rest place path u c h = absurd h
 own_gives (helper_url n) t rest place path u c h = absurd h
 
--- what the transport doesn't reach isn't read
+-- a place that the transport doesn't reach isn't read
 pub own_fails : (p : Scheme) (t rest place path : List ℕ) (w : Unread) → is_own p ≡ true → OwnUrl p t rest → CutsPlace slash rest place path → FailsToReach place (ReachesBy p place (slash ∷ path)) (GetsUrlBy p place (slash ∷ path)) w → Fails t w
 own_fails p t rest place path why.Memory own u c h = own_cut_rewritten p t rest place path own u c
 own_fails p t rest place path why.ByteZero own u c h = absurd h
@@ -176,7 +176,7 @@ foreign_gives : (scheme spelled place path : List ℕ) → ¬ Holds url_mark sch
 foreign_gives scheme spelled place path none foreign (IsForSecureShell.url x behind u c is) = foreign.0 (own_scheme ssh scheme spelled x refl none u)
 foreign_gives scheme spelled place path none foreign (IsForSecureShell.scp_form behind n m c is) = n.no_mark (scheme, spelled, refl)
 
--- a URL of none of Git's own transports is for no helper where its scheme names none
+-- a URL of none of Git's own transports is for no helper if its scheme names none
 foreign_helper : (scheme spelled : List ℕ) → ¬ Holds url_mark scheme → ¬ NamesHelper (url_text scheme spelled) → IsForeignFor scheme why.Refused → ¬ IsForHelper (url_text scheme spelled)
 foreign_helper scheme spelled none unnamed h (IsForHelper.named k) = unnamed (inl k)
 foreign_helper scheme spelled none unnamed h (IsForHelper.unnamed more e) = unnamed (inr (more, e))
@@ -209,13 +209,13 @@ foreign_fails scheme spelled why.Refused none unnamed foreign h = (
 unmarked_url : {A : Type 0} (p : Scheme) (t rest : List ℕ) → ¬ Holds url_mark t → OwnUrl p t rest → A
 unmarked_url p t rest none u = absurd (none (u.scheme, u.spelled, u.joined))
 
--- a text without a mark is for no helper where it names none
+-- a text without a mark is for no helper if it names none
 unmarked_helper : (t : List ℕ) → ¬ Holds url_mark t → ¬ NamesHelper t → ¬ IsForHelper t
 unmarked_helper t none unnamed (IsForHelper.named h) = unnamed (inl h)
 unmarked_helper t none unnamed (IsForHelper.unnamed rest e) = unnamed (inr (rest, e))
 unmarked_helper t none unnamed (IsForHelper.by_scheme scheme rest foreign name other e) = none (scheme, rest, e)
 
--- a text without a mark isn't a URL where it names no helper and isn't for `rsync`
+-- a text without a mark isn't a URL if it names no helper and isn't for `rsync`
 pub is_no_url : (t : List ℕ) → ¬ Holds url_mark t → ¬ NamesHelper t → ¬ BeginsBy (codes "rsync:") t → IsNoUrl t
 is_no_url t none unnamed other = record {
   no_mark = none;
@@ -239,7 +239,7 @@ unmarked_gives t place path none (IsForSecureShell.scp_form behind n m c is) scp
 
 -- ---- the scp form
 
--- the scp form is refused where nothing is reached and no URL is got
+-- the scp form is refused if nothing is reached and no URL is got
 scp_refused : (t : List ℕ) → ¬ Holds url_mark t → ¬ NamesHelper t → IsRemote t → ((place path : List ℕ) (r : GitReading) → CutsPlace colon t place path → ¬ ReachesSecure place (from_tilde path) r) → ((place path : List ℕ) → CutsPlace colon t place path → ¬ GetsUrl place (from_tilde path)) → Fails t why.Refused
 scp_refused t none unnamed remote unreached ungot = (
   λ r h. unmarked_read t r none h (λ place path n m c k. unreached place path r c k) (λ passed path n l k some. remote_not_local t remote l),
@@ -256,7 +256,7 @@ scp_refused t none unnamed remote unreached ungot = (
 pub scp_uncut : (t : List ℕ) → ¬ Holds url_mark t → ¬ NamesHelper t → IsRemote t → ((place path : List ℕ) → ¬ CutsPlace colon t place path) → Fails t why.Refused
 scp_uncut t none unnamed remote uncut = scp_refused t none unnamed remote (λ place path r c h. uncut place path c) (λ place path c h. uncut place path c)
 
--- what Secure Shell doesn't reach of the scp form isn't read
+-- a place of the scp form that Secure Shell doesn't reach isn't read
 pub scp_fails : (t place path : List ℕ) (w : Unread) → ¬ Holds url_mark t → ¬ NamesHelper t → ¬ BeginsBy (codes "rsync:") t → IsRemote t → CutsPlace colon t place path → FailsToReach place (ReachesSecure place (from_tilde path)) (GetsUrl place (from_tilde path)) w → Fails t w
 scp_fails t place path why.Memory none unnamed other remote c h = IsRewritten.scp_form place path (is_no_url t none unnamed other) remote c h
 scp_fails t place path why.ByteZero none unnamed other remote c h = absurd h
@@ -280,7 +280,7 @@ scp_fails t place path why.Refused none unnamed other remote c h =
 
 -- ---- local paths
 
--- a local path isn't read where its path isn't
+-- a local path isn't read if its path isn't
 pub local_fails : (t passed path : List ℕ) (w : Unread) → ¬ Holds url_mark t → ¬ NamesHelper t → ¬ BeginsBy (codes "rsync:") t → IsLocal t → HostEnd t passed path → IsUnreadPath path w → Fails t w
 local_fails t passed path why.Memory none unnamed other place e h = absurd h
 local_fails t passed path why.ByteZero none unnamed other place e h = absurd h
@@ -299,7 +299,7 @@ local_fails t passed path why.Refused none unnamed other place e h = (
   ),
 )
 
--- ---- what has no reading
+-- ---- a text that has no reading
 
 -- a text that isn't a URL is for no helper
 no_url_no_helper : (t : List ℕ) → IsNoUrl t → ¬ IsForHelper t
@@ -340,7 +340,7 @@ fails_lacks t why.HomeOrHere h other r k = places_lacks t r h k.reads
 fails_lacks t why.SecureShellUrl h other r k = gives_lacks t h.place h.path r h.secure h.gets k.reads
 fails_lacks t why.Refused h other r k = h.0 r k.reads
 
--- the reason why a given text isn't read is that of the text
+-- the reason why a text isn't read is that of the text
 pub fails_why : (t : List ℕ) (w : Unread) → IsGiven t → Fails t w → Unreads t w
 fails_why t why.Memory given h = (given, h)
 fails_why t why.ByteZero given h = absurd h
@@ -355,13 +355,13 @@ pub named_for : (t : List ℕ) → NamesHelper t → IsForHelper t
 named_for t (inl h) = IsForHelper.named h
 named_for t (inr (rest, e)) = IsForHelper.unnamed rest e
 
--- ---- what is read
+-- ---- the texts that are read
 
--- a local path is read where its path is
+-- a local path is read if its path is
 pub local_reads : (t passed path : List ℕ) (r : GitReading) → ¬ Holds url_mark t → ¬ NamesHelper t → ¬ BeginsBy (codes "rsync:") t → IsLocal t → HostEnd t passed path → IsReadPath path → r ≡ on_this_machine path → ReadsInput t r
 local_reads t passed path r none unnamed other place e some is = ReadsInput.local_path passed path (is_no_url t none unnamed other) place e some.some some.safe some.no_home is
 
--- what Secure Shell reaches of the scp form is read
+-- the place of the scp form that Secure Shell reaches is read
 pub scp_reads : (t place path given : List ℕ) (r : GitReading) → IsNoUrl t → IsRemote t → CutsPlace colon t place path → given ≡ from_tilde path → ReachesSecure place given r → ReadsInput t r
 scp_reads t place path given r n m c is h = ReadsInput.scp_form place path n m c (subst (λ s. ReachesSecure place s r) is h)
 

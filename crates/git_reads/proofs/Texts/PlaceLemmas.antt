@@ -100,13 +100,13 @@ host_end_unique t passed rest other more (HostEnd.brackets f i b h p r) (HostEnd
 host_end_unique t passed rest other more (HostEnd.none lacks p r) (HostEnd.brackets f i b h p' r') = absurd (brackets_not_lacked t f i b h lacks)
 host_end_unique t passed rest other more (HostEnd.none lacks p r) (HostEnd.none lacks' p' r') = (p ∙ sym p', r ∙ sym r')
 
--- a text is what is passed over and the rest
+-- a text is the skipped front and the rest
 end_joined : (t passed rest : List ℕ) → HostEnd t passed rest → t ≡ passed ++ rest
 end_joined t passed rest (HostEnd.brackets f i b h p r) =
     brackets_joined t f i b h ∙ ap (λ x. x ++ right_bracket ∷ b) (sym p) ∙ ap (λ x. passed ++ x) (sym r)
 end_joined t passed rest (HostEnd.none lacks p r) = sym r ∙ ap (λ x. x ++ rest) (sym p)
 
--- ---- cuts behind brackets
+-- ---- cuts after brackets
 
 -- a text that is cut isn't empty
 pub cut_some : (c : ℕ) (t place rest : List ℕ) → CutsPlace c t place rest → 0 < length t
@@ -114,7 +114,7 @@ cut_some c t place rest h =
     let whole = ap length (end_joined t h.passed (h.between ++ c ∷ rest) h.end) in
     omega (arith, whole, length-append h.passed (h.between ++ c ∷ rest), length-append h.between (c ∷ rest))
 
--- a text without the byte behind the brackets isn't cut at it
+-- a text without the byte after the brackets isn't cut at it
 pub uncut : (c : ℕ) (t passed rest : List ℕ) → HostEnd t passed rest → FreeOf c rest → (place more : List ℕ) → ¬ CutsPlace c t place more
 uncut c t passed rest end free place more h =
     let ends = host_end_unique t passed rest h.passed (h.between ++ c ∷ more) end h.end in

@@ -15,7 +15,7 @@ port_found : (bs : List ℕ) → list_all is_ascii_digit bs ≡ true → 0 < len
 port_found [] digits some small = absurd (omega (arith, some))
 port_found (b ∷ bs) digits some small = cond-true _ _ _ (and_from _ _ digits (grind (arith, nat_tests)))
 
--- what the test says of a number of 16 bits
+-- the result of the test of a number of 16 bits
 small_from_test : (n : ℕ) → nat_le n 65535 ≡ true → n < 65536
 small_from_test n h = grind (arith, nat_tests)
 

@@ -1,4 +1,5 @@
--- Authorities: what the checks find in their pieces, and what these hold where nothing is found.
+-- Authorities: the flaws that the checks find in their pieces, and the form of a piece in which nothing is
+-- found.
 use Rattle.std.proofs.Common.{◌≡◌, ℕ, ◌+◌, ◌<◌, Bool, true, List, [], ◌∷◌, ◌++◌, length, Option, Some, None, refl, ap, subst, arith, length-append}
 use Rattle.std.specs.Prelude.{IsSome, IsUtf8}
 use Rattle.percent_encoding.specs.Percent.{percent_decode}
@@ -23,14 +24,14 @@ pub user_alone : (text : List ℕ) (r : Option Place) → FreeOf colon text → 
 user_alone text None free h = record { found = (_, _, Credentials.user_alone free h.found refl refl); within = h.within }
 user_alone text (Some p) free h = record { found = BadUser.alone free h.found; within = h.within }
 
--- a password that decodes to no text is what is wrong with user information
+-- a password that decodes to no text is the flaw of user information
 pub password_found : (text u w : List ℕ) (p : Place) → FreeOf colon u → text ≡ u ++ colon ∷ w → Checks w (Undecodable w) (IsUtf8 (percent_decode w)) (Some p) → Checks text (BadUser text) (HoldsUser text) (Some (record { reason = p.reason; at = length u + 1 + p.at; len = p.len }))
 password_found text u w p free e h = record {
   found = BadUser.with_password u w free e (Then.at_first (record { inside = p; found = h.found; stands = record { named = refl; start = refl; size = refl } }));
   within = omega (arith, h.within, ap length e, length-append u (colon ∷ w));
 }
 
--- where the password decodes to text, the user is checked
+-- if the password decodes to text, the user is checked
 pub user_checked : (text u w : List ℕ) (r : Option Place) → FreeOf colon u → text ≡ u ++ colon ∷ w → IsUtf8 (percent_decode w) → Checks u (Undecodable u) (IsUtf8 (percent_decode u)) r → Checks text (BadUser text) (HoldsUser text) r
 user_checked text u w None free e good h = record { found = (_, _, Credentials.with_password u w free e h.found good refl refl); within = h.within }
 user_checked text u w (Some p) free e good h = record {
@@ -59,11 +60,11 @@ some_named syntax piece (Some host) port h some = refl
 
 -- ---- authorities
 
--- what is behind the user information of a text is text
+-- the text after the user information of a text is text
 pub behind_utf8 : (text information piece : List ℕ) → text ≡ information ++ at_sign ∷ piece → IsUtf8 text → IsUtf8 piece
 behind_utf8 text information piece e utf8 = (utf8_parts information piece at_sign (subst IsUtf8 e utf8) (omega arith)).1
 
--- an authority that names a host, or is empty where none is needed, holds parts
+-- an authority that names a host, or is empty if none is needed, holds parts
 pub alone_held : (syntax : HostSyntax) (needed : Bool) (text : List ℕ) → FreeOf backslash text → FreeOf at_sign text → NamesHost syntax text → (needed ≡ true → 0 < length text) → HoldsParts syntax needed text
 alone_held syntax needed text clean free (host, port, h) some = record {
   user = None;
@@ -83,7 +84,7 @@ missing_found syntax needed text free need empty = record {
   within = omega arith;
 }
 
--- an authority holds parts where its user information does and a host is behind that
+-- an authority holds parts if its user information does and a host is after that
 pub behind_held : (syntax : HostSyntax) (needed : Bool) (text information piece : List ℕ) → FreeOf backslash text → FreeOf at_sign piece → text ≡ information ++ at_sign ∷ piece → HoldsUser information → NamesHost syntax piece → 0 < length piece → HoldsParts syntax needed text
 behind_held syntax needed text information piece clean free e (user, password, c) (host, port, h) some =
     let has = some_named syntax piece host port h some in
@@ -96,14 +97,14 @@ behind_held syntax needed text information piece clean free e (user, password, c
       held = record { named = Authority.with_user information piece free e c h has; hosted = λ need. has };
     }
 
--- what is wrong with the user information is wrong with the authority
+-- a flaw of the user information is one of the authority
 pub user_found : (syntax : HostSyntax) (needed : Bool) (text information piece : List ℕ) (p : Place) → FreeOf at_sign piece → text ≡ information ++ at_sign ∷ piece → Checks information (BadUser information) (HoldsUser information) (Some p) → Checks text (BadParts syntax needed text) (HoldsParts syntax needed text) (Some p)
 user_found syntax needed text information piece p free e h = record {
   found = BadParts.with_user information piece free e (Then.at_first h.found);
   within = omega (arith, h.within, ap length e, length-append information (at_sign ∷ piece));
 }
 
--- and where nothing is, what is wrong with the host behind it
+-- and if that has none, a flaw of the host after it
 pub host_found : (syntax : HostSyntax) (needed : Bool) (text information piece : List ℕ) (p : Place) → FreeOf at_sign piece → text ≡ information ++ at_sign ∷ piece → HoldsUser information → Checks piece (BadHost syntax piece) (NamesHost syntax piece) (Some p) → Checks text (BadParts syntax needed text) (HoldsParts syntax needed text) (Some (record { reason = p.reason; at = length information + 1 + p.at; len = p.len }))
 host_found syntax needed text information piece p free e user h = record {
   found =
@@ -112,7 +113,7 @@ host_found syntax needed text information piece p free e user h = record {
   within = omega (arith, h.within, ap length e, length-append information (at_sign ∷ piece));
 }
 
--- where nothing follows the user information, that is wrong
+-- if nothing follows the user information, that is the flaw
 pub no_host_found : (syntax : HostSyntax) (needed : Bool) (text information piece : List ℕ) → FreeOf at_sign piece → text ≡ information ++ at_sign ∷ piece → HoldsUser information → piece ≡ [] → Checks text (BadParts syntax needed text) (HoldsParts syntax needed text) (Some (record { reason = reason.HostBehindUser; at = length text; len = 0 }))
 no_host_found syntax needed text information piece free e user empty = record {
   found =

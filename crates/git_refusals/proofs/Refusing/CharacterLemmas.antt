@@ -21,7 +21,7 @@ cut_from_encodes cs (s ∷ seen) rest e =
     let (behind, joined, left) = cut_from_encodes later seen rest same in
     (behind, first ∙ ap (λ t. s ∷ t) joined, left)
 
--- a character that passes the test, behind characters that don't, is the first
+-- a character that passes the test, after characters that don't, is the first
 pub stands_character : (wrong : ℕ → Bool) (text seen rest : List ℕ) (c at len : ℕ) → IsUtf8 text → list_any wrong seen ≡ false → wrong c ≡ true → text ≡ encode_utf8_all seen ++ (encode_utf8 c ++ rest)
     → at ≡ length (encode_utf8_all seen) → len ≡ length (encode_utf8 c) → StandsCharacter wrong text at len
 stands_character wrong text seen rest c at len utf8 none found whole offset size =
@@ -49,7 +49,7 @@ none_stands wrong text seen utf8 e none = sym (ap (λ t. list_any wrong t) (char
 
 -- ---- texts with and without a wrong character
 
--- where no character passes the test, none is the first that does
+-- if no character passes the test, none is the first that does
 pub no_character_stands : (wrong : ℕ → Bool) (text : List ℕ) (at len : ℕ) → list_any wrong (chars text) ≡ false → ¬ StandsCharacter wrong text at len
 no_character_stands wrong text at len none h =
     let (_, behind) = lacks_parts wrong h.before (h.character ∷ h.behind) (ap (list_any wrong) (sym h.joined) ∙ none) in
@@ -74,20 +74,20 @@ character_stands wrong text some =
 
 -- ---- classes of ASCII
 
--- no character is outside a class of ASCII where each byte is in it
+-- no character is outside a class of ASCII if each byte is in it
 pub class_stands : (test : ℕ → Bool) → ((b : ℕ) → test b ≡ true → b < 128) → (text : List ℕ) (at len : ℕ) → list_all test text ≡ true → ¬ StandsCharacter (λ c. not (test c)) text at len
 class_stands test ascii text at len each h =
     let same = sym (chars-IsAscii text (ascii_class test ascii text each)) ∙ h.joined in
     not_free h.character h.before h.behind (subst (λ t. FreeOf h.character t) same (free_of_all test h.character text each (not-true (test h.character) h.found)))
 
--- where no character is outside a class, each is in it
+-- if no character is outside a class, each is in it
 each_passes : (test : ℕ → Bool) (cs : List ℕ) → list_any (λ c. not (test c)) cs ≡ false → list_all test cs ≡ true
 each_passes test [] none = refl
 each_passes test (c ∷ cs) none =
     let (passes, more) = lacks_head_tail (λ d. not (test d)) c cs none in
     and_from _ _ (not-false (test c) passes) (each_passes test cs more)
 
--- so each byte of a text is in a class of ASCII where no character is outside it
+-- so each byte of a text is in a class of ASCII if no character is outside it
 pub class_bytes : (test : ℕ → Bool) → ((b : ℕ) → test b ≡ true → b < 128) → (text : List ℕ) → IsUtf8 text → list_any (λ c. not (test c)) (chars text) ≡ false → list_all test text ≡ true
 class_bytes test ascii text utf8 none =
     let each = each_passes test (chars text) none in

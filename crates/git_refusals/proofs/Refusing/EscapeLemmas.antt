@@ -1,4 +1,5 @@
--- Where the decoding of a text stops being UTF-8, and how many bytes of the text spell that.
+-- The index at which the decoding of a text stops being UTF-8, and the number of bytes of the text that spell
+-- it.
 use Rattle.std.proofs.Common.{◌≡◌, ◌∙◌, ◌+◌, ◌-◌, ◌<◌, ◌≤◌, ℕ, zero, suc, true, false, List, [], ◌∷◌, ◌++◌, Option, Some, None, length, take, drop, refl, sym, ap, subst, ⊎_elim, arith, append_assoc, append-nil, length-take, length-drop, drop-drop, take_all, take-append-drop, take-add, true≢false, IsUtf8, encode_utf8, encode_utf8_all}
 use Rattle.std.specs.Option.{is_some}
 use Rattle.std.specs.Str.Lossy.{utf8_valid_len, utf8_invalid_len}
@@ -18,7 +19,7 @@ use Rattle.bstr.proofs.lemmas.UnicodeLemmas.{none_after_valid}
 use Rattle.git_syntax.proofs.Texts.EscapeLemmas.{decode_broken, decode_byte, decode_escape, decoded_window, utf8_behind, utf8_byte}
 use Rattle.git_refusals.specs.Characters.{unit_len, spelled_len, undecodable_at, undecodable_len}
 
--- ---- what spells the bytes of a decoding
+-- ---- a text that spells the bytes of a decoding
 
 -- the first byte of a decoding is spelled by bytes of the text
 pub unit_within : (text : List ℕ) → unit_len text ≤ length text
@@ -28,11 +29,11 @@ unit_within text = grind (arith, nat_tests)
 pub unit_some : (text : List ℕ) → 0 < length text → 0 < unit_len text
 unit_some text some = grind (arith, nat_tests)
 
--- what follows them spells the rest of the decoding
+-- the text after them spells the rest of the decoding
 pub unit_decodes : (text : List ℕ) → percent_decode (drop (unit_len text) text) ≡ drop 1 (percent_decode text)
 unit_decodes text = grind (arith, nat_tests, percent_decode-nil, decode_broken, decode_byte, decode_escape)
 
--- bytes that spell the first n bytes of a decoding, and those that spell the m behind them
+-- bytes that spell the first n bytes of a decoding, and those that spell the m after them
 pub spelled_more : (n m : ℕ) (text : List ℕ) → spelled_len (n + m) text ≡ spelled_len n text + spelled_len m (drop (spelled_len n text) text)
 spelled_more zero m text =
     let same : 0 + m ≡ m = omega arith in
@@ -50,12 +51,12 @@ spelled_within zero text = omega arith
 spelled_within (suc n) text =
     omega (arith, spelled_within n (drop (unit_len text) text), length-drop (unit_len text) text, unit_within text)
 
--- of which there is one where there is one to be spelled
+-- of which there is one if there is one to be spelled
 pub spelled_some : (n : ℕ) (text : List ℕ) → 0 < n → 0 < length text → 0 < spelled_len n text
 spelled_some zero text some full = omega (arith, some)
 spelled_some (suc n) text some full = omega (arith, unit_some text full)
 
--- what follows them spells the rest of the decoding
+-- the text after them spells the rest of the decoding
 pub spelled_decodes : (n : ℕ) (text : List ℕ) → percent_decode (drop (spelled_len n text) text) ≡ drop n (percent_decode text)
 spelled_decodes zero text = refl
 spelled_decodes (suc n) text =
@@ -63,14 +64,14 @@ spelled_decodes (suc n) text =
     let next : 1 + n ≡ suc n = omega arith in
     ap percent_decode (sym (drop-drop (spelled_len n behind) (unit_len text) text)) ∙ spelled_decodes n behind ∙ ap (drop n) (unit_decodes text) ∙ drop-drop n 1 (percent_decode text) ∙ ap (λ k. drop k (percent_decode text)) next
 
--- one byte more is left behind
+-- one more byte is left
 pub unit_more : (text rest left : List ℕ) (n : ℕ) → rest ≡ drop (spelled_len n text) text → left ≡ drop (unit_len rest) rest → left ≡ drop (spelled_len (n + 1) text) text
 unit_more text rest left n so_far step =
     let at = drop (spelled_len n text) text in
     let more : spelled_len n text + unit_len at ≡ spelled_len (n + 1) text = omega (arith, spelled_more n 1 text) in
     step ∙ ap (λ t. drop (unit_len t) t) so_far ∙ drop-drop (unit_len at) (spelled_len n text) text ∙ ap (λ k. drop k text) more
 
--- ---- where a text stops being UTF-8
+-- ---- the index at which a text stops being UTF-8
 
 -- bytes that begin with a character decode to one
 begins_character : (cs rest bs : List ℕ) → scalars cs ≡ true → bs ≡ encode_utf8_all cs ++ rest → 0 < length (encode_utf8_all cs) → is_some (decoded bs).char ≡ true
@@ -80,7 +81,7 @@ begins_character (c ∷ cs) rest bs scalar e some =
     let same = ap decoded (e ∙ append_assoc (encode_utf8 c) (encode_utf8_all cs) rest) ∙ first in
     ap (λ (d : Decoded). is_some d.char) same
 
--- bytes that aren't UTF-8 stop being it behind UTF-8 that no character follows
+-- bytes that aren't UTF-8 stop being it after UTF-8 that no character follows
 pub valid_at : (bs : List ℕ) (n : ℕ) → ¬ IsUtf8 bs → IsUtf8 (take n bs) → (decoded (drop n bs)).char ≡ None → utf8_valid_len bs ≡ n
 valid_at bs n not front none =
     ⊎_elim
@@ -98,19 +99,19 @@ valid_at bs n not front none =
         let some = begins_character later.0 (drop m bs) (drop n bs) later.1.0 whole (omega (arith, ap length later.1.1, length-drop n (take m bs), size)) in
         true≢false (sym some ∙ ap is_some none)
 
--- bytes that aren't UTF-8 begin with no character where they stop being it
+-- bytes that aren't UTF-8 begin with no character if they stop being it
 pub none_at_valid : (bs : List ℕ) → ¬ IsUtf8 bs → (decoded (drop (utf8_valid_len bs) bs)).char ≡ None
 none_at_valid bs not = ⊎_elim (λ utf8. absurd (not utf8)) (λ valid. none_after_valid bs (utf8_valid_len bs) valid) (utf8_valid_len-cases bs)
 
 -- ---- along a text
 
--- what is left of a text behind bytes that spell UTF-8
+-- the rest of a text after bytes that spell UTF-8
 pub record IsLeft (text rest : List ℕ) : Type 0 where
   pub count : ℕ
   pub front : IsUtf8 (take count (percent_decode text))
   pub left : rest ≡ drop (spelled_len count text) text
 
--- less is left behind bytes that spell more UTF-8
+-- less is left after bytes that spell more UTF-8
 pub left_more : (text rest left : List ℕ) (size : ℕ) → IsLeft text rest → IsUtf8 (take size (percent_decode rest)) → left ≡ drop (spelled_len size rest) rest → IsLeft text left
 left_more text rest left size h front step =
     let all = percent_decode text in
@@ -126,7 +127,7 @@ left_more text rest left size h front step =
 pub ascii_front : (text left : List ℕ) (b : ℕ) → b < 128 → percent_decode text ≡ b ∷ percent_decode left → IsUtf8 (take 1 (percent_decode text))
 ascii_front text left b low e = subst IsUtf8 (sym (ap (take 1) e)) (utf8_byte b low)
 
--- so is what decodes to a character
+-- so is a text that decodes to a character
 pub character_front : (bs : List ℕ) (c : ℕ) → (decoded bs).char ≡ Some c → IsUtf8 (take (decoded bs).size bs)
 character_front bs c found =
     let first = SpellsChar-decoded bs c found in
@@ -147,21 +148,21 @@ pub decoded_some : (text bs : List ℕ) (b : ℕ) → percent_decode text ≡ b 
 decoded_some [] bs b e = absurd (omega (arith, ap length (sym percent_decode-nil ∙ e)))
 decoded_some (c ∷ text) bs b e = omega arith
 
--- a window on what it decodes to isn't empty
+-- a window on its decoding isn't empty
 pub window_full : (text window bs : List ℕ) (b : ℕ) → percent_decode text ≡ b ∷ bs → window ≡ take 4 (percent_decode text) → 0 < length window
 window_full text window bs b e whole = omega (arith, ap length (whole ∙ ap (take 4) e))
 
--- what is left shrinks by bytes that spell some
+-- the rest shrinks by bytes that spell some
 pub left_shorter : (rest left bs : List ℕ) (b size : ℕ) → percent_decode rest ≡ b ∷ bs → 0 < size → left ≡ drop (spelled_len size rest) rest → length left < length rest
 left_shorter rest left bs b size e some step =
     let taken = spelled_some size rest some (decoded_some rest bs b e) in
     omega (arith, ap length step, length-drop (spelled_len size rest) rest, taken, spelled_within size rest)
 
--- the front of what decodes isn't empty
+-- the front of a text that decodes isn't empty
 pub size_some : (window : List ℕ) (size : ℕ) → 0 < length window → size ≡ (decoded window).size → 0 < size
 size_some window size full width = omega (arith, width, (piece-bounds window full).0)
 
--- where nothing is left all is UTF-8
+-- if nothing is left all is UTF-8
 pub nothing_left : (text rest : List ℕ) → IsLeft text rest → rest ≡ [] → IsUtf8 (percent_decode text)
 nothing_left text rest h none =
     let all = percent_decode text in
@@ -169,7 +170,7 @@ nothing_left text rest h none =
     let whole = sym (take-append-drop h.count all) ∙ ap (λ t. take h.count all ++ t) decodes ∙ append-nil (take h.count all) in
     subst IsUtf8 (sym whole) h.front
 
--- what is left begins with no character where the text stops decoding to UTF-8
+-- the rest begins with no character if the text stops decoding to UTF-8
 pub left_at_fault : (text rest window : List ℕ) (found : Option ℕ) → ¬ IsUtf8 (percent_decode text) → IsLeft text rest → window ≡ take 4 (percent_decode rest) → found ≡ (decoded window).char → is_some found ≡ false → rest ≡ drop (undecodable_at text) text
 left_at_fault text rest window (Some c) not h whole char none = absurd (true≢false none)
 left_at_fault text rest window None not h whole char none =
@@ -180,13 +181,13 @@ left_at_fault text rest window None not h whole char none =
 
 -- ---- the place
 
--- where a text stops decoding to UTF-8 is within it
+-- the index at which a text stops decoding to UTF-8 is within it
 pub at_is : (text left : List ℕ) → left ≡ drop (undecodable_at text) text → length text - length left ≡ undecodable_at text
 at_is text left e =
     let within = spelled_within (utf8_valid_len (percent_decode text)) text in
     omega (arith, ap length e, length-drop (undecodable_at text) text, within)
 
--- what the window there decodes to says how many bytes are not UTF-8
+-- the decoding of the window determines how many bytes are not UTF-8
 pub len_is : (text left window behind : List ℕ) (size : ℕ) → ¬ IsUtf8 (percent_decode text) → left ≡ drop (undecodable_at text) text → window ≡ take 4 (percent_decode left) → size ≡ (decoded window).size → behind ≡ drop (spelled_len size left) left
     → length left - length behind ≡ undecodable_len (drop (undecodable_at text) text)
 len_is text left window behind size not e whole width step =

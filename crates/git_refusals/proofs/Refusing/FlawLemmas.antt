@@ -1,4 +1,5 @@
--- What the checks find in hosts, ports and authorities: the flaw of `git_syntax` that belongs to the reason is there.
+-- The flaws that the checks find in hosts, ports and authorities: the flaw of `git_syntax` that belongs to
+-- the reason.
 use Rattle.std.proofs.Common.{◌≡◌, ℕ, Bool, false, inl, inr, List, [], ◌∷◌, ◌++◌, refl, sym, ap, subst, ◌∙◌, arith, length-append, IsUtf8}
 use Rattle.std.proofs.lemmas.List.{append-nil}
 use Rattle.percent_encoding.specs.Percent.{percent_decode}
@@ -34,7 +35,7 @@ flawed named k h = record { named = named; of_kind = k; there = h }
 
 -- ---- ports and hosts
 
--- what isn't a decimal number isn't a port
+-- a text that isn't a decimal number isn't a port
 no_digits_kind : (syntax : HostSyntax) (digits : List ℕ) (p : Place) → NoDigits digits p → (kind_of p.reason ≡ kind.BadUrl fault.BadPort) × IsNoPort syntax digits
 no_digits_kind syntax digits p h = (ap kind_of h.stands.named, not_digits syntax digits (sym h.other))
 
@@ -49,18 +50,18 @@ port_kind : (syntax : HostSyntax) (digits : List ℕ) (p : Place) → Then (NoDi
 port_kind syntax digits p (Then.at_first h) = no_digits_kind syntax digits p h
 port_kind syntax digits p (Then.at_second _ h) = outside_kind syntax digits p h
 
--- a text with a wrong character stands for no host
+-- a text with a wrong character denotes no host
 pub no_host_kind : (syntax : HostSyntax) (text : List ℕ) (p : Place) → NoHostText syntax text p → (kind_of p.reason ≡ kind.BadUrl fault.BadCharacter) × IsNoHost syntax text
 no_host_kind http_hosts text p h = (ap kind_of h.named, λ host k. class_stands is_http_host_byte http_byte_ascii text p.at p.len k.0 h.stands)
 no_host_kind git_hosts text p h = (ap kind_of h.stands.named, λ host k. h.undecodable k.0)
 no_host_kind other_hosts text p h = (ap kind_of h.stands.named, λ host k. h.undecodable k.0)
 
--- brackets around what isn't a literal and decodes to no text stand for nothing, outside HTTP
+-- brackets around a text that isn't a literal and decodes to no text denote nothing, outside HTTP
 not_bracketed : (text inner : List ℕ) → ¬ IsLiteral text → ¬ IsUtf8 (percent_decode text) → ¬ Bracketed text inner
 not_bracketed text inner none bad (Bracketed.literal normal h e u) = none (normal, h)
 not_bracketed text inner none bad (Bracketed.other _ e u) = bad (subst IsUtf8 e u)
 
--- a text between brackets that stands for nothing
+-- a text between brackets that denotes nothing
 pub no_inner_kind : (syntax : HostSyntax) (text : List ℕ) (p : Place) → NoInner syntax text p → (kind_of p.reason ≡ kind.BadUrl fault.BadCharacter) × IsNoInner syntax text
 no_inner_kind http_hosts text p h = (ap kind_of h.no_other.named, λ inner k. h.no_literal (inner, k))
 no_inner_kind git_hosts text p h = (ap kind_of h.no_other.stands.named, λ inner k. not_bracketed text inner h.no_literal h.no_other.undecodable k)
@@ -73,13 +74,13 @@ web_colons_kind piece p (WebColons.bare_colon _ _ _ _ s) = ap kind_of s.named
 web_colons_kind piece p (WebColons.no_host _ _ _ _ s) = ap kind_of s.named
 web_colons_kind piece p (WebColons.second_colon _ _ _ _ _ _ _ s) = ap kind_of s.named
 
--- colons that mark no port, in a piece that stands for no host
+-- colons that mark no port, in a piece that denotes no host
 colons_flaw : (syntax : HostSyntax) (piece : List ℕ) (p : Place) → begins_with left_bracket piece ≡ false → IsManyColoned piece → ¬ ReadsAddress syntax piece → BadColons syntax piece p → Flawed (HostPortFlaw syntax piece) p.reason
 colons_flaw http_hosts piece p front many _ h = flawed fault.BadCharacter (web_colons_kind piece p h) (HasBadHost.colons_on_the_web refl front many)
 colons_flaw git_hosts piece p front many none h = flawed fault.BadCharacter (ap kind_of h.stands.named) (HasBadHost.colons bare_not_strict none front many (λ host k. h.undecodable k.0))
 colons_flaw other_hosts piece p front many none h = flawed fault.BadCharacter (ap kind_of h.stands.named) (HasBadHost.colons loose_not_strict none front many (λ host k. h.undecodable k.0))
 
--- what is wrong with a host and a port
+-- the flaw of a host and a port
 pub bad_host_flaw : (syntax : HostSyntax) (piece : List ℕ) (p : Place) → BadHost syntax piece p → Flawed (HostPortFlaw syntax piece) p.reason
 bad_host_flaw syntax piece p (BadHost.unclosed behind free e s) = flawed fault.BadCharacter (ap kind_of s.named) (HasBadHost.open_bracket behind free e)
 bad_host_flaw syntax piece p (BadHost.behind_bracket x wrong rest closed free some _ e s) =
@@ -101,14 +102,14 @@ bad_host_flaw syntax piece p (BadHost.with_port text digits h free e (Then.at_se
 
 -- ---- authorities
 
--- what is wrong with user information is a part of it that is not text
+-- the flaw of user information is a part of it that is not text
 pub bad_user_kind : (information : List ℕ) (p : Place) → BadUser information p → HasNoText information × (kind_of p.reason ≡ kind.BadUrl fault.BadCharacter)
 bad_user_kind information p (BadUser.alone free h) = (HasNoText.user free h.undecodable, ap kind_of h.stands.named)
 bad_user_kind information p (BadUser.with_password u w free e (Then.at_first b)) =
     (HasNoText.password u w free e b.found.undecodable, ap kind_of b.stands.named ∙ ap kind_of b.found.stands.named)
 bad_user_kind information p (BadUser.with_password u w free e (Then.at_second _ h)) = (HasNoText.user_before_password u w free e h.undecodable, ap kind_of h.stands.named)
 
--- the piece behind the user information
+-- the piece after the user information
 bad_piece_flaw : (syntax : HostSyntax) (needed : Bool) (authority piece : List ℕ) (why : Reason) → PieceOf authority piece → Flawed (HostPortFlaw syntax piece) why → Flawed (AuthorityFlaw syntax needed authority) why
 bad_piece_flaw syntax needed authority piece why of h = flawed h.named h.of_kind (AuthorityFlaw.bad_name piece h.named of h.there)
 

@@ -1,4 +1,4 @@
--- The front that the error of a URL that is too long shows: its scheme, and what is shown of the rest. So it
+-- The front that the error of a URL that is too long shows: its scheme, and the shown part of the rest. So it
 -- names the refusal.
 use Rattle.std.proofs.Common.{◌≡◌, ℕ, ◌+◌, ◌-◌, ◌<◌, ◌≤◌, inl, inr, List, ◌++◌, length, take, refl, sym, ap, subst, ◌∙◌, arith, codes}
 use Rattle.std.proofs.Math.Seq.{take-append-add}
@@ -23,7 +23,7 @@ use Rattle.git_refusals.proofs.Refusing.OneLemmas.{one_refusal}
 abbrev pub scheme_place : List ℕ → Place
 scheme_place scheme = record { reason = reason.SchemeTooLong; at = 0; len = length scheme }
 
--- the place of what follows a shorter scheme, of which this is shown
+-- the place of the text after a shorter scheme, of which this is shown
 abbrev pub rest_place : List ℕ → List ℕ → Place
 rest_place scheme shown = record { reason = reason.AuthorityTooLong; at = length scheme + 3; len = length shown }
 
@@ -40,7 +40,7 @@ record NamesRefusal (front : List ℕ) (r : Refusal) : Type 0 where
   pub joined : front ≡ scheme ++ (codes "://" ++ shown)
   pub named : LongRefusal scheme shown r
 
--- the first bytes of a URL, to 1,024 behind its mark, are its scheme, the mark and the first 1,024 behind it
+-- the first bytes of a URL, to 1,024 after its mark, are its scheme, the mark and the first 1,024 after it
 first_bytes : (b scheme rest : List ℕ) (n : ℕ) → b ≡ scheme ++ (codes "://" ++ rest) → n ≡ length scheme → take (n + 1027) b ≡ scheme ++ (codes "://" ++ take 1024 rest)
 first_bytes b scheme rest n e size = ap (λ k. take (k + 1027) b) size ∙ ap (take (length scheme + 1027)) e ∙ take-append-add scheme (codes "://" ++ rest) 1027
 
@@ -83,19 +83,19 @@ front_marked front b r h k e =
     let names = front_names front b r h k e in
     (names.scheme, names.shown, names.joined)
 
--- its scheme and what is shown of the rest are what is before and behind its first mark
+-- its scheme and the shown part of the rest are the text before and after its first mark
 pub front_cut : (front b scheme shown : List ℕ) (r : Refusal) → Refused b r → kind_of r.reason ≡ kind.TooLong → front ≡ shown_front b r → ¬ Holds (codes "://") scheme → front ≡ scheme ++ (codes "://" ++ shown) → LongRefusal scheme shown r
 front_cut front b scheme shown r h k e first joined =
     let names = front_names front b r h k e in
     let cut = mark_cut_unique names.scheme scheme names.shown shown names.first first (sym names.joined ∙ joined) in
     subst (λ s. LongRefusal scheme s r) cut.1 (subst (λ s. LongRefusal s names.shown r) cut.0 names.named)
 
--- the refusal, where the scheme is too long
+-- the refusal, if the scheme is too long
 pub long_scheme_named : (scheme shown : List ℕ) (r : Refusal) → LongRefusal scheme shown r → 1024 < length scheme → refusal_of Url (scheme_place scheme) ≡ r
 long_scheme_named scheme shown r (LongRefusal.by_scheme _ is) long = sym is
 long_scheme_named scheme shown r (LongRefusal.by_rest short is) long = absurd (omega (arith, short, long))
 
--- the refusal, where it isn't
+-- the refusal, if it isn't
 pub long_rest_named : (scheme shown : List ℕ) (r : Refusal) → LongRefusal scheme shown r → length scheme ≤ 1024 → refusal_of Url (rest_place scheme shown) ≡ r
 long_rest_named scheme shown r (LongRefusal.by_scheme long is) short = absurd (omega (arith, short, long))
 long_rest_named scheme shown r (LongRefusal.by_rest _ is) short = sym is

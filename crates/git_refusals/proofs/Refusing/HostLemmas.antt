@@ -1,4 +1,5 @@
--- Hosts and ports: what is wrong with a piece by the marks that are in it, and what it names where nothing is.
+-- Hosts and ports: the flaw of a piece by the marks that are in it, and the host that it names if it has no
+-- flaw.
 use Rattle.std.proofs.Common.{◌≡◌, ℕ, ◌<◌, ◌^◌, ◌==◌, true, false, ◌⊎◌, inl, inr, List, [], ◌∷◌, ◌++◌, length, Option, Some, None, refl, sym, ap, subst, ◌∙◌, arith, append_assoc, IsUtf8, chars}
 use Rattle.std.specs.List.{list_any, list_all}
 use Rattle.std.specs.Char.{is_ascii_digit}
@@ -43,19 +44,19 @@ too_large digits each some fails =
 
 -- ---- texts outside brackets
 
--- in HTTP a text whose characters it takes stands for a host
+-- in HTTP a text whose characters it takes denotes a host
 pub web_host : (syntax : HostSyntax) (text : List ℕ) → syntax ≡ http_hosts → IsUtf8 text → list_any is_no_host_character (chars text) ≡ false → StandsForHost syntax text
 web_host http_hosts text e utf8 none = (normal_host text, (class_bytes is_http_host_byte http_byte_ascii text utf8 none, refl))
 web_host git_hosts text e utf8 none = absurd (bare_not_strict e)
 web_host other_hosts text e utf8 none = absurd (loose_not_strict e)
 
--- in HTTP a text with a character that it doesn't take stands for no host
+-- in HTTP a text with a character that it doesn't take denotes no host
 pub no_web_host : (syntax : HostSyntax) (text : List ℕ) (p : Place) → syntax ≡ http_hosts → HasCharacter reason.HostCharacter is_no_host_character text p → NoHostText syntax text p
 no_web_host http_hosts text p e h = h
 no_web_host git_hosts text p e h = absurd (bare_not_strict e)
 no_web_host other_hosts text p e h = absurd (loose_not_strict e)
 
--- outside HTTP a text that decodes stands for a host, and no other does
+-- outside HTTP a text that decodes denotes a host, and no other does
 pub lax_text : (syntax : HostSyntax) (text : List ℕ) (r : Option Place) → ¬ (syntax ≡ http_hosts) → Checks text (Undecodable text) (IsUtf8 (percent_decode text)) r → Checks text (NoHostText syntax text) (StandsForHost syntax text) r
 lax_text http_hosts text r other h = absurd (other refl)
 lax_text git_hosts text (Some p) other h = record { found = h.found; within = h.within }
@@ -63,19 +64,19 @@ lax_text git_hosts text None other h = record { found = (normal_host (percent_de
 lax_text other_hosts text (Some p) other h = record { found = h.found; within = h.within }
 lax_text other_hosts text None other h = record { found = (normal_host (percent_decode text), (h.found, refl)); within = tt }
 
--- nothing is found wrong with a text that stands for a host
+-- nothing is found wrong with a text that denotes a host
 pub host_passes : (syntax : HostSyntax) (text : List ℕ) → StandsForHost syntax text → Passes (NoHostText syntax text)
 host_passes syntax text (host, h) p n = (no_host_kind syntax text p n).1 host h
 
 -- ---- texts between brackets
 
--- in HTTP what isn't a literal stands for nothing
+-- in HTTP a text that isn't a literal denotes nothing
 pub web_inner : (syntax : HostSyntax) (text : List ℕ) (p : Place) → syntax ≡ http_hosts → ¬ IsLiteral text → Stands reason.NotAnAddress 0 (length text) p → NoInner syntax text p
 web_inner http_hosts text p e none s = record { no_literal = none; no_other = s }
 web_inner git_hosts text p e none s = absurd (bare_not_strict e)
 web_inner other_hosts text p e none s = absurd (loose_not_strict e)
 
--- elsewhere it stands for what it decodes to, where that is text
+-- elsewhere it denotes its decoding, if that is text
 pub lax_inner : (syntax : HostSyntax) (text : List ℕ) (r : Option Place) → ¬ (syntax ≡ http_hosts) → ¬ IsLiteral text → Checks text (Undecodable text) (IsUtf8 (percent_decode text)) r → Checks text (NoInner syntax text) (StandsForInner syntax text) r
 lax_inner http_hosts text r other none h = absurd (other refl)
 lax_inner git_hosts text (Some p) other none h = record { found = record { no_literal = none; no_other = h.found }; within = h.within }
@@ -83,23 +84,23 @@ lax_inner git_hosts text None other none h = record { found = (percent_decode te
 lax_inner other_hosts text (Some p) other none h = record { found = record { no_literal = none; no_other = h.found }; within = h.within }
 lax_inner other_hosts text None other none h = record { found = (percent_decode text, Bracketed.other none refl h.found); within = tt }
 
--- nothing is found wrong with a text between brackets that stands for another
+-- nothing is found wrong with a text between brackets that denotes another
 pub inner_passes : (syntax : HostSyntax) (text : List ℕ) → StandsForInner syntax text → Passes (NoInner syntax text)
 inner_passes syntax text (inner, h) p n = (no_inner_kind syntax text p n).1 inner h
 
--- ---- brackets, and what follows them
+-- ---- brackets, and the text after them
 
--- where nothing is before the first colon, the text is empty or begins with one
+-- if nothing is before the first colon, the text is empty or begins with one
 pub ended : (rest wrong : List ℕ) → true ≡ (length wrong == 0) → IsBeforeColon rest wrong → (rest ≡ []) ⊎ (begins_with colon rest ≡ true)
 ended rest [] none h = subst (λ t. (t ≡ []) ⊎ (begins_with colon t ≡ true)) (sym h.joined) h.followed
 ended rest (b ∷ wrong) none h = absurd (omega (arith, eqb-true (length (b ∷ wrong)) 0 (sym none)))
 
--- brackets with nothing behind them name a host
+-- brackets with nothing after them name a host
 pub closed_alone : (syntax : HostSyntax) (x rest : List ℕ) → FreeOf right_bracket x → StandsForInner syntax x → (rest ≡ []) ⊎ (begins_with colon rest ≡ true) → begins_with colon rest ≡ false → NamesHost syntax (left_bracket ∷ (x ++ right_bracket ∷ rest))
 closed_alone syntax x rest free (inner, h) (inl none) other = (_, _, SpellsHostPort.bracketed x inner free h (ap (λ t. left_bracket ∷ (x ++ right_bracket ∷ t)) none) refl refl)
 closed_alone syntax x rest free h (inr begins) other = absurd (both_ways _ other begins)
 
--- brackets with a colon and a port or nothing behind them name a host
+-- brackets with a colon and a port or nothing after them name a host
 pub closed_port : (syntax : HostSyntax) (x rest digits : List ℕ) → FreeOf right_bracket x → StandsForInner syntax x → rest ≡ colon ∷ digits → IsPortText syntax digits → NamesHost syntax (left_bracket ∷ (x ++ right_bracket ∷ rest))
 closed_port syntax x rest digits free (inner, h) e (inl none) =
     (_, _, SpellsHostPort.bracketed_colon x inner free h (ap (λ t. left_bracket ∷ (x ++ right_bracket ∷ t)) (e ∙ ap (λ t. colon ∷ t) none)) refl refl)
@@ -108,7 +109,7 @@ closed_port syntax x rest digits free (inner, h) e (inr (port, n)) =
 
 -- ---- colons that mark no port
 
--- a piece isn't an address where neither the whole nor what is before a last colon is an IPv6 text
+-- a piece isn't an address if neither the whole nor the text before a last colon is an IPv6 text
 pub no_address : (piece : List ℕ) → ¬ IsIpv6Text piece → ((front : List ℕ) → piece ≡ front ++ colon ∷ [] → ¬ IsIpv6Text front) → ¬ IsAddressPiece piece
 no_address piece none other (inl h) = none h
 no_address piece none other (inr (front, h, e)) = other front e h
@@ -117,7 +118,7 @@ no_address piece none other (inr (front, h, e)) = other front e h
 pub other_front : (piece front : List ℕ) → piece ≡ front ++ colon ∷ [] → ¬ IsIpv6Text front → (other : List ℕ) → piece ≡ other ++ colon ∷ [] → ¬ IsIpv6Text other
 other_front piece front e none other k h = none (subst IsIpv6Text (same_from_push other front colon colon (sym k ∙ e)).0 h)
 
--- behind a text's only colon no other follows, so none follows behind any colon of it
+-- after a text's only colon no other follows, so none follows after any colon of it
 pub behind_only : (front behind x y : List ℕ) → FreeOf colon front → FreeOf colon behind → front ++ colon ∷ behind ≡ x ++ colon ∷ y → FreeOf colon y
 behind_only front behind x y free lone e =
     elim (free_or_cut colon x) [
@@ -142,7 +143,7 @@ web_many http_hosts piece None e open_front many h = absurd h.found
 web_many git_hosts piece r e open_front many h = absurd (bare_not_strict e)
 web_many other_hosts piece r e open_front many h = absurd (loose_not_strict e)
 
--- elsewhere the whole piece is the host where it decodes
+-- elsewhere the whole piece is the host if it decodes
 pub lax_many : (syntax : HostSyntax) (piece : List ℕ) (r : Option Place) → ¬ (syntax ≡ http_hosts) → ¬ ReadsAddress syntax piece → begins_with left_bracket piece ≡ false → IsManyColoned piece → Checks piece (Undecodable piece) (IsUtf8 (percent_decode piece)) r → Checks piece (BadHost syntax piece) (NamesHost syntax piece) r
 lax_many http_hosts piece r other unread open_front many h = absurd (other refl)
 lax_many git_hosts piece (Some p) other unread open_front many h = record { found = BadHost.colons open_front many unread h.found; within = h.within }

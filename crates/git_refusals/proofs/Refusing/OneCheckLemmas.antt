@@ -1,4 +1,4 @@
--- A check finds one place at most: what follows of that for checks one behind the other, and the checks of
+-- A check finds one place at most: the consequences for checks one after the other, and the checks of
 -- bytes, characters and escapes.
 use Rattle.std.proofs.Common.{◌≡◌, ℕ, ◌+◌, Bool, true, false, inr, List, [], ◌∷◌, ◌++◌, length, refl, sym, ap, subst, ◌∙◌, encode_utf8, encode_utf8_all}
 use Rattle.std.proofs.lemmas.Bool.{both_ways}
@@ -11,7 +11,7 @@ use Rattle.git_refusals.specs.declared.reason.Reason.{Reason}
 use Rattle.git_refusals.specs.Characters.{StandsFirst, StandsBroken, StandsCharacter}
 use Rattle.git_refusals.specs.Reasons.{Stands, Behind, Then, Undecodable, NotText, HasCharacter, HasBackslash, HasBrokenEscape}
 
--- ---- checks one behind the other
+-- ---- checks one after the other
 
 -- a check finds one place at most
 abbrev pub One : (Place → Type 0) → Type 0
@@ -37,7 +37,7 @@ one_at check one x y p q e h k = one y p q (subst (λ z. check z p) e h) k
 pub one_at_both : (check : List ℕ → List ℕ → Place → Type 0) → ((x y : List ℕ) → One (check x y)) → (x y u w : List ℕ) (p q : Place) → x ≡ u → y ≡ w → check x y p → check u w q → p ≡ q
 one_at_both check one x y u w p q e f h k = one u w p q (subst (λ z. check u z p) f (subst (λ z. check z y p) e h)) k
 
--- what a check finds in a piece is at one place of the whole
+-- the flaw that a check finds in a piece is at one place of the whole
 pub one_behind : (before : ℕ) (check : Place → Type 0) → One check → One (Behind before check)
 one_behind before check one p q h k =
     let same : h.inside ≡ k.inside = one h.inside k.inside h.found k.found in
@@ -46,7 +46,7 @@ one_behind before check one p q h k =
     (h.stands.start ∙ ap (λ (z : Place). before + z.at) same ∙ sym k.stands.start)
     (h.stands.size ∙ ap (λ (z : Place). z.len) same ∙ sym k.stands.size)
 
--- two checks one behind the other find one place at most
+-- two checks one after the other find one place at most
 pub one_then : (first second : Place → Type 0) → One first → One second → One (Then first second)
 one_then first second f g p q (Then.at_first h) (Then.at_first k) = f p q h k
 one_then first second f g p q (Then.at_first h) (Then.at_second n k) = absurd (n p h)
@@ -59,11 +59,11 @@ one_then first second f g p q (Then.at_second n h) (Then.at_second m k) = g p q 
 pub free_apart : (c : ℕ) (piece x y : List ℕ) → FreeOf c piece → piece ≡ x ++ c ∷ y → ⊥
 free_apart c piece x y f e = not_free c x y (subst (λ z. FreeOf c z) e f)
 
--- a piece has one first place where it stops decoding to UTF-8
+-- a piece has one first place at which it stops decoding to UTF-8
 pub one_undecodable : (text : List ℕ) → One (Undecodable text)
 one_undecodable text p q h k = stands_alike p q refl refl h.stands k.stands
 
--- a text has one first place where it stops being UTF-8
+-- a text has one first place at which it stops being UTF-8
 pub one_not_text : (text : List ℕ) → One (NotText text)
 one_not_text text p q h k = stands_alike p q refl refl h.stands k.stands
 

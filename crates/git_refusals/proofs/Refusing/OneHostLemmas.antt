@@ -30,7 +30,7 @@ one_no_other other_hosts text = one_undecodable text
 pub one_no_inner : (syntax : HostSyntax) (text : List ℕ) → One (NoInner syntax text)
 one_no_inner syntax text p q h k = one_no_other syntax text p q h.no_other k.no_other
 
--- what isn't a number is one flaw
+-- a text that isn't a number is one flaw
 pub one_no_digits : (digits : List ℕ) → One (NoDigits digits)
 one_no_digits digits p q h k = stands_alike p q refl refl h.stands k.stands
 
@@ -41,7 +41,7 @@ one_outside syntax digits p q (PortOutside.too_large d n h) (PortOutside.is_zero
 one_outside syntax digits p q (PortOutside.is_zero web d n h) (PortOutside.too_large e m k) = absurd (omega (arith, n, m))
 one_outside syntax digits p q (PortOutside.is_zero web d n h) (PortOutside.is_zero same e m k) = stands_alike p q refl refl h k
 
--- what is in a port's place has one flaw at most
+-- the text in the place of a port has one flaw at most
 pub one_port : (syntax : HostSyntax) (digits : List ℕ) → One (Then (NoDigits digits) (PortOutside syntax digits))
 one_port syntax digits = one_then (NoDigits digits) (PortOutside syntax digits) (one_no_digits digits) (one_outside syntax digits)
 
@@ -96,7 +96,7 @@ port_not_many piece text digits t g e (inr (x, y, z, f)) =
 
 -- ---- outside brackets
 
--- what is wrong with `host:port`
+-- the flaw of `host:port`
 abbrev pub BadPair : HostSyntax → List ℕ → List ℕ → Place → Type 0
 BadPair syntax text digits = Then (Behind (length text + 1) (NoDigits digits)) (Then (NoHostText syntax text) (Behind (length text + 1) (PortOutside syntax digits)))
 
@@ -107,7 +107,7 @@ one_pair syntax text digits =
     (one_behind (length text + 1) (NoDigits digits) (one_no_digits digits))
     (one_then (NoHostText syntax text) (Behind (length text + 1) (PortOutside syntax digits)) (one_no_host_text syntax text) (one_behind (length text + 1) (PortOutside syntax digits) (one_outside syntax digits)))
 
--- what is wrong with a piece that begins with no bracket
+-- the flaw of a piece that begins with no bracket
 data BadOutside (syntax : HostSyntax) (piece : List ℕ) (p : Place) : Type 0 where
   colons : IsManyColoned piece → BadColons syntax piece p → BadOutside syntax piece p
   plain : IsPlainHost piece → NoHostText syntax piece p → BadOutside syntax piece p
@@ -131,14 +131,14 @@ one_bad_outside syntax piece p q (BadOutside.with_port x d t f e h) (BadOutside.
 
 -- ---- in brackets
 
--- what is wrong with brackets and what follows them
+-- the flaw of brackets and the text after them
 data BadBrackets (syntax : HostSyntax) (x behind : List ℕ) (p : Place) : Type 0 where
   followed : (wrong rest : List ℕ) → FreeOf colon wrong → 0 < length wrong → (rest ≡ []) ⊎ (begins_with colon rest ≡ true) → behind ≡ wrong ++ rest
       → Stands reason.BehindBracket (length x + 2) (length wrong) p → BadBrackets syntax x behind p
   between : (behind ≡ []) ⊎ (begins_with colon behind ≡ true) → Behind 1 (NoInner syntax x) p → BadBrackets syntax x behind p
   port : (digits : List ℕ) → Passes (NoInner syntax x) → behind ≡ colon ∷ digits → Behind (length x + 3) (Then (NoDigits digits) (PortOutside syntax digits)) p → BadBrackets syntax x behind p
 
--- what follows brackets doesn't both begin with a colon, or the end, and with another byte
+-- the text after brackets doesn't both begin with a colon, or the end, and with another byte
 followed_apart : (behind wrong rest : List ℕ) → FreeOf colon wrong → 0 < length wrong → behind ≡ wrong ++ rest → (behind ≡ []) ⊎ (begins_with colon behind ≡ true) → ⊥
 followed_apart behind [] rest f some e h = omega (arith, some)
 followed_apart behind (b ∷ wrong) rest f some e (inl none) = let clash : [] ≡ b ∷ (wrong ++ rest) = sym none ∙ e in cc
@@ -166,7 +166,7 @@ one_bad_brackets syntax x behind p q (BadBrackets.port c n e h) (BadBrackets.por
 
 -- ---- all pieces
 
--- what is wrong with a piece, by what is at its front
+-- the flaw of a piece, by the byte at its front
 data BadPiece (syntax : HostSyntax) (piece : List ℕ) (p : Place) : Type 0 where
   unclosed : (behind : List ℕ) → FreeOf right_bracket behind → piece ≡ left_bracket ∷ behind → Stands reason.UnclosedBracket 0 1 p → BadPiece syntax piece p
   closed : (x behind : List ℕ) → FreeOf right_bracket x → piece ≡ left_bracket ∷ (x ++ right_bracket ∷ behind) → BadBrackets syntax x behind p → BadPiece syntax piece p

@@ -25,7 +25,7 @@ use Rattle.git_refusals.proofs.Refusing.OneHostLemmas.{closed_apart, one_host}
 
 -- ---- authorities
 
--- what is wrong with a user and a password
+-- the flaw of a user and a password
 abbrev BadPassword : List ℕ → List ℕ → Place → Type 0
 BadPassword u w = Then (Behind (length u + 1) (Undecodable w)) (Undecodable u)
 
@@ -42,7 +42,7 @@ one_user information p q (BadUser.with_password u w f e h) (BadUser.with_passwor
     let cut = cut_unique colon u v w z f g (sym e ∙ i) in
     one_at_both BadPassword one_password u w v z p q cut.0 cut.1 h k
 
--- nothing behind user information is one flaw
+-- nothing after user information is one flaw
 one_no_host_behind : (authority piece : List ℕ) → One (NoHostBehind authority piece)
 one_no_host_behind authority piece p q h k = stands_alike p q refl refl h.stands k.stands
 
@@ -50,7 +50,7 @@ one_no_host_behind authority piece p q h k = stands_alike p q refl refl h.stands
 one_no_host_at_all : (needed : Bool) (authority : List ℕ) → One (NoHostAtAll needed authority)
 one_no_host_at_all needed authority p q h k = stands_alike p q refl refl h.stands k.stands
 
--- what is wrong with user information and what follows it
+-- the flaw of user information and the text after it
 abbrev BadUserHost : HostSyntax → List ℕ → List ℕ → List ℕ → Place → Type 0
 BadUserHost syntax authority information piece = Then (BadUser information)
     (Then (Behind (length information + 1) (BadHost syntax piece)) (NoHostBehind authority piece))
@@ -76,7 +76,7 @@ one_authority syntax needed authority = one_then _ _ (one_backslash reason.Backs
 
 -- ---- URLs
 
--- the scheme is too long, or what follows it
+-- the scheme is too long, or the text after it
 one_too_long : (scheme rest : List ℕ) → One (TooLong scheme rest)
 one_too_long scheme rest p q (TooLong.long_scheme n h) (TooLong.long_scheme m k) = stands_alike p q refl refl h k
 one_too_long scheme rest p q (TooLong.long_scheme n h) (TooLong.long_rest m f k) = absurd (omega (arith, n, m))
@@ -91,7 +91,7 @@ nil_apart text rest c e f = let clash : [] ≡ c ∷ rest = sym e ∙ f in cc
 letter_apart : (text x y : List ℕ) (c d : ℕ) → text ≡ c ∷ x → text ≡ d ∷ y → is_ascii_alphabetic c ≡ false → is_ascii_alphabetic d ≡ true → ⊥
 letter_apart text x y c d e f h k = both_ways (is_ascii_alphabetic c) h (ap is_ascii_alphabetic (heads (sym e ∙ f)) ∙ k)
 
--- what is before `://` has one flaw at most that is found first
+-- the text before `://` has one flaw at most that is found first
 one_scheme : (scheme : List ℕ) → One (BadScheme scheme)
 one_scheme scheme p q (BadScheme.missing e h) (BadScheme.missing i k) = stands_alike p q refl refl h k
 one_scheme scheme p q (BadScheme.missing e h) (BadScheme.bad_start d y m i b t k) = absurd (nil_apart scheme y d e i)
@@ -115,7 +115,7 @@ one_rest_parts b scheme authority path =
     one_then _ _ (one_behind _ _ (one_undecodable path))
     (one_then _ _ (one_behind _ _ (one_authority (host_syntax_of scheme) (requires_host scheme) authority)) (one_no_path scheme b path))
 
--- so has what follows `://`
+-- so has the text after `://`
 one_rest : (b scheme rest : List ℕ) → One (BadRest b scheme rest)
 one_rest b scheme rest p q h k =
     let cut = path_cut_unique (is_web_scheme scheme) h.authority k.authority h.path k.path h.before_path k.before_path h.path_starts k.path_starts (sym h.joined ∙ k.joined) in
@@ -208,7 +208,7 @@ empty_no_addressed : (b user address path : List ℕ) → b ≡ [] → Addressed
 empty_no_addressed b user address path e s =
     absurd (omega (arith, length-append user (at_sign ∷ (left_bracket ∷ (address ++ right_bracket ∷ (colon ∷ path)))), ap length (sym e ∙ s.cut.joined)))
 
--- what is before and behind the first `://` of a URL is determined
+-- the text before and after the first `://` of a URL is determined
 form_unique : (b front rest second last : List ℕ) → UrlForm b front rest → UrlForm b second last → (front ≡ second) × (rest ≡ last)
 form_unique b front rest second last s t = mark_cut_unique front second rest last s.first t.first (sym s.joined ∙ t.joined)
 

@@ -31,13 +31,13 @@ use Rattle.git_refusals.proofs.Refusing.PartLemmas.{port_spans}
 
 -- ---- the shapes of a host and a port
 
--- what follows a host of so many bytes: nothing, a colon that stays with it, or a port
+-- the text after a host of so many bytes: nothing, a colon that stays with it, or a port
 data FollowSpans (start size : ℕ) (rest : List ℕ) (host port : Option Span) : Type 0 where
   nothing : rest ≡ [] → host ≡ Some (span start size) → port ≡ None → FollowSpans start size rest host port
   lone_colon : rest ≡ colon ∷ [] → host ≡ Some (span start (size + 1)) → port ≡ None → FollowSpans start size rest host port
   number : (digits : List ℕ) → 0 < length digits → rest ≡ colon ∷ digits → host ≡ Some (span start size) → port ≡ Some (span (start + (size + 1)) (length digits)) → FollowSpans start size rest host port
 
--- what follows a host determines its place and that of the port
+-- the text after a host determines its place and that of the port
 follow_unique : (start size : ℕ) (rest : List ℕ) (host second port last : Option Span) → FollowSpans start size rest host port → FollowSpans start size rest second last → (host ≡ second) × (port ≡ last)
 follow_unique start size rest host second port last h k = grind arith
 
@@ -52,7 +52,7 @@ data HostShape (start : ℕ) (piece : List ℕ) (host port : Option Span) : Type
 sized : (start n m : ℕ) (host : Option Span) → host ≡ Some (span start n) → n ≡ m → host ≡ Some (span start m)
 sized start n m host h e = h ∙ ap (λ k. Some (span start k)) e
 
--- a place by what is before it
+-- a place by the text before it
 placed : (n m size : ℕ) (port : Option Span) → port ≡ Some (span n size) → n ≡ m → port ≡ Some (span m size)
 placed n m size port h e = h ∙ ap (λ k. Some (span k size)) e
 
@@ -75,7 +75,7 @@ host_shape start piece host port (HostSpans.colons b m h p) = HostShape.colons b
 nothing_bracketed : (piece x rest : List ℕ) → piece ≡ [] → piece ≡ left_bracket ∷ (x ++ right_bracket ∷ rest) → ⊥
 nothing_bracketed piece x rest e k = let wrong : [] ≡ left_bracket ∷ (x ++ right_bracket ∷ rest) = sym e ∙ k in cc
 
--- nor a host and what follows it
+-- nor a host and the text after it
 nothing_plain : (piece text rest : List ℕ) → IsPlainHost text → piece ≡ [] → piece ≡ text ++ rest → ⊥
 nothing_plain piece text rest t e k = omega (arith, t.nonempty, length-append text rest, ap length (sym e ∙ k))
 
@@ -100,7 +100,7 @@ plain_many piece text rest t (inr (digits, free, is)) e many =
     let front = only_in_front piece text digits many t.no_colon free whole in
     omega (arith, t.nonempty, ap length front, ap length whole, length-append text (colon ∷ digits))
 
--- the same host and what follows it have the same places
+-- the same host and the text after it have the same places
 same_follow : (start size other : ℕ) (rest end : List ℕ) (host second port last : Option Span) → size ≡ other → rest ≡ end → FollowSpans start size rest host port → FollowSpans start other end second last → (host ≡ second) × (port ≡ last)
 same_follow start size other rest end host second port last e f h k =
     follow_unique start other end host second port last (subst (λ n. FollowSpans start n end host port) e (subst (λ r. FollowSpans start size r host port) f h)) k
@@ -198,7 +198,7 @@ url_spans scheme authority path user password host port = record {
   path = span (length scheme + 3 + length authority) (length path);
 }
 
--- an authority and a path behind the mark of a URL, and the places of their parts
+-- an authority and a path after the mark of a URL, and the places of their parts
 record OtherParts (front rest : List ℕ) (parts : Parts) : Type 0 where
   pub authority : List ℕ
   pub path : List ℕ
@@ -212,7 +212,7 @@ record OtherParts (front rest : List ℕ) (parts : Parts) : Type 0 where
   pub spans : AuthoritySpans (length front + 3) authority user password host port
   pub are : parts ≡ url_spans front authority path user password host port
 
--- the parts of a URL, by what is before and behind its mark
+-- the parts of a URL, by the text before and after its mark
 data UrlParts (b front rest : List ℕ) (parts : Parts) : Type 0 where
   ext : front ≡ codes "ext" → parts ≡ path_span form.RemoteHelper b → UrlParts b front rest parts
   file : (host path : List ℕ) → front ≡ codes "file" → rest ≡ host ++ path → FreeOf slash host → begins_with slash path ≡ true → parts ≡ file_spans b host path → UrlParts b front rest parts
@@ -240,7 +240,7 @@ one_other front rest p q h k =
     let same = authority_spans_unique (length front + 3) k.authority h.user h.password h.host h.port k.user k.password k.host k.port spans k.spans in
     h.are ∙ (λ i. url_spans front (cut.0 i) (cut.1 i) (same.user_same i) (same.password_same i) (same.host_same i) (same.port_same i)) ∙ sym k.are
 
--- what is before and behind the mark of a URL determines its parts
+-- the text before and after the mark of a URL determines its parts
 one_url : (b front rest : List ℕ) (p q : Parts) → UrlParts b front rest p → UrlParts b front rest q → p ≡ q
 one_url b front rest p q (UrlParts.ext e h) (UrlParts.ext f k) = h ∙ sym k
 one_url b front rest p q (UrlParts.ext e h) (UrlParts.file name end f i g l k) = absurd (ext_apart front e f)
@@ -342,7 +342,7 @@ one_helper b name other address last h k =
     let ends = tails cut.1 in
     (λ i. helper_spans b (cut.0 i) (ends i))
 
--- what is before and behind the first `://` of a URL is determined
+-- the text before and after the first `://` of a URL is determined
 same_form : (b front second rest last : List ℕ) → UrlForm b front rest → UrlForm b second last → (front ≡ second) × (rest ≡ last)
 same_form b front second rest last h k = mark_cut_unique front second rest last h.first k.first (sym h.joined ∙ k.joined)
 
@@ -368,14 +368,14 @@ one_by_form b p q (ByForm.neither n h) (ByForm.neither m k) = one_path b p q h k
 pub one_cut : OneCut
 one_cut b p q h k = one_by_form b p q (by_form b p h) (by_form b q k)
 
--- ---- where a password and a port are
+-- ---- if a password and a port are
 
 -- the bytes at a place are the piece there
 slice_at : (b front piece back : List ℕ) (n : ℕ) → length front ≡ n → b ≡ front ++ (piece ++ back) → slice_of b (span n (length piece)) ≡ piece
 slice_at b front piece back n size e =
     ap (λ t. take (length piece) (drop n t)) e ∙ ap (take (length piece)) (drop_at front (piece ++ back) n size) ∙ take_at piece back (length piece) refl
 
--- an authority whose user information has this password behind its first colon
+-- an authority whose user information has this password after its first colon
 record PasswordIn (authority password : List ℕ) : Type 0 where
   pub user : List ℕ
   pub text : List ℕ
@@ -390,7 +390,7 @@ unless_some : (t password : List ℕ) → Some password ≡ unless_empty t → t
 unless_some [] password e = absurd (none-some password (sym e))
 unless_some (b ∷ t) password e = sym (same_Some password (b ∷ t) e)
 
--- a password is behind the first colon of its user information
+-- a password is after the first colon of its user information
 credentials_password : (information piece password : List ℕ) (user : Option (List ℕ)) → FreeOf at_sign piece → Credentials information user (Some password) → PasswordIn (information ++ at_sign ∷ piece) password
 credentials_password information piece password user free (Credentials.user_alone f t p u) = absurd (none-some password (sym p))
 credentials_password information piece password user free (Credentials.with_password u w f e t s p k) = record {
@@ -418,13 +418,13 @@ password_place start authority password user second host port h (AuthoritySpans.
     let spans = subst (λ z. UserSpans start z user second) cut.0 t in
     (user_spans_unique start (h.user ++ colon ∷ h.text) user _ second _ spans (UserSpans.with_password h.user h.text h.no_colon refl refl refl)).1
 
--- the digits of a port are at the end of their piece, behind something
+-- the digits of a port are at the end of their piece, after something
 record EndsPort (piece digits : List ℕ) : Type 0 where
   pub front : List ℕ
   pub some : 0 < length front
   pub joined : piece ≡ front ++ digits
 
--- what is before the digits of a port
+-- the text before the digits of a port
 ends_port : (piece digits : List ℕ) → HasPort piece digits → EndsPort piece digits
 ends_port piece digits (HasPort.bracketed x f n e) = record {
   front = left_bracket ∷ (x ++ right_bracket ∷ (colon ∷ []));
@@ -437,7 +437,7 @@ ends_port piece digits (HasPort.plain text t f n e) = record {
   joined = e ∙ sym (append_assoc text (colon ∷ []) digits);
 }
 
--- digits that spell a port are behind a host
+-- digits that spell a port are after a host
 piece_port : (syntax : HostSyntax) (piece : List ℕ) (host : Option (List ℕ)) (port : ℕ) → SpellsHostPort syntax piece host (Some port) → (digits : List ℕ) × HasPort piece digits × (digits_value 10 digits ≡ port)
 piece_port syntax piece host port (SpellsHostPort.nothing e h p) = absurd (none-some port (sym p))
 piece_port syntax piece host port (SpellsHostPort.bracketed x inner f i e h p) = absurd (none-some port (sym p))
@@ -467,7 +467,7 @@ port_place syntax start piece host port name place h k =
     let spans = port_spans start (length ends.front - 1) (start + length ends.front) piece digits has (omega (arith, size, ends.some)) (omega (arith, ends.some)) in
     record { front = ends.front; digits = digits; joined = ends.joined; value = value; reported = (host_spans_unique start piece name _ place _ k spans).1 }
 
--- behind user information
+-- after user information
 port_behind : (start : ℕ) (information piece : List ℕ) (place : Option Span) (port : ℕ) → PortIn (start + (length information + 1)) piece place port → PortIn start (information ++ at_sign ∷ piece) place port
 port_behind start information piece place port h = record {
   front = information ++ at_sign ∷ h.front;

@@ -1,4 +1,4 @@
--- Where the parts of a location are: what is known of each piece that is cut.
+-- The places of the parts of a location: the known facts about each piece that is cut.
 use Rattle.std.proofs.Common.{◌≡◌, ℕ, ◌+◌, ◌<◌, ◌==◌, ◌⊎◌, true, false, inl, inr, List, [], ◌∷◌, ◌++◌, length, Option, Some, refl, sym, ap, subst, ◌∙◌, arith, length-append, codes, bytes_eq}
 use Rattle.std.proofs.lemmas.Bool.{both_ways, false≢true}
 use Rattle.std.proofs.lemmas.List.{append-nil}
@@ -34,7 +34,7 @@ address_unbracketed piece (inl h) = free_begins left_bracket piece (address_free
 address_unbracketed piece (inr (a, h, e)) =
     free_begins left_bracket piece (subst (λ t. FreeOf left_bracket t) (sym e) (free-append left_bracket a (colon ∷ []) (address_free left_bracket a refl h) refl))
 
--- what is behind a bracket in front of a host: another one closes it, and the end or a colon follows
+-- the text after a bracket in front of a host: another one closes it, and the end or a colon follows
 pub record Closes (behind : List ℕ) : Type 0 where
   pub inner : List ℕ
   pub rest : List ℕ
@@ -67,7 +67,7 @@ never_open behind named free =
     let h = piece_closes behind named in
     absurd (not_free right_bracket h.inner h.rest (subst (λ t. FreeOf right_bracket t) h.joined free))
 
--- where no colon follows the brackets, the host is the whole
+-- if no colon follows the brackets, the host is the whole
 pub brackets_alone : (behind x rest : List ℕ) → IsHostPiece (left_bracket ∷ behind) → FreeOf right_bracket x → behind ≡ x ++ right_bracket ∷ rest → begins_with colon rest ≡ false → IsHostAlone (left_bracket ∷ behind)
 brackets_alone behind x rest named free e other start =
     let h = piece_closes behind named in
@@ -77,12 +77,12 @@ brackets_alone behind x rest named free e other start =
       | inr begins ↦ absurd (both_ways (begins_with colon rest) other (sym (ap (begins_with colon) cut.1) ∙ begins))
     ]
 
--- a colon alone behind the brackets stays with the host
+-- a colon alone after the brackets stays with the host
 pub brackets_colon : (behind x rest digits : List ℕ) → FreeOf right_bracket x → behind ≡ x ++ right_bracket ∷ rest → rest ≡ colon ∷ digits → digits ≡ [] → IsHostAlone (left_bracket ∷ behind)
 brackets_colon behind x rest digits free e begins none start =
     HostSpans.bracketed_colon x free (ap (λ t. left_bracket ∷ t) (e ∙ ap (λ t. x ++ right_bracket ∷ t) (begins ∙ ap (λ t. colon ∷ t) none))) refl refl
 
--- what follows that colon is the port
+-- the text after that colon is the port
 pub brackets_port : (behind x rest digits : List ℕ) → FreeOf right_bracket x → behind ≡ x ++ right_bracket ∷ rest → rest ≡ colon ∷ digits → 0 < length digits → HasPort (left_bracket ∷ behind) digits
 brackets_port behind x rest digits free e begins some =
     HasPort.bracketed x free some (ap (λ t. left_bracket ∷ t) (e ∙ ap (λ t. x ++ right_bracket ∷ t) begins))
@@ -114,19 +114,19 @@ pub again_alone : (piece host digits : List ℕ) → begins_with left_bracket pi
 again_alone piece host digits outside held e start =
     HostSpans.colons outside (colon_again piece host digits held e) (cut_some start piece host digits e) refl
 
--- the only colon behind a host marks one
+-- the only colon after a host marks one
 pub only_port : (piece host digits : List ℕ) → begins_with left_bracket piece ≡ false → false ≡ (length host == 0) → FreeOf colon host → FreeOf colon digits → 0 < length digits → piece ≡ host ++ colon ∷ digits → HasPort piece digits
 only_port piece host digits outside full free lone some e =
     HasPort.plain host (plain_front piece host (colon ∷ digits) full free outside e) lone some e
 
 -- ---- hosts and ports
 
--- digits are in their piece, behind a colon and what is before it
+-- digits are in their piece, after a colon and the text before it
 pub port_within : (piece digits : List ℕ) → HasPort piece digits → length digits + 1 < length piece
 port_within piece digits (HasPort.bracketed x f some e) = omega (arith, ap length e, length-append x (right_bracket ∷ (colon ∷ digits)))
 port_within piece digits (HasPort.plain text t f some e) = omega (arith, t.nonempty, ap length e, length-append text (colon ∷ digits))
 
--- the places of a host and of a port behind it
+-- the places of a host and of a port after it
 pub port_spans : (start before at : ℕ) (piece digits : List ℕ) → HasPort piece digits → before + 1 + length digits ≡ length piece → at ≡ start + (before + 1) → HostSpans start piece (Some (span start before)) (Some (span at (length digits)))
 port_spans start before at piece digits (HasPort.bracketed x f some e) size place =
     let host : before ≡ length x + 2 = omega (arith, ap length e, length-append x (right_bracket ∷ (colon ∷ digits))) in
@@ -141,14 +141,14 @@ port_spans start before at piece digits (HasPort.plain text t f some e) size pla
 pub authority_names : (text : List ℕ) → FreeOf at_sign text → IsAuthority text → IsHostPiece text
 authority_names text free (syntax, user, password, host, port, h) = (syntax, (host, port, authority_alone syntax text user password host port free h))
 
--- so does the piece behind user information
+-- so does the piece after user information
 pub behind_names : (text information piece : List ℕ) → FreeOf at_sign piece → text ≡ information ++ at_sign ∷ piece → IsAuthority text → IsHostPiece piece
 behind_names text information piece free e (syntax, user, password, host, port, h) =
     (syntax, (host, port, (authority_cut syntax text information piece user password host port free e h).1))
 
 -- ---- URLs
 
--- what is before the first path start of a URL that is spelled is an authority
+-- the text before the first path start of a URL that is spelled is an authority
 pub spelled_cut : (b scheme rest authority path : List ℕ) → OtherUrlForm b scheme rest → IsSpelled b → CutsRest scheme rest authority path → UrlCut b scheme authority path × IsAuthority authority
 spelled_cut b scheme rest authority path form (v, s) cuts =
     let h = spelled_as_url b scheme rest form v s in
@@ -162,7 +162,7 @@ spelled_cut b scheme rest authority path form (v, s) cuts =
 pub ext_form : (b scheme rest : List ℕ) → UrlForm b scheme rest → bytes_eq scheme (codes "ext") ≡ true → OtherUrlForm b (codes "ext") rest
 ext_form b scheme rest form same = record { form = subst (λ t. UrlForm b t rest) ((bytes_eq-Decides scheme (codes "ext")).0 same) form; not_file = refl }
 
--- the path of a file URL that is spelled begins at the first `/` behind its mark
+-- the path of a file URL that is spelled begins at the first `/` after its mark
 pub file_cut : (b rest host path : List ℕ) → UrlForm b (codes "file") rest → IsSpelled b → rest ≡ host ++ path → Lacks (is_path_start false) host → StartsPath false path
     → UrlForm b (codes "file") (host ++ path) × FreeOf slash host × (begins_with slash path ≡ true)
 file_cut b rest host path form (v, s) joined before (inl none) =

@@ -1,4 +1,5 @@
--- Checks that find nothing in a piece without what they look for, and what a piece is in which they find nothing.
+-- Checks that find nothing in a piece without the bytes that they search for, and the form of a piece in
+-- which they find nothing.
 use Rattle.std.proofs.Common.{◌≡◌, ℕ, ◌<◌, Bool, true, false, inl, inr, List, length, drop, Option, Some, None, refl, sym, ap, ◌∙◌, arith, IsUtf8, chars}
 use Rattle.std.specs.List.{list_any, list_all}
 use Rattle.std.specs.Char.{is_ascii_alphabetic, is_ascii_digit}
@@ -23,11 +24,11 @@ use Rattle.git_refusals.proofs.Refusing.PlaceLemmas.{stands_not_free}
 
 -- ---- the order of checks
 
--- a check that finds nothing in a piece finds nothing behind another
+-- a check that finds nothing in a piece finds nothing after another
 pub behind_passes : (before : ℕ) (check : Place → Type 0) → Passes check → Passes (Behind before check)
 behind_passes before check none p h = none h.inside h.found
 
--- where the first check finds nothing, the second one answers
+-- if the first check finds nothing, the second one answers
 pub found_second : (piece : List ℕ) (first second : Place → Type 0) (before after : Type 0) (r : Option Place) → Passes first → (before → after) → Checks piece second before r → Checks piece (Then first second) after r
 found_second piece first second before after None passes readable h = record { found = readable h.found; within = h.within }
 found_second piece first second before after (Some p) passes readable h = record { found = Then.at_second passes h.found; within = h.within }
@@ -67,7 +68,7 @@ decoded_passes text good p h = h.undecodable good
 
 -- ---- parts of a location
 
--- where all bytes are decimal digits, the test for a decimal number finds nothing
+-- if all bytes are decimal digits, the test for a decimal number finds nothing
 pub digits_pass : (text : List ℕ) → list_all is_ascii_digit text ≡ true → Passes (NoDigits text)
 digits_pass text each p h = both_ways _ h.other each
 

@@ -18,11 +18,11 @@ stands_within c text at h = omega (arith, h.offset, ap length h.joined, length-a
 
 -- ---- escapes
 
--- what begins with two digits begins so before its first `%`
+-- a text that begins with two digits begins so before its first `%`
 digits_before : (text before behind : List ℕ) → text ≡ before ++ percent_sign ∷ behind → begins_with_digits text ≡ true → begins_with_digits before ≡ true
 digits_before text before behind e h = grind arith
 
--- a broken escape behind a byte that begins none
+-- a broken escape after a byte that begins none
 broken_behind : (c : ℕ) (text : List ℕ) (at : ℕ) → (not (c == percent_sign) || begins_with_digits text) ≡ true → StandsBroken text at → StandsBroken (c ∷ text) (at + 1)
 broken_behind c text at head h = record {
   before = c ∷ h.before;
@@ -37,7 +37,7 @@ broken_behind c text at head h = record {
     kept true k = digits_before text h.before h.behind h.joined k
     kept false k = refl
 
--- a broken escape behind bytes other than `%`
+-- a broken escape after bytes other than `%`
 broken_behind_free : (front text : List ℕ) (at : ℕ) → FreeOf percent_sign front → StandsBroken text at → StandsBroken (front ++ text) (length front + at)
 broken_behind_free [] text at free h = subst (λ n. StandsBroken text n) (omega arith) h
 broken_behind_free (b ∷ front) text at free h =
@@ -48,10 +48,10 @@ broken_behind_free (b ∷ front) text at free h =
     unescaped : (same digits : Bool) → same ≡ false → (not same || digits) ≡ true
     unescaped same digits e = rw e refl
 
--- the first `%` of a text, where it is broken
+-- the first `%` of a text, if it is broken
 pub broken_first : (front behind : List ℕ) → FreeOf percent_sign front → begins_with_digits behind ≡ false → StandsBroken (front ++ percent_sign ∷ behind) (length front)
 broken_first front behind free broken = record { before = front; behind = behind; first = sound_free front free; joined = refl; broken = broken; offset = refl }
 
--- a broken escape behind the first `%` of a text, which has its digits
+-- a broken escape after the first `%` of a text, which has its digits
 pub broken_later : (front behind : List ℕ) (at : ℕ) → FreeOf percent_sign front → begins_with_digits behind ≡ true → StandsBroken behind at → StandsBroken (front ++ percent_sign ∷ behind) (length front + (at + 1))
 broken_later front behind at free digits h = broken_behind_free front (percent_sign ∷ behind) (at + 1) free (broken_behind percent_sign behind at digits h)

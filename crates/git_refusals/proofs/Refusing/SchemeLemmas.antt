@@ -1,4 +1,5 @@
--- Schemes, the lengths of URLs, and file URLs: what the checks find, and what holds where they find nothing.
+-- Schemes, the lengths of URLs, and file URLs: the flaws that the checks find, and the form of a text in
+-- which they find nothing.
 use Rattle.std.proofs.Common.{◌≡◌, ℕ, true, false, List, [], ◌∷◌, length, Some, None, inl, inr, refl, sym, ap, subst, ◌∙◌, codes}
 use Rattle.std.specs.Prelude.{IsUtf8, chars, slice_get}
 use Rattle.std.specs.List.{list_any, list_all}
@@ -19,7 +20,7 @@ use Rattle.git_refusals.proofs.Refusing.CharacterLemmas.{class_bytes}
 
 -- ---- file URLs
 
--- text that has a `/` behind the mark of a file URL is one
+-- text that has a `/` after the mark of a file URL is one
 pub file_read : (b rest : List ℕ) → UrlForm b (codes "file") rest → IsUtf8 b → ¬ FreeOf slash rest → IsFileUrl b
 file_read b rest form text held =
     elim (free_or_cut slash rest) [
@@ -47,7 +48,7 @@ scheme_read text b rest utf8 e letter none =
     let names : list_all is_name_byte (b ∷ rest) ≡ true = subst (λ t. list_all is_name_byte t ≡ true) e (class_bytes is_name_byte name_byte_ascii text utf8 none) in
     ap is_scheme_text e ∙ and_from (is_ascii_alphabetic b) (list_all is_name_byte rest) letter (and_parts (is_name_byte b) (list_all is_name_byte rest) names).1
 
--- where no character is any, there is none
+-- if no character is any, there is none
 none_any : (cs : List ℕ) → list_any (λ _. true) cs ≡ false → cs ≡ []
 none_any [] h = refl
 none_any (c ∷ cs) h = absurd (false≢true (sym h))

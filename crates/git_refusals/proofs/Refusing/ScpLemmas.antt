@@ -1,4 +1,4 @@
--- The scp form: what its checks find, and what it stands for where they find nothing.
+-- The scp form: the flaws that its checks find, and the host that it denotes if they find nothing.
 use Rattle.std.proofs.Common.{◌≡◌, ℕ, ◌+◌, ◌<◌, true, false, ◌==◌, ◌⊎◌, inl, inr, List, [], ◌∷◌, ◌++◌, length, Option, Some, None, refl, sym, ap, subst, ◌∙◌, arith, length-append, IsUtf8}
 use Rattle.std.proofs.lemmas.Bool.{both_ways, cases_Bool, false≢true}
 use Rattle.std.specs.List.{list_all}
@@ -32,12 +32,12 @@ name_read host some open_front text free = record { found = (_, name_found host 
 pub colons_read : (host front behind : List ℕ) → begins_with left_bracket host ≡ false → IsUtf8 host → ColonsInside host → host ≡ front ++ colon ∷ behind → (true ≡ (length front == 0)) ⊎ (¬ FreeOf colon behind) → Checks host (BadScpName host) (NamesScpHost host) None
 colons_read host front behind open_front text colons e many = record { found = (_, colons_found host front behind open_front text colons e many); within = tt }
 
--- what is before a colon in a host without a bracket in front has none there either
+-- the text before a colon in a host without a bracket in front has none there either
 front_open : (host front behind : List ℕ) → begins_with left_bracket host ≡ false → host ≡ front ++ colon ∷ behind → false ≡ (length front == 0) → begins_with left_bracket front ≡ false
 front_open host [] behind open_front e some = absurd (false≢true some)
 front_open host (b ∷ front) behind open_front e some = sym (ap (begins_with left_bracket) e) ∙ open_front
 
--- what is behind the only colon is in a port's place, where no number may be
+-- the text after the only colon is in a port's place, if no number may be
 pub port_place_found : (host front behind : List ℕ) → begins_with left_bracket host ≡ false → FreeOf colon front → host ≡ front ++ colon ∷ behind → false ≡ (length front == 0) → FreeOf colon behind → Checks host (BadScpName host) (NamesScpHost host) (Some (record { reason = reason.PortNotANumber; at = length front + 1; len = length behind }))
 port_place_found host front behind open_front first e some last = record {
   found =
@@ -60,7 +60,7 @@ address_or_not t =
       | inr e ↦ inr (λ h. both_ways _ e (ipv6_text_to t h))
     ]
 
--- a text is a zone where each `%` is escaped, or not
+-- a text is a zone if each `%` is escaped, or not
 zone_or_not : (t : List ℕ) → IsZone (escaped_percents t) ⊎ ¬ IsZone (escaped_percents t)
 zone_or_not [] = inr (λ h. absurd (omega (arith, (zone_unescaped [] h).0)))
 zone_or_not (b ∷ t) =
@@ -69,7 +69,7 @@ zone_or_not (b ∷ t) =
       | inr other ↦ inr (λ h. both_ways _ other (zone_unescaped (b ∷ t) h).1)
     ]
 
--- a text is a literal where each `%` is escaped, or not
+-- a text is a literal if each `%` is escaped, or not
 literal_or_not : (t : List ℕ) → IsLiteral (escaped_percents t) ⊎ ¬ IsLiteral (escaped_percents t)
 literal_or_not t =
     elim (free_or_cut percent_sign t) [
@@ -105,7 +105,7 @@ brackets_read host behind inner rest text front closed e none = record {
   within = tt;
 }
 
--- what follows a closed bracket is wrong
+-- the text after a closed bracket is wrong
 pub behind_bracket_found : (host behind inner rest : List ℕ) → host ≡ left_bracket ∷ behind → FreeOf right_bracket inner → behind ≡ inner ++ right_bracket ∷ rest → false ≡ (length rest == 0) → Checks host (BadScpName host) (NamesScpHost host) (Some (record { reason = reason.BehindBracket; at = length inner + 2; len = length rest }))
 behind_bracket_found host behind inner rest front closed e some = record {
   found =
@@ -115,7 +115,7 @@ behind_bracket_found host behind inner rest front closed e some = record {
 
 -- ---- the host
 
--- without white space and backslashes, what is found in its name is found in the host
+-- without white space and backslashes, the flaw that is found in its name is found in the host
 pub name_checked : (host : List ℕ) (r : Option Place) → FreeOf at_sign host → LacksWhiteSpace host → FreeOf backslash host → 0 < length host → Checks host (BadScpName host) (NamesScpHost host) r → Checks host (BadScpHost host) (StandsForScpHost host) r
 name_checked host r at white back some h =
     found_second host (HasCharacter reason.WhiteSpaceInHost is_whitespace host) (Then (HasBackslash reason.BackslashInHost host) (Then (NoScpHost host) (BadScpName host))) (StandsForScpHost host) (StandsForScpHost host) r (character_passes reason.WhiteSpaceInHost is_whitespace host white) (λ k. k)
@@ -124,7 +124,7 @@ name_checked host r at white back some h =
 
 -- ---- the front
 
--- what is found in a front without an `@` is what is found in a host
+-- the flaw that is found in a front without an `@` is the flaw that is found in a host
 pub front_alone : (front : List ℕ) (r : Option Place) → FreeOf at_sign front → Checks front (BadScpHost front) (StandsForScpHost front) r → Checks front (BadFront front) (IsScpFront front) r
 front_alone front None at h = record {
   found = record { user = None; host = front; split = ScpUser.host_alone refl refl; hosted = h.found };
@@ -132,14 +132,14 @@ front_alone front None at h = record {
 }
 front_alone front (Some p) at h = record { found = BadFront.alone at h.found; within = h.within }
 
--- a user and a host that stands for one are a front
+-- a user and a host that denotes one are a front
 pub front_with_user : (front user host : List ℕ) → front ≡ user ++ at_sign ∷ host → Checks host (BadScpHost host) (StandsForScpHost host) None → Checks front (BadFront front) (IsScpFront front) None
 front_with_user front user host e h = record {
   found = record { user = Some user; host = host; split = ScpUser.with_user user e refl; hosted = h.found };
   within = tt;
 }
 
--- what is wrong with the host behind a user is wrong with the front
+-- a flaw of the host after a user is one of the front
 pub front_flawed : (front user host : List ℕ) (p : Place) → FreeOf at_sign host → front ≡ user ++ at_sign ∷ host → Checks host (BadScpHost host) (StandsForScpHost host) (Some p) → Checks front (BadFront front) (IsScpFront front) (Some (record { reason = p.reason; at = length user + 1 + p.at; len = p.len }))
 front_flawed front user host p at e h = record {
   found = BadFront.with_user user host at e (record { inside = p; found = h.found; stands = record { named = refl; start = refl; size = refl } });
@@ -148,7 +148,7 @@ front_flawed front user host p at e h = record {
 
 -- ---- the whole
 
--- what is found in the front of a text with a path is found in the text
+-- the flaw that is found in the front of a text with a path is found in the text
 pub scp_checked : (b front path : List ℕ) (r : Option Place) → PlainScp b front path → IsUtf8 b → false ≡ (length path == 0) → Checks front (BadFront front) (IsScpFront front) r → Checks b (BadScp b front path) (IsScp b) r
 scp_checked b front path None h text some k = record {
   found = (

@@ -1,5 +1,5 @@
--- Each check finds what its error names: the flaw of `git_syntax` that belongs to the reason is in the text.
--- So a text that is refused spells no location.
+-- Each check finds the flaw that its error names: the flaw of `git_syntax` that belongs to the reason is in
+-- the text. So a text that is refused spells no location.
 use Rattle.std.proofs.Common.{◌≡◌, ℕ, ◌<◌, ◌==◌, true, false, inl, inr, List, [], ◌∷◌, ◌++◌, length, Option, Some, None, refl, sym, ap, subst, ◌∙◌, arith, codes, IsUtf8}
 use Rattle.std.specs.Str.{chars}
 use Rattle.std.specs.List.{list_any}
@@ -40,7 +40,7 @@ use Rattle.git_refusals.proofs.Refusing.UrlLemmas.{url_pieces_utf8, FoundBehind}
 
 -- ---- schemes
 
--- what isn't a scheme
+-- a text that isn't a scheme
 bad_scheme_kind : (scheme : List ℕ) (p : Place) → BadScheme scheme p → kind_of p.reason ≡ kind.BadUrl fault.NoScheme
 bad_scheme_kind scheme p (BadScheme.missing e s) = ap kind_of s.named
 bad_scheme_kind scheme p (BadScheme.bad_start c rest size e other _ s) = ap kind_of s.named
@@ -72,7 +72,7 @@ passes_scheme (c ∷ rest) utf8 passes =
 
 -- ---- URLs
 
--- what the error of a reason names, by that error
+-- the flaw that the error of a reason names, by that error
 of_kind : (b : List ℕ) (form : UrlKind) (why : Reason) (error : RefusalKind) → kind_of why ≡ error → IsOfKind b form error → IsOfKind b form (kind_of why)
 of_kind b form why error e h = subst (λ k. IsOfKind b form k) (sym e) h
 
@@ -84,7 +84,7 @@ too_long_of b scheme rest p form h = of_kind b Url p.reason kind.TooLong (named 
     named (TooLong.long_scheme _ s) = ap kind_of s.named
     named (TooLong.long_rest _ _ s) = ap kind_of s.named
 
--- what is wrong behind a scheme
+-- a flaw after a scheme
 bad_rest_of : (b scheme rest : List ℕ) (p : Place) → OtherUrlForm b scheme rest → is_scheme_text scheme ≡ true → BadRest b scheme rest p → IsOfKind b Url (kind_of p.reason)
 bad_rest_of b scheme rest p form is h = found h.found
   where
@@ -107,7 +107,7 @@ bad_rest_of b scheme rest p form is h = found h.found
         (MissesPath.in_url scheme h.authority k.wanted (free_of_lacked (is_path_start (is_web_scheme scheme)) slash h.authority h.before_path refl)
         (joined ∙ ap (λ t. scheme ++ (codes "://" ++ (h.authority ++ t))) k.empty ∙ ap (λ t. scheme ++ (codes "://" ++ t)) (append-nil h.authority)))
 
--- what is wrong with a URL that isn't a file URL
+-- the flaw of a URL that isn't a file URL
 bad_url_of : (b scheme rest : List ℕ) (p : Place) → OtherUrlForm b scheme rest → BadUrl b scheme rest p → IsOfKind b Url (kind_of p.reason)
 bad_url_of b scheme rest p form (Then.at_first h) = too_long_of b scheme rest p form h
 bad_url_of b scheme rest p form (Then.at_second _ (Then.at_first h)) =
@@ -123,7 +123,7 @@ bad_url_of b scheme rest p form (Then.at_second _ (Then.at_second _ (Then.at_sec
 bad_url_of b scheme rest p form (Then.at_second _ (Then.at_second text (Then.at_second _ (Then.at_second _ (Then.at_second scheme_text h))))) =
     let (utf8, _) = url_pieces_utf8 b scheme rest form.form.joined (passes_text b text) in bad_rest_of b scheme rest p form (passes_scheme scheme utf8 scheme_text) h
 
--- what is wrong with a file URL
+-- the flaw of a file URL
 bad_file_of : (b rest : List ℕ) (p : Place) → UrlForm b (codes "file") rest → BadFile b rest p → IsOfKind b Url (kind_of p.reason)
 bad_file_of b rest p form (Then.at_first h) =
     of_kind b Url p.reason kind.NotUtf8 (ap kind_of h.stands.named) (h.no_text, (codes "file", rest, form))
@@ -135,7 +135,7 @@ bad_file_of b rest p form (Then.at_second _ h) = of_kind b Url p.reason kind.Mis
 some_length : (t : List ℕ) → 0 < length t → false ≡ (length t == 0)
 some_length t h = grind (arith, nat_tests)
 
--- brackets, or what is in a port's place
+-- brackets, or the text in the place of a port
 bad_scp_name_flaw : (host : List ℕ) (p : Place) → ColonsInside host → BadScpName host p → Flawed (ScpHostFlaw host) p.reason
 bad_scp_name_flaw host p colons (BadScpName.unclosed behind free e s) =
     flawed fault.BadCharacter (ap kind_of s.named) (ScpHostFlaw.bad_name fault.BadCharacter (subst (λ t. ScpNameFlaw t fault.BadCharacter) (sym e) (open_found behind free)))
@@ -178,7 +178,7 @@ bad_front_of b front path p form other text (BadFront.alone last h) = bad_split_
 bad_front_of b front path p form other text (BadFront.with_user user host last e k) =
     bad_split_of b front path (Some user) host p.reason k.inside form other text (ScpUser.with_user user e refl) last k.stands.named k.found
 
--- what is wrong with the scp form
+-- the flaw of the scp form
 bad_scp_of : (b front path : List ℕ) (p : Place) → ScpForm b front path → ¬ IsAddressed b → BadScp b front path p → IsOfKind b Scp (kind_of p.reason)
 bad_scp_of b front path p form other (Then.at_first h) =
     of_kind b Scp p.reason kind.NotUtf8 (ap kind_of h.stands.named) (h.no_text, inl (front, path, form))
@@ -186,7 +186,7 @@ bad_scp_of b front path p form other (Then.at_second _ (Then.at_first h)) =
     of_kind b Scp p.reason kind.MissingPath (ap kind_of h.stands.named) (MissesPath.in_scp front (subst (λ t. ScpForm b front t) h.empty form))
 bad_scp_of b front path p form other (Then.at_second text (Then.at_second _ h)) = bad_front_of b front path p form other (passes_text b text) h
 
--- what is wrong with the form `user@[address]:path`
+-- the flaw of the form `user@[address]:path`
 bad_addressed_of : (b user address path : List ℕ) (p : Place) → AddressedForm b user address path → BadAddressed b path p → IsOfKind b Scp (kind_of p.reason)
 bad_addressed_of b user address path p form (Then.at_first h) =
     of_kind b Scp p.reason kind.NotUtf8 (ap kind_of h.stands.named) (h.no_text, inr (user, address, path, form))

@@ -1,4 +1,4 @@
--- URLs: what the checks find in one, and that a text in which none finds anything is one.
+-- URLs: the flaws that the checks find in one, and that a text in which none finds anything is one.
 use Rattle.std.proofs.Common.{◌≡◌, ℕ, ◌+◌, ◌<◌, ◌≤◌, Bool, true, inl, inr, List, [], ◌∷◌, ◌++◌, length, Option, Some, None, refl, sym, ap, subst, arith, length-append, codes, IsUtf8}
 use Rattle.std.specs.Char.{is_whitespace}
 use Rattle.std.proofs.lemmas.Bool.Decides.{nat_tests}
@@ -29,7 +29,7 @@ use Rattle.git_refusals.proofs.Refusing.AuthorityLemmas.{parts_pass}
 
 -- ---- pieces of a text
 
--- what is before and behind the mark of a URL that is UTF-8 is UTF-8
+-- the text before and after the mark of a URL that is UTF-8 is UTF-8
 pub url_pieces_utf8 : (b scheme rest : List ℕ) → b ≡ scheme ++ (codes "://" ++ rest) → IsUtf8 b → IsUtf8 scheme × IsUtf8 rest
 url_pieces_utf8 b scheme rest e text =
     let parts = utf8_parts scheme (slash ∷ (slash ∷ rest)) colon (subst IsUtf8 e text) (omega arith) in
@@ -40,13 +40,13 @@ url_pieces_utf8 b scheme rest e text =
 path_start_ascii : (web : Bool) (c : ℕ) → is_path_start web c ≡ true → c < 128
 path_start_ascii web c h = grind (arith, nat_tests)
 
--- an authority is UTF-8 where it is with the path behind it
+-- an authority is UTF-8 if it is with the path after it
 pub authority_utf8 : (web : Bool) (authority path : List ℕ) → StartsPath web path → IsUtf8 (authority ++ path) → IsUtf8 authority
 authority_utf8 web authority [] starts text = subst IsUtf8 (append-nil authority) text
 authority_utf8 web authority (c ∷ path) (inl none) text = cc
 authority_utf8 web authority (c ∷ path) (inr begins) text = (utf8_parts authority path c text (path_start_ascii web c begins)).0
 
--- ---- what is behind the scheme
+-- ---- the text after the scheme
 
 -- the check of an authority by the rules of its scheme is that of its scheme
 pub by_rules : {scheme authority : List ℕ} {rules : Rules} {r : Option Place} → AreRulesOf scheme rules → Checks authority (BadAuthority (host_syntax rules.syntax) rules.needs_host authority) (HoldsParts (host_syntax rules.syntax) rules.needs_host authority) r
@@ -55,7 +55,7 @@ by_rules {scheme} {authority} {rules} {r} are h =
     subst (λ n. Checks authority (BadAuthority (host_syntax_of scheme) n authority) (HoldsParts (host_syntax_of scheme) n authority) r) are.host
     (subst (λ s. Checks authority (BadAuthority s rules.needs_host authority) (HoldsParts s rules.needs_host authority) r) are.syntax h)
 
--- what is found behind a scheme, in what follows it cut before its path
+-- the flaw that is found after a scheme, in the text after it cut before its path
 abbrev pub FoundBehind : List ℕ → List ℕ → List ℕ → List ℕ → Place → Type 0
 FoundBehind b scheme authority path = Then (Behind (length scheme + 3 + length authority) (Undecodable path))
     (Then (Behind (length scheme + 3) (BadAuthority (host_syntax_of scheme) (requires_host scheme) authority)) (NoPath scheme b path))
@@ -65,7 +65,7 @@ pub url_length : (b scheme rest authority path : List ℕ) → OtherUrlForm b sc
 url_length b scheme rest authority path form cut =
     omega (arith, ap length form.form.joined, length-append scheme (codes "://" ++ rest), ap length cut.joined, length-append authority path)
 
--- what is found behind a scheme is wrong there
+-- the flaw that is found after a scheme is one of the text there
 pub found_behind : {b scheme rest authority path : List ℕ} {p : Place} → CutsRest scheme rest authority path → FoundBehind b scheme authority path p → p.at + p.len ≤ length b → Checks b (BadRest b scheme rest) (HoldsRest scheme rest) (Some p)
 found_behind {b} {scheme} {rest} {authority} {path} {p} cut h within = record {
   found = record { authority = authority; path = path; joined = cut.joined; before_path = cut.before_path; path_starts = cut.path_starts; found = h };
@@ -95,7 +95,7 @@ no_path b scheme rest authority path cut text held wanted empty =
     (record { wanted = wanted; empty = empty; stands = record { named = refl; start = refl; size = refl } })))
     (omega arith)
 
--- what is behind a scheme, where nothing is wrong with it
+-- the text after a scheme, if it has no flaw
 pub rest_held : (scheme rest authority path : List ℕ) → CutsRest scheme rest authority path → IsUtf8 (percent_decode path) → HoldsParts (host_syntax_of scheme) (requires_host scheme) authority
     → (requires_path (scheme_of scheme) ≡ true → 0 < length path) → HoldsRest scheme rest
 rest_held scheme rest authority path cut text held pathed = record {
@@ -111,11 +111,11 @@ rest_held scheme rest authority path cut text held pathed = record {
 
 -- ---- whole URLs
 
--- the parts of a URL mean a location by a scheme
+-- the parts of a URL denote a location by a scheme
 by_scheme : (scheme : Scheme) (parts : UrlSyntax) → (requires_path scheme ≡ true → 0 < length parts.path) → (v : Location) × DenotesByScheme scheme parts v
 by_scheme scheme parts pathed = (url_location scheme parts, means_location scheme parts pathed)
 
--- the parts of a URL mean a location
+-- the parts of a URL denote a location
 pub meaning : (scheme : Scheme) (b : List ℕ) (parts : UrlSyntax) → (requires_path scheme ≡ true → 0 < length parts.path) → (v : Location) × DenotesAs scheme b parts v
 meaning ext b parts pathed = (path_alone ext true b, refl)
 meaning file b parts pathed = by_scheme file parts pathed
@@ -126,7 +126,7 @@ meaning https b parts pathed = by_scheme https parts pathed
 meaning (helper name) b parts pathed = by_scheme (helper name) parts pathed
 meaning (helper_url name) b parts pathed = by_scheme (helper_url name) parts pathed
 
--- a URL that passes each check but that of what is behind its scheme
+-- a URL that passes each check but that of the text after its scheme
 pub record PassesFront (b scheme rest : List ℕ) : Type 0 where
   pub form : OtherUrlForm b scheme rest
   pub fits : Fits scheme rest
@@ -149,19 +149,19 @@ url_spelled b scheme rest front h =
       },
     )
 
--- what is found behind its scheme is what is wrong with it
+-- the flaw that is found after its scheme is its flaw
 pub rest_found : (b scheme rest : List ℕ) (p : Place) → PassesFront b scheme rest → BadRest b scheme rest p → BadUrl b scheme rest p
 rest_found b scheme rest p front h =
     Then.at_second (fits_passes scheme rest front.fits) (Then.at_second (text_passes b front.text)
     (Then.at_second (character_passes _ is_whitespace b front.white) (Then.at_second (sound_passes b front.sound)
     (Then.at_second (scheme_passes scheme front.named) h))))
 
--- so the check of what is behind the scheme decides
+-- so the check of the text after the scheme decides
 pub rest_decides : (b scheme rest : List ℕ) (r : Option Place) → PassesFront b scheme rest → Checks b (BadRest b scheme rest) (HoldsRest scheme rest) r → Checks b (BadUrl b scheme rest) (IsUrl b) r
 rest_decides b scheme rest None front h = record { found = url_spelled b scheme rest front h.found; within = tt }
 rest_decides b scheme rest (Some p) front h = record { found = rest_found b scheme rest p front h.found; within = h.within }
 
--- what is wrong with the scheme of a URL is wrong with the URL
+-- a flaw of the scheme of a URL is one of the URL
 pub scheme_found : (b scheme rest : List ℕ) (p : Place) → OtherUrlForm b scheme rest → Fits scheme rest → IsUtf8 b → LacksWhiteSpace b → is_sound b ≡ true
     → Checks scheme (BadScheme scheme) (is_scheme_text scheme ≡ true) (Some p) → Checks b (BadUrl b scheme rest) (IsUrl b) (Some p)
 scheme_found b scheme rest p form fits text white sound h = record {

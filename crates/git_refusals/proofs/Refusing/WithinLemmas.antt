@@ -1,4 +1,4 @@
--- The place that each check finds is in the piece that it looks at. So the place of a refusal is in its text.
+-- The place that each check finds is in the piece that it tests. So the place of a refusal is in its text.
 use Rattle.std.proofs.Common.{◌≡◌, ℕ, ◌+◌, ◌≤◌, Bool, List, [], ◌∷◌, ◌++◌, length, drop, refl, sym, ap, subst, ◌∙◌, arith, length-append, length-drop, length-take, codes, IsUtf8, encode_utf8_all, Some, None}
 use Rattle.std.specs.Str.Lossy.{utf8_valid_len, utf8_invalid_len, utf8_error_len}
 use Rattle.std.proofs.lemmas.Bool.Decides.{nat_tests}
@@ -28,7 +28,7 @@ use Rattle.git_refusals.proofs.Refusing.UrlLemmas.{url_pieces_utf8, authority_ut
 abbrev pub IsWithin : List ℕ → Place → Type 0
 IsWithin piece p = p.at + p.len ≤ length piece
 
--- a place in a piece behind others is in a whole that reaches so far
+-- a place in a piece after others is in a whole that reaches so far
 behind_inside : (why : Reason) (before : ℕ) (inside p : Place) (piece whole : List ℕ) → Stands why (before + inside.at) inside.len p → IsWithin piece inside → before + length piece ≤ length whole → IsWithin whole p
 behind_inside why before inside p piece whole s h long = omega (arith, s.start, s.size, h, long)
 
@@ -68,7 +68,7 @@ broken_within text p h = omega (arith, h.stands.size, h.first.offset, ap length 
 
 -- ---- hosts and ports
 
--- a text that stands for no host
+-- a text that denotes no host
 no_host_within : (syntax : HostSyntax) (text : List ℕ) (p : Place) → IsUtf8 text → NoHostText syntax text p → IsWithin text p
 no_host_within http_hosts text p utf8 h = character_inside _ text p.at p.len utf8 h.stands
 no_host_within git_hosts text p utf8 h = undecodable_within text p h
@@ -80,7 +80,7 @@ no_other_within http_hosts text p s = omega (arith, s.start, s.size)
 no_other_within git_hosts text p h = undecodable_within text p h
 no_other_within other_hosts text p h = undecodable_within text p h
 
--- what is in a port's place
+-- the text in the place of a port
 no_digits_within : (digits : List ℕ) (p : Place) → NoDigits digits p → IsWithin digits p
 no_digits_within digits p h = omega (arith, h.stands.start, h.stands.size)
 
@@ -156,7 +156,7 @@ bad_authority_within syntax needed authority p utf8 (Then.at_second _ h) = bad_p
 
 -- ---- URLs
 
--- what is too long
+-- a scheme or a text that is too long
 too_long_within : (b scheme rest : List ℕ) (p : Place) → b ≡ scheme ++ (codes "://" ++ rest) → TooLong scheme rest p → IsWithin b p
 too_long_within b scheme rest p e (TooLong.long_scheme _ s) = omega (arith, s.start, s.size, ap length e, length-append scheme (codes "://" ++ rest))
 too_long_within b scheme rest p e (TooLong.long_rest _ _ s) =
@@ -168,7 +168,7 @@ bad_scheme_within scheme p utf8 (BadScheme.missing _ s) = omega (arith, s.start,
 bad_scheme_within scheme p utf8 (BadScheme.bad_start c rest size _ _ first s) = omega (arith, s.start, s.size, character_inside _ scheme 0 size utf8 first)
 bad_scheme_within scheme p utf8 (BadScheme.bad_character _ _ _ _ h) = character_inside _ scheme p.at p.len utf8 h.stands
 
--- what is behind a scheme
+-- the text after a scheme
 bad_rest_within : (b scheme rest : List ℕ) (p : Place) → b ≡ scheme ++ (codes "://" ++ rest) → IsUtf8 rest → BadRest b scheme rest p → IsWithin b p
 bad_rest_within b scheme rest p e utf8 h = found h.found
   where
@@ -201,7 +201,7 @@ bad_file_within b rest p (Then.at_second _ h) = omega (arith, h.stands.start, h.
 
 -- ---- the scp form
 
--- the brackets of a host, or what is in a port's place
+-- the brackets of a host, or the text in the place of a port
 bad_scp_name_within : (host : List ℕ) (p : Place) → BadScpName host p → IsWithin host p
 bad_scp_name_within host p (BadScpName.unclosed behind _ e s) = omega (arith, s.start, s.size, ap length e)
 bad_scp_name_within host p (BadScpName.behind_bracket x rest _ _ e s) = omega (arith, s.start, s.size, ap length e, length-append x (right_bracket ∷ rest))

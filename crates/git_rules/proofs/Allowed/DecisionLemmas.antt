@@ -10,7 +10,7 @@ module _ (P : ConfigEntry → Type 0) where
   abbrev Lacks : ConfigEntry → Type 0
   Lacks e = ¬ P e
 
-  -- what none of the entries has, no entry among them has
+  -- a property that no entry has is one that no entry among them has
   lacked : (before after : List ConfigEntry) (e : ConfigEntry) → All Lacks (before ++ e ∷ after) → ¬ P e
   lacked [] after e none = All-head Lacks e after none
   lacked (b ∷ before) after e none = lacked before after e (All-tail Lacks b (before ++ e ∷ after) none)

@@ -21,7 +21,7 @@ module _ (P : ConfigEntry → Type 0) (q : ConfigEntry → Bool) (passes : (e : 
   none_by e es true is none rest = All-cons (λ e. ¬ P e) e es (All-head (λ e. ¬ P e) e (filter q es) none) (rest (All-tail (λ e. ¬ P e) e (filter q es) none))
   none_by e es false is none rest = All-cons (λ e. ¬ P e) e es (λ has. both_ways (q e) is (passes e has)) (rest none)
 
-  -- none has the property where none that passes has it
+  -- none has the property if none that passes has it
   none_back : (es : List ConfigEntry) → All (λ e. ¬ P e) (filter q es) → All (λ e. ¬ P e) es
   none_back [] none = none
   none_back (e ∷ es) none = none_by e es (q e) refl none (none_back es)
@@ -90,6 +90,6 @@ decides_back : (list : Option (List ℕ)) (policy : Policy) (name : List ℕ) (r
 decides_back (Some list) policy name r is = is
 decides_back None policy name r (chosen, counts, is) = (chosen, counts_back policy.entries name chosen counts, is)
 
--- what Git does about a transport is the same by the entries of the section as by all
+-- Git's decision about a transport is the same by the entries of the section as by all
 pub section_decides : SectionDecides
 section_decides policy name r = (decides_kept policy.allow_list policy name r, decides_back policy.allow_list policy name r)

@@ -1,4 +1,5 @@
--- Each text has a transport or a reason why it has none, and the transport is that of what Git reads.
+-- Each text has a transport or a reason why it has none, and the transport is that of the place that Git
+-- reads.
 use Rattle.std.proofs.Common.{◌≡◌, ◌∙◌, ℕ, true, false, ◌==◌, ◌⊎◌, inl, inr, List, [], ◌∷◌, ◌++◌, codes, bytes_eq, refl, sym, ap, subst, append-nil, arith}
 use Rattle.std.specs.List.{starts_with}
 use Rattle.std.proofs.lemmas.Bool.{cases_Bool, false≢true, or_cases}
@@ -22,7 +23,7 @@ use Rattle.git_rules.specs.declared.protocols.text.NoTransport.TheVariants as wh
 use Rattle.git_rules.specs.TextTransports.{IsWholeInput, scheme_transport, UsesTransport, HasTransport, LacksTransport, EachDecided, TransportOfReading, TransportOfLocation}
 use Rattle.git_rules.proofs.Allowed.TransportLemmas.{for_rsync, names_none, unknown, uses_empty, uses_helper, uses_url}
 
--- ---- what a text begins with and holds
+-- ---- fronts and parts of a text
 
 -- a text begins with a mark or not
 begins_or_not : (mark t : List ℕ) → BeginsBy mark t ⊎ ¬ BeginsBy mark t
@@ -72,7 +73,7 @@ mark_or_none (b ∷ bs) = elim (begins_or_not url_mark (b ∷ bs)) [
 abbrev HelperOrNone : List ℕ → Type 0
 HelperOrNone t = ((name : List ℕ) × UsesTransport t name) ⊎ ¬ NamesHelper t
 
--- a text that is cut at its first colon, with another one behind it
+-- a text that is cut at its first colon, with another one after it
 double_decided : (t name address : List ℕ) → FreeOf colon name → t ≡ name ++ colon ∷ address → begins_with colon address ≡ true → HelperOrNone t
 double_decided t [] address free e double = inl ([], uses_empty t address e double)
 double_decided t (b ∷ bs) address free e double = elim (cases_Bool (is_helper_name (b ∷ bs))) [
@@ -148,9 +149,9 @@ each_decided t = elim (free_or_cut 0 t) [
   ]
 ]
 
--- ---- what Git reads
+-- ---- the places that Git reads
 
--- what is known of the scheme of one of Git's own transports
+-- the known facts about the scheme of one of Git's own transports
 record IsOwnName (known : Scheme) (scheme : List ℕ) : Type 0 where
   named : is_helper_name scheme ≡ true
   other : ¬ (scheme ≡ codes "rsync")
@@ -190,7 +191,7 @@ file_name s h = subst (IsOwnName file) (sym ((bytes_eq-Decides s (codes "file"))
 of_protocol : (t : List ℕ) (known p : Scheme) → p ≡ known → UsesTransport t (scheme_text known) → UsesTransport t (scheme_text p)
 of_protocol t known p e h = subst (λ s. UsesTransport t (scheme_text s)) (sym e) h
 
--- the transport of a text is that of what is read there
+-- the transport of a text is that of the place that is read in it
 reads_use : (t : List ℕ) (r : GitReading) → ReadsInput t r → UsesTransport t (scheme_text r.protocol)
 reads_use t r (ReadsInput.secure_url rest place path u cut h) = of_protocol t ssh r.protocol (ap (λ (g : GitReading). g.protocol) h.value) (own_uses ssh t rest u (ssh_name u.scheme (ssh_scheme u.scheme u.own)))
 reads_use t r (ReadsInput.git_url rest place path u cut h) = of_protocol t git r.protocol (ap (λ (g : GitReading). g.protocol) h.value) (own_uses git t rest u (git_name u.scheme (git_scheme u.scheme u.own)))
@@ -198,7 +199,7 @@ reads_use t r (ReadsInput.file_url rest place path u cut is) = of_protocol t fil
 reads_use t r (ReadsInput.scp_form place path n m cut h) = of_protocol t ssh r.protocol (ap (λ (g : GitReading). g.protocol) h.value) (UsesTransport.scp_form n m refl)
 reads_use t r (ReadsInput.local_path passed path n l end some safe low is) = of_protocol t file r.protocol (ap (λ (g : GitReading). g.protocol) is) (UsesTransport.local_path n l refl)
 
--- where Git reads a place in a text, the transport of the text is that of the place
+-- if Git reads a place in a text, the transport of the text is that of the place
 pub transport_of_reading : TransportOfReading
 transport_of_reading t r h = record { input = record { whole = h.whole; no_option = h.no_option }; uses = reads_use t r h.reads }
 

@@ -1,4 +1,5 @@
--- The transport of a text: each text has one, or one reason why it has none, and it is that of what Git reads.
+-- The transport of a text: each text has one, or one reason why it has none, and it is that of the place that
+-- Git reads.
 use Rattle.std.proofs.Common.{◌≡◌, ◌∙◌, ℕ, true, false, inl, inr, List, [], ◌∷◌, ◌++◌, codes, refl, sym, ap}
 use Rattle.std.proofs.lemmas.Bool.{both_ways, false_from_ne_true, false≢true}
 use Rattle.git_syntax.specs.Bytes.{slash, colon, FreeOf, Holds, begins_with, is_helper_name, is_option_like}
@@ -72,7 +73,7 @@ one_use t a b (UsesTransport.local_path n l is) (UsesTransport.local_path n' l' 
 pub one_transport : OneTransport
 one_transport t name other h k = one_use t name other h.uses k.uses
 
--- ---- what excludes a reason
+-- ---- the facts that exclude a reason
 
 -- a text has a byte 0 or none
 given_whole : {A : Type 0} (t : List ℕ) → ¬ FreeOf 0 t → FreeOf 0 t → A
@@ -113,9 +114,9 @@ has_or_lacks t name why.OptionLike h k = given_plain t k.1 h.input
 has_or_lacks t name why.Rsync h k = rsync_unused t name k.1 h.uses
 has_or_lacks t name why.UnknownScheme h k = unknown_unused t name k.1 h.uses
 
--- ---- what decides
+-- ---- the facts that decide
 
--- a text with two colons behind a front names a helper, if the front is a name or empty
+-- a text with two colons after a front names a helper, if the front is a name or empty
 front_name : (t name address : List ℕ) → FreeOf colon name → t ≡ name ++ colon ∷ address → NamesHelper t → is_helper_name name ≡ false → name ≡ []
 front_name t name address free e (inl (n, a, k)) other =
     let same = (cut_unique colon n name (colon ∷ a) address (name_free n k.named) free (sym k.joined ∙ e)).0 in
@@ -126,7 +127,7 @@ front_name t name address free e (inr (rest, is)) other = (cut_unique colon name
 pub names_none : (t name address : List ℕ) → FreeOf colon name → t ≡ name ++ colon ∷ address → ¬ (name ≡ []) → is_helper_name name ≡ false → ¬ NamesHelper t
 names_none t name address free e some other h = some (front_name t name address free e h other)
 
--- a text with two colons behind a name uses the helper of that name
+-- a text with two colons after a name uses the helper of that name
 pub uses_helper : (t name address : List ℕ) → t ≡ name ++ colon ∷ address → begins_with colon address ≡ true → is_helper_name name ≡ true → UsesTransport t name
 uses_helper t name address e double named =
     let (rest, is) = begins_cut colon address double in

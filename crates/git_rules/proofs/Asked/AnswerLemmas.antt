@@ -1,5 +1,5 @@
--- The answers on credentials: what is used of a front of the entries, at which entry Git stops, and that what
--- is used is one.
+-- The answers on credentials: the settings by a front of the entries, at which entry Git stops, and that the
+-- text is used is one.
 use Rattle.std.proofs.Common.{◌≡◌, ◌↔◌, Bool, true, false, IsTrue, Contains, ℕ, suc, ◌+◌, ◌<◌, List, [], ◌∷◌, ◌++◌, length, take, drop, get_or, refl, sym, ap, subst, ◌∙◌, arith}
 use Rattle.std.proofs.lemmas.List.{length-take-le}
 use Rattle.std.proofs.lemmas.List.Kept.{AllPairs-from_increasing}
@@ -27,7 +27,7 @@ pub further_passed : (r : CredentialReading) (entries : List ConfigEntry) (i : �
 further_passed r entries i e used within is h not_so =
     subst (λ es. AreCredentials r es used) (front_more entries i e within is) (passed_over r (take i entries) e used h not_so)
 
--- ---- where Git stops
+-- ---- if Git stops
 
 stops_first : (r : CredentialReading) (done others : List ConfigEntry) (e : ConfigEntry) (used : CredentialUse) (error : CredentialsError) → AreCredentials r done used → AppliesTo r used.user e → StopsAt e error → StopsFirst r (done ++ e ∷ others) error
 stops_first r done others e used error h applies stops = record {

@@ -1,5 +1,5 @@
--- Which entries apply: what fits a request, the user that Git has, and that a front of a list is gone through
--- alike in the whole list.
+-- Which entries apply: the subsections that fit a request, the user that Git has, and that a front of a list
+-- is gone through alike in the whole list.
 use Rattle.std.proofs.Common.{◌≡◌, ℕ, ◌+◌, ◌<◌, ◌⊎◌, ◌↔◌, inl, inr, Bool, true, false, List, [], ◌∷◌, ◌++◌, codes, length, refl, sym, ap, subst, ◌∙◌, arith, append_assoc, length-append, IsTrue, Option, Some, None, IfOk, Result, Ok, Err}
 use Rattle.std.proofs.lemmas.Bool.{cases_lt}
 use Rattle.git_reads.specs.Credentials.{CredentialReading}
@@ -20,24 +20,24 @@ form_unique globs t None (Some n) h k = absurd (h n k)
 form_unique globs t (Some n) None h k = absurd (k n h)
 form_unique globs t (Some n) (Some m) h k = ap Some (normal_unique globs t n m h k)
 
--- a pattern that stands for the place of the request
+-- a pattern that denotes the place of the request
 pub fits_matched : (url : List ℕ) (r : CredentialReading) (user : Option (List ℕ)) (place : Option NormalPlace) (pattern : NormalPlace) → IsFormOf false (credential_url r) place → IsNormalOf true url pattern → MatchesForm pattern place → FitsSubsection (Some url) r user
 fits_matched url r user place pattern form is matches = inl (place, form, (pattern, is, matches))
 
--- a subsection that fits and has a normal form stands for the place
+-- a subsection that fits and has a normal form denotes the place
 pub matched_fits : (url : List ℕ) (r : CredentialReading) (user : Option (List ℕ)) (place : Option NormalPlace) (pattern : NormalPlace) → IsFormOf false (credential_url r) place → IsNormalOf true url pattern → FitsSubsection (Some url) r user → MatchesForm pattern place
 matched_fits url r user place pattern form is (inl (other, also, (found, is_found, matches))) =
     subst (λ p. MatchesForm p place) (normal_unique true url found pattern is_found is) (subst (MatchesForm found) (form_unique false (credential_url r) other place also form) matches)
 matched_fits url r user place pattern form is (inr (none, parts)) = absurd (none pattern is)
 
--- so it is decided where the subsection has a normal form
+-- so it is decided if the subsection has a normal form
 pub fits_decided : (url : List ℕ) (r : CredentialReading) (user : Option (List ℕ)) (place : Option NormalPlace) (matches : Bool) → IsFormOf false (credential_url r) place → DecidesUrl url place (Some matches) → IsTrue matches ↔ FitsSubsection (Some url) r user
 fits_decided url r user place matches form (pattern, is, (to, from)) = (
   λ t. fits_matched url r user place pattern form is (to t),
   λ fits. from (matched_fits url r user place pattern form is fits),
 )
 
--- and where it has none, the parts decide
+-- and if it has none, the parts decide
 pub fits_parts : (url : List ℕ) (r : CredentialReading) (user : Option (List ℕ)) → IsFormOf true url None → FitsSubsection (Some url) r user → FitsPartly url r user
 fits_parts url r user none (inl (place, form, (pattern, is, matches))) = absurd (none pattern is)
 fits_parts url r user none (inr (_, parts)) = parts
@@ -47,7 +47,7 @@ pub fits_by_parts : {E : Type 0} (url : List ℕ) (r : CredentialReading) (user 
 fits_by_parts url r user (Ok fits) none (to, from) = (λ on. inr (none, to on), λ h. from (fits_parts url r user none h))
 fits_by_parts url r user (Err e) none h = h
 
--- an entry of the section applies where its subsection fits
+-- an entry of the section applies if its subsection fits
 pub applies_by : {E : Type 0} (url : List ℕ) (r : CredentialReading) (user : Option (List ℕ)) (e : ConfigEntry) (found : Result Bool E) → is_of_section (codes "credential") e ≡ true → e.subsection ≡ Some url → IfOk found (λ fits. IsTrue fits ↔ FitsSubsection (Some url) r user) → IfOk found (λ applies. IsTrue applies ↔ AppliesTo r user e)
 applies_by url r user e (Ok fits) of same (to, from) = (
   λ on. (of, subst (λ s. FitsSubsection s r user) (sym same) (to on)),
@@ -80,14 +80,14 @@ through_more r (d ∷ done) e user last next (middle, first, more) change =
 
 -- ---- fronts
 
--- what applies has a place in the list
+-- an entry that applies has a place in the list
 pub place_within : (r : CredentialReading) (entries : List ConfigEntry) (i : ℕ) (e : ConfigEntry) → AppliesAt r entries i e → i < length entries
 place_within r entries i e h =
     let size : length entries ≡ length h.before + length (e ∷ h.others) = ap length h.joined ∙ length-append h.before (e ∷ h.others) in
     let at : length h.before ≡ i = h.index in
     omega (arith, size, at)
 
--- what applies in a front applies in the whole list
+-- an entry that applies in a front applies in the whole list
 pub grow : (r : CredentialReading) (done more : List ConfigEntry) (i : ℕ) (e : ConfigEntry) → AppliesAt r done i e → AppliesAt r (done ++ more) i e
 grow r done more i e h = record {
   before = h.before;
@@ -99,7 +99,7 @@ grow r done more i e h = record {
   applies = h.applies;
 }
 
--- what applies in the whole list at a place of the front applies in the front
+-- an entry that applies in the whole list at a place of the front applies in the front
 pub shrink : (r : CredentialReading) (done more : List ConfigEntry) (i : ℕ) (e : ConfigEntry) → i < length done → AppliesAt r (done ++ more) i e → AppliesAt r done i e
 shrink r done more i e short h =
     let at : length h.before ≡ i = h.index in
@@ -114,7 +114,7 @@ shrink r done more i e short h =
       applies = h.applies;
     }
 
--- what applies with one entry more applies without it, or is this entry
+-- an entry that applies with one entry more applies without it, or is this entry
 pub applied_cases : (r : CredentialReading) (done : List ConfigEntry) (t : ConfigEntry) (i : ℕ) (e : ConfigEntry) → AppliesAt r (done ++ t ∷ []) i e → AppliesAt r done i e ⊎ ((i ≡ length done) × (e ≡ t))
 applied_cases r done t i e h = elim (cases_lt i (length done)) [
   | inl short ↦ inl (shrink r done (t ∷ []) i e short h)
@@ -147,7 +147,7 @@ not_here r done t user through not_so e h =
     let same : h.user ≡ user = through_unique r done r.user h.user user (subst (λ z. UserThrough r z r.user h.user) seam.0 h.through) through in
     not_so (subst (AppliesTo r user) seam.1 (subst (λ z. AppliesTo r z e) same h.applies))
 
--- what applies and has a name, with one entry more
+-- an entry that applies and has a name, with one entry more
 pub sets_cases : (name : List ℕ) (r : CredentialReading) (done : List ConfigEntry) (t : ConfigEntry) (i : ℕ) (e : ConfigEntry) → SetsAt name r (done ++ t ∷ []) i e → SetsAt name r done i e ⊎ ((i ≡ length done) × (e ≡ t) × SetsAt name r (done ++ t ∷ []) (length done) t)
 sets_cases name r done t i e (applies, named) = elim (applied_cases r done t i e applies) [
   | inl old ↦ inl (old, named)

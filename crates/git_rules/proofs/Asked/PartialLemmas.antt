@@ -40,7 +40,7 @@ named_cut rest authority behind whole is before start = record {
   path_start = start;
 }
 
--- what is read in pieces doesn't depend on the protocol
+-- the reading in pieces doesn't depend on the protocol
 named_pieces : (authority behind : List ℕ) (r : CredentialReading) → ReadsPieces authority behind r → ReadsPieces authority behind (Named r)
 named_pieces authority behind r h = record { named = h.named; cut = h.cut; host = h.host; path = h.path }
 
@@ -59,13 +59,13 @@ partly_unique t r other h k =
       path = ap (λ (z : CredentialReading). z.path) same i;
     }
 
--- what is read decides whether the text fits
+-- the reading decides whether the text fits
 pub fits_read : (t : List ℕ) (wanted own : CredentialReading) (user : Option (List ℕ)) → ReadsPartly t wanted → FitsPartly t own user → LackNewlines wanted × HasParts wanted own user
 fits_read t wanted own user reads (other, also, lines, parts) =
     let same = partly_unique t other wanted also reads in
     (subst LackNewlines same lines, subst (λ z. HasParts z own user) same parts)
 
--- what is read in the pieces of a text
+-- the reading in the pieces of a text
 pub reads_partly : (t protocol authority behind : List ℕ) (wanted : CredentialReading) → FreeOf 0 t → CutsPartly t protocol authority behind → wanted.protocol ≡ protocol → ReadsPieces authority behind wanted → ReadsPartly t wanted
 reads_partly t protocol authority behind wanted whole cut same pieces = record {
   authority = authority;

@@ -3,7 +3,7 @@ use Rattle.std.proofs.Common.{◌≡◌, List, [], ◌∷◌, ◌++◌, Ok, Err,
 use Rattle.git_rules.specs.Config.{ConfigEntry}
 use Rattle.git_rules.specs.ConfigItems.{Item, Place, ReadsItem, ReadsItems, entries_of}
 
--- what is read from a place on, with the items before it, is what is read from the first place on
+-- the reading from a place on, with the items before it, is the reading from the first place on
 abbrev pub Continues : Place → List Item → Place → Type 0
 Continues first done from = (more : List Item) → ReadsItems from more → ReadsItems first (done ++ more)
 
@@ -22,7 +22,7 @@ entries_of-append [] b = refl
 entries_of-append (Ok e ∷ a) b = ap (λ es. e ∷ es) (entries_of-append a b)
 entries_of-append (Err e ∷ a) b = entries_of-append a b
 
--- what was kept and the entry in one more item
+-- the entries kept so far and the entry in one more item
 pub one_kept : (done : List Item) (item : Item) (found new : List ConfigEntry) → found ≡ entries_of done → new ≡ found ++ entries_of (item ∷ []) → new ≡ entries_of (done ++ item ∷ [])
 one_kept done item found new h more =
     more ∙ ap (λ es. es ++ entries_of (item ∷ [])) h ∙ sym (entries_of-append done (item ∷ []))

@@ -5,7 +5,7 @@ use Rattle.git_syntax.specs.Bytes.{FreeOf, begins_by, dot, newline}
 use Rattle.git_syntax.proofs.Texts.CutLemmas.{class_cut_unique, cut_unique, last_cut_unique, not_free}
 use Rattle.git_rules.specs.Config.{ConfigEntry, SpellsEntry, SpellsKey, name_text, value_text}
 
--- what follows the first dot determines the subsection and the name
+-- the text after the first dot determines the subsection and the name
 pub name_unique : (a b : Option (List ℕ)) (n m : List ℕ) → FreeOf dot n → FreeOf dot m → name_text a n ≡ name_text b m → (a ≡ b) × (n ≡ m)
 name_unique None None n m f g e = (refl, e)
 name_unique None (Some y) n m f g e = absurd (not_free dot y m (subst (λ t. FreeOf dot t) e f))
@@ -34,7 +34,7 @@ no_name key a b s found sub m n free e last is empty (k, f) =
     let behind = (section_is key a b s sub n free e (k, f)).1 in
     k.3 (sym (name_unique found sub m n last k.2 (sym is ∙ behind)).1 ∙ empty)
 
--- what follows a key is nothing, or begins with a line feed
+-- the text after a key is nothing, or begins with a line feed
 pub value_begins : (v : Option (List ℕ)) → (value_text v ≡ []) ⊎ (begins_by (λ d. d == newline) (value_text v) ≡ true)
 value_begins None = inl refl
 value_begins (Some v) = inr (eq-eqb newline newline refl)

@@ -7,7 +7,7 @@ use Rattle.git_rules.specs.ConfigItems.{Item, MeansItem, Place, ReadsItem, Reads
 use Rattle.git_rules.specs.declared.config.EntryError.TheVariants.{NoEnd, NoKey}
 use Rattle.git_rules.proofs.Entries.KeyLemmas.{name_unique, value_begins}
 
--- what follows a key determines the value
+-- the text after a key determines the value
 value_unique : (v w : Option (List ℕ)) → value_text v ≡ value_text w → v ≡ w
 value_unique None None e = refl
 value_unique None (Some w) e = cc
@@ -23,7 +23,7 @@ entry_unique line e f (k, free_k, (is_k, key_k), whole_k) (l, free_l, (is_l, key
     let values = value_unique e.value f.value pieces.1 in
     λ i. record { section = keys.0 i; subsection = names.0 i; name = names.1 i; value = values i; at = at i }
 
--- and means one item
+-- and denotes one item
 item_unique : (at : ℕ) (line : List ℕ) (a b : Item) → MeansItem at line a → MeansItem at line b → a ≡ b
 item_unique at line (Ok e) (Ok f) h k = ap (λ x. Ok x) (entry_unique line e f h.0 k.0 (h.1 ∙ sym k.1))
 item_unique at line (Ok e) (Err (NoKey p)) h k = absurd (k.1 e h.0)
@@ -33,7 +33,7 @@ item_unique at line (Err (NoKey p)) (Err (NoKey q)) h k = ap (λ n. Err (NoKey n
 item_unique at line (Err (NoKey p)) (Err (NoEnd q)) h k = absurd k
 item_unique at line (Err (NoEnd p)) b h k = absurd h
 
--- a place determines its item and the place behind it
+-- a place determines its item and the place after it
 pub step_unique : (from : Place) (a b : Item) (m n : Place) → ReadsItem from a m → ReadsItem from b n → (a ≡ b) × (m ≡ n)
 step_unique from a b m n (inl (line, free, whole, at, means)) (inl (other, free_o, whole_o, at_o, means_o)) =
     let cut = cut_unique 0 line other m.rest n.rest free free_o (sym whole ∙ whole_o) in

@@ -22,7 +22,7 @@ url_ranked place pattern url (Some rank) form ranks = (
   λ k ranked. ranks.1 k (subst (λ p. RanksFor place p k) (normal_unique true url ranked.0 pattern ranked.1 form) ranked.2),
 )
 
--- a text that is refused with room enough has no normal form
+-- a text that is refused with a buffer that suffices has no normal form
 pub no_form : (globs : Bool) (text : List ℕ) (buffer_len : ℕ) (e : NormalError) → ¬ (e ≡ NoRoom) → NormalizesIn globs text buffer_len (Err e) → (n : NormalPlace) → ¬ IsNormalOf globs text n
 no_form globs text buffer_len NoRoom other h = absurd (other refl)
 no_form globs text buffer_len NoUrl other h = h.2

@@ -11,7 +11,7 @@ use Rattle.git_rules.proofs.Matched.LabelLemmas.{labels_some}
 
 -- ---- labels without `*`
 
--- a first label with one byte more is free of what it was free of
+-- a first label with one byte more is free of each byte that it was free of
 free_first : (b : ℕ) (labels : List (List ℕ)) → (b == asterisk) ≡ false → All (FreeOf asterisk) labels → All (FreeOf asterisk) (in_first_label b labels)
 free_first b [] other h = All-cons (FreeOf asterisk) (b ∷ []) [] (free-cons asterisk b [] other refl) (All-nil (FreeOf asterisk))
 free_first b (label ∷ labels) other h =
@@ -28,7 +28,7 @@ free_labels (b ∷ bs) free =
       | inr differs ↦ rw differs (free_first b (labels_of bs) parts.0 rest)
     ]
 
--- a label without `*` stands for itself alone
+-- a label without `*` denotes itself alone
 free_label : (wanted label : List ℕ) → FreeOf asterisk wanted → MatchesLabel wanted label → wanted ≡ label
 free_label wanted label free (inl star) = absurd (both_ways true (subst (FreeOf asterisk) star free) refl)
 free_label wanted label free (inr same) = same
@@ -45,11 +45,11 @@ same_labels (own ∷ more) (label ∷ labels) free h =
 
 -- ---- hosts of the same labels
 
--- what begins with a `.` has an empty first label
+-- a text that begins with a `.` has an empty first label
 labels_dot : (b : ℕ) (bs : List ℕ) → (b == dot) ≡ true → labels_of (b ∷ bs) ≡ [] ∷ labels_of bs
 labels_dot b bs same = rw same refl
 
--- what begins with another byte has that at the front of its first label
+-- a text that begins with another byte has that at the front of its first label
 labels_byte : (b : ℕ) (bs : List ℕ) → (b == dot) ≡ false → labels_of (b ∷ bs) ≡ in_first_label b (labels_of bs)
 labels_byte b bs differs = rw differs refl
 
@@ -63,7 +63,7 @@ no_labels : (host : List ℕ) → labels_of host ≡ [] → host ≡ []
 no_labels [] e = refl
 no_labels (b ∷ bs) e = absurd (labels_some b bs e)
 
--- a `.` with no label behind it
+-- a `.` with no label after it
 one_dot : (b : ℕ) (bs : List ℕ) → b ≡ dot → [] ∷ labels_of bs ≡ [] ∷ [] → b ∷ bs ≡ dot ∷ []
 one_dot b bs same e =
     let rest : labels_of bs ≡ [] = cc in
@@ -135,7 +135,7 @@ without_dot own host none (inl same) = inl same
 without_dot own host none (inr (inl more)) = inr more
 without_dot own host none (inr (inr less)) = absurd (none own less)
 
--- a host without `*` stands for its own alone
+-- a host without `*` denotes its own alone
 pub own_host : (pattern host : List ℕ) → ((front : List ℕ) → ¬ (host ≡ front ++ dot ∷ [])) → FreeOf asterisk pattern → MatchesHost pattern host → IsOwnHost pattern host
 own_host pattern host none free h =
     without_dot pattern host none (own_by_labels pattern host (same_labels (labels_of pattern) (labels_of host) (free_labels pattern free) h))

@@ -6,7 +6,7 @@ use Rattle.git_syntax.proofs.Texts.CutLemmas.{free_head_tail}
 use Rattle.git_rules.specs.Patterns.{labels_of, in_first_label, MatchesHost, MatchesLabels}
 use Rattle.git_rules.proofs.Entries.KeyLemmas.{empty_is}
 
--- what is before the first `.` is the first label
+-- the text before the first `.` is the first label
 pub labels-cut : (label rest : List ℕ) → FreeOf dot label → labels_of (label ++ dot ∷ rest) ≡ label ∷ labels_of rest
 labels-cut [] rest free = refl
 labels-cut (b ∷ bs) rest free =
@@ -39,16 +39,16 @@ none_match : (labels : List (List ℕ)) → MatchesLabels [] labels → labels �
 none_match [] h = refl
 none_match (label ∷ labels) h = absurd h
 
--- where no label is left of the pattern, none is left of the host
+-- if no label is left of the pattern, none is left of the host
 pub nothing_left : (rest : List ℕ) → MatchesHost [] rest → rest ≡ []
 nothing_left [] h = refl
 nothing_left (b ∷ bs) h = absurd (labels_some b bs (none_match (labels_of (b ∷ bs)) h))
 
--- the rest of a host behind a `.` is shorter
+-- the rest of a host after a `.` is shorter
 pub shorter_behind : (host label rest : List ℕ) → host ≡ label ++ dot ∷ rest → length rest < length host
 shorter_behind host label rest whole = omega (arith, ap length whole, length-append label (dot ∷ rest))
 
--- a host without a `.`, where it is its only label
+-- a host without a `.`, if it is its only label
 pub only : (host : List ℕ) (r : Option (Bor (List ℕ) × Bor (List ℕ))) → FreeOf dot host
     → MatchOption r (host ≡ []) (λ p. (p.0.now ≡ host) × (p.1.now ≡ []) × (0 < length host))
     → MatchOption r (host ≡ []) (λ p. (labels_of host ≡ p.0.now ∷ labels_of p.1.now) × (length p.1.now < length host))
@@ -58,7 +58,7 @@ only host (Some p) free h = (
   omega (arith, ap length h.1, h.2),
 )
 
--- where no label is left of the pattern, the hosts match if nothing is left of the other
+-- if no label is left of the pattern, the hosts match if nothing is left of the other
 pub at_end : (pattern host wanted rest : List ℕ) (r : Bool) → wanted ≡ [] → r ≡ (length rest == 0)
     → (MatchesHost wanted rest ↔ MatchesHost pattern host) → IsTrue r ↔ MatchesHost pattern host
 at_end pattern host wanted rest r none test same = (

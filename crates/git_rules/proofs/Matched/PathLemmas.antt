@@ -1,4 +1,4 @@
--- A path without one `/` at its end, and what is below a path.
+-- A path without one `/` at its end, and the paths below a path.
 use Rattle.std.proofs.Common.{◌≡◌, ℕ, ◌==◌, ◌↔◌, ◌⊎◌, inl, inr, List, [], ◌∷◌, ◌++◌, length, refl, sym, ap, ◌∙◌, append-nil, Bool, true, false, IsTrue}
 use Rattle.std.proofs.lemmas.Bool.{both_ways, cases_Bool, eqb-true}
 use Rattle.std.proofs.lemmas.List.{append_cancel_left}
@@ -24,12 +24,12 @@ without-other (b ∷ []) other =
 without-other (b ∷ c ∷ bs) other =
     ap (λ z. b ∷ z) (without-other (c ∷ bs) (λ front e. other (b ∷ front) (ap (λ z. b ∷ z) e)))
 
--- what is below a path begins with it
+-- a path below a path begins with it
 pub below_begins : (front path : List ℕ) → IsBelow front path → (rest : List ℕ) × (path ≡ front ++ rest)
 below_begins front path (inl same) = ([], same ∙ sym (append-nil front))
 below_begins front path (inr (rest, joined)) = (slash ∷ rest, joined)
 
--- what begins with a path is below it where it ends there, or goes on with a `/`
+-- a text that begins with a path is below it if it ends there, or goes on with a `/`
 pub below_rest : (front path rest : List ℕ) → path ≡ front ++ rest → IsBelow front path ↔ ((rest ≡ []) ⊎ (begins_with slash rest ≡ true))
 below_rest front path rest joined = (
   λ below. elim below [
@@ -49,14 +49,14 @@ below_none front path never = (
   λ below. let begins = below_begins front path below in absurd (never begins.0 begins.1),
 )
 
--- where nothing is left, it is the path
+-- if nothing is left, it is the path
 pub below_ends : (front path rest : List ℕ) (r : Bool) → path ≡ front ++ rest → r ≡ (length rest == 0) → r ≡ true → IsTrue r ↔ IsBelow front path
 below_ends front path rest r joined test all = (
   λ same. (below_rest front path rest joined).1 (inl (empty_is rest (sym test ∙ all))),
   λ below. all,
 )
 
--- where something is left, it is below the path if it begins with a `/`
+-- if something is left, it is below the path if it begins with a `/`
 pub below_goes_on : (front path rest : List ℕ) (r more : Bool) → path ≡ front ++ rest → r ≡ (length rest == 0) → r ≡ false → more ≡ begins_with slash rest → IsTrue more ↔ IsBelow front path
 below_goes_on front path rest r more joined test some begins = (
   λ goes. (below_rest front path rest joined).1 (inr (sym begins ∙ goes)),

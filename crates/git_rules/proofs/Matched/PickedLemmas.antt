@@ -1,4 +1,4 @@
--- What a pattern picks for the text of a location of the class
+-- The place that a pattern picks for the text of a location of the class
 -- goes to the pattern's own scheme, host and port.
 use Rattle.std.proofs.Common.{◌≡◌, ℕ, ◌<◌, ◌⊎◌, inl, inr, List, [], length, refl, sym, ap, subst, ◌∙◌, arith, append_assoc, Bool, true, false, ◌==◌, ◌||◌, Option, Some, None, codes, unwrap_or, option_map, decimal, if◌then◌else◌, IfSome, ◌++◌, ◌∷◌}
 use Rattle.std.proofs.lemmas.Bool.{both_ways, cases_Bool, eqb-true}
@@ -43,12 +43,12 @@ no_file : (scheme : List ℕ) → IsWebText scheme → ¬ (scheme ≡ codes "fil
 no_file scheme (inl is) e = different_bytes 104 102 refl (sym is ∙ e)
 no_file scheme (inr is) e = different_bytes 104 102 refl (sym is ∙ e)
 
--- what holds or never does holds
+-- a fact that holds or never does holds
 or_left : (b : Bool) → (b || false) ≡ true → b ≡ true
 or_left true h = refl
 or_left false h = h
 
--- a scheme's own port is reached where none is there
+-- a scheme's own port is reached if none is there
 own_reached : (scheme : List ℕ) (port : ℕ) → IsWebText scheme → is_own_port scheme port ≡ true → Some port ≡ reached_port scheme None
 own_reached scheme port (inl is) own =
     let eighty : (port == 80) ≡ true = or_left (port == 80) (subst (λ s. is_own_port s port ≡ true) is own) in
@@ -77,7 +77,7 @@ port_same scheme (Some port) number web within (inr (p, is, there)) =
 
 -- ---- hosts of the class
 
--- a text has no `.` at its end where another one without it is there
+-- a text has no `.` at its end if another one without it is there
 end_apart : (front name z : List ℕ) → FreeOf dot z → 0 < length z → ¬ (name ++ z ≡ front ++ dot ∷ [])
 end_apart front name z free some e = end_held dot front name z free some (sym e)
 
@@ -97,7 +97,7 @@ ipv4_end host front h e =
     let some : 0 < length h.fourth = subst (λ t. 0 < length t) (sym octet.2) number.digits.0 in
     end_apart front (h.first ++ dot ∷ (h.second ++ dot ∷ (h.third ++ dot ∷ []))) h.fourth free some (simp append_assoc (sym h.joined ∙ e))
 
--- nor does what ends in a bracket
+-- nor does a text that ends in a bracket
 bracket_end : (host front : List ℕ) → IsBracketedAddress host → ¬ (host ≡ front ++ dot ∷ [])
 bracket_end host front h e = end_apart front (left_bracket ∷ h.0) (right_bracket ∷ []) refl (omega arith) (sym h.2 ∙ e)
 
@@ -131,7 +131,7 @@ own_of v host r place pattern web within scheme named digits same h free none =
       own_port = port_same (scheme_text v.scheme) v.port place.port (web_text v web) within ports ∙ ap (reached_port (scheme_text v.scheme)) h.port ∙ ap (λ s. reached_port s pattern.port) (sym own ∙ h.scheme);
     }
 
--- what is picked goes to the pattern's own
+-- the request of a picked text goes to the pattern's own place
 pub picked_own : PickedGoesToOwn
 picked_own v t place pattern value web agrees has_text normal h free =
     let both : ReadsOwnOverWeb t v = web_read v t web ((read_same v value agrees).read t has_text) in

@@ -8,7 +8,7 @@ use Rattle.git_syntax.proofs.Texts.CutLemmas.{tails, cut_unique, last_cut_unique
 use Rattle.git_laws.specs.GitWeb.{UriAuthority, UriHost, UriPort, UriReading, UriReads, IsNormalUri}
 use Rattle.git_rules.specs.Normal.{CutsPort, HostFor, HostPort, IsNormalOf, NormalAuthority, NormalPlace, PortFor}
 
--- what names the host follows the user information in both
+-- the text that names the host follows the user information in both
 named_same : (scheme authority named host : List ℕ) (information user : Option (List ℕ)) (port : Option ℕ) → UriAuthority authority information named → NormalAuthority false scheme authority user host port → HostPort false scheme named host port
 named_same scheme authority named host information user port (UriAuthority.host_alone free same none) (NormalAuthority.alone free' nobody h) =
     subst (λ n. HostPort false scheme n host port) (sym same) h
@@ -51,7 +51,7 @@ host_form : (named host behind : List ℕ) → UriHost named host behind → ((i
 host_form named host behind (UriHost.bracketed inside address is joined) = inl (inside, is)
 host_form named host behind (UriHost.unbracketed free begins joined) = inr free
 
--- a host and what follows it are the whole
+-- a host and the text after it are the whole
 host_joined : (named host behind : List ℕ) → UriHost named host behind → named ≡ host ++ behind
 host_joined named host behind (UriHost.bracketed inside address is joined) = joined
 host_joined named host behind (UriHost.unbracketed free begins joined) = joined

@@ -13,7 +13,7 @@ use Rattle.git_rules.specs.Normal.{NormalPlace}
 use Rattle.git_rules.specs.NormalFlaws.{NormalizesIn}
 use Rattle.git_rules.specs.Places.{FrontPlacesIn, PlacesIn}
 
--- what a text is refused for with the rest of the buffer
+-- the error of a text with the rest of the buffer
 front_refused : (t : List ℕ) (buffer_len rest : ℕ) (e : NormalError) → length t + rest ≡ buffer_len → NormalizesIn false t rest (Err e) → FrontPlacesIn t buffer_len (Err (Normal e))
 front_refused t buffer_len rest NoRoom whole h = omega (arith, h)
 front_refused t buffer_len rest NoUrl whole h = (omega (arith, h.0), h.1, h.2)
@@ -33,7 +33,7 @@ pub no_text : (t : Result (List ℕ) WriteFault) (fault : WriteFault) (buffer_le
 no_text (Ok t) fault buffer_len e = cc
 no_text (Err other) fault buffer_len e = cc
 
--- the text is at the front where it fits
+-- the text is at the front if it fits
 front_text : (t old new : List ℕ) → length t ≤ length old → Placed (Ok t) old new → take (length t) new ≡ t
 front_text t old new fits placed =
     elim (cases_Bool (nat_lt (length old) (length t))) [

@@ -7,7 +7,7 @@ use Rattle.std.proofs.lemmas.List.Elements.{All-append, All-cons, All-nil, All-p
 use Rattle.git_rules.specs.declared.pattern.Rank.{Rank}
 use Rattle.git_rules.specs.Patterns.{IsLower, IsBestAt, HasRank, HasNoRank, RanksLower, RanksNoHigher, IsBetter}
 
--- what is lower than a lower rank is lower
+-- a rank that is lower than a lower rank is lower
 pub lower_trans : (a b c : Rank) → IsLower a b → IsLower b c → IsLower a c
 lower_trans a b c (inl h) (inl k) = inl (omega arith)
 lower_trans a b c (inl h) (inr (f, k)) = inl (omega arith)
@@ -112,12 +112,12 @@ step_first Ranks done t next rank h place ranked = (
   refl,
 )
 
--- what isn't higher than the highest isn't higher than a rank that isn't lower
+-- a rank that isn't higher than the highest isn't higher than a rank that isn't lower
 not_above : {T : Type 0} (Ranks : T → Rank → Type 0) (highest rank : Rank) → ¬ IsLower rank highest → (s : T) → RanksNoHigher Ranks highest s → RanksNoHigher Ranks rank s
 not_above Ranks highest rank high s less k ranked low =
     elim (lower_between rank highest k low) [ inl l ↦ high l | inr m ↦ less k ranked m ]
 
--- nor is what is lower than the highest
+-- nor is a rank that is lower than the highest
 not_above_lower : {T : Type 0} (Ranks : T → Rank → Type 0) (highest rank : Rank) → ¬ IsLower rank highest → (s : T) → RanksLower Ranks highest s → RanksNoHigher Ranks rank s
 not_above_lower Ranks highest rank high s less k ranked low = high (lower_trans rank k highest low (less k ranked))
 
@@ -147,7 +147,7 @@ step_higher Ranks done t i next highest rank (best, same) place ranked high = (
   refl,
 )
 
--- the best so far, behind one item more
+-- the best so far, after one item more
 pub step : {T : Type 0} (Ranks : T → Rank → Type 0) (done : List T) (t : T) (next : ℕ) (best r : Option (ℕ × Rank)) (rank : Option Rank) → IsBestSoFar Ranks done best → length done ≡ next → HasRank Ranks t rank → IsBetter best next rank r → IsBestSoFar Ranks (done ++ t ∷ []) r
 step Ranks done t next best r None so_far place ranked better =
     subst (IsBestSoFar Ranks (done ++ t ∷ [])) (sym better) (step_none Ranks done t best so_far ranked)
@@ -158,7 +158,7 @@ step Ranks done t next (Some (i, highest)) r (Some rank) so_far place ranked (in
 step Ranks done t next (Some (i, highest)) r (Some rank) so_far place ranked (inr (high, same)) =
     subst (IsBestSoFar Ranks (done ++ t ∷ [])) (sym same) (step_higher Ranks done t i next highest rank so_far place ranked high)
 
--- the best of a front, behind one item more of the list
+-- the best of a front, after one item more of the list
 pub next : {T : Type 0} (Ranks : T → Rank → Type 0) (items : List T) (i : ℕ) (d : T) (best r : Option (ℕ × Rank)) (rank : Option Rank) → i < length items → IsBestSoFar Ranks (take i items) best → HasRank Ranks (get_or items i d) rank → IsBetter best i rank r → IsBestSoFar Ranks (take (i + 1) items) r
 next Ranks items i d best r rank within so_far ranked better =
     let more : take (i + 1) items ≡ take i items ++ get_or items i d ∷ [] = rw (add-one i) (take-suc items i d within) in

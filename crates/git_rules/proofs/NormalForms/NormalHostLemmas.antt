@@ -1,4 +1,5 @@
--- Hosts and ports in their normal form: what their text is cut into, and that there is one normal form.
+-- Hosts and ports in their normal form: the pieces that their text is cut into, and that there is one normal
+-- form.
 use Rattle.std.proofs.Common.{◌≡◌, ◌∙◌, ◌≤◌, ◌∷◌, ℕ, true, List, length, refl, sym, ap, arith, length-append, inl, inr}
 use Rattle.git_syntax.specs.Bytes.{colon}
 use Rattle.git_syntax.specs.Escapes.{is_sound}

@@ -31,7 +31,7 @@ flat_bytes (b ∷ bs) all = free-cons slash b bs (escape_no_slash b (All-head Is
 flat_escape : (b : ℕ) → FreeOf slash (percent_encode_byte b)
 flat_escape b = flat_bytes (percent_encode_byte b) (All-percent_encode_byte b)
 
--- nor does what a byte becomes that is none or came as an escape
+-- nor does the normal form of a byte that is none or was an escape
 flat_byte : (escaped : Bool) (b : ℕ) → (b == slash) ≡ false → FreeOf slash (normal_byte escaped b)
 flat_byte escaped b other = elim (is_unsafe b || (escaped && is_reserved b)) as (λ v. FreeOf slash (cond v (percent_encode_byte b) (b ∷ []))) [ true ↦ flat_escape b | false ↦ free-cons slash b [] other refl ]
 
@@ -62,7 +62,7 @@ fails_each (b ∷ bs) free =
     let parts = free_head_tail slash b bs free in
     All-cons (λ b. (b == slash) ≡ false) b bs parts.0 (fails_each bs parts.1)
 
--- the segments of a text begin with what precedes its first `/`
+-- the segments of a text begin with the text before its first `/`
 pub segments_at : (segment rest : List ℕ) → FreeOf slash segment → normal_segments (segment ++ slash ∷ rest) ≡ normal_text segment ∷ normal_segments rest
 segments_at segment rest free = ap (map normal_text) (slice_split_at (λ b. b == slash) segment slash rest (fails_each segment free) refl)
 
@@ -74,11 +74,11 @@ segments_alone segment free = ap (map normal_text) (slice_split_none (λ b. b ==
 put_step : (segment : List ℕ) (rest stack : List (List ℕ)) (outcome : Option (List (List ℕ))) → put_segment stack segment ≡ outcome → put_segments (segment ∷ rest) stack ≡ option_and_then (λ left. put_segments rest left) outcome
 put_step segment rest stack outcome e = ap (option_and_then (λ left. put_segments rest left)) e
 
--- where a segment is put, the rest is put on what it leaves
+-- if a segment is put, the rest is put on the resulting stack
 pub put_first : (segment rest : List ℕ) (stack left : List (List ℕ)) → FreeOf slash segment → put_segment stack (normal_text segment) ≡ Some left → put_segments (normal_segments (segment ++ slash ∷ rest)) stack ≡ put_segments (normal_segments rest) left
 put_first segment rest stack left free e = ap (λ s. put_segments s stack) (segments_at segment rest free) ∙ put_step (normal_text segment) (normal_segments rest) stack (Some left) e
 
--- where it can't be put, there is no outcome
+-- if it can't be put, there is no outcome
 pub put_none : (segment rest : List ℕ) (stack : List (List ℕ)) → FreeOf slash segment → put_segment stack (normal_text segment) ≡ None → put_segments (normal_segments (segment ++ slash ∷ rest)) stack ≡ None
 put_none segment rest stack free e = ap (λ s. put_segments s stack) (segments_at segment rest free) ∙ put_step (normal_text segment) (normal_segments rest) stack None e
 
@@ -95,7 +95,7 @@ put_last segment stack free = ap (λ s. put_segments s stack) (segments_alone se
 nil_no_cut : (front back : List ℕ) → [] ≡ front ++ slash ∷ back → ⊥
 nil_no_cut front back e = let long = length-append front (slash ∷ back) in let none = ap length e in omega (arith, long, none)
 
--- what precedes the last `/` of a path is the path of the stack without its top
+-- the text before the last `/` of a path is the path of the stack without its top
 pub top_cut : (path front back : List ℕ) (stack : List (List ℕ)) → ShowsStack path stack → FreeOf slash back → path ≡ front ++ slash ∷ back → ShowsFront (without_top stack) path (Some (length front))
 top_cut path front back [] shows free e = absurd (nil_no_cut front back (sym shows.0 ∙ e))
 top_cut path front back (top ∷ below) shows free e =
@@ -104,13 +104,13 @@ top_cut path front back (top ∷ below) shows free e =
 
 -- ---- a segment in a buffer
 
--- what is written between two places of a buffer
+-- the text that is written between two places of a buffer
 pub written_between : (buffer front form : List ℕ) (start end : ℕ) → take end buffer ≡ front ++ form → length front ≡ start → start ≤ end → end ≤ length buffer → take (end - start) (drop start buffer) ≡ form
 written_between buffer front form start end whole place order within =
     let sum : start + (end - start) ≡ end = omega (arith, order) in
     sym (drop-take start (end - start) buffer) ∙ ap (λ n. drop start (take n buffer)) sum ∙ ap (drop start) whole ∙ ap (λ n. drop n (front ++ form)) (sym place) ∙ drop-append_seam front form
 
--- the front of a buffer before what was written behind it
+-- the front of a buffer before the text that was written after it
 pub front_kept : (buffer front form : List ℕ) (at end : ℕ) → take end buffer ≡ front ++ form → length front ≡ at → at ≤ end → take at buffer ≡ front
 front_kept buffer front form at end whole place order =
     sym (take-take at end buffer order) ∙ ap (take at) whole ∙ ap (λ n. take n (front ++ form)) (sym place) ∙ take-append_seam front form
@@ -133,7 +133,7 @@ put_other : (stack : List (List ℕ)) (segment : List ℕ) → bytes_eq segment 
 put_other stack segment one two =
     ap (λ v. cond v (Some stack) (cond (bytes_eq segment (codes "..")) (without_top stack) (Some (segment ∷ stack)))) one ∙ ap (λ v. cond v (without_top stack) (Some (segment ∷ stack))) two
 
--- a segment was written behind the path of a stack
+-- a segment was written after the path of a stack
 pub record WritesBehind (front form new : List ℕ) (at start end : ℕ) : Type 0 where
   pub whole : take end new ≡ (front ++ slash ∷ []) ++ form
   pub place : length front ≡ at
@@ -150,7 +150,7 @@ written_front : (front form new : List ℕ) (at start end : ℕ) → WritesBehin
 written_front front form new at start end w =
     front_kept new front (slash ∷ [] ++ form) at end (w.whole ∙ append_assoc front (slash ∷ []) form) w.place (omega (arith, w.order, w.start_is))
 
--- where it is `.`, the path is that of before
+-- if it is `.`, the path is that of before
 pub after_dot : (front form new : List ℕ) (at start end : ℕ) (stack : List (List ℕ)) → WritesBehind front form new at start end → ShowsStack front stack → bytes_eq (take (end - start) (drop start new)) (codes ".") ≡ true → ShowsFront (put_segment stack form) new (Some at)
 after_dot front form new at start end stack w shows dot =
     let is = written_form front form new at start end w in
@@ -164,7 +164,7 @@ small_in_front : (r : Option ℕ) (new : List ℕ) (at : ℕ) → IfSome r (λ n
 small_in_front None new at small = tt
 small_in_front (Some n) new at small = omega (arith, length-take at new, small)
 
--- where it is `..`, the path is that without the top
+-- if it is `..`, the path is that without the top
 pub after_dots : (front form new : List ℕ) (at start end : ℕ) (stack : List (List ℕ)) (r : Option ℕ) → WritesBehind front form new at start end → ShowsStack front stack → bytes_eq (take (end - start) (drop start new)) (codes ".") ≡ false → bytes_eq (take (end - start) (drop start new)) (codes "..") ≡ true
     → ((below : List (List ℕ)) → ShowsStack (take at new) below → ShowsFront (without_top below) (take at new) r) → IfSome r (λ n. n ≤ length (take at new)) → ShowsFront (put_segment stack form) new r
 after_dots front form new at start end stack r w shows one two cut small =
@@ -174,7 +174,7 @@ after_dots front form new at start end stack r w shows one two cut small =
     let below = outcome_within (without_top stack) new at r (small_in_front r new at small) (cut stack (written_front front form new at start end w ∙ shows.0, shows.1)) in
     subst (λ o. ShowsFront o new r) (sym (put_dots stack form first second)) below
 
--- where it is neither, it is on top
+-- if it is neither, it is on top
 pub after_other : (front form new : List ℕ) (at start end : ℕ) (stack : List (List ℕ)) → WritesBehind front form new at start end → ShowsStack front stack → FreeOf slash form → bytes_eq (take (end - start) (drop start new)) (codes ".") ≡ false → bytes_eq (take (end - start) (drop start new)) (codes "..") ≡ false
     → ShowsFront (put_segment stack form) new (Some end)
 after_other front form new at start end stack w shows flat one two =
@@ -210,6 +210,6 @@ sound_cut text front back cut sound = sound_around_rest front back cut.begins (a
 pub length-cut : (text front back : List ℕ) → CutsBefore is_rest_start text front back → length text ≡ length front + length back
 length-cut text front back cut = ap length cut.joined ∙ length-append front back
 
--- what follows the authority is cut into pieces that are no longer
+-- the text after the authority is cut into pieces that are no longer
 pub length-pieces : (behind text front back : List ℕ) → text ≡ unrooted behind → CutsBefore is_rest_start text front back → length front + length back ≤ length behind
 length-pieces behind text front back is cut = omega (arith, length-cut text front back cut, ap length is, length-unrooted behind)

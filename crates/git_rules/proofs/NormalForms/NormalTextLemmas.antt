@@ -38,7 +38,7 @@ sound_escape high low rest sound =
     let two = and_parts (is_hexadecimal low) (is_sound rest) one.1 in
     (one.0, two.0, two.1)
 
--- what follows a `%` of a sound text has two bytes
+-- the text after a `%` of a sound text has two bytes
 pub sound_long : (behind : List ℕ) → is_sound (percent_sign ∷ behind) ≡ true → 2 ≤ length behind
 sound_long [] sound = grind (arith, nat_tests)
 sound_long (b ∷ []) sound = grind (arith, nat_tests)
@@ -57,7 +57,7 @@ splits_escape (b ∷ c ∷ rest) high low sound one two =
       shorter = omega (arith, ap length left);
     }
 
--- where nothing is left, all is written
+-- if nothing is left, all is written
 pub all_normal : (done front rest text : List ℕ) → done ++ normal_text rest ≡ front ++ normal_text text → rest ≡ [] → done ≡ front ++ normal_text text
 unfolding normal_text
 all_normal done front rest text joined e = sym (append-nil done) ∙ sym (ap (λ left. done ++ normal_text left) e) ∙ joined

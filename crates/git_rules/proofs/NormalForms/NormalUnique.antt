@@ -1,4 +1,4 @@
--- A text has at most one normal form, and none where it has a flaw.
+-- A text has at most one normal form, and none if it has a flaw.
 use Rattle.std.proofs.Common.{◌≡◌, ◌∙◌, ◌+◌, ◌*◌, ◌≤◌, ◌++◌, ℕ, Bool, true, false, List, [], length, refl, sym, ap, subst, arith, inl, inr, ⊎_elim, Option, Some, None, Result, Ok, Err, MatchResult, codes}
 use Rattle.std.specs.Prelude.{if◌then◌else◌, option_map}
 use Rattle.std.specs.List.{list_all}
@@ -87,7 +87,7 @@ authority_unique globs scheme text user person host other port last (NormalAutho
 
 -- ---- paths
 
--- what follows an authority has one path
+-- the text after an authority has one path
 path_unique : (behind path other : List ℕ) → NormalPath behind path → NormalPath behind other → path ≡ other
 path_unique behind path other h k =
     let pieces = class_cut_unique is_rest_start h.segments k.segments h.rest k.rest h.before_rest k.before_rest h.rest_starts k.rest_starts (sym h.joined ∙ k.joined) in
@@ -115,7 +115,7 @@ normal_unique globs text n m h k =
 
 -- ---- flaws
 
--- where a scheme needs a host, none is missing
+-- if a scheme needs a host, none is missing
 no_host_refused : (scheme text name port host : List ℕ) → lacks_host text ≡ true → ¬ (scheme ≡ codes "file") → HostFor scheme text name port host → ⊥
 no_host_refused scheme text name port host lacks other (HostFor.named l e) = false≢true (sym l ∙ lacks)
 no_host_refused scheme text name port host lacks other (HostFor.missing m f n d) = other f
@@ -163,11 +163,11 @@ authority_refused globs scheme text user host port e (inr flaw) (NormalAuthority
     (λ k. host_refused globs scheme r host port e (subst (λ z. HostFlaw globs scheme z e) pieces.1 k.1) m)
     flaw.4
 
--- there is no outcome where there is none
+-- there is no outcome if there is none
 no_outcome : (o : Option (List (List ℕ))) (x : List (List ℕ)) → o ≡ None → o ≡ Some x → ⊥
 no_outcome o x none some = false≢true (ap is_some (sym none ∙ some))
 
--- what follows an authority has no path where it has a flaw
+-- the text after an authority has no path if it has a flaw
 path_refused : (behind path : List ℕ) (e : NormalError) → PathFlaw behind e → NormalPath behind path → ⊥
 path_refused behind path NoRoom flaw h = flaw
 path_refused behind path NoUrl flaw h = flaw
@@ -210,7 +210,7 @@ part_flawed globs text s a b buffer_len BadHost enough cut flaw = (enough, (s, a
 part_flawed globs text s a b buffer_len BadPort enough cut flaw = (enough, (s, a, b, cut, flaw), cut_refused globs text s a b BadPort cut flaw)
 part_flawed globs text s a b buffer_len AboveRoot enough cut flaw = (enough, (s, a, b, cut, flaw), cut_refused globs text s a b AboveRoot cut flaw)
 
--- what was written of the parts is the normal form, or the path has a flaw
+-- the text written for the parts is the normal form, or the path has a flaw
 pub parts_normalize : (globs : Bool) (text scheme lowered authority behind : List ℕ) (user : Option (List ℕ)) (host : List ℕ) (port : Option ℕ) (buffer_len : ℕ) (r : Result NormalPlace NormalError) → 3 * length text + 1 ≤ buffer_len → UrlCut text scheme authority behind → lowered ≡ lowercase scheme → ReadsAuthority globs lowered authority user host port
     → MatchResult r (λ n. HoldsParts lowered user host port behind n) (λ e. PathFlaw behind e) → NormalizesIn globs text buffer_len r
 parts_normalize globs text scheme lowered authority behind user host port buffer_len (Ok n) enough cut low read holds =

@@ -79,7 +79,7 @@ authority_own globs scheme (Some u) password named host port free h =
 
 -- ---- hosts
 
--- a host that is its own normal form, with a port behind it or without
+-- a host that is its own normal form, with a port after it or without
 record IsOwnHost (globs : Bool) (host : List ℕ) : Type 0 where
   bytes : list_all (is_host_byte globs) host ≡ true
   lower : IsLowercase host
@@ -151,7 +151,7 @@ unambiguous_own globs host (inr (inl h)) =
     ⊎_elim (plain_own globs host long) (bracketed_own globs host) (url_host_form host (inr (inl h)))
 unambiguous_own globs host (inr (inr h)) = bracketed_own globs host h
 
--- the host with its port is that host, and that port where it isn't the scheme's own
+-- the host with its port is that host, and that port if it isn't the scheme's own
 host_port_own : (globs : Bool) (scheme host : List ℕ) (port : Option ℕ) → IsOwnHost globs host → IfSome port (λ p. p < 65536) → port ≢ Some 0 → HostPort globs scheme (host ++ port_part port) host (own_port scheme port)
 host_port_own globs scheme host None own small other = record {
   name = host;

@@ -16,7 +16,7 @@ grows radix n (d ∷ ds) some =
 unfitting : (greatest n : ℕ) → greatest < n → fitting greatest n ≡ None
 unfitting greatest n large = rw (lt-leb n greatest large)
 
--- where the digits up to some byte write too large a number, so do all of them
+-- if the digits up to some byte write too large a number, so do all of them
 pub fitting-front : (greatest radix n at : ℕ) (ds : List ℕ) → 1 ≤ radix → at < length ds → digits_value_after radix n (drop at ds) ≡ digits_value radix ds → greatest < n * radix + digit_value (get_or ds at 0) → fitting greatest (digits_value radix ds) ≡ None
 fitting-front greatest radix n at ds some within same large =
     let whole = rw (drop-cons ds at 0 within) at same in

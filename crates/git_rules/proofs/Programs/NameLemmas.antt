@@ -1,4 +1,4 @@
--- The last name of a path with one byte more, and what is kept of it.
+-- The last name of a path with one byte more, and the bytes of it that are kept.
 use Rattle.std.proofs.Common.{◌≡◌, ◌∙◌, ℕ, zero, suc, ◌+◌, ◌<◌, ◌≤◌, true, false, cond, ◌==◌, List, [], ◌∷◌, ◌++◌, length, take, refl, sym, ap, arith, bytes_eq, codes, lit<}
 use Rattle.std.specs.Prelude.{reverse, slice_set}
 use Rattle.std.specs.List.{take_while}
@@ -27,7 +27,7 @@ ended-push path b = ap (begins_with slash) (reverse-push path b)
 name-byte : (path : List ℕ) (b : ℕ) → (b == slash) ≡ false → base_name (path ++ b ∷ []) ≡ reverse (b ∷ take_while is_no_slash (reverse path))
 name-byte path b other = ap (λ r. reverse (name_back r)) (reverse-push path b) ∙ rw other refl
 
--- behind a slash it is the first one
+-- after a slash it is the first one
 none_before : (back : List ℕ) → begins_with slash back ≡ true → take_while is_no_slash back ≡ []
 none_before [] h = absurd (cc)
 none_before (c ∷ back) h = rw h refl
@@ -46,16 +46,16 @@ name_started path b ended other = name-byte path b other ∙ ap (λ t. reverse (
 name_more : (path : List ℕ) (b : ℕ) → begins_with slash (reverse path) ≡ false → (b == slash) ≡ false → base_name (path ++ b ∷ []) ≡ base_name path ++ b ∷ []
 name_more path b going other = name-byte path b other ∙ ap (λ t. reverse (b ∷ t)) (sym (some_before (reverse path) going)) ∙ reverse-append (b ∷ []) (name_back (reverse path))
 
--- ---- what is kept
+-- ---- the bytes that are kept
 
--- a byte more is kept where fewer are than may be
+-- a byte more is kept if fewer are than may be
 kept_more : (n : ℕ) (kept name : List ℕ) (b : ℕ) → kept ≡ take n name → length kept < n → kept ++ b ∷ [] ≡ take n (name ++ b ∷ [])
 kept_more n kept name b is few =
     let short : length name < n = omega (arith, ap length is, length-take n name) in
     let long : length (name ++ b ∷ []) ≤ n = omega (arith, length-append name (b ∷ [])) in
     ap (λ t. t ++ b ∷ []) (is ∙ take_all n name (omega arith)) ∙ sym (take_all n (name ++ b ∷ []) long)
 
--- and none where as many are
+-- and none if as many are
 kept_same : (n : ℕ) (kept name : List ℕ) (b : ℕ) → kept ≡ take n name → n ≤ length kept → kept ≡ take n (name ++ b ∷ [])
 kept_same n kept name b is many =
     let long : n ≤ length name = omega (arith, ap length is, length-take n name) in
@@ -68,7 +68,7 @@ kept_first n (x ∷ bytes) b some h = sym (take_all n (b ∷ []) h)
 
 -- ---- a byte more
 
--- behind a slash
+-- after a slash
 pub put_first : (n : BaseName) (path : List ℕ) (b : ℕ) → n.is_ended ≡ true → (b ≡ 47 → ⊥) → IsNameOf n path → IsNameOf (record { bytes = slice_set n.bytes 0 b; len = 1; is_ended = false }) (path ++ b ∷ [])
 put_first n path b ended other h =
     let no_slash : (b == slash) ≡ false = ne_eqb b 47 other in
@@ -106,7 +106,7 @@ put_over n path b going other many h =
 
 -- ---- the variant
 
--- a front that is longer than a word is the word where the text is
+-- a front that is longer than a word is the word if the text is
 eq_front : (n : ℕ) (xs ys : List ℕ) → length ys < n → bytes_eq (take n xs) ys ≡ bytes_eq xs ys
 eq_front zero xs ys h = absurd (omega (arith, h))
 eq_front (suc n) [] ys h = refl
@@ -119,7 +119,7 @@ word_front : (n : ℕ) (text word : List ℕ) → length word < n → is_word (t
 word_front n text word h =
     ap (λ t. bytes_eq t (lowercase word)) (sym (take-map to_ascii_lowercase n text)) ∙ eq_front n (lowercase text) (lowercase word) (omega (arith, h, length-map word to_ascii_lowercase))
 
--- so the variant is that of what is kept
+-- so the variant is that of the bytes that are kept
 pub named_front : (text : List ℕ) → variant_named (take 18 text) ≡ variant_named text
 named_front text =
     let ssh = word_front 18 text (codes "ssh") (lit< tt) in

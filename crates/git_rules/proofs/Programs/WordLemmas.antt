@@ -5,7 +5,7 @@ use Rattle.git_rules.specs.CommandLines.{LineWords, after_end, in_bare, is_gap, 
 use Rattle.git_rules.specs.CommandLines.Spot.{between, bare}
 use Rattle.git_rules.specs.BaseNames.{word_by}
 
--- where a word ends, the first one is over
+-- if a word ends, the first one is over
 after_over : (going : Bool) (read : List ℕ) (words : Option LineWords) → word_by going read (after_end words) ≡ word_by false read words
 after_over true read None = refl
 after_over true read (Some w) = ap (λ t. Some t) (append-nil read)
@@ -29,7 +29,7 @@ part_read : (read : List ℕ) (b : ℕ) (words : Option LineWords) → word_by t
 part_read read b None = refl
 part_read read b (Some w) = ap (λ t. Some t) (sym (append_assoc read (b ∷ []) w.first))
 
--- a byte more of the first word, where the word goes on
+-- a byte more of the first word, if the word goes on
 pub part_going : (going : Bool) (read : List ℕ) (b : ℕ) (words : Option LineWords) → going ≡ true → word_by going (read ++ b ∷ []) words ≡ word_by going read (with_byte b words)
 part_going true read b words h = sym (part_read read b words)
 part_going false read b words h = absurd (cc)

@@ -1,4 +1,5 @@
--- The lists of a remote are determined, and those of one URL are what is pushed to by `Rewrites`.
+-- The lists of a remote are determined, and those of one URL are the texts that `Rewrites` returns for a
+-- push.
 use Rattle.std.proofs.Common.{◌≡◌, ℕ, inl, inr, true, false, List, [], ◌∷◌, ◌++◌, None, refl, sym, ap, subst, ◌∙◌}
 use Rattle.std.specs.Prelude.{filter, is_none, is_some, ◌&&◌, if◌then◌else◌}
 use Rattle.git_rules.specs.Config.{ConfigEntry}
@@ -56,7 +57,7 @@ based rules text o some (inr (r, wins, base, cut)) = ap is_some base
 unbased : (rules : List Rule) (text : List ℕ) → NoneApplies rules text → IsRewritten rules text (record { base = None; rest = text })
 unbased rules text none = inl (refl, refl, none)
 
--- what a URL alone is pushed to
+-- the text to which a URL alone is pushed
 pub one_url : (rules : Rules) (remote : List ℕ) (entries : List ConfigEntry) (url : List ℕ) (o : Outcome) → HasOneUrl remote entries url → IsRewrittenToPush rules false url o → ArePushUrls rules remote entries (o ∷ [])
 one_url rules remote entries url o (configured, none) (inl (some, h)) =
     let kept : o ∷ [] ≡ filter (λ p. is_some p.base) (o ∷ []) =
@@ -72,7 +73,7 @@ one_url rules remote entries url o (configured, none) (inr (unruled, h)) =
     subst (λ vs. AreRewritten rules.fetching vs (o ∷ [])) (sym configured) (h, tt) in
     inr (push_ruled rules remote entries [] [] own (subst (λ vs. AreRewritten rules.fetching vs []) (sym none) tt) refl tried, urls_given rules remote entries (o ∷ []) own fetched)
 
--- what a push URL alone is pushed to
+-- the text to which a push URL alone is pushed
 pub one_push_url : (rules : Rules) (remote : List ℕ) (entries : List ConfigEntry) (url : List ℕ) (o : Outcome) → HasOnePushUrl remote entries url → IsRewrittenToPush rules true url o → ArePushUrls rules remote entries (o ∷ [])
 one_push_url rules remote entries url o (own, configured) h =
     inl (push_given rules remote entries (o ∷ []) own (subst (λ vs. AreRewritten rules.fetching vs (o ∷ [])) (sym configured) (h, tt)) (filled o), filled o)

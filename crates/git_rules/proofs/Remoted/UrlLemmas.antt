@@ -22,7 +22,7 @@ pub rewritten_more : (rules : List Rule) (all texts : List (List ℕ)) (t : List
 rewritten_more rules all texts t old new o more added h k =
     subst (λ ts. AreRewritten rules ts new) (sym more) (subst (AreRewritten rules (texts ++ t ∷ [])) (sym added) (rewritten-push rules texts old t o h k))
 
--- the same where no text is added
+-- the same if no text is added
 pub rewritten_kept : (rules : List Rule) (all texts : List (List ℕ)) (old new : List Outcome) → all ≡ texts → new ≡ old → AreRewritten rules texts old → AreRewritten rules all new
 rewritten_kept rules all texts old new same kept h =
     subst (λ ts. AreRewritten rules ts new) (sym same) (subst (AreRewritten rules texts) (sym kept) h)

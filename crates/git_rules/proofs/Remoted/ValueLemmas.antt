@@ -42,7 +42,7 @@ pub values_same : (remote key : List ℕ) (entries : List ConfigEntry) (i : ℕ)
 values_same remote key entries i e within at given =
     ap (values_of remote key) (sym (front_more entries i e within at)) ∙ filter_map-append (value_for remote key) (take i entries) (e ∷ []) ∙ ap (λ v. values_of remote key (take i entries) ++ cons_option v []) (sym given) ∙ append-nil (values_of remote key (take i entries))
 
--- an entry that gives one adds it behind the others
+-- an entry that gives one adds it after the others
 pub values_more : (remote key : List ℕ) (entries : List ConfigEntry) (i : ℕ) (e : ConfigEntry) (v : List ℕ) → i < length entries → e ≡ get_or entries i e → Some v ≡ value_for remote key e → values_of remote key (take (i + 1) entries) ≡ values_of remote key (take i entries) ++ v ∷ []
 values_more remote key entries i e v within at given =
     ap (values_of remote key) (sym (front_more entries i e within at)) ∙ filter_map-append (value_for remote key) (take i entries) (e ∷ []) ∙ ap (λ o. values_of remote key (take i entries) ++ cons_option o []) (sym given)

@@ -1,4 +1,4 @@
--- The rules of entries: what an entry adds, and what those of a configuration are.
+-- The rules of entries: the rules that an entry adds, and the rules of a configuration.
 use Rattle.std.proofs.Common.{◌≡◌, ℕ, ◌+◌, ◌<◌, suc, true, ◌⊎◌, List, [], ◌∷◌, ◌++◌, Some, Err, length, take, drop, get_or, refl, sym, ap, subst, ◌∙◌, append_assoc, append-nil, add-one}
 use Rattle.std.proofs.Math.Seq.{take-suc}
 use Rattle.git_rules.specs.Config.{ConfigEntry, sets}
@@ -33,7 +33,7 @@ values-push : (done : List ConfigEntry) (e : ConfigEntry) → AllHaveValues done
 values-push [] e h k = (k, tt)
 values-push (d ∷ done) e h k = (h.0, values-push done e h.1 k)
 
--- what was filled so far
+-- the rules filled so far
 pub record FilledSoFar (done : List ConfigEntry) (rules : Rules) : Type 0 where
   pub values : AllHaveValues done
   pub kept : rules ≡ rules_of done

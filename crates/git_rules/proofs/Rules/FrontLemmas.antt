@@ -89,7 +89,7 @@ first_of_both rules front b lower (Some a) own (inl (is, no_higher)) h =
 first_of_both rules front b lower (Some a) own (inr (is, no_higher)) h =
     subst (IsFirstOfFront (rules ++ rule_with b front ∷ []) front) (sym is) (first_lower rules front a b own no_higher h)
 
--- what is noted for another front stays right
+-- the record for another front stays correct
 front_kept : (rules : List Rule) (r : Rule) (front : List ℕ) (entry : Option Ranked) → ¬ (r.front ≡ front) → IsFrontNoted rules front entry → IsFrontNoted (rules ++ r ∷ []) front entry
 front_kept rules r front None other lacks =
     λ s among same. elim (among_cases s rules r among) [
@@ -105,7 +105,7 @@ front_kept rules r front (Some a) other (there, rank, first) = (
   ],
 )
 
--- of the front of one rule more its first base is noted, and of another front what was noted
+-- for the front of one rule more its first base is recorded, and for another front the record stays
 either_front : (rules : List Rule) (r : Rule) (front : List ℕ) (lower : Ranked) (entry : Option Ranked) (here : Bool) → Decides here (r.front ≡ front) → IsFirstOfFront (rules ++ r ∷ []) r.front lower → IsFrontNoted rules front entry → IsFrontNoted (rules ++ r ∷ []) front (cond here (Some lower) entry)
 either_front rules r front lower entry true is h was = subst (λ f. IsFirstOfFront (rules ++ r ∷ []) f lower) (is.0 refl) h
 either_front rules r front lower entry false is h was = front_kept rules r front entry (λ same. both_ways false refl (is.1 same)) was
@@ -119,7 +119,7 @@ fronts_more rules front b fronts after h own (lower, is, also) =
 
 -- ---- lengths
 
--- what is always there or there already
+-- a base that is always there or there already
 either_length : (here was : Bool) → was ≡ true → cond here true was ≡ true
 either_length true was h = refl
 either_length false was h = h

@@ -1,15 +1,15 @@
--- Texts to push to: by the rules for pushing where one applies, else by those for fetching.
+-- Texts to push to: by the rules for pushing if one applies, else by those for fetching.
 use Rattle.std.proofs.Common.{◌≡◌, ℕ, inl, inr, Bool, true, false, List, sym, ap, subst}
 use Rattle.std.specs.Prelude.{is_some}
 use Rattle.std.proofs.lemmas.Bool.{both_ways}
 use Rattle.git_rules.specs.Rewrites.{Outcome, Rule, Rules, IsRewritten, IsRewrittenToPush, NoneApplies}
 
--- where a rule won, one applies
+-- if a rule won, one applies
 some_applies : (rules : List Rule) (text : List ℕ) (o : Outcome) → is_some o.base ≡ true → IsRewritten rules text o → ¬ NoneApplies rules text
 some_applies rules text o won (inl (base, rest, none)) = absurd (both_ways (is_some o.base) (ap is_some base) won)
 some_applies rules text o won (inr (r, h, base, whole)) = λ none. none r h.0 h.1
 
--- where none won, none applies
+-- if none won, none applies
 none_applies : (rules : List Rule) (text : List ℕ) (o : Outcome) → is_some o.base ≡ false → IsRewritten rules text o → NoneApplies rules text
 none_applies rules text o lost (inl (base, rest, none)) = none
 none_applies rules text o lost (inr (r, h, base, whole)) = absurd (both_ways (is_some o.base) lost (ap is_some base))

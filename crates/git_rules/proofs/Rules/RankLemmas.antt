@@ -1,4 +1,5 @@
--- Ranks: how many rules come before the first with a base, and that a rule more changes none; what is noted of them.
+-- Ranks: how many rules come before the first with a base, and that a rule more changes none; the records of
+-- them.
 use Rattle.std.proofs.Common.{◌≡◌, ℕ, suc, zero, ◌+◌, ◌<◌, ◌≤◌, Bool, true, false, cond, bytes_eq, List, [], ◌∷◌, ◌++◌, Option, Some, None, BTreeMap, Bor, length, take, drop, get_or, map, unwrap_or, inl, inr, refl, sym, ap, subst, ◌∙◌, add-one, append_assoc, arith}
 use Rattle.std.specs.Bool.{Decides}
 use Rattle.std.specs.List.{slice_get, slice_index_or}
@@ -18,7 +19,7 @@ lacks_base-append : (base : List ℕ) (a b : List Rule) → LacksBase base a →
 lacks_base-append base [] b f g = g
 lacks_base-append base (r ∷ a) b f g = (f.0, lacks_base-append base a b f.1 g)
 
--- items are those before one, it, and those behind it
+-- items are those before one, it, and those after it
 pub cut_here : {A : Type 0} (xs : List A) (i : ℕ) (d : A) → i < length xs → xs ≡ take i xs ++ get_or xs i d ∷ drop (suc i) xs
 cut_here xs i d within = sym (take-append-drop i xs) ∙ ap (λ rest. take i xs ++ rest) (drop-cons xs i d within)
 
@@ -29,7 +30,7 @@ front_more xs i x within at =
 
 -- ---- a rule more
 
--- a rule more, behind the others, changes no rank
+-- a rule more, after the others, changes no rank
 pub rank_kept : (rules : List Rule) (r : Rule) (base : List ℕ) (rank : ℕ) → HasRank rules base rank → HasRank (rules ++ r ∷ []) base rank
 rank_kept rules r base rank (before, first, others, whole, same, lacks, size) =
     (before, first, others ++ r ∷ [], ap (λ rs. rs ++ r ∷ []) whole ∙ append_assoc before (first ∷ others) (r ∷ []), same, lacks, size)
@@ -64,7 +65,7 @@ base_found (k ∷ kept) zero base (r, found, same) = λ lacks.
     lacks.0 (ap (λ z. z.base.now) head ∙ same)
 base_found (k ∷ kept) (suc at) base (r, found, same) = λ lacks. base_found kept at base (r, found, same) lacks.1
 
--- the rule behind so many is at this place
+-- the rule after so many is at this place
 found_at : (kept : List Kept) (before : List Rule) (first : Rule) (others : List Rule) (base : List ℕ) (rank : ℕ) → map rule_of kept ≡ before ++ first ∷ others → first.base ≡ base → length before ≡ rank → HasBaseAt kept rank base
 found_at [] [] first others base rank whole same size = absurd (cc)
 found_at [] (b ∷ before) first others base rank whole same size = absurd (cc)
@@ -97,7 +98,7 @@ rank_unknown kept base entry at is missing (inr lacks) = lacks
 
 -- ---- the notes of all ranks
 
--- what is noted for another base stays right
+-- the record for another base stays correct
 noted_kept : (rules : List Rule) (r : Rule) (base : List ℕ) (entry : Option ℕ) → ¬ (r.base ≡ base) → IsNoted rules base entry → IsNoted (rules ++ r ∷ []) base entry
 noted_kept rules r base entry other (inl (rank, is, h)) = inl (rank, is, rank_kept rules r base rank h)
 noted_kept rules r base entry other (inr lacks) = inr (lacks_base-append base rules (r ∷ []) lacks (other, tt))
@@ -107,7 +108,7 @@ next_noted : (rules : List Rule) (base : List ℕ) (rank : ℕ) → HasNextRank 
 next_noted rules base rank (inl h) = inl (rank, refl, h)
 next_noted rules base rank (inr (lacks, size)) = inr lacks
 
--- what is noted stays right where the next rank of a base is noted
+-- the record stays correct if the next rank of a base is recorded
 either_noted : (rules : List Rule) (own base : List ℕ) (rank : ℕ) (entry : Option ℕ) (here : Bool) → Decides here (own ≡ base) → HasNextRank rules own rank → IsNoted rules base entry → IsNoted rules base (cond here (Some rank) entry)
 either_noted rules own base rank entry true is h was = subst (λ b. IsNoted rules b (Some rank)) (is.0 refl) (next_noted rules own rank h)
 either_noted rules own base rank entry false is h was = was
@@ -128,7 +129,7 @@ ranks_more rules r rank ranks after h next also =
 
 -- ---- which base comes first
 
--- a shorter front of the same rules lacks what a longer one lacks
+-- a shorter front of the same rules lacks each byte that a longer one lacks
 lacks_front : (base : List ℕ) (p q x y : List Rule) → p ++ x ≡ q ++ y → length p ≤ length q → LacksBase base q → LacksBase base p
 lacks_front base [] q x y e shorter h = tt
 lacks_front base (r ∷ p) [] x y e shorter h = absurd (omega arith)
@@ -153,7 +154,7 @@ pub no_later : (rules : List Rule) (a b : List ℕ) (i j : ℕ) → HasRank rule
 no_later rules a b i j (before, first, others, whole, same, lacks, size) (before_b, first_b, others_b, whole_b, same_b, lacks_b, size_b) lower =
     (before, first, others, whole, same, lacks_front b before before_b (first ∷ others) (first_b ∷ others_b) (sym whole ∙ whole_b) (omega (arith, size, size_b)) lacks_b)
 
--- what comes no later than a base that comes no later than another comes no later than that one
+-- a base that comes no later than a base that comes no later than another comes no later than that one
 pub no_later_than : (rules : List Rule) (a b c : List ℕ) → ComesNoLater rules a b → ComesNoLater rules b c → ComesNoLater rules a c
 no_later_than rules a b c (p, f, x, whole, has_a, lacks_b) (q, g, y, whole_b, has_b, lacks_c) =
     let same : p ++ f ∷ x ≡ q ++ g ∷ y = sym whole ∙ whole_b in

@@ -1,4 +1,4 @@
--- What a table notes of its rules, after an addition and after one that was refused.
+-- The records of a table of its rules, after an addition and after one that was refused.
 use Rattle.std.proofs.Common.{◌≡◌, ℕ, List, [], ◌∷◌, ◌++◌, Option, BTreeMap, BTreeSet, Bor, length, map, sym, subst, true}
 use Rattle.std.specs.BTreeMap.{IsUnchanged, is_at}
 use Rattle.std.specs.BTreeSet.{Updates}
@@ -14,7 +14,7 @@ use Rattle.git_rules.specs.declared.rewrite.table.Ranked.{Ranked}
 use Rattle.git_rules.proofs.Rules.FrontLemmas.{fronts_more, lengths_kept, lengths_more}
 use Rattle.git_rules.proofs.Rules.RankLemmas.{rank_added, ranks_more, ranks_noted}
 
--- what a table notes
+-- the records of a table
 abbrev pub NotesAll : List Kept → BTreeMap (Bor (List ℕ)) ℕ → BTreeMap (Bor (List ℕ)) Ranked → BTreeSet ℕ → Type 0
 NotesAll items ranks fronts lengths =
     NotesRanks (map rule_of items) ranks × NotesFronts (map rule_of items) fronts × NotesLengths (map rule_of items) lengths

@@ -33,7 +33,7 @@ left_cases m n left h = left_by (nat_cmp m n) m n (list_any (is_at (nat_cmp m)) 
 first_less : (m n : ℕ) (left : List ℕ) → IsStrictlySortedBy nat_cmp (m ∷ n ∷ left) → m < n
 first_less m n left sorted = below_from_sorted (m ∷ n ∷ left) 0 1 0 sorted (omega arith) (omega arith)
 
--- what is less than the first is none of these
+-- a length that is less than the first is none of these
 not_left : (m n : ℕ) (left : List ℕ) → IsStrictlySortedBy nat_cmp (n ∷ left) → m < n → ¬ IsLeft m (n ∷ left)
 not_left m n [] sorted less h = elim (left_cases m n [] h) [ inl same ↦ omega arith | inr none ↦ absurd (cc) ]
 not_left m n (k ∷ left) sorted less h =
@@ -48,7 +48,7 @@ sorted_without : (m n : ℕ) (left : List ℕ) → IsStrictlySortedBy nat_cmp (m
 unfolding IsStrictlySortedBy
 sorted_without m n left h = (h.0.1, h.1.1)
 
--- ---- what is looked at so far
+-- ---- the fronts that are tested so far
 
 -- the length of the rule's front is left
 abbrev pub IsAhead : List ℕ → Rule → Type 0
@@ -70,7 +70,7 @@ pub record WonSoFar (rules : List Rule) (text left : List ℕ) (o : Outcome) : T
   pub sorted : IsStrictlySortedBy nat_cmp (length rule.front ∷ left)
   pub preferred : (s : Rule) → IsAmong s rules → Applies text s → IsPreferred rules rule s ⊎ IsAhead left s
 
--- what the rules make of a text, without those whose lengths are left
+-- the outcome of the rules for a text, without those whose lengths are left
 abbrev pub IsRewrittenSoFar : List Rule → List ℕ → List ℕ → Outcome → Type 0
 IsRewrittenSoFar rules text left o = NoneSoFar rules text left o ⊎ WonSoFar rules text left o
 
@@ -81,7 +81,7 @@ none_so_far rules text lengths o base rest sorted h =
 
 -- ---- the end
 
--- where none that applies is ahead
+-- if none that applies is ahead
 all_seen : (rules : List Rule) (text left : List ℕ) (o : Outcome) → ((s : Rule) → Applies text s → ¬ IsAhead left s) → IsRewrittenSoFar rules text left o → IsRewritten rules text o
 all_seen rules text left o seen (inl h) = inl (h.base, h.rest, λ s among a. seen s a (h.ahead s among a))
 all_seen rules text left o seen (inr h) =
@@ -112,7 +112,7 @@ too_long rules text all n left o is longer h =
 
 -- ---- one length more
 
--- a front of this length is what the text begins with
+-- a front of this length is the one that the text begins with
 front_taken : (text : List ℕ) (s : Rule) (n : ℕ) → Applies text s → length s.front ≡ n → s.front ≡ take n text
 front_taken text s n (rest, whole) size =
     sym (take-append_seam s.front rest) ∙ ap (λ t. take (length s.front) t) (sym whole) ∙ ap (λ k. take k text) size
@@ -185,7 +185,7 @@ so_far_found rules text all n left o new b is first size base rest h =
       preferred = preferred_so_far rules text n left o b first size k;
     })
 
--- ---- what is noted of a front
+-- ---- the record of a front
 
 -- a base is noted for the front that a text begins with
 pub front_found : (rules : List Rule) (fronts : BTreeMap (Bor (List ℕ)) Ranked) (front taken : List ℕ) (b : Ranked) → NotesFronts rules fronts → front ≡ taken → noted fronts front ≡ Some b → IsFirstOfFront rules taken b

@@ -1,4 +1,4 @@
--- The answers on settings: what was found, why nothing was, and that the answer is one.
+-- The answers on settings: the entries that were found, why none were, and that the answer is one.
 use Rattle.std.proofs.Common.{◌≡◌, ℕ, suc, ◌+◌, ◌<◌, inl, inr, List, [], ◌∷◌, ◌++◌, length, take, drop, get_or, refl, sym, ap, subst, ◌∙◌, arith, append_assoc, add-one, Option, None, option_to_list, Ok, Err, All, codes}
 use Rattle.std.proofs.Math.Seq.{take-append_seam, take-suc}
 use Rattle.std.proofs.lemmas.List.{length-take-le}
@@ -113,7 +113,7 @@ first_of_room name place buffer_len entries single h = record {
   fails = h.short;
 }
 
--- or memory is refused for the best entry, where the buffer suffices
+-- or memory is refused for the best entry, if the buffer suffices
 pub first_of_memory : (name : List ℕ) (place : Option NormalPlace) (buffer_len : ℕ) (entries : List ConfigEntry) (i : ℕ) → ¬ IsListName name → All (BufferSuffices (codes "http") name place buffer_len) entries → IsBestAt (RanksSetting name place) entries i → IsOfFirst name place buffer_len entries Memory
 first_of_memory name place buffer_len entries i single enough best =
     let Fits = BufferSuffices (codes "http") name place buffer_len in

@@ -14,14 +14,14 @@ use Rattle.git_rules.proofs.Settled.ListLemmas.{at_seam, in_front, tail_same}
 
 -- ---- fronts
 
--- what is taken has a place in the list
+-- an entry that is taken has a place in the list
 pub place_within : (name : List ℕ) (place : Option NormalPlace) (entries : List ConfigEntry) (i : ℕ) (e : ConfigEntry) → IsTakenAt name place entries i e → i < length entries
 place_within name place entries i e h =
     let size : length entries ≡ length h.before + length (e ∷ h.others) = ap length h.joined ∙ length-append h.before (e ∷ h.others) in
     let at : length h.before ≡ i = h.index in
     omega (arith, size, at)
 
--- what is taken in a front is taken in the whole list
+-- an entry that is taken in a front is taken in the whole list
 pub grow : (name : List ℕ) (place : Option NormalPlace) (done more : List ConfigEntry) (i : ℕ) (e : ConfigEntry) → IsTakenAt name place done i e → IsTakenAt name place (done ++ more) i e
 grow name place done more i e h = record {
   before = h.before;
@@ -33,7 +33,7 @@ grow name place done more i e h = record {
   not_higher = h.not_higher;
 }
 
--- what is taken in the whole list at a place of the front is taken in the front
+-- an entry that is taken in the whole list at a place of the front is taken in the front
 pub shrink : (name : List ℕ) (place : Option NormalPlace) (done more : List ConfigEntry) (i : ℕ) (e : ConfigEntry) → i < length done → IsTakenAt name place (done ++ more) i e → IsTakenAt name place done i e
 shrink name place done more i e short h =
     let at : length h.before ≡ i = h.index in
@@ -48,7 +48,7 @@ shrink name place done more i e short h =
       not_higher = h.not_higher;
     }
 
--- what is taken with one entry more is taken without it, or is this entry
+-- an entry that is taken with one entry more is taken without it, or is this entry
 pub taken_cases : (name : List ℕ) (place : Option NormalPlace) (done : List ConfigEntry) (t : ConfigEntry) (i : ℕ) (e : ConfigEntry) → IsTakenAt name place (done ++ t ∷ []) i e → IsTakenAt name place done i e ⊎ ((i ≡ length done) × (e ≡ t))
 taken_cases name place done t i e h = elim (cases_lt i (length done)) [
   | inl short ↦ inl (shrink name place done (t ∷ []) i e short h)
@@ -82,7 +82,7 @@ untaken_none name place done t e none h =
     let seam = at_seam h.before h.others done [] e t h.joined h.index in
     none h.rank (subst (λ z. RanksSetting name place z h.rank) seam.1 h.ranks)
 
--- the element where a list is cut is one of the list
+-- the element if a list is cut is one of the list
 pub at_cut : {T : Type 0} (before : List T) (x : T) (others : List T) → Contains (before ++ x ∷ others) x
 at_cut before x others = Contains-append_right before (x ∷ others) x (0, omega arith, refl)
 
@@ -134,7 +134,7 @@ best_is_last name place entries i best = record {
   last = λ j e h. elim (cases_lt i j) [ inl after ↦ absurd (not_after name place entries i j e best after h) | inr l ↦ l ];
 }
 
--- where none sets the variable none is taken
+-- if none sets the variable none is taken
 pub none_taken : (name : List ℕ) (place : Option NormalPlace) (entries : List ConfigEntry) (i : ℕ) (e : ConfigEntry) → All (HasNoRank (RanksSetting name place)) entries → ¬ IsTakenAt name place entries i e
 none_taken name place entries i e none h =
     All-contains (HasNoRank (RanksSetting name place)) entries e none (subst (λ z. Contains z e) (sym h.joined) (at_cut h.before e h.others)) h.rank h.ranks

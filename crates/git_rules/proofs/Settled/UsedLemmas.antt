@@ -31,7 +31,7 @@ last_is : (name : List ℕ) (place : Option NormalPlace) (done : List ConfigEntr
 last_is name place done t i e at same h =
     subst (λ z. IsTakenAt name place (done ++ t ∷ []) (length done) z) same (subst (λ z. IsTakenAt name place (done ++ t ∷ []) z e) at h)
 
--- what is used stays so
+-- an entry that is used stays so
 used_more : (name : List ℕ) (place : Option NormalPlace) (done : List ConfigEntry) (t : ConfigEntry) (i : ℕ) → KeepsOthers name place done t → IsUsedAt name place done i → IsUsedAt name place (done ++ t ∷ []) i
 used_more name place done t i keeps u = record {
   entry = u.entry;
@@ -43,7 +43,7 @@ used_more name place done t i keeps u = record {
   ];
 }
 
--- what is used and isn't the last entry was used before
+-- an entry that is used and isn't the last entry was used before
 used_less : (name : List ℕ) (place : Option NormalPlace) (done : List ConfigEntry) (t : ConfigEntry) (i : ℕ) (u : IsUsedAt name place (done ++ t ∷ []) i) → IsTakenAt name place done i u.entry → IsUsedAt name place done i
 used_less name place done t i u old = record {
   entry = u.entry;
@@ -73,7 +73,7 @@ kept name place done t found untaken h = record {
   );
 }
 
--- an empty value clears what was used
+-- an empty value clears the entries used before
 none_used : (name : List ℕ) (place : Option NormalPlace) (done : List ConfigEntry) (t : ConfigEntry) (i : ℕ) → IsTakenAt name place (done ++ t ∷ []) (length done) t → t.value ≡ Some [] → ¬ IsUsedAt name place (done ++ t ∷ []) i
 none_used name place done t i here empty u = elim (taken_cases name place done t i u.entry u.taken) [
   | inl old ↦ u.not_cleared (length done) t (place_within name place done i u.entry old) here empty
@@ -134,7 +134,7 @@ by_value name place done t old new (Some []) is here add h =
 by_value name place done t old new (Some (b ∷ bs)) is here add h =
     subst (AreUsed name place (done ++ t ∷ [])) (sym add) (added name place done t old b bs here is h)
 
--- ---- what was found so far
+-- ---- the entries found so far
 
 pub record ListedSoFar (name : List ℕ) (place : Option NormalPlace) (done : List ConfigEntry) (best : Option (ℕ × Rank)) (found : List ℕ) : Type 0 where
   pub so_far : IsBestSoFar (RanksSetting name place) done best

@@ -1,4 +1,5 @@
--- What Git gives Secure Shell for a location in whose text it reads the same place: the words of the command.
+-- The words that Git gives Secure Shell for a location in whose text it reads the same place: those of the
+-- command.
 use Rattle.std.proofs.Common.{◌≡◌, ◌∙◌, ℕ, ◌<◌, Bool, true, false, ◌⊎◌, inl, inr, List, [], ◌∷◌, ◌++◌, length, Option, Some, None, IfSome, codes, refl, sym, ap, subst, arith}
 use Rattle.std.proofs.lemmas.Bool.{false_from_ne_true}
 use Rattle.std.proofs.lemmas.Bool.Decides.{Decides-eqb}
@@ -20,15 +21,15 @@ use Rattle.git_laws.proofs.GitReadings.GitPieceLemmas.{kept_free}
 use Rattle.git_rules.specs.SecureShell.{Request, destination, is_url_like, user_refusal, host_refusal, url_refusal, path_refusal, request_refusal, ssh_refusal}
 use Rattle.git_rules.specs.SecureLaws.{GivesSecure, GivesOwnWords}
 
--- ---- what is reached
+-- ---- the places that are reached
 
--- what is read is reached by Secure Shell
+-- a place that is read is reached by Secure Shell
 record IsReached (reading : GitReading) : Type 0 where
   place : List ℕ
   path : List ℕ
   reaches : ReachesSecure place path reading
 
--- what is read of Secure Shell in a text is
+-- a place of Secure Shell that is read in a text is reached
 reached : (t : List ℕ) (reading : GitReading) → reading.protocol ≡ ssh → ReadsInput t reading → IsReached reading
 reached t reading e (ReadsInput.secure_url rest place path own cut reaches) = record { place = place; path = from_tilde (slash ∷ path); reaches = reaches }
 reached t reading e (ReadsInput.git_url rest place path own cut reaches) = absurd (cc (ap (λ (r : GitReading). r.protocol) reaches.value, e))
@@ -111,7 +112,7 @@ settled_host v (inr url) = (url.host.0, url.host.1)
 
 -- ---- the law
 
--- what is known of a host of the class
+-- the known facts about a host of the class
 record IsGiven (v : Location) (host : List ℕ) : Type 0 where
   there : v.host ≡ Some host
   some : 0 < length host
@@ -131,7 +132,7 @@ accepted v host e a settled named given r asked =
     let path_none = path_accepted v.path (settled_path v settled) path_free a.no_option.path in
     rw e (rw a.no_password (rw given.there (rw user (rw host_none (rw url_none (rw path_none asked))))))
 
--- what Git reads in a text as the location's own: it is reached by its words
+-- the location's own place, which Git reads in a text: it is reached by its words
 record IsOwnReached (v : Location) (t host : List ℕ) : Type 0 where
   given : IsGiven v host
   words : GivesSecure t (destination v.user host) v.port v.path

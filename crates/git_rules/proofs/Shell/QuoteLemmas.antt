@@ -1,4 +1,5 @@
--- What a shell reads in a text in Git's quotes, the text; and in a program with such a text behind it.
+-- The words that a shell reads in a text in Git's quotes: the text; and in a program with such a text after
+-- it.
 use Rattle.std.proofs.Common.{◌≡◌, ◌∙◌, ℕ, Bool, true, false, ◌==◌, List, [], ◌∷◌, ◌++◌, Option, Some, None, refl, ap, arith, append_assoc, inl, inr}
 use Rattle.std.specs.Prelude.{flat_map, if◌then◌else◌}
 use Rattle.std.proofs.lemmas.Bool.{cases_Bool, or_parts}
@@ -10,11 +11,11 @@ use Rattle.git_rules.specs.ShellWords.{Place, single_quote, words_from, shell_wo
 use Rattle.git_rules.specs.ShellWords.Place.{between, bare, quoted, escaped}
 use Rattle.git_rules.specs.SecureShell.{service_name, remote_command}
 
--- a byte that is written behind a `\` ends no line
+-- a byte that is written after a `\` ends no line
 unquoted_no_line : (b : ℕ) → is_unquoted b ≡ true → (b == newline) ≡ false
 unquoted_no_line b h = grind (arith, nat_tests)
 
--- a byte behind a `\`, with the quotes closed before it and opened behind it
+-- a byte after a `\`, with the quotes closed before it and opened after it
 unquoted_read : (b : ℕ) (rest : List ℕ) → (b == newline) ≡ false → words_from quoted (single_quote ∷ 92 ∷ b ∷ single_quote ∷ rest) ≡ put_before b (words_from quoted rest)
 unquoted_read b rest no_line = rw no_line refl
 
@@ -42,7 +43,7 @@ path_read path = quoted_read path
 
 -- ---- words before a space
 
--- where the first are words, the second are these and more of them
+-- if the first are words, the second are these and more of them
 abbrev Goes : List (List ℕ) → Option (List (List ℕ)) → Option (List (List ℕ)) → Type 0
 Goes more a b = (words : List (List ℕ)) → a ≡ Some words → b ≡ Some (words ++ more)
 
@@ -65,7 +66,7 @@ byte_goes more b (Some []) y f words h = absurd (cc)
 byte_goes more b (Some (w ∷ ws)) y f words h =
     ap (put_before b) (f (w ∷ ws) refl) ∙ ap (λ k. Some (k ++ more)) (words_known ((b ∷ w) ∷ ws) words h)
 
--- of words behind one that ends
+-- of words after one that ends
 end_goes : (more : List (List ℕ)) (x y : Option (List (List ℕ))) → Goes more x y → Goes more (behind_end x) (behind_end y)
 end_goes more None y f words h = absurd (cc)
 end_goes more (Some ws) y f words h =

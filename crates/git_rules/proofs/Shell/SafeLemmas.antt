@@ -19,7 +19,7 @@ use Rattle.git_rules.proofs.Shell.QuoteLemmas.{path_read, program_read, two_word
 
 -- ---- refusals
 
--- where there is no refusal, there is none of both
+-- if there is no refusal, there is none of both
 pub both_none : (a b : Option SshRefusal) → or_refusal a b ≡ None → (a ≡ None) × (b ≡ None)
 both_none None b h = (refl, h)
 both_none (Some r) b h = absurd (cc)
@@ -35,7 +35,7 @@ none_from_test (Some r) h = absurd (cc)
 
 -- ---- users and hosts
 
--- what is asked of a user
+-- the conditions on a user
 record IsGoodUser (user : List ℕ) : Type 0 where
   some : 0 < length user
   no_option : is_option_like user ≡ false
@@ -47,7 +47,7 @@ good_user (b ∷ bs) h = record {
   no_option = (test_false _ _ _ (test_false _ _ _ h).1).0;
 }
 
--- what is asked of a host
+-- the conditions on a host
 record IsGoodHost (host : List ℕ) : Type 0 where
   no_option : is_option_like host ≡ false
   no_at : FreeOf at_sign host
@@ -62,7 +62,7 @@ good_host (b ∷ bs) h =
 
 -- ---- destinations
 
--- a text before an `@` begins with what the whole begins with, where no `@` is in that
+-- a text before an `@` begins with the bytes with which the whole begins, if no `@` is in those
 mark_before : (mark user host rest : List ℕ) → FreeOf at_sign mark → user ++ at_sign ∷ host ≡ mark ++ rest → (r : List ℕ) × (user ≡ mark ++ r)
 mark_before [] user host rest free e = (user, refl)
 mark_before (m ∷ mark) [] host rest free e = absurd (both_ways (m == at_sign) (free_head_tail at_sign m mark free).0 (eq-eqb m at_sign (sym (heads e))))
@@ -71,7 +71,7 @@ mark_before (m ∷ mark) (a ∷ user) host rest free e =
     let first : a ≡ m = heads e in
     (r, cc)
 
--- what begins with `ssh://` is found to
+-- a text that begins with `ssh://` is found to
 url_found : (text rest : List ℕ) → text ≡ codes "ssh://" ++ rest → is_url_like text ≡ true
 url_found text rest e = subst (λ t. is_url_like t ≡ true) (sym e) refl
 
@@ -88,7 +88,7 @@ destination_no_option None host h good = good.no_option
 destination_no_option (Some []) host h good = refl
 destination_no_option (Some (b ∷ u)) host h good = (good_user (b ∷ u) h).no_option
 
--- and is cut where it was joined
+-- and is cut if it was joined
 destination_cut : (user : Option (List ℕ)) (host : List ℕ) → user_refusal user ≡ None → IsGoodHost host → UserCut (destination user host) user host
 destination_cut None host h good = UserCut.host_alone good.no_at refl refl
 destination_cut (Some user) host h good = UserCut.with_user user (good_user user h).some good.no_at refl refl
@@ -102,7 +102,7 @@ path_no_option (b ∷ bs) h = (test_false _ _ _ (test_false _ _ _ h).1).0
 digits_no_option : (port : ℕ) → port < 65536 → is_option_like (decimal port) ≡ false
 digits_no_option port small = free_begins hyphen (decimal port) (free_of_all is_ascii_digit hyphen (decimal port) (decimal_digits port small).1 refl)
 
--- nor is the remote command, where the program isn't refused
+-- nor is the remote command, if the program isn't refused
 remote_no_option : (service : Service) (program : Option (List ℕ)) (path : List ℕ) → program_refusal program ≡ None → is_option_like (remote_command (unwrap_or program (service_name service)) path) ≡ false
 remote_no_option UploadPack None path h = refl
 remote_no_option ReceivePack None path h = refl
@@ -110,13 +110,13 @@ remote_no_option UploadArchive None path h = refl
 remote_no_option service (Some []) path h = absurd (cc)
 remote_no_option service (Some (b ∷ bs)) path h = (test_false _ _ _ (test_false _ _ _ h).1).0
 
--- what a shell reads without a program of one's own
+-- the words that a shell reads if the request has no program
 service_read : (service : Service) (program : Option (List ℕ)) (path : List ℕ) → program ≡ None → shell_words (remote_command (unwrap_or program (service_name service)) path) ≡ Some (service_name service ∷ path ∷ [])
 service_read service None path h = two_words service path
 service_read service (Some program) path h = absurd (cc)
 
 -- no word but the options is one, Secure Shell cuts its word
--- where it was joined, and a shell reads the path
+-- if it was joined, and a shell reads the path
 pub safe_command : (c : Command) → IsSafe c → IfSome c.port (λ p. p < 65536) → IsSafeCommand c
 safe_command c safe small =
     let all = both_none _ _ (none_from_test _ safe) in

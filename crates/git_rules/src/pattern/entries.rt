@@ -21,8 +21,7 @@ const LOWEST: Rank = Rank {
 ///
 /// The entry sets it if its section and name match, ignoring letter case, and if it either has no subsection or its
 /// subsection is a URL that matches the place as a [`UrlPattern`]. An entry without a subsection applies to all
-/// places and has the lowest rank. `buffer` needs three bytes for each byte of the entry's URL, and one
-/// more. Allocates nothing.
+/// places and has the lowest rank. `buffer` needs three bytes for each byte of the entry's URL, and one more.
 ///
 /// For `http.*` Git uses the entries that [`settings_for`](crate::pattern::settings::settings_for) returns: the
 /// best one, as [`best_entry`] finds it, or for two of the names several. For `credential.*` Git goes through all
@@ -31,7 +30,7 @@ const LOWEST: Rank = Rank {
 ///
 /// - Git also uses an entry whose subsection isn't a whole URL, such as `credential.example.com.helper`, and
 ///   compares the parts that it has with those of the request. This function ignores such an entry, even an empty
-///   `helper`, with which Git drops the helpers before it.
+///   `helper`, which clears the helpers before it.
 /// - Git compares with a URL that it composes from the parts of the request: it decodes the path, removes its
 ///   trailing slashes, and escapes it again, including `?` and `=`. So an entry whose URL has a path may apply only
 ///   in one of the two comparisons if the path of the place has a query, an escaped delimiter or trailing slashes.
@@ -121,7 +120,7 @@ pub(crate) fn is_short_buffer(error: NormalError) -> bool
 }
 
 /// The index of the best entry that sets the variable `section.<url>.name` for the place, or `None` if no entry
-/// does. Looks at each entry once. Allocates nothing.
+/// does. Tests each entry once.
 ///
 /// The entry with the highest [`Rank`] is the best, and among equal ranks the last: for `http.*`, Git uses the
 /// value of this entry, unless the name is a list ([`settings_for`](crate::pattern::settings::settings_for)). The

@@ -9,7 +9,7 @@ use git_location::url_ref::UrlRef;
 use git_location::write_error::WriteFault;
 use thiserror::Error;
 
-/// The reason why a location has no normal form.
+/// The reason why a location has no normal form. [`place_in`] has an example.
 #[derive(Clone, Copy, Debug, Error)]
 pub enum PlaceError {
     /// The location has no text.
@@ -23,10 +23,11 @@ pub enum PlaceError {
 /// Returns the place of the location: the normal form of its text, by which Git picks settings for it.
 ///
 /// The function writes the text to the front of `buffer`, and its normal form after it. The buffer needs four bytes
-/// for each byte of the text ([`UrlRef::text_len`]), and one more. Allocates nothing.
+/// for each byte of the text ([`UrlRef::text_len`]), and one more.
 ///
-/// **The buffer then holds the whole text of the location, its password included**, after an error as well as after
-/// success. It is unchanged only if the location has no text, or if the buffer is shorter than the text.
+/// **Afterwards the buffer holds the whole text of the location, including its password**, after an error as
+/// well as after success. It is unchanged only if the location has no text, or if the buffer is shorter than
+/// the text. No clause states its contents: treat the buffer as secret after each call.
 ///
 /// # Errors
 ///

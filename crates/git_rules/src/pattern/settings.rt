@@ -96,9 +96,9 @@ impl From<AllocError> for SettingsError {
 /// # Errors
 ///
 /// [`SettingsError::NoRoom`] if the buffer is too short for the URL of an entry that sets the variable.
-/// [`SettingsError::NoValue`] if the name is a list; it names the first entry that is taken and has no value, at
-/// which Git stops. [`SettingsError::Memory`] if an allocation fails. If there are several errors, the first
-/// entry's is returned.
+/// [`SettingsError::NoValue`] if the name is a list and an entry that is taken has no value; it names the
+/// first such entry, at which Git stops. [`SettingsError::Memory`] if an allocation fails. If there are
+/// several errors, the first entry's is returned.
 ///
 /// ```
 /// /// The headers that Git sends to a place beside its own, each with a line feed after it.
@@ -149,8 +149,9 @@ pub fn settings_for(
 ///
 /// # Errors
 ///
-/// [`SettingsError::NoValue`] if the name is a list; it names the first entry without a subsection that has no
-/// value, at which Git stops. [`SettingsError::Memory`] if an allocation fails. No other error occurs.
+/// [`SettingsError::NoValue`] if the name is a list and an entry without a subsection has no value; it names
+/// the first such entry, at which Git stops. [`SettingsError::Memory`] if an allocation fails. No other error
+/// occurs.
 ///
 /// ```
 /// /// The proxy that Git uses for a text: that of its place, or the one for all places.

@@ -63,8 +63,8 @@ pub enum NoTransport {
 /// repository in the folder that the whole text names, and uses `file` if there is one, whatever the form of the
 /// text. The name of a remote is not resolved. `remote.<name>.vcs`, which selects another helper, is ignored.
 ///
-/// Allocates nothing. The rules are those of `protocol.allow` in git-config(1) and of gitremote-helpers(7). If
-/// these leave a case open, Git 2.39.5 decides.
+/// The rules are those of `protocol.allow` in git-config(1) and of gitremote-helpers(7). If these leave a
+/// case open, Git 2.39.5 decides.
 ///
 /// # Errors
 ///

@@ -31,8 +31,8 @@ pub fn names_same_host(a: &UrlRef<'_>, b: &UrlRef<'_>) -> bool
     }
 }
 
-/// As [`names_same_host`], for two texts, each of which is parsed into a buffer of its own. A buffer as long as its
-/// text suffices.
+/// Whether two texts name the same host, like [`names_same_host`]. Each text is parsed into its own buffer. A
+/// buffer as long as its text suffices.
 ///
 /// ```
 /// /// Whether both texts name the same host; none where one of them isn't read, or is longer than 1,024 bytes.

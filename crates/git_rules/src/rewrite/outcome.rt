@@ -11,7 +11,7 @@ use std::alloc::{AllocError, Global};
 use std::marker::Model;
 
 /// The outcome of rewriting a text: the base of the rule that won, and the text after that rule's front; or no base
-/// and the text itself. It borrows both.
+/// and the text itself. Both are borrowed.
 ///
 /// ```
 /// /// The front that a rule takes off a text, if one wins.

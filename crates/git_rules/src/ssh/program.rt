@@ -1,4 +1,4 @@
-//! The program that Git runs for Secure Shell, and the variant that Git takes it for.
+//! The program that Git runs for Secure Shell, and its variant as Git determines it.
 //!
 //! No function here reads the environment or runs a program. An error names the entry at which Git stops. One
 //! definition covers the program, whether it is a command line, and its variant (`specs/SshPrograms.antt`).
@@ -55,7 +55,7 @@ impl<'a> Model for SshSettings<'a> {
     ghost view = { borrowed_settings };
 }
 
-/// The variant that Git takes a Secure Shell program for.
+/// The variant of a Secure Shell program, as Git determines it.
 ///
 /// ```
 /// /// The variant, where Git needs to run nothing to know it.
@@ -109,7 +109,7 @@ pub struct SshProgram<'a> {
     /// Whether the text is a command line, of `GIT_SSH_COMMAND` or `core.sshCommand`: a shell runs it, with the
     /// words appended. Git starts it without a shell if it has no byte that is special to a shell.
     pub is_command_line: bool,
-    /// The variant that Git takes it for.
+    /// Its variant, as Git determines it.
     pub variant: ProgramVariant,
 }
 
@@ -139,9 +139,8 @@ impl<'a> SshProgram<'a> {
     ///
     /// # Errors
     ///
-    /// [`SshProgramError::NoValue`], at which Git stops. It names the last `core.sshCommand` if `GIT_SSH_COMMAND`
-    /// isn't set and the entry has no value, or else the last `ssh.variant` if `GIT_SSH_VARIANT` isn't set and that
-    /// entry has no value.
+    /// [`SshProgramError::NoValue`] if Git stops at an entry without a value: at the last `core.sshCommand`
+    /// if `GIT_SSH_COMMAND` isn't set, or else at the last `ssh.variant` if `GIT_SSH_VARIANT` isn't set.
     ///
     /// ```
     /// /// Whether Git takes what it runs for OpenSSH, without asking it.

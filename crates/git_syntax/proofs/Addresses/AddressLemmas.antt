@@ -129,7 +129,7 @@ all_lowercase class stays (b ∷ bs) h =
 group_lowercase : (g : List ℕ) → IsGroup g → IsGroup (lowercase g)
 group_lowercase g h = grind (arith, nat_tests, all_lowercase, length-map)
 
--- and items with what they count for
+-- and items with the number of groups that they count for
 items_lowercase : (ending : Bool) (items : List (List ℕ)) (n : ℕ) → AreItems ending items n → AreItems ending (map lowercase items) n
 items_lowercase ending [] n h = h
 items_lowercase ending (t ∷ []) n (inl (group, one)) = inl (group_lowercase t group, one)

@@ -18,7 +18,7 @@ use Rattle.git_syntax.proofs.Addresses.AddressLemmas.{digits_pass, passing_digit
 group_written : (g : List ℕ) → IsGroup g → std.IsGroup g (digits_value 16 g)
 group_written g h = grind (arith, nat_tests, passing_digits)
 
--- what writes a segment is a group
+-- a text that writes a segment is a group
 group_read : (g : List ℕ) (s : ℕ) → std.IsGroup g s → IsGroup g
 group_read g s h = grind (arith, nat_tests, digits_pass)
 
@@ -30,7 +30,7 @@ dotted_parts a b c d = simp append_assoc
 dotted_written : (t : List ℕ) (h : IsIpv4Text t) → std.IsDotted t (h.octets.0.0 ∷ h.octets.1.0 ∷ h.octets.2.0 ∷ h.octets.3.0 ∷ [])
 dotted_written t h = grind (arith, nat_tests, dotted_parts)
 
--- what writes four octets is an IPv4 text
+-- a text that writes four octets is an IPv4 text
 dotted_read : (t octets : List ℕ) → std.IsDotted t octets → IsIpv4Text t
 dotted_read t octets h = grind (arith, nat_tests, dotted_parts)
 
@@ -56,7 +56,7 @@ record Items (ending : Bool) (lead text : List ℕ) (n : ℕ) : Type 0 where
   items : AreItems ending (first ∷ others) n
   joined : text ≡ lead ++ join_with_byte colon (first ∷ others)
 
--- what writes segments consists of items
+-- a text that writes segments consists of items
 items_read : (ending : Bool) (lead text : List ℕ) (v : ℕ) (s : List ℕ) → std.IsGroupsAfter ending lead text (v ∷ s) → Items ending lead text (length s + 1)
 items_read ending lead text v [] (inl (group, rest, split, is_group, more)) = record {
   first = group;
@@ -82,7 +82,7 @@ items_read ending lead text v s (inr (last, octets, ends, split, dotted, segment
       joined = split;
     }
 
--- the same where there may be no item
+-- the same if there may be no item
 list_written : (ending : Bool) (items : List (List ℕ)) (n : ℕ) → AreItems ending items n → Written ending [] (join_with_byte colon items) n
 list_written ending [] n none = ([], sym none, refl)
 list_written ending (t ∷ us) n items = items_written ending [] t us n items
@@ -116,17 +116,17 @@ address_written t (inr short) =
       },
     )
 
--- what writes the segments of an address is an IPv6 text
+-- a text that writes the segments of an address is an IPv6 text
 address_read : (t s : List ℕ) → std.IsColonHex t s → IsIpv6Text t
 address_read t s h = grind (arith, nat_tests, list_read, append_assoc)
 
--- std reads an address exactly where there is an IPv6 text
+-- std reads an address exactly if there is an IPv6 text
 pub reads_addresses : {E : Type 0} (t : List ℕ) (r : Result Ipv6Addr E) → std.Parses std.IsIpv6Text t r → IsTrue (is_ok r) ↔ IsIpv6Text t
 reads_addresses t (Ok a) written = (λ _. address_read t a.segments written, λ _. refl)
 reads_addresses t (Err e) none =
     (λ wrong. absurd (false≢true wrong), λ h. let (s, written) = address_written t h in absurd (none (record { segments = s }) written))
 
--- and an address of IPv4 exactly where there is an IPv4 text
+-- and an address of IPv4 exactly if there is an IPv4 text
 pub reads_dotted : {E : Type 0} (t : List ℕ) (r : Result Ipv4Addr E) → std.Parses std.IsIpv4Text t r → IsTrue (is_ok r) ↔ IsIpv4Text t
 reads_dotted t (Ok a) written = (λ _. dotted_read t (ipv4_octets a) written, λ _. refl)
 reads_dotted t (Err e) none = (λ wrong. absurd (false≢true wrong), λ h. absurd (none (record { octets = h.octets.0.0 ∷ h.octets.1.0 ∷ h.octets.2.0 ∷ h.octets.3.0 ∷ [] }) (dotted_written t h)))

@@ -32,7 +32,7 @@ cut_here c before behind b bs e = grind arith
 cut_later : (c : ℕ) (before behind : List ℕ → Bool) (b : ℕ) (bs : List ℕ) → Cut c (λ x. before (b ∷ x)) behind bs → Cut c before behind (b ∷ bs)
 cut_later c before behind b bs r = grind arith
 
--- what the search finds is a cut
+-- each result of the search is a cut
 any_cut_from : (c : ℕ) (before behind : List ℕ → Bool) (t : List ℕ) → any_cut c before behind t ≡ true → Cut c before behind t
 any_cut_from c before behind [] e = cc
 any_cut_from c before behind (b ∷ bs) e =
@@ -44,7 +44,7 @@ any_cut_to : (c : ℕ) (before behind : List ℕ → Bool) (x y : List ℕ) → 
 any_cut_to c before behind [] y e f = or_left _ _ (and_from _ _ (eq-eqb c c refl) (and_from _ _ e f))
 any_cut_to c before behind (b ∷ x) y e f = or_right _ _ (any_cut_to c (λ z. before (b ∷ z)) behind x y e f)
 
--- the byte and what follows it
+-- the byte and the text after it
 follows_byte_from : (c : ℕ) (behind : List ℕ → Bool) (t : List ℕ) → follows_byte c behind t ≡ true → (y : List ℕ) × (behind y ≡ true) × (t ≡ c ∷ y)
 follows_byte_from c behind t e = grind arith
 
@@ -160,7 +160,7 @@ items_ending ending n t e =
     let more = and_parts _ _ parts.1 in
     (t ∷ [], inr (more.0, ipv4_from t more.1, ap (λ x. suc (suc x)) (eqb-true n 0 parts.0)), refl)
 
--- what the test finds are items
+-- the results of the test are items
 items_from : (ending : Bool) (n : ℕ) (t : List ℕ) → are_items ending n t ≡ true → Items ending n t
 items_from ending zero [] e = ([], refl, refl)
 items_from ending zero (b ∷ bs) e = cc
@@ -194,7 +194,7 @@ items_to ending (t ∷ u ∷ us) n (g, suc m, are, count) =
 full_from : (t : List ℕ) → is_full_address t ≡ true → IsFullAddress t
 full_from t e = let found = items_from true 8 t e in record { items = found.0; eight = found.1; joined = found.2 }
 
--- the groups behind `::`, of which so many are left
+-- the groups after `::`, of which so many are left
 abbrev back_test : ℕ → List ℕ → Bool
 back_test m y = any_up_to (λ n. are_items true n y) (7 - m)
 
@@ -243,7 +243,7 @@ short_to t h = subst (λ x. is_short_address x ≡ true) (sym h.joined) passes
 
 -- ---- the test decides the definition
 
--- what passes is an IPv6 text
+-- a text that passes is an IPv6 text
 pub ipv6_text_from : (t : List ℕ) → is_ipv6_text t ≡ true → IsIpv6Text t
 unfolding is_ipv6_text
 ipv6_text_from t e = grind (arith, nat_tests, full_from, short_from, or_cases)
@@ -253,7 +253,7 @@ pub ipv6_text_to : (t : List ℕ) → IsIpv6Text t → is_ipv6_text t ≡ true
 unfolding is_ipv6_text
 ipv6_text_to t h = grind (arith, nat_tests, short_to, or_left, or_right, items_to)
 
--- what isn't an IPv6 text fails
+-- a text that isn't an IPv6 text fails
 pub ipv6_text_fails : (t : List ℕ) → ¬ IsIpv6Text t → is_ipv6_text t ≡ false
 ipv6_text_fails t other = false_from_ne_true (is_ipv6_text t) (λ passes. other (ipv6_text_from t passes))
 

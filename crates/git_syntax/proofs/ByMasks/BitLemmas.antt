@@ -1,5 +1,5 @@
--- What the bits of a mask are, and what is known of a text by them: where a class of bytes is first and last, and whether
--- all bytes or none are of it.
+-- The bits of a mask, and the facts about a text that follow from them: the first and the last byte of a
+-- class, and whether all bytes or none are of it.
 use Rattle.std.proofs.Common.{◌≡◌, ℕ, zero, suc, ◌+◌, ◌-◌, ◌*◌, ◌/◌, ◌^◌, ◌<◌, ◌≤◌, Bool, true, false, cond, ◌&&◌, ◌||◌, List, [], ◌∷◌, map, length, get_or, Some, None, refl, sym, ap, ◌∙◌, subst, arith, lt_of_lt_of_le, pow_mono, pow_pos, pow-suc}
 use Rattle.std.specs.Int.{bit_at}
 use Rattle.std.specs.List.{list_any, list_all}
@@ -16,7 +16,7 @@ use lib.Pow.{shr_lt, shr_mono, shl-shr}
 use mir.Syntax.{Width}
 use mir.Val.{bits}
 
--- a mask has no bit behind the text
+-- a mask has no bit after the text
 pub mask-lt : (test : ℕ → Bool) (text : List ℕ) → mask_of test text < 2 ^ length text
 mask-lt test text = subst (λ n. mask_of test text < 2 ^ n) (length-map text test) (mask_l-lt (map test text))
 
@@ -40,7 +40,7 @@ passes_place test [] i lt e = absurd (omega arith)
 passes_place test (b ∷ text) zero lt e = e
 passes_place test (b ∷ text) (suc i) lt e = passes_place test text i (omega arith) e
 
--- a bit is set exactly where a byte of the class is
+-- a bit is set exactly if a byte of the class is
 pub has_bit : (test : ℕ → Bool) (text : List ℕ) (i : ℕ) → HasBit test text i
 has_bit test text i = (
   λ e. place_passes test text i (of_one _ (sym (bit_mask_l (map test text) i) ∙ e)),

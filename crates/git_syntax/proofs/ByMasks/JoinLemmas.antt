@@ -37,7 +37,7 @@ odd b m = odd_of (cond b 1 0) m (bit b)
     odd_of : (c m : ℕ) → c < 2 → (c + 2 * m) % 2 ≡ c
     odd_of c m lt = omega arith
 
--- behind a place
+-- after a place
 pub mask-drop : (test : ℕ → Bool) (n : ℕ) (xs : List ℕ) → mask_of test (drop n xs) ≡ mask_of test xs / 2 ^ n
 mask-drop test zero xs = sym (div-one (mask_of test xs))
 mask-drop test (suc n) [] = sym (zero-div (2 ^ suc n))

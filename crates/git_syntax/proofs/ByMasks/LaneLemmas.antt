@@ -1,4 +1,5 @@
--- Masks of a vector that is computed lane by lane: they are those of a class where this is seen at each of the 256 bytes.
+-- Masks of a vector that is computed lane by lane: they are those of a class if this is seen at each of the
+-- 256 bytes.
 use Rattle.std.proofs.Common.{◌≡◌, ℕ, ◌+◌, ◌-◌, ◌%◌, ◌^◌, ◌<◌, ◌≤◌, Bool, true, cond, leb, List, [], ◌∷◌, length, map, replicate, refl, ap, ap₂, ◌∙◌, arith, w8, Fits}
 use Rattle.std.specs.Simd.Lanes.{zip2, mask_l, top, Each1}
 use Rattle.std.proofs.lemmas.Bool.{agree_below, agree_below_at}
@@ -6,7 +7,7 @@ use Rattle.std.proofs.lemmas.Simd.{zip2_splat, zip2_of_maps, splat_is_map, mask_
 use Rattle.std.proofs.lemmas.List.{length-map}
 use Rattle.git_syntax.specs.Internal.Masks.{mask_of}
 
--- what a comparison of two lanes gives
+-- the result of a comparison of two lanes
 abbrev pub compared : (ℕ → ℕ → Bool) → ℕ → ℕ → ℕ
 compared test a b = cond (test a b) 255 0
 

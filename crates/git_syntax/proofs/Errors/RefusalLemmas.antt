@@ -38,7 +38,7 @@ bad_user_refutes syntax needed authority (HasBadUser.user_before_password u w pi
 bad_user_refutes syntax needed authority (HasBadUser.password u w piece f g e bad) =
     no_text_before syntax needed authority (u ++ colon ∷ w) piece f e (HasNoText.password u w g refl bad)
 
--- an authority whose piece behind the user information is flawed holds nothing
+-- an authority whose piece after the user information is flawed holds nothing
 bad_name_refutes : (syntax : HostSyntax) (needed : Bool) (authority piece : List ℕ) (named : UrlFault) → PieceOf authority piece → HostPortFlaw syntax piece named → IsNoAuthority syntax needed authority
 bad_name_refutes syntax needed authority piece named (PieceOf.whole free e) h =
     no_name_alone syntax needed authority free (subst (λ t. (host : Option (List ℕ)) (port : Option ℕ) → ¬ SpellsHostPort syntax t host port) e (flawed_unnamed syntax piece named h))
@@ -79,7 +79,7 @@ too_long_refutes b v h k = unfit_url b h.front h.rest h.form h.unfit v (spelled_
 
 -- ---- the scp form
 
--- a flawed host of the scp form stands for none
+-- a flawed host of the scp form denotes none
 scp_host_flaw_refutes : (host : List ℕ) (named : UrlFault) → ScpHostFlaw host named → (denoted : List ℕ) → ¬ ScpHost host denoted
 scp_host_flaw_refutes host named (ScpHostFlaw.empty e) denoted h =
     none_not_some (Some h.named) (empty_names_nothing git_hosts (escaped_percents host) (Some h.named) None (ap escaped_percents e) h.names) refl
@@ -97,11 +97,11 @@ scp_flaw_refutes b named v h k =
 
 -- ---- paths
 
--- a path that starts with only a `/` is none, or a `/` and what follows
+-- a path that starts with only a `/` is empty, or a `/` and a rest
 slash_or_none : (path : List ℕ) → StartsPath false path → (path ≡ []) ⊎ ((rest : List ℕ) × (path ≡ slash ∷ rest))
 slash_or_none path h = grind arith
 
--- no path behind the scheme and the host of a transport of Git's own
+-- no path after the scheme and the host of a transport of Git's own
 url_misses_path : (b scheme authority : List ℕ) (v : Location) → requires_path (scheme_of scheme) ≡ true → FreeOf slash authority → b ≡ scheme ++ (codes "://" ++ authority) → ¬ Spells b v
 url_misses_path b scheme authority v need free e k =
     let own = transport scheme need in
@@ -113,7 +113,7 @@ url_misses_path b scheme authority v need free e k =
       | inr (tail, is) ↦ not_free slash h.spelled.authority tail (subst (λ t. FreeOf slash t) (sym rest ∙ ap (λ t. h.spelled.authority ++ t) is) free)
     ]
 
--- a colon with nothing behind it is not that of an address with a path behind it
+-- a colon with nothing after it is not that of an address with a path after it
 scp_path_behind : (b front user address path : List ℕ) → ScpForm b front [] → AddressedForm b user address path → path ≡ []
 scp_path_behind b front user address path form k =
     let (x, y, free, e) = address_cut address k.cut.addressed in
@@ -125,7 +125,7 @@ scp_path_behind b front user address path form k =
       | inr behind ↦ sym behind.1
     ]
 
--- no path behind the colon of the scp form
+-- no path after the colon of the scp form
 scp_misses_path : (b front : List ℕ) (v : Location) → ScpForm b front [] → ¬ Spells b v
 scp_misses_path b front v form k =
     elim (spelled_as_scp b form.neither (inl (front, [], form)) v k) [

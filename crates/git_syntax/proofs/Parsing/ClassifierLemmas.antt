@@ -1,4 +1,4 @@
--- The forms of a text: where its pieces are cut, that they are cut in
+-- The forms of a text: the places at which its pieces are cut, that they are cut in
 -- one way, and that one form excludes the others.
 use Rattle.std.proofs.Common.{◌≡◌, ℕ, ◌+◌, ◌<◌, true, false, ◌⊎◌, inl, inr, List, [], ◌∷◌, ◌++◌, length, take, drop, refl, sym, ap, subst, ◌∙◌, arith, append_assoc, length-append, ◌==◌, eq-eqb, IsUtf8, codes, bytes_eq}
 use Rattle.std.proofs.Math.Seq.{drop-append-add}
@@ -29,7 +29,7 @@ use Rattle.git_syntax.proofs.Parsing.FormLemmas.{address_cut, addressed_joined, 
 pub helper_front : (b name rest n a : List ℕ) → HelperCut b n a → FreeOf colon name → b ≡ name ++ colon ∷ rest → (n ≡ name) × (colon ∷ a ≡ rest)
 helper_front b name rest n a h free e = cut_unique colon n name (colon ∷ a) rest (helper_name_free n colon h.named refl) free (sym h.joined ∙ e)
 
--- no helper without a second `:` behind the first
+-- no helper without a second `:` after the first
 pub no_helper_alone : (b name rest : List ℕ) → FreeOf colon name → b ≡ name ++ colon ∷ rest → begins_with colon rest ≡ false → ¬ HasHelperForm b
 no_helper_alone b name rest free e other (n, a, h) =
     false≢true (sym other ∙ ap (begins_with colon) (sym (helper_front b name rest n a h free e).1))
@@ -45,11 +45,11 @@ no_helper_unnamed b name rest free e other (n, a, h) =
 
 -- ---- URLs
 
--- two slashes behind the first colon are the first mark
+-- two slashes after the first colon are the first mark
 pub mark_at_colon : (b front rest behind : List ℕ) → ColonCut b front rest → rest ≡ slash ∷ (slash ∷ behind) → (¬ Holds (codes "://") front) × (b ≡ front ++ (codes "://" ++ behind))
 mark_at_colon b front rest behind cut is = (held_free front cut.no_colon, cut.joined ∙ ap (λ t. front ++ colon ∷ t) is)
 
--- no mark where the only colon has no two slashes behind it
+-- no mark if the only colon has no two slashes after it
 pub no_mark_at_colon : (b front rest : List ℕ) → ColonCut b front rest → ((behind : List ℕ) → ¬ (rest ≡ slash ∷ (slash ∷ behind))) → FreeOf colon rest → ¬ Holds (codes "://") b
 no_mark_at_colon b front rest cut other none (f, r, e) = elim (free_or_cut colon f) [
   | inl free ↦ other r (cut_unique colon front f rest (slash ∷ (slash ∷ r)) cut.no_colon free (sym cut.joined ∙ e)).1
@@ -80,7 +80,7 @@ same_front b f p g q e k (bracketed i a free none m) (bracketed j c free' none' 
     let rest = cut_unique colon a c p q none none' parts.1 in
     (m ∙ ap (λ x. left_bracket ∷ (x ++ right_bracket ∷ a)) parts.0 ∙ ap (λ x. left_bracket ∷ (j ++ right_bracket ∷ x)) rest.0 ∙ sym n, rest.1)
 
--- the first colon behind brackets at the front, which is cut by its place
+-- the first colon after brackets at the front, which is cut by its place
 pub front_taken : (b inside behind rest path : List ℕ) → FreeOf right_bracket inside → FreeOf colon rest → b ≡ left_bracket ∷ (inside ++ right_bracket ∷ behind) → behind ≡ rest ++ colon ∷ path → FrontCut b (take (length inside + length rest + 2) b) path
 front_taken b inside behind rest path free none e f =
     let front = left_bracket ∷ (inside ++ right_bracket ∷ rest) in
@@ -89,7 +89,7 @@ front_taken b inside behind rest path free none e f =
     let same : take place b ≡ front = ap (take place) joined ∙ take_at front (colon ∷ path) place (omega (arith, length-append inside (right_bracket ∷ rest))) in
     subst (λ x. FrontCut b x path) (sym same) record { joined = joined; form = bracketed inside rest free none refl }
 
--- no front where no colon follows the brackets
+-- no front if no colon follows the brackets
 no_front : (b inside behind front path : List ℕ) → FreeOf right_bracket inside → b ≡ left_bracket ∷ (inside ++ right_bracket ∷ behind) → FreeOf colon behind → b ≡ front ++ colon ∷ path → ScpFront b front → ⊥
 no_front b inside behind front path free e none k (plain _ h) = plain_apart b front path inside behind k h e
 no_front b inside behind front path free e none k (bracketed i a free' _ m) =
@@ -97,7 +97,7 @@ no_front b inside behind front path free e none k (bracketed i a free' _ m) =
     let parts = cut_unique right_bracket inside i behind (a ++ colon ∷ path) free free' (tails whole) in
     not_free colon a path (subst (λ x. FreeOf colon x) parts.1 none)
 
--- no colon behind brackets at the front
+-- no colon after brackets at the front
 pub front_unbracketed : (b inside behind : List ℕ) → FreeOf right_bracket inside → b ≡ left_bracket ∷ (inside ++ right_bracket ∷ behind) → FreeOf colon behind → ¬ HasFrontCut b
 front_unbracketed b inside behind free e none (front, path, h) = no_front b inside behind front path free e none h.joined h.form
 
@@ -143,7 +143,7 @@ addressed_unbracketed b front rest user last cut none f other (u, a, p, h) =
     let same = (last_cut_unique at_sign u user (left_bracket ∷ x) last (free-cons at_sign left_bracket x refl no_at) none (sym is ∙ f)).1 in
     false≢true (sym other ∙ ap (begins_with left_bracket) (sym same))
 
--- the user and the bracket, as they were cut one behind the other
+-- the user and the bracket, as they were cut one after the other
 addressed_cut_front : (b front rest user last behind : List ℕ) → FreeOf colon front → b ≡ front ++ colon ∷ rest → FreeOf at_sign last → front ≡ user ++ at_sign ∷ last
     → drop (length user) b ≡ at_sign ∷ (left_bracket ∷ behind) → AddressedFront b user behind
 addressed_cut_front b front rest user last behind free e none f tail =
@@ -157,7 +157,7 @@ addressed_cut_front b front rest user last behind free e none f tail =
           (same.0, tails (tails (sym tail ∙ same.1)));
     }
 
--- the same by the place of what follows the bracket
+-- the same by the place of the text after the bracket
 pub addressed_bracketed : (b front rest user last : List ℕ) → ColonCut b front rest → FreeOf at_sign last → front ≡ user ++ at_sign ∷ last → begins_with left_bracket last ≡ true → AddressedFront b user (drop (length user + 2) b)
 addressed_bracketed b front rest user last cut none f begins =
     let (tail, is) = begins_cut left_bracket last begins in
@@ -167,12 +167,12 @@ addressed_bracketed b front rest user last cut none f begins =
     let first : drop (length user) b ≡ at_sign ∷ (left_bracket ∷ drop (length user + 2) b) = ap (drop (length user)) whole ∙ drop_at user behind (length user) refl ∙ ap (λ t. at_sign ∷ (left_bracket ∷ t)) (sym second) in
     addressed_cut_front b front rest user last _ cut.no_colon cut.joined none f first
 
--- the address and what follows it
+-- the address and the text after it
 addressed_pieces : (b user behind address path u a p : List ℕ) → AddressedFront b user behind → FreeOf right_bracket address → behind ≡ address ++ right_bracket ∷ path → AddressedCut b u a p → (a ≡ address) × (colon ∷ p ≡ path)
 addressed_pieces b user behind address path u a p s free e h =
     cut_unique right_bracket a address (colon ∷ p) path (address_free right_bracket a refl h.addressed) free (sym (s.only u a p h).1 ∙ e)
 
--- no colon behind the bracket
+-- no colon after the bracket
 pub addressed_no_path : (b user behind address path : List ℕ) → AddressedFront b user behind → FreeOf right_bracket address → behind ≡ address ++ right_bracket ∷ path → begins_with colon path ≡ false → ¬ HasAddressedCut b
 addressed_no_path b user behind address path s free e other (u, a, p, h) =
     false≢true (sym other ∙ ap (begins_with colon) (sym (addressed_pieces b user behind address path u a p s free e h).1))
@@ -211,7 +211,7 @@ local_form b some neither none uncut = record {
 pub colon_nonempty : (b front rest : List ℕ) → ColonCut b front rest → 0 < length b
 colon_nonempty b front rest cut = omega (arith, ap length cut.joined, length-append front (colon ∷ rest))
 
--- ---- what is refused
+-- ---- the refusals
 
 -- a text whose length is tested to be 0 is empty
 pub nil_tested : (t : List ℕ) → true ≡ (length t == 0) → t ≡ []
@@ -255,7 +255,7 @@ file_found b rest host path v s text free e rooted value = grind (arith, nat_tes
 
 -- ---- one form alone
 
--- joined texts aren't empty where one isn't
+-- joined texts aren't empty if one isn't
 joined_nonempty : (x y : List ℕ) → 0 < length y → ¬ ([] ≡ x ++ y)
 joined_nonempty x y h e = absurd (omega (arith, ap length e, length-append x y))
 
@@ -263,11 +263,11 @@ joined_nonempty x y h e = absurd (omega (arith, ap length e, length-append x y))
 pub empty_unspelled : (v : Location) → ¬ Spells [] v
 empty_unspelled v h = grind (arith, nat_tests, joined_nonempty)
 
--- what has a mark isn't neither
+-- a text that has a mark isn't neither
 pub url_form_not_neither : (b front rest : List ℕ) → UrlForm b front rest → ¬ IsNeither b
 url_form_not_neither b front rest s n = n.no_mark (front, rest, s.joined)
 
--- the scheme of a URL is what comes before the first `://`
+-- the scheme of a URL is the text before the first `://`
 pub url_pieces : (b front rest : List ℕ) (v : Location) → UrlForm b front rest → (h : SpellsUrl b v) → (h.parts.scheme ≡ front) × (h.spelled.authority ++ h.parts.path ≡ rest)
 url_pieces b front rest v s h =
     mark_cut_unique h.parts.scheme front (h.spelled.authority ++ h.parts.path) rest (held_free h.parts.scheme (scheme_text_free h.parts.scheme colon h.spelled.scheme_text refl)) s.first (sym h.spelled.joined ∙ s.joined)
@@ -314,7 +314,7 @@ spelled_as_helper b s v (remote_helper h) = h
 spelled_as_helper b s v (scp_form h) = absurd ((scp_neither h).no_helper s)
 spelled_as_helper b s v (local_path h) = absurd (h.neither.no_helper s)
 
--- what is neither a helper nor a URL is spelled in the scp form or as a local path
+-- a text that is neither a helper nor a URL is spelled in the scp form or as a local path
 spelled_neither : (b : List ℕ) → IsNeither b → (v : Location) → Spells b v → SpellsScp b v ⊎ SpellsLocal b v
 spelled_neither b n v (url h) = absurd (url_not_neither h n)
 spelled_neither b n v (file_url h) = absurd (file_not_neither h n)

@@ -12,7 +12,7 @@ use Rattle.git_syntax.proofs.Addresses.AddressLemmas.{is_address_byte, address_f
 
 -- ---- marks
 
--- what is before `://` and holds no colon is determined, and so is what follows
+-- a text before `://` without a colon is determined, and so is the rest
 pub scheme_cut_unique : (s t x y : List ℕ) → FreeOf colon s → FreeOf colon t → s ++ (url_mark ++ x) ≡ t ++ (url_mark ++ y) → (s ≡ t) × (x ≡ y)
 scheme_cut_unique s t x y f g e = grind (arith, nat_tests, cut_unique)
 
@@ -41,7 +41,7 @@ addressed_joined user address path x y e = grind (arith, nat_tests, append_assoc
 pub addressed_front_free : (user x : List ℕ) → FreeOf colon user → FreeOf colon x → FreeOf colon (user ++ at_sign ∷ (left_bracket ∷ x))
 addressed_front_free user x f g = free-append colon user (at_sign ∷ (left_bracket ∷ x)) f g
 
--- the pieces of an address are free of what no address holds
+-- the pieces of an address are free of each byte that no address holds
 address_pieces_free : (c : ℕ) (t x y : List ℕ) → is_address_byte c ≡ false → IsIpv6Text t → t ≡ x ++ colon ∷ y → FreeOf c x × FreeOf c (colon ∷ y)
 address_pieces_free c t x y other h e = free_parts c x (colon ∷ y) (subst (λ s. FreeOf c s) e (address_free c t other h))
 
@@ -49,7 +49,7 @@ address_pieces_free c t x y other h e = free_parts c x (colon ∷ y) (subst (λ 
 pub address_front_free : (c : ℕ) (t x y : List ℕ) → is_address_byte c ≡ false → IsIpv6Text t → t ≡ x ++ colon ∷ y → FreeOf c x
 address_front_free c t x y other h e = (address_pieces_free c t x y other h e).0
 
--- and what follows the colon
+-- and the text after the colon
 pub address_back_free : (c : ℕ) (t x y : List ℕ) → is_address_byte c ≡ false → IsIpv6Text t → t ≡ x ++ colon ∷ y → FreeOf c y
 address_back_free c t x y other h e = (free_head_tail c colon y (address_pieces_free c t x y other h e).1).1
 
@@ -67,7 +67,7 @@ url_not_neither h k = k.no_mark (h.parts.scheme, h.spelled.authority ++ h.parts.
 pub file_not_neither : {b : List ℕ} {v : Location} → SpellsFile b v → IsNeither b → ⊥
 file_not_neither h k = k.no_mark (codes "file", h.host ++ h.path, h.joined)
 
--- what has the scp form is neither a remote helper nor a URL
+-- a text that has the scp form is neither a remote helper nor a URL
 pub scp_neither : {b : List ℕ} {v : Location} → SpellsScp b v → IsNeither b
 scp_neither h = grind arith
 
@@ -90,7 +90,7 @@ within_form b user address path x y h e form = record {
   form = form;
 }
 
--- a front that ends behind the bracket
+-- a front that ends after the bracket
 behind_form : (b user address path : List ℕ) → AddressedForm b user address path → ScpFront b (user ++ at_sign ∷ (left_bracket ∷ (address ++ right_bracket ∷ []))) → ScpForm b (user ++ at_sign ∷ (left_bracket ∷ (address ++ right_bracket ∷ []))) path
 behind_form b user address path h form = record {
   joined =
@@ -109,7 +109,7 @@ closed_user_front b user x s t cut g u f =
     let behind : FreeOf colon t = (free_head_tail colon right_bracket t (free_parts colon s (right_bracket ∷ t) (free_head_tail colon left_bracket (s ++ right_bracket ∷ t) whole).1).1).1 in
     ScpFront.bracketed s (t ++ at_sign ∷ (left_bracket ∷ x)) g (addressed_front_free t x behind f) (ap (λ z. z ++ at_sign ∷ (left_bracket ∷ x)) cut ∙ ap (λ z. left_bracket ∷ z) (append_assoc s (right_bracket ∷ t) (at_sign ∷ (left_bracket ∷ x))))
 
--- or they end behind the address
+-- or they end after the address
 open_user_front : (b user address r : List ℕ) → user ≡ left_bracket ∷ r → FreeOf right_bracket r → FreeOf right_bracket address → ScpFront b (user ++ at_sign ∷ (left_bracket ∷ (address ++ right_bracket ∷ [])))
 open_user_front b user address r begins g a =
     ScpFront.bracketed (r ++ at_sign ∷ (left_bracket ∷ address)) [] (free-append right_bracket r (at_sign ∷ (left_bracket ∷ address)) g a) refl (ap (λ z. z ++ at_sign ∷ (left_bracket ∷ (address ++ right_bracket ∷ []))) begins ∙ ap (λ z. left_bracket ∷ z) (sym (append_assoc r (at_sign ∷ (left_bracket ∷ address)) (right_bracket ∷ []))))
@@ -137,7 +137,7 @@ addressed_scp b user address path h =
           (user ++ at_sign ∷ (left_bracket ∷ x), y ++ right_bracket ∷ (colon ∷ path), within_form b user address path x y h e (ScpFront.plain (addressed_front_free user x h.cut.no_colon f) (inl (begins_before_at user (left_bracket ∷ x) other))))
     ]
 
--- what has no earlier scp shape has none
+-- a text that has no earlier scp shape has none
 pub not_scp : (b : List ℕ) → ((front path : List ℕ) → ¬ ScpForm b front path) → ¬ HasScpForm b
 not_scp b h (inl (front, path, form)) = h front path form
 not_scp b h (inr (user, address, path, form)) = let (front, second, earlier) = addressed_scp b user address path form in h front second earlier

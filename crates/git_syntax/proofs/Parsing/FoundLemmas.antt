@@ -1,4 +1,5 @@
--- What is found in a text: the host that Secure Shell takes, and the location that the parts of a URL mean.
+-- The slices that are found in a text: the host that Secure Shell takes, and the location that the parts of a
+-- URL denote.
 use Rattle.std.proofs.Common.{◌≡◌, ℕ, ◌<◌, ◌==◌, true, false, inl, inr, List, [], ◌∷◌, ◌++◌, length, Option, Some, None, refl, sym, ap, subst, ◌∙◌, append_assoc, eq-eqb, arith}
 use Rattle.std.proofs.lemmas.Bool.Decides.{nat_tests}
 use Rattle.std.specs.Prelude.{IfSome, IsUtf8, MatchOption, option_map}
@@ -57,7 +58,7 @@ front_reported c (b ∷ d ∷ bs) = front_of_more c b d bs (text_before_last c (
 
 -- ---- the host that Secure Shell takes
 
--- a host with a bracket in front that ends in no bracket, with or without a colon behind it
+-- a host with a bracket in front that ends in no bracket, with or without a colon after it
 kept_bracket : (behind : List ℕ) → EndsNot right_bracket behind → ((front : List ℕ) → ¬ (behind ≡ front ++ right_bracket ∷ (colon ∷ []))) → IsSshHost (left_bracket ∷ behind) (left_bracket ∷ behind)
 kept_bracket behind closed marked = grind arith
 
@@ -72,7 +73,7 @@ ssh_host_bracket behind (Some whole) None e closed =
     kept_bracket behind (λ front k. both_ways (58 == 93) refl (eq-eqb 58 93 (same_from_push whole front colon right_bracket (sym e ∙ k)).1))
     (λ front k. closed front (same_from_push whole (front ++ right_bracket ∷ []) colon colon (sym e ∙ k ∙ sym (append_assoc front (right_bracket ∷ []) (colon ∷ [])))).0)
 
--- a host without a bracket in front is in no brackets, so it is taken without the colon behind it
+-- a host without a bracket in front is in no brackets, so it is taken without the colon after it
 ssh_host_open : (host : List ℕ) (front : Option (List ℕ)) → begins_with left_bracket host ≡ false → ReportsFront colon host front → IsSshHost host (colon_dropped host front)
 ssh_host_open host front open_front e = grind (arith, nat_tests, both_ways, cases_Bool, same_from_push)
 
@@ -86,7 +87,7 @@ peels (b ∷ bs) =
           rw bracket (subst (λ c. IsSshHost (c ∷ bs) (unwrap_or (text_before_last right_bracket (unwrap_or (text_before_last colon bs) bs)) (c ∷ bs))) (sym (eqb-true b left_bracket bracket)) (ssh_host_bracket bs (text_before_last colon bs) (text_before_last right_bracket (unwrap_or (text_before_last colon bs) bs)) (front_reported colon bs) (front_reported right_bracket (unwrap_or (text_before_last colon bs) bs))))
     ]
 
--- which is text where that is
+-- which is text if that is
 pub host_utf8 : (scheme : Scheme) (named : Option (List ℕ)) → IfSome named IsUtf8 → IfSome (host_for scheme named) IsUtf8
 host_utf8 ssh None h = tt
 host_utf8 ssh (Some named) h = ssh_host_utf8 (peels named) h
@@ -100,7 +101,7 @@ host_utf8 (helper_url name) named h = h
 
 -- ---- the location of a URL
 
--- the parts of a URL mean this location by a scheme
+-- the parts of a URL denote this location by a scheme
 pub means_location : (scheme : Scheme) (parts : UrlSyntax) → (requires_path scheme ≡ true → 0 < length parts.path) → DenotesByScheme scheme parts (url_location scheme parts)
 means_location scheme parts pathed = grind (arith, nat_tests, peels)
 

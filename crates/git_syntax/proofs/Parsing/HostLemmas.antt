@@ -1,5 +1,5 @@
--- Hosts and ports: what a piece of an authority looks like, that it names at
--- most one host and port, and none where it has a flaw.
+-- Hosts and ports: the shape of a piece of an authority, that it names at
+-- most one host and port, and none if it has a flaw.
 use Rattle.std.proofs.Common.{◌≡◌, ℕ, ◌<◌, true, false, ◌==◌, ◌⊎◌, inl, inr, List, [], ◌∷◌, ◌++◌, length, take, drop, Option, Some, None, Err, ◌^◌, rules, refl, sym, ap, subst, ◌∙◌, arith, append_assoc, length-append}
 use Rattle.std.specs.List.{list_all}
 use Rattle.std.specs.Char.{is_ascii_digit, to_ascii_lowercase}
@@ -76,7 +76,7 @@ number_written syntax port h allowed = record {
 address_no_percent : (t : List ℕ) → IsIpv6Text t → FreeOf percent_sign t
 address_no_percent t h = address_free percent_sign t refl h
 
--- an address in lower case, alone and with a `%` behind it
+-- an address in lower case, alone and with a `%` after it
 lowercase_address_alone : (a : List ℕ) → FreeOf percent_sign a → lowercase_address a ≡ lowercase a
 lowercase_address_alone [] h = refl
 lowercase_address_alone (b ∷ a) h =
@@ -108,7 +108,7 @@ literal_normal t n h = grind (arith, nat_tests, address_no_percent, lowercase_ad
 pub literal_unique : (t m n : List ℕ) → Literal t m → Literal t n → m ≡ n
 literal_unique t m n h k = literal_normal t m h ∙ sym (literal_normal t n k)
 
--- a text between brackets stands for one text, outside HTTP
+-- a text between brackets denotes one text, outside HTTP
 bracketed_unique : (t m n : List ℕ) → Bracketed t m → Bracketed t n → m ≡ n
 bracketed_unique t m n (spec.Bracketed.literal x h e u) (spec.Bracketed.literal y k f v) = e ∙ ap percent_decode (literal_unique t x y h k) ∙ sym f
 bracketed_unique t m n (spec.Bracketed.literal x h e u) (spec.Bracketed.other k f v) = absurd (k (x, h))
@@ -121,19 +121,19 @@ inner_unique http_hosts = literal_unique
 inner_unique git_hosts = bracketed_unique
 inner_unique other_hosts = bracketed_unique
 
--- a text outside brackets stands for one host
+-- a text outside brackets denotes one host
 pub host_text_unique : (syntax : HostSyntax) (t m n : List ℕ) → HostText syntax t m → HostText syntax t n → m ≡ n
 host_text_unique http_hosts t m n h k = h.1 ∙ sym k.1
 host_text_unique git_hosts t m n h k = h.1 ∙ sym k.1
 host_text_unique other_hosts t m n h k = h.1 ∙ sym k.1
 
--- ---- what follows a host
+-- ---- the text after a host
 
 -- a port's place follows
 follows_place : {syntax : HostSyntax} {base rest : List ℕ} {host : Option (List ℕ)} {port : Option ℕ} → Follows syntax base rest host port → IsPortPlace rest
 follows_place h = grind (arith, nat_tests, free_of_all)
 
--- what follows a host decides what is added to it, and the port
+-- the text after a host determines the text that is added to it, and the port
 follows_unique : {syntax : HostSyntax} {rest : List ℕ} (base other : List ℕ) (host second : Option (List ℕ)) (port last : Option ℕ) → base ≡ other → Follows syntax base rest host port → Follows syntax other rest second last → (host ≡ second) × (port ≡ last)
 follows_unique base other host second port last same h k = grind arith
 
@@ -223,7 +223,7 @@ data Form (syntax : HostSyntax) (piece : List ℕ) (host : Option (List ℕ)) (p
       → Follows syntax named rest host port → Form syntax piece host port
   many : IsManyPiece piece → ManyNames syntax piece host → port ≡ None → Form syntax piece host port
 
--- brackets with a colon behind them
+-- brackets with a colon after them
 brackets_colon : (inner : List ℕ) → in_brackets inner ++ colon ∷ [] ≡ left_bracket ∷ (inner ++ right_bracket ∷ (colon ∷ []))
 brackets_colon inner = ap (λ t. left_bracket ∷ t) (append_assoc inner (right_bracket ∷ []) (colon ∷ []))
 
@@ -245,7 +245,7 @@ name_form (SpellsHostPort.colons named s r b m t is p) = Form.many (b, m) (ManyN
 many_unique : (syntax : HostSyntax) (piece : List ℕ) (host second : Option (List ℕ)) → ManyNames syntax piece host → ManyNames syntax piece second → host ≡ second
 many_unique syntax piece host second h k = grind arith
 
--- what is read between brackets: the cut and what follows
+-- the reading of brackets: the cut and the rest
 bracket_cut : (x y rest last piece : List ℕ) → FreeOf right_bracket x → FreeOf right_bracket y → piece ≡ left_bracket ∷ (x ++ right_bracket ∷ rest) → piece ≡ left_bracket ∷ (y ++ right_bracket ∷ last) → (x ≡ y) × (rest ≡ last)
 bracket_cut x y rest last piece f g e k = cut_unique right_bracket x y rest last f g (tails (sym e ∙ k))
 
@@ -284,7 +284,7 @@ names_unique syntax piece host second port last h k = form_unique syntax piece h
 
 -- ---- flaws
 
--- what is in a port's place and isn't a port follows no host
+-- a text in the place of a port that isn't a port follows no host
 no_port_follows : {syntax : HostSyntax} {base digits rest : List ℕ} {host : Option (List ℕ)} {port : Option ℕ} → IsNoPort syntax digits → rest ≡ colon ∷ digits → Follows syntax base rest host port → ⊥
 no_port_follows h e k = grind arith
 
@@ -334,7 +334,7 @@ named_whole syntax piece host port b (Form.many m n p) = n
 pub strict_not_bare : ¬ (http_hosts ≡ git_hosts)
 strict_not_bare e = cc
 
--- where no port is in its place, nothing is named
+-- if no port is in its place, nothing is named
 bad_port_unnamed : (syntax : HostSyntax) (piece : List ℕ) (host : Option (List ℕ)) (port : Option ℕ) → HasBadPort syntax piece → Form syntax piece host port → ⊥
 bad_port_unnamed syntax piece host port (HasBadPort.plain front digits h free e none) s =
     let place : IsPortPlace (colon ∷ digits) = inr (digits, free, refl) in
@@ -346,7 +346,7 @@ bad_port_unnamed syntax piece host port (HasBadPort.bracketed x digits free e no
     let parts = bracket_cut n.x x n.rest (colon ∷ digits) piece n.around.closed free n.around.joined e in
     no_port_follows none parts.1 n.follows
 
--- nor where a byte is not allowed
+-- nor if a byte is not allowed
 bad_host_unnamed : (syntax : HostSyntax) (piece : List ℕ) (host : Option (List ℕ)) (port : Option ℕ) → HasBadHost syntax piece → Form syntax piece host port → ⊥
 bad_host_unnamed syntax piece host port (HasBadHost.plain front rest h place e none) s =
     let n = named_outside syntax piece host port (front, rest, h, place, e) s in
@@ -389,9 +389,9 @@ flawed_unnamed syntax piece fault.HostRequired h host port n = h
 pub digits_utf8 : (bs : List ℕ) → list_all is_ascii_digit bs ≡ true → IsUtf8 bs
 digits_utf8 bs h = grind (arith, nat_tests, utf8_class)
 
--- ---- decoding behind an address
+-- ---- decoding after an address
 
--- what holds no `%` stays, and `%25` behind it is a `%`, with another text behind that
+-- a text that holds no `%` stays, and `%25` after it is a `%`, with another text after that
 zone_decoded : (a z : List ℕ) → FreeOf percent_sign a → percent_decode (a ++ percent_sign ∷ (50 ∷ (53 ∷ z))) ≡ a ++ percent_sign ∷ percent_decode z
 zone_decoded a z h = grind (arith, nat_tests, percent_decode_escape, decode_kept, decodes_in_parts, sound_free)
 
@@ -414,11 +414,11 @@ literal_utf8 t n (zoned a z h zone is e) =
     let shown = ap percent_decode e ∙ zone_decoded (lowercase a) z (address_no_percent (lowercase a) (address-lowercase a h)) in
     subst IsUtf8 (sym shown) (IsUtf8-append (lowercase a) (percent_sign ∷ percent_decode z) (address_utf8 (lowercase a) (address-lowercase a h)) (IsUtf8-append (percent_sign ∷ []) (percent_decode z) (utf8_byte percent_sign (omega arith)) zone.text))
 
--- outside HTTP a literal between brackets stands for its decoding
+-- outside HTTP a literal between brackets denotes its decoding
 bracketed_literal : (t n : List ℕ) → Literal t n → Bracketed t (lowercase_address (percent_decode t))
 bracketed_literal t n h = spec.Bracketed.literal n h (sym (literal_decoded t n h)) (subst IsUtf8 (literal_decoded t n h) (literal_utf8 t n h))
 
--- a literal between brackets stands for what is shown of it
+-- a literal between brackets denotes the text that is shown for it
 pub literal_inner : (syntax : HostSyntax) (t : List ℕ) → IsLiteral t → Inner syntax t (shown_literal syntax t)
 literal_inner http_hosts t (n, h) = subst (λ x. Literal t x) (literal_normal t n h) h
 literal_inner git_hosts t (n, h) = bracketed_literal t n h
@@ -457,7 +457,7 @@ pub colon_first : (piece front rest : List ℕ) → true ≡ (length front == 0)
 colon_first piece [] rest none e = inl (ap (begins_with colon) e)
 colon_first piece (b ∷ front) rest none e = absurd (omega (arith, eqb-true (length (b ∷ front)) 0 (sym none)))
 
--- nor is one where another colon follows
+-- nor is one that another colon follows
 pub colon_again : (piece front rest : List ℕ) → ¬ FreeOf colon rest → piece ≡ front ++ colon ∷ rest → IsManyColoned piece
 colon_again piece front rest held e = grind (arith, nat_tests, free_or_cut)
 
@@ -470,7 +470,7 @@ pub not_digits : (syntax : HostSyntax) (digits : List ℕ) → false ≡ list_al
 not_digits syntax [] e = absurd (false≢true e)
 not_digits syntax (b ∷ digits) e = (omega arith, λ port n. both_ways _ (sym e) n.digits.1)
 
--- a host in brackets, and what follows
+-- a host in brackets, and the rest
 pub bracketed_name : (syntax : HostSyntax) (behind x rest shown : List ℕ) (host : Option (List ℕ)) (port : Option ℕ) → FreeOf right_bracket x → behind ≡ x ++ right_bracket ∷ rest → IsInner syntax x shown → Follows syntax shown rest host port → SpellsHostPort syntax (left_bracket ∷ behind) host port
 bracketed_name syntax behind x rest shown host port free e (inner, stands, is) (Follows.nothing f h p) =
     SpellsHostPort.bracketed x inner free stands (ap (λ t. left_bracket ∷ t) (e ∙ ap (λ t. x ++ right_bracket ∷ t) f)) (h ∙ ap Some is) p
@@ -479,13 +479,13 @@ bracketed_name syntax behind x rest shown host port free e (inner, stands, is) (
 bracketed_name syntax behind x rest shown host port free e (inner, stands, is) (Follows.number d n k f h p) =
     SpellsHostPort.bracketed_port x inner d n free stands k (ap (λ t. left_bracket ∷ t) (e ∙ ap (λ t. x ++ right_bracket ∷ t) f)) (h ∙ ap Some is) p
 
--- a host outside them, and a colon and what follows
+-- a host outside them, and a colon and the rest
 pub plain_name : (syntax : HostSyntax) (piece front rest named : List ℕ) (host : Option (List ℕ)) (port : Option ℕ) → IsPlainHost front → piece ≡ front ++ colon ∷ rest → HostText syntax front named → Follows syntax named (colon ∷ rest) host port → SpellsHostPort syntax piece host port
 plain_name syntax piece front rest named host port h e t (Follows.nothing f is p) = cc
 plain_name syntax piece front rest named host port h e t (Follows.lone_colon f is p) = SpellsHostPort.plain_colon front named h t (e ∙ ap (λ x. front ++ x) f) is p
 plain_name syntax piece front rest named host port h e t (Follows.number d n k f is p) = SpellsHostPort.plain_port front named d n h t k (e ∙ ap (λ x. front ++ x) f) is p
 
--- what isn't an end of a host isn't empty, and begins with another byte than a colon
+-- a text that isn't an end of a host isn't empty, and begins with another byte than a colon
 no_end_begins : (rest : List ℕ) → ¬ EndsHost rest → (0 < length rest) × (begins_with colon rest ≡ false)
 no_end_begins rest h = grind arith
 
@@ -493,11 +493,11 @@ no_end_begins rest h = grind arith
 pub not_ended : (syntax : HostSyntax) (behind x rest : List ℕ) → FreeOf right_bracket x → behind ≡ x ++ right_bracket ∷ rest → ¬ EndsHost rest → HasBadHost syntax (left_bracket ∷ behind)
 not_ended syntax behind x rest free e open_end = let ends = no_end_begins rest open_end in HasBadHost.behind_bracket x rest free (ap (λ t. left_bracket ∷ t) e) ends.0 ends.1
 
--- brackets around what stands for nothing
+-- brackets around a text that denotes nothing
 pub not_inner : (syntax : HostSyntax) (behind x rest : List ℕ) → FreeOf right_bracket x → behind ≡ x ++ right_bracket ∷ rest → EndsHost rest → IsNoInner syntax x → HasBadHost syntax (left_bracket ∷ behind)
 not_inner syntax behind x rest free e ended none = HasBadHost.brackets x rest record { closed = free; joined = ap (λ t. left_bracket ∷ t) e; followed = ended } none
 
--- brackets with a colon and no port behind them
+-- brackets with a colon and no port after them
 pub no_port_behind : (syntax : HostSyntax) (behind x rest digits : List ℕ) → FreeOf right_bracket x → behind ≡ x ++ right_bracket ∷ rest → rest ≡ colon ∷ digits → IsNoPort syntax digits → HasBadPort syntax (left_bracket ∷ behind)
 no_port_behind syntax behind x rest digits free e f none = HasBadPort.bracketed x digits free (ap (λ t. left_bracket ∷ t) (e ∙ ap (λ t. x ++ right_bracket ∷ t) f)) none
 
@@ -532,7 +532,7 @@ host_text_utf8 http_hosts t named h = subst IsUtf8 (sym h.1) (normal_utf8 t (utf
 host_text_utf8 git_hosts t named h = subst IsUtf8 (sym h.1) (normal_utf8 (percent_decode t) h.0)
 host_text_utf8 other_hosts t named h = subst IsUtf8 (sym h.1) (normal_utf8 (percent_decode t) h.0)
 
--- a byte in front of or behind a text
+-- a byte in front of or after a text
 utf8_cons : (b : ℕ) (t : List ℕ) → b < 128 → IsUtf8 t → IsUtf8 (b ∷ t)
 utf8_cons b t h u = IsUtf8-append (b ∷ []) t (utf8_byte b h) u
 
@@ -615,7 +615,7 @@ simple_decoded t h = decode_kept t (free_of_all is_simple_byte percent_sign t h 
 pub simple_utf8 : (t : List ℕ) → list_all is_simple_byte t ≡ true → IsUtf8 t
 simple_utf8 t h = utf8_class is_http_host_byte http_byte_ascii t (simple_http t h)
 
--- so it stands for itself in every syntax
+-- so it denotes itself in every syntax
 pub simple_text : (syntax : HostSyntax) (t : List ℕ) → list_all is_simple_byte t ≡ true → HostText syntax t t
 simple_text http_hosts t h = (simple_http t h, sym (simple_normal t h))
 simple_text git_hosts t h = (subst IsUtf8 (sym (simple_decoded t h)) (simple_utf8 t h), sym (ap normal_host (simple_decoded t h) ∙ simple_normal t h))

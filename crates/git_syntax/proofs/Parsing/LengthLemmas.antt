@@ -1,4 +1,4 @@
--- The length test: what counts of a text in pieces, and that the walk over it is the definition.
+-- The length test: the bytes that count of a text in pieces, and that the check over it is the definition.
 use Rattle.std.proofs.Common.{◌↔◌, ◌-◌, codes, zero, suc, length-append, ◌≡◌, ℕ, ◌+◌, ◌<◌, ◌≤◌, Bool, true, false, not, ◌==◌, ◌||◌, inl, inr, List, [], ◌∷◌, ◌++◌, length, take, drop, refl, sym, ap, subst, ◌∙◌, arith, append_assoc, Option, None, Some, IsTrue}
 use Rattle.std.proofs.lemmas.Bool.Decides.{nat_tests}
 use Rattle.std.specs.Prelude.{nat_le}
@@ -35,7 +35,7 @@ without_shorter text =
     let both = length-filter_both (λ b. not (is_ascii_whitespace b)) (λ b. not (not (is_ascii_whitespace b))) (λ b. refl) text in
     omega (arith, both)
 
--- where no path starts, none starts without the white space
+-- if no path starts, none starts without the white space
 lacks_without : (web : Bool) (bs : List ℕ) → Lacks (is_path_start web) bs → Lacks (is_path_start web) (without_white_space bs)
 lacks_without web [] lacks = refl
 lacks_without web (b ∷ bs) lacks =
@@ -69,16 +69,16 @@ nothing_white (b ∷ bs) three two =
     let twos = lacks_head_tail (is_byte2 13 12) b bs two in
     lacks-cons is_ascii_whitespace b bs (not_white b threes.0 twos.0) (nothing_white bs threes.1 twos.1)
 
--- where no white space is in a text, neither of the last two is
+-- if no white space is in a text, neither of the last two is
 neither_of_two : (bs : List ℕ) → Lacks is_ascii_whitespace bs → Lacks (is_byte2 13 12) bs
 neither_of_two bs lacks = lacks_weaker (is_byte2 13 12) is_ascii_whitespace (λ b two. grind (arith, nat_tests)) bs lacks
 
--- a search finds a place exactly where some byte passes its test
+-- a search finds a place exactly if some byte passes its test
 search_decides : (test : ℕ → Bool) (bs : List ℕ) (found : Option ℕ) → IsFirstByte test bs found → is_some found ≡ list_any test bs
 search_decides test bs None first = sym (lacks_after test bs 0 (λ k l m. first k l m))
 search_decides test bs (Some at) first = sym (list_any_at test bs at 0 first.0.high first.1)
 
--- a text has no white space where two searches find none of the five, and only there
+-- a text has no white space if two searches find none of the five, and only there
 pub white_space_searched : (bs : List ℕ) (three two : Option ℕ) (lacking : Bool) → IsFirstByte (is_byte3 32 9 10) bs three → IsFirstByte (is_byte2 13 12) bs two → is_some three ≡ false → is_some two ≡ not lacking
     → IsTrue lacking ↔ Lacks is_ascii_whitespace bs
 white_space_searched bs three two lacking first_three first_two none is =
@@ -127,33 +127,33 @@ front_counted web within front y lacks =
     ap (starts_within web within) (filter-append _ front y) ∙ starts_behind web within (without_white_space front) (without_white_space y) (lacks_without web front lacks)
     ∙ ap (λ n. starts_within web (within - n) (without_white_space y)) (length-filter (λ b. not (is_ascii_whitespace b)) front)
 
--- a window is looked at in two pieces
+-- a window is tested in two pieces
 pub past_window : (web : Bool) (within left count : ℕ) (rest window front path back : List ℕ) → rest ≡ window ++ back → window ≡ front ++ path → Lacks (is_path_start web) front → count ≡ count_by (λ b. not (is_ascii_whitespace b)) front → left ≡ within - count → (y : List ℕ)
     → is_in_time web (Front left) (path ++ (back ++ y)) ≡ is_in_time web (Front within) (rest ++ y)
 past_window web within left count rest window front path back whole joined lacks counted is y =
     let pieces : rest ++ y ≡ front ++ (path ++ (back ++ y)) = ap (λ t. t ++ y) (whole ∙ ap (λ t. t ++ back) joined) ∙ append_assoc (front ++ path) back y ∙ append_assoc front path (back ++ y) in
     ap (λ n. is_in_time web (Front n) (path ++ (back ++ y))) (is ∙ ap (λ n. within - n) counted) ∙ sym (front_counted web within front (path ++ (back ++ y)) lacks) ∙ sym (ap (is_in_time web (Front within)) pieces)
 
--- where no byte is left, none is looked at
+-- if no byte is left, none is tested
 pub none_left : (web : Bool) (left : ℕ) (bs : List ℕ) → left ≡ 0 → is_in_time web (Front left) bs ≡ false
 none_left web left bs none = ap (λ n. is_in_time web (Front n) bs) none
 
--- and where one is left, a path may start there
+-- and if one is left, a path may start there
 pub starts_in_time : (web : Bool) (left : ℕ) (path y : List ℕ) → 0 < left → StartsPath web path → (length path == 0) ≡ false → is_in_time web (Front left) (path ++ y) ≡ true
 starts_in_time web left path y some starts there = grind arith
 
--- where no path starts in the window, the text behind it is left
+-- if no path starts in the window, the text after it is left
 pub window_behind : (web : Bool) (left : ℕ) (path y : List ℕ) → (length path == 0) ≡ true → is_in_time web (Front left) y ≡ is_in_time web (Front left) (path ++ y)
 window_behind web left [] y there = refl
 window_behind web left (b ∷ path) y there = let none = eqb-true (length (b ∷ path)) 0 there in absurd (omega (arith, none))
 
--- a front that is longer than a text is left out of it and of what follows
+-- a front that is longer than a text is left out of it and of the rest
 pub drop_joined : (n : ℕ) (x y : List ℕ) → length x ≤ n → drop n (x ++ y) ≡ drop (n - length x) y
 drop_joined n x y short = grind (arith, nat_tests, drop-append-add)
 
 -- ---- the parts that the test distinguishes
 
--- a text without white space: slashes, a front, and the text behind it
+-- a text without white space: slashes, a front, and the text after it
 record Parts (web : Bool) (text : List ℕ) : Type 0 where
   slashes : List ℕ
   front : List ℕ
@@ -191,11 +191,11 @@ parts_of_text web text =
 
 -- ---- the test
 
--- a front is short enough where it and the whole are no longer than the limit
+-- a front is short enough if it and the whole are no longer than the limit
 limit_by_lengths : (front back whole : List ℕ) → length front ≤ 1024 → length whole ≤ 1024 → IsWithinLimit front back whole
 limit_by_lengths front back whole short all = grind arith
 
--- and where a path starts in time
+-- and if a path starts in time
 limit_by_start : (web : Bool) (front back whole : List ℕ) → Lacks (is_path_start web) front → starts_within web 1025 (front ++ back) ≡ true → IsWithinLimit front back whole
 limit_by_start web front [] whole lacks found =
     absurd (false≢true (sym (ap (list_any (is_path_start web)) (take-nil (1025 - length front))) ∙ sym (starts_behind web 1025 front [] lacks) ∙ found))
@@ -207,7 +207,7 @@ limit_by_start web front (b ∷ back) whole lacks found =
       | inr short ↦ short
     ]
 
--- one of these is so where it is short enough
+-- one of these is so if it is short enough
 start_by_limit : (web : Bool) (front back whole : List ℕ) → Lacks (is_path_start web) front → StartsPath web back → IsWithinLimit front back whole → (nat_le (length whole) 1024 || starts_within web 1025 (front ++ back)) ≡ true
 start_by_limit web front [] whole lacks starts short = or_left _ _ (le-leb _ 1024 short)
 start_by_limit web front (b ∷ back) whole lacks (inl e) short = let wrong : b ∷ back ≡ [] = e in cc
@@ -215,7 +215,7 @@ start_by_limit web front (b ∷ back) whole lacks (inr starts) short =
     let some : 1025 - length front ≡ suc (1024 - length front) = omega arith in
     or_right _ _ (starts_behind web 1025 front (b ∷ back) lacks ∙ ap (λ n. starts_within web n (b ∷ back)) some ∙ starts_now web (1024 - length front) b back starts)
 
--- a scheme and what follows it fit where the test says so
+-- a scheme and the text after it fit if the test says so
 fits_from_test : (scheme rest : List ℕ) → length scheme ≤ 1024 → is_rest_short (is_web_scheme scheme) rest ≡ true → Fits scheme rest
 fits_from_test scheme rest known short =
     let web = is_web_scheme scheme in
@@ -250,10 +250,10 @@ long_tested web rest long = ap (λ b. b || is_in_time web Slashes rest) (lt-leb 
 
 -- ---- whole texts
 
--- where a text is short enough, its scheme and its rest are
+-- if a text is short enough, its scheme and its rest are
 pub fits_from_text : (scheme rest t : List ℕ) → FreeOf colon scheme → t ≡ scheme ++ (codes "://" ++ rest) → FitsText t → Fits scheme rest
 fits_from_text scheme rest t free joined text = grind (arith, nat_tests, cut_unique)
 
--- a text with a scheme is short enough where the scheme and the text behind its mark are
+-- a text with a scheme is short enough if the scheme and the text after its mark are
 pub fits_text : (scheme rest t : List ℕ) → FreeOf colon scheme → t ≡ scheme ++ (codes "://" ++ rest) → Fits scheme (drop (length scheme + 3) t) ↔ FitsText t
 fits_text scheme rest t free joined = grind (arith, nat_tests, fits_from_text, drop-append-add)

@@ -1,4 +1,4 @@
--- How much room what is found takes: no part of a location is longer
+-- The length of the slices that are found: no part of a location is longer
 -- than the piece of the text that it was read of.
 use Rattle.std.proofs.Common.{◌≡◌, ℕ, suc, ◌+◌, ◌<◌, ◌≤◌, true, ◌==◌, List, [], ◌∷◌, ◌++◌, length, take, Option, refl, ap, ◌∙◌, arith, length-append}
 use Rattle.std.proofs.lemmas.Bool.Decides.{nat_tests}
@@ -53,15 +53,15 @@ lowercase_address_kept (b ∷ bs) h =
 pub normal_host_kept : (t : List ℕ) → IsLowercase t → normal_host t ≡ t
 normal_host_kept t h = cond_both (list_all is_dns_byte t) (lowercase t) t (λ n. n ≡ t) (λ _. h) (λ _. refl)
 
--- a piece shows as many bytes as it stands for
+-- a piece shows as many bytes as it denotes
 pub normal_case_length : (piece : HostPiece) (t : List ℕ) → length (normal_case piece t) ≡ length t
 normal_case_length piece t = grind (arith, nat_tests, lowercase_length, lowercase_address_length, normal_host_length)
 
--- the length of a text between brackets, and of the text behind them
+-- the length of a text between brackets, and of the text after them
 brackets_length : (inner rest : List ℕ) → length (left_bracket ∷ (inner ++ right_bracket ∷ rest)) ≡ length inner + 2 + length rest
 brackets_length inner rest = omega (arith, length-append inner (right_bracket ∷ rest))
 
--- a host in brackets is what its piece shows, in them
+-- a host in brackets is the text that its piece shows, in them
 pub bracketed_host : (piece : HostPiece) → is_bracketed piece ≡ true → denoted_host piece ≡ in_brackets (normal_case piece (unescaped_host piece))
 bracketed_host piece h = grind arith
 
@@ -69,7 +69,7 @@ bracketed_host piece h = grind arith
 pub bracketed_host_length : (piece : HostPiece) → is_bracketed piece ≡ true → length (denoted_host piece) ≡ length (unescaped_host piece) + 2
 bracketed_host_length piece h = grind (arith, nat_tests, normal_case_length, bracketed_host, length-append)
 
--- a bracket, a text behind it and the bracket that closes, in the front of a buffer
+-- a bracket, a text after it and the bracket that closes, in the front of a buffer
 pub brackets_put : (front behind shown : List ℕ) (size : ℕ) → length front ≡ 1 → size < length behind → take size behind ≡ shown → take (size + 2) (set front 0 left_bracket ++ set behind size right_bracket) ≡ in_brackets shown
 brackets_put [] behind shown size one within e = absurd (omega (arith, one))
 brackets_put (b ∷ d ∷ front) behind shown size one within e = absurd (omega (arith, one))
@@ -97,7 +97,7 @@ named_text_length host = grind (arith, nat_tests, meant_host_length, cond_both, 
 literal_length : (t n : List ℕ) → addresses.Literal t n → length n ≡ length t
 literal_length t n h = ap length (literal_normal t n h) ∙ lowercase_address_length t
 
--- no text is longer than what stands for it between brackets outside HTTP
+-- no text is longer than the text that denotes it between brackets outside HTTP
 bracketed_length : (t n : List ℕ) → spec.Bracketed t n → length n ≤ length t
 bracketed_length t n (spec.Bracketed.literal x h e u) = omega (arith, ap length e, (length-percent_decode x).0, literal_length t x h)
 bracketed_length t n (spec.Bracketed.other h e u) = omega (arith, ap length e, (length-percent_decode t).0)
@@ -108,7 +108,7 @@ inner_length http_hosts t n h = omega (arith, literal_length t n h)
 inner_length git_hosts t n h = bracketed_length t n h
 inner_length other_hosts t n h = bracketed_length t n h
 
--- nor is a host longer than what stands for it outside brackets
+-- nor is a host longer than the text that denotes it outside brackets
 host_text_length : (syntax : HostSyntax) (t n : List ℕ) → HostText syntax t n → length n ≤ length t
 host_text_length http_hosts t n h = omega (arith, ap length h.1, normal_host_length t)
 host_text_length git_hosts t n h = omega (arith, ap length h.1, normal_host_length (percent_decode t), (length-percent_decode t).0)

@@ -1,4 +1,4 @@
--- Schemes: what the text of one can name, and what a URL means by it.
+-- Schemes: the schemes that a text can name, and the locations that a URL denotes by them.
 use Rattle.std.proofs.Common.{◌≡◌, ℕ, Bool, true, false, ◌⊎◌, List, sym, subst, codes, bytes_eq, if◌then◌else◌, arith}
 use Rattle.std.proofs.lemmas.Bool.Decides.{nat_tests}
 use Rattle.std.proofs.lemmas.Bool.{or_cases}
@@ -9,11 +9,11 @@ use Rattle.git_syntax.specs.Bytes.{colon, FreeOf}
 use Rattle.git_syntax.specs.Schemes.{is_ssh_scheme, is_web_scheme, scheme_of, requires_path}
 use Rattle.git_syntax.specs.Grammar.{helper_scheme, UrlSyntax, DenotesByScheme, DenotesAs}
 
--- what holds of both choices holds of the chosen one
+-- a property of both choices holds of the chosen one
 chosen : (P : Scheme → Type 0) (b : Bool) (p q : Scheme) → (b ≡ true → P p) → (b ≡ false → P q) → P (if b then p else q)
 chosen P b p q first second = grind arith
 
--- what holds of each scheme that a text can name holds of the one that it names
+-- a property of each scheme that a text can name holds of the one that it names
 pub scheme_cases : (P : Scheme → Type 0) (s : List ℕ) → (is_ssh_scheme s ≡ true → P ssh) → (bytes_eq s (codes "file") ≡ true → P file) → P git → (bytes_eq s (codes "http") ≡ true → P http) → (bytes_eq s (codes "https") ≡ true → P https) → P ext → P (helper_url s) → P (scheme_of s)
 scheme_cases P s of_ssh of_file of_git of_http of_https of_ext other = grind arith
 
@@ -35,7 +35,7 @@ same_transport s name e h = subst IsTransport (sym ((bytes_eq-Decides s name).0 
 pub transport : (s : List ℕ) → requires_path (scheme_of s) ≡ true → IsTransport s
 transport s h = grind (arith, nat_tests, chosen, same_transport, bytes_eq, or_cases)
 
--- a URL keeps its text as the path where its scheme is `ext`, and else its parts decide
+-- a URL keeps its text as the path if its scheme is `ext`, and else its parts decide
 pub means_cases : (scheme : Scheme) (b : List ℕ) (parts : UrlSyntax) (v : Location) → DenotesAs scheme b parts v → ((scheme ≡ ext) × (v ≡ path_alone ext true b)) ⊎ ((¬ (scheme ≡ ext)) × DenotesByScheme scheme parts v)
 means_cases scheme b parts v h = grind arith
 

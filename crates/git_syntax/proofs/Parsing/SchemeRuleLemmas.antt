@@ -1,4 +1,4 @@
--- What the code decides of the scheme of a URL: which one it names.
+-- The decisions of the code about the scheme of a URL: which one it names.
 use Rattle.std.proofs.Common.{◌≡◌, ℕ, List, arith}
 use Rattle.git_syntax.specs.declared.scheme.KnownScheme as rust
 use Rattle.git_syntax.specs.declared.scheme.KnownScheme.TheVariants as read

@@ -35,7 +35,7 @@ addressed_unique b user other address second path last h k =
 
 -- ---- a bracket that nothing closes
 
--- a text that begins with a bracket isn't one that doesn't, with something behind it
+-- a text that begins with a bracket isn't one that doesn't, with something after it
 pub begins_apart : (x y z : List ℕ) (c : ℕ) → begins_with left_bracket y ≡ false → left_bracket ∷ x ≡ y ++ c ∷ z → (c == left_bracket) ≡ false → ⊥
 begins_apart x y z c f e other = grind arith
 
@@ -43,14 +43,14 @@ begins_apart x y z c f e other = grind arith
 bracket_first : (x : List ℕ) → begins_with left_bracket (left_bracket ∷ x) ≡ false → ⊥
 bracket_first x h = false≢true (sym h)
 
--- nor is it an address, with or without a colon behind it
+-- nor is it an address, with or without a colon after it
 bracket_no_address : (x : List ℕ) → IsAddressPiece (left_bracket ∷ x) → ⊥
 bracket_no_address x (inl h) = false≢true (sym (free_head_tail left_bracket left_bracket x (address_free left_bracket (left_bracket ∷ x) refl h)).0)
 bracket_no_address x (inr (address, h, e)) =
     let free : FreeOf left_bracket (left_bracket ∷ x) = subst (λ s. FreeOf left_bracket s) (sym e) (free-append left_bracket address (colon ∷ []) (address_free left_bracket address refl h) refl) in
     false≢true (sym (free_head_tail left_bracket left_bracket x free).0)
 
--- nor a host outside brackets with something behind it
+-- nor a host outside brackets with something after it
 bracket_no_plain : (x text rest : List ℕ) → IsPlainHost text → left_bracket ∷ x ≡ text ++ colon ∷ rest → ⊥
 bracket_no_plain x text rest h e = begins_apart x text rest colon h.no_bracket e refl
 
@@ -73,7 +73,7 @@ open_bracket_no_host host x denoted e f h =
 
 -- ---- the fronts of a text with the shape
 
--- what the front of such a text can be: it ends within the address, or behind its bracket
+-- the forms of the front of such a text: it ends within the address, or after its bracket
 abbrev pub FrontOf : List ℕ → List ℕ → List ℕ → List ℕ → List ℕ → List ℕ → Type 0
 FrontOf user address path x front second =
     (front ≡ user ++ at_sign ∷ (left_bracket ∷ x)) ⊎ ((front ≡ user ++ at_sign ∷ (left_bracket ∷ (address ++ right_bracket ∷ []))) × (second ≡ path))

@@ -1,4 +1,4 @@
--- The scp form: its colons, the piece that its host is read from, and what is refused.
+-- The scp form: its colons, the piece that its host is read from, and the refusals.
 use Rattle.std.proofs.Common.{◌≡◌, ℕ, ◌<◌, Bool, false, ◌==◌, ◌&&◌, ◌⊎◌, inl, inr, List, [], ◌∷◌, ◌++◌, length, Option, Some, None, Result, Ok, Err, true, refl, sym, ap, subst, ◌∙◌, arith, append_assoc, eq-eqb, lit<, IsUtf8, IfSome}
 use Rattle.std.proofs.lemmas.Bool.{both_ways, cases_Bool, false≢true, eqb-true}
 use Rattle.std.proofs.lemmas.Bool.Decides.{nat_tests}
@@ -45,7 +45,7 @@ pub colons_inside_front : (b front : List ℕ) → ScpFront b front → ColonsIn
 colons_inside_front b front (plain free h) = inl free
 colons_inside_front b front (bracketed inside after h free e) = inr (left_bracket ∷ inside, after, h, free, e)
 
--- so do those of what follows an `@`
+-- so do those of the text after an `@`
 colons_inside_behind : (user host : List ℕ) → ColonsInside (user ++ at_sign ∷ host) → ColonsInside host
 colons_inside_behind user host (inl free) = inl (free_head_tail colon at_sign host (free_parts colon user (at_sign ∷ host) free).1).1
 colons_inside_behind user host (inr (inside, rest, closed, free, e)) =
@@ -101,7 +101,7 @@ scp_user_utf8 b front path user host h text (with_user u e is) =
 
 -- ---- `user@[address]:path`
 
--- where the path behind the address is empty, the earlier form spells nothing
+-- if the path after the address is empty, the earlier form spells nothing
 pub addressed_no_path_before : (b user address : List ℕ) → AddressedForm b user address [] → (v : Location) → ¬ SpellsScpBefore b v
 addressed_no_path_before b user address k v h =
     let (x, y, f, e) = address_cut address k.cut.addressed in
@@ -126,7 +126,7 @@ addressed_user_utf8 b user address path k text =
 
 -- ---- tests and steps of the code
 
--- ---- what is found for the host
+-- ---- the slices that are found for the host
 
 -- a text with another byte in front is in no brackets
 pub not_in_brackets : (t : List ℕ) → begins_with left_bracket t ≡ false → ¬ IsBracketed t
@@ -136,16 +136,16 @@ not_in_brackets t apart (inner, e) = both_ways _ apart (ap (begins_with left_bra
 normal_front : (host : List ℕ) → begins_with left_bracket host ≡ false → begins_with left_bracket (normal_host host) ≡ false
 normal_front host open_front = grind arith
 
--- the front is the same where each `%` is escaped
+-- the front is the same if each `%` is escaped
 escaped_front : (c : ℕ) (host : List ℕ) → (37 == c) ≡ false → begins_with c host ≡ false → begins_with c (escaped_percents host) ≡ false
 escaped_front c host other h = grind arith
 
--- what isn't empty is written as more than nothing
+-- a text that isn't empty is written as more than nothing
 pub escaped_some : (host : List ℕ) → 0 < length host → 0 < length (escaped_percents host)
 escaped_some [] h = absurd (omega (arith, h))
 escaped_some (b ∷ host) h = elim (cases_Bool (b == percent_sign)) [ inl same ↦ rw same (omega arith) | inr kept ↦ rw kept (omega arith) ]
 
--- a text that is UTF-8 stands for its normal form
+-- a text that is UTF-8 denotes its normal form
 name_text : (host : List ℕ) → IsUtf8 host → HostText git_hosts (escaped_percents host) (normal_host host)
 name_text host text = (subst IsUtf8 (sym (decode_escaped_percents host)) text, ap normal_host (sym (decode_escaped_percents host)))
 
@@ -159,7 +159,7 @@ name_found host some open_front text free = record {
   unbracketed = Unbrackets.same (not_in_brackets (normal_host host) (normal_front host open_front)) refl;
 }
 
--- where the text holds a colon, a bracket closes behind it
+-- if the text holds a colon, a bracket closes after it
 colon_enclosed : (host front behind : List ℕ) → host ≡ front ++ colon ∷ behind → ColonsInside host → (z : List ℕ) × (rest : List ℕ) × (behind ≡ z ++ right_bracket ∷ rest)
 colon_enclosed host front behind e (inl free) = absurd (not_free colon front behind (subst (λ t. FreeOf colon t) e free))
 colon_enclosed host front behind e (inr (inside, rest, closed, free, k)) =
@@ -201,7 +201,7 @@ colons_found host front behind open_front text colons e many = record {
               inr (escaped_percents front, escaped_percents y, escaped_percents z, escaped ∙ ap (λ t. escaped_percents front ++ colon ∷ t) (ap escaped_percents k ∙ escaped_percents-append y (colon ∷ z)))
         ]
 
--- what is in a port's place behind one colon isn't a port
+-- the text in the place of a port, after one colon, isn't a port
 pub no_port_found : (host front behind : List ℕ) → begins_with left_bracket host ≡ false → ColonsInside host → FreeOf colon front → host ≡ front ++ colon ∷ behind → false ≡ (length front == 0) → FreeOf colon behind → ScpNameFlaw host fault.BadPort
 no_port_found host front behind open_front colons first e some last =
     HasBadPort.plain (escaped_percents front) (escaped_percents behind) (record { nonempty = escaped_some front (some_tested front some); no_colon = lacks_escaped_percents (λ b. b == colon) front refl refl refl first; no_bracket = escaped_front left_bracket front refl (front_open front e some) }) (lacks_escaped_percents (λ b. b == colon) behind refl refl refl last)
@@ -223,7 +223,7 @@ no_port_found host front behind open_front colons first e some last =
 pub open_found : (behind : List ℕ) → FreeOf right_bracket behind → ScpNameFlaw (left_bracket ∷ behind) fault.BadCharacter
 open_found behind free = HasBadHost.open_bracket (escaped_percents behind) (lacks_escaped_percents (λ b. b == right_bracket) behind refl refl refl free) refl
 
--- the text between brackets and what follows them, where each `%` is escaped
+-- the text between brackets and the text after them, if each `%` is escaped
 brackets_escaped : (behind inner rest : List ℕ) → behind ≡ inner ++ right_bracket ∷ rest → escaped_percents behind ≡ escaped_percents inner ++ right_bracket ∷ escaped_percents rest
 brackets_escaped behind inner rest e = ap escaped_percents e ∙ escaped_percents-append inner (right_bracket ∷ rest)
 
@@ -270,12 +270,12 @@ inner_kept behind inner rest text closed e none other =
 
 -- ---- literals whose `%` is unescaped
 
--- each `%` is sound where it is escaped
+-- each `%` is sound if it is escaped
 escaped_sound : (t : List ℕ) → is_sound (escaped_percents t) ≡ true
 escaped_sound [] = refl
 escaped_sound (b ∷ t) = elim (cases_Bool (b == percent_sign)) [ inl same ↦ rw same (escaped_sound t) | inr kept ↦ rw kept (sound_kept b (escaped_percents t) kept ∙ escaped_sound t) ]
 
--- a byte of a zone is one where each `%` is escaped
+-- a byte of a zone is one if each `%` is escaped
 escaped_zone_bytes : (t : List ℕ) → list_all is_zone_byte (escaped_percents t) ≡ list_all is_zone_byte t
 escaped_zone_bytes [] = refl
 escaped_zone_bytes (b ∷ t) =
@@ -291,7 +291,7 @@ escaped_zone_bytes (b ∷ t) =
     escaped_other : (b == percent_sign) ≡ false → escaped_percents (b ∷ t) ≡ b ∷ escaped_percents t
     escaped_other other = rw other refl
 
--- the bytes of a zone, and no other, are one where each `%` is escaped
+-- the bytes of a zone, and no other, are one if each `%` is escaped
 pub zone_found : (t : List ℕ) → 0 < length t → list_all is_zone_byte t ≡ true → IsZone (escaped_percents t)
 zone_found t some all = record {
   nonempty = escaped_some t some;
@@ -318,7 +318,7 @@ zone_parts t a z free e h =
 
 -- ---- the location
 
--- what is found in a host that isn't empty is found for the host
+-- the slices that are found for a host that isn't empty are found for the host
 pub scp_host_read : (host : List ℕ) (r : Result rust.ScpHost UrlFault) → FreeOf at_sign host → FreeOf backslash host → LacksWhiteSpace host → ReadsScpPiece host r → ReadsScpHost host r
 scp_host_read host (Ok found) at back white h = scp_host_found host (escaped_percents host) (scp_host_of found) at back white refl h
 scp_host_read host (Err fault) at back white h = ScpHostFlaw.bad_name fault h
@@ -329,7 +329,7 @@ unbracketed_utf8 host inner (Unbrackets.brackets e) is =
     (utf8_parts inner [] right_bracket (utf8_parts [] (inner ++ right_bracket ∷ []) left_bracket (subst IsUtf8 e is) (lit< tt)).1 (lit< tt)).0
 unbracketed_utf8 host inner (Unbrackets.same other e) is = subst IsUtf8 (sym e) is
 
--- so is the host that one of the scp form stands for
+-- so is the host that one of the scp form denotes
 pub scp_meant_utf8 : {host denoted : List ℕ} → ScpHost host denoted → IsUtf8 denoted
 scp_meant_utf8 {host} {denoted} h = unbracketed_utf8 h.named denoted h.unbracketed (names_utf8 git_hosts (escaped_percents host) h.named None h.names)
 
@@ -346,7 +346,7 @@ simple_byte_no_space b h = grind (arith, nat_tests)
 simple_unbracketed : (t : List ℕ) → IsSimpleHost t → ¬ IsBracketed t
 simple_unbracketed t h k = grind arith
 
--- it stands for itself in the scp form
+-- it denotes itself in the scp form
 pub simple_scp_host : (t : List ℕ) → IsSimpleHost t → ScpHost t t
 simple_scp_host t h = record {
   named = t;

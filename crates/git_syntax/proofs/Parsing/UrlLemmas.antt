@@ -1,4 +1,4 @@
--- URLs: what their text determines of their pieces, and what leaves no reading.
+-- URLs: the pieces that their text determines, and the flaws that leave no reading.
 use Rattle.std.proofs.Common.{◌≡◌, ℕ, ◌<◌, ◌⊎◌, Bool, true, false, List, [], ◌∷◌, ◌++◌, length, Option, Some, None, Result, inl, inr, refl, sym, ap, subst, ◌∙◌, arith}
 use Rattle.std.proofs.lemmas.Bool.Decides.{nat_tests}
 use Rattle.std.specs.Prelude.{IfOk, IsSome, is_some, IsUtf8}
@@ -37,17 +37,17 @@ no_text_refutes text user password k h = grind (arith, nat_tests, credentials_al
 pub some_kept : (text : List ℕ) → ¬ (text ≡ []) → unless_empty text ≡ Some text
 some_kept text some = grind arith
 
--- an empty text stands for none
+-- an empty text denotes none
 pub nothing_meant : (text : List ℕ) → length text ≡ 0 → None ≡ unless_empty (percent_decode text)
 nothing_meant text e = sym (ap unless_empty (ap percent_decode (nil_from_length text e) ∙ percent_decode-nil))
 
--- any other text stands for what it decodes to
+-- any other text denotes its decoding
 pub something_meant : (text : List ℕ) → 0 < length text → Some (percent_decode text) ≡ unless_empty (percent_decode text)
 something_meant text some = sym (some_kept (percent_decode text) (λ e. absurd (omega (arith, ap length (decode_empty text e)))))
 
 -- ---- names
 
--- where no host is named, there is no text
+-- if no host is named, there is no text
 pub nothing_named : (syntax : HostSyntax) (piece : List ℕ) (host : Option (List ℕ)) (port : Option ℕ) → SpellsHostPort syntax piece host port → host ≡ None → piece ≡ []
 nothing_named syntax piece host port h none = grind arith
 
@@ -63,7 +63,7 @@ none_not_some host e h = grind arith
 pub some_host : (host : Option HostPort) → is_some host ≡ true → IsSome (host_of host)
 some_host host e = grind arith
 
--- and where none was read, none is named
+-- and if none was read, none is named
 pub none_host : (host : Option HostPort) → is_some host ≡ false → host_of host ≡ None
 none_host host e = grind arith
 
@@ -83,33 +83,33 @@ authority_cut syntax text information piece user password host port free joined 
     let pieces = last_cut_unique at_sign i information p piece f free (sym e ∙ joined) in
     (subst (λ x. Credentials x user password) pieces.0 c, subst (λ x. SpellsHostPort syntax x host port) pieces.1 h, s)
 
--- there is no authority where its piece without user information names nothing
+-- there is no authority if its piece without user information names nothing
 pub no_name_alone : (syntax : HostSyntax) (needed : Bool) (text : List ℕ) → FreeOf at_sign text → ((host : Option (List ℕ)) (port : Option ℕ) → ¬ SpellsHostPort syntax text host port) → IsNoAuthority syntax needed text
 no_name_alone syntax needed text free none user password host port h =
     none host port (authority_alone syntax text user password host port free h.named)
 
--- there is no authority where the piece behind the user information names nothing
+-- there is no authority if the piece after the user information names nothing
 pub no_name_behind : (syntax : HostSyntax) (needed : Bool) (text information piece : List ℕ) → FreeOf at_sign piece → text ≡ information ++ at_sign ∷ piece → ((host : Option (List ℕ)) (port : Option ℕ) → ¬ SpellsHostPort syntax piece host port) → IsNoAuthority syntax needed text
 no_name_behind syntax needed text information piece free joined none user password host port h =
     none host port (authority_cut syntax text information piece user password host port free joined h.named).1
 
--- there is no authority where the user information holds what isn't text
+-- there is no authority if the user information isn't text
 pub no_text_before : (syntax : HostSyntax) (needed : Bool) (text information piece : List ℕ) → FreeOf at_sign piece → text ≡ information ++ at_sign ∷ piece → HasNoText information → IsNoAuthority syntax needed text
 no_text_before syntax needed text information piece free joined bad user password host port h =
     no_text_refutes information user password bad (authority_cut syntax text information piece user password host port free joined h.named).0
 
--- there is no authority where nothing follows the user information
+-- there is no authority if nothing follows the user information
 pub no_host_behind : (syntax : HostSyntax) (needed : Bool) (text information piece : List ℕ) → FreeOf at_sign piece → text ≡ information ++ at_sign ∷ piece → piece ≡ [] → IsNoAuthority syntax needed text
 no_host_behind syntax needed text information piece free joined empty user password host port h =
     let pieces = authority_cut syntax text information piece user password host port free joined h.named in
     none_not_some host (empty_names_nothing syntax piece host port empty pieces.1) pieces.2
 
--- there is no authority where a host is needed and there is nothing
+-- there is no authority if a host is needed and there is nothing
 pub no_host_alone : (syntax : HostSyntax) (needed : Bool) (text : List ℕ) → needed ≡ true → FreeOf at_sign text → text ≡ [] → IsNoAuthority syntax needed text
 no_host_alone syntax needed text need free empty user password host port h =
     none_not_some host (empty_names_nothing syntax text host port empty (authority_alone syntax text user password host port free h.named)) (h.hosted need)
 
--- user information that holds what isn't text is a flaw of its authority
+-- user information that isn't text is a flaw of its authority
 pub bad_user_flaw : (syntax : HostSyntax) (needed : Bool) (text information piece : List ℕ) → FreeOf at_sign piece → text ≡ information ++ at_sign ∷ piece → HasNoText information → AuthorityFlaw syntax needed text fault.BadCharacter
 bad_user_flaw syntax needed text information piece free joined (HasNoText.user f bad) =
     AuthorityFlaw.bad_user (HasBadUser.user information piece free f joined bad)
@@ -137,11 +137,11 @@ parts_cut b scheme authority path parts cut h =
     let rest = path_cut_unique (is_web_scheme scheme) h.authority authority parts.path path before cut.before_path starts cut.path_starts pieces.1 in
     (pieces.0, rest.0, rest.1)
 
--- what follows the `://` of a URL is cut before its path by the bytes that start one for its scheme
+-- the text after the `://` of a URL is cut before its path by the bytes that start one for its scheme
 pub rest_cut : {scheme rest authority path : List ℕ} {web : Bool} → web ≡ is_web_scheme scheme → rest ≡ authority ++ path → Lacks (is_path_start web) authority → StartsPath web path → CutsRest scheme rest authority path
 rest_cut same joined before starts = grind arith
 
--- a scheme, and what follows its `://` cut into an authority and a path, cut the URL
+-- a scheme, and the text after its `://` cut into an authority and a path, cut the URL
 pub url_cut : {b scheme rest authority path : List ℕ} → OtherUrlForm b scheme rest → true ≡ is_scheme_text scheme → CutsRest scheme rest authority path → UrlCut b scheme authority path
 url_cut form named cut = grind arith
 
@@ -149,22 +149,22 @@ url_cut form named cut = grind arith
 pub spelled : {b scheme authority path : List ℕ} {user password host : Option (List ℕ)} {port : Option ℕ} → UrlCut b scheme authority path → IsUtf8 b → LacksWhiteSpace b → true ≡ is_sound b → FreeOf backslash authority → Fits scheme (authority ++ path) → HoldsHosted (host_syntax_of scheme) (requires_host scheme) authority user password host port → IsUtf8 (percent_decode path) → HasUrlSyntax b (record { scheme = scheme; user = user; password = password; host = host; port = port; path = path })
 spelled cut text no_white_space sound no_backslash fits held path_text = grind arith
 
--- there is no URL where what is before `://` isn't a scheme
+-- there is no URL if the text before `://` isn't a scheme
 pub no_scheme_refutes : (b front rest : List ℕ) (parts : UrlSyntax) → OtherUrlForm b front rest → is_scheme_text front ≡ false → ¬ HasUrlSyntax b parts
 no_scheme_refutes b front rest parts form bad h =
     both_ways (is_scheme_text front) bad (ap is_scheme_text (sym (scheme_cut b front rest parts form h).0) ∙ h.scheme_text)
 
--- there is no URL where its path decodes to no text
+-- there is no URL if its path decodes to no text
 pub bad_path_refutes : (b scheme authority path : List ℕ) (parts : UrlSyntax) → UrlCut b scheme authority path → ¬ IsUtf8 (percent_decode path) → ¬ HasUrlSyntax b parts
 bad_path_refutes b scheme authority path parts cut bad h =
     bad (subst (λ p. IsUtf8 (percent_decode p)) (parts_cut b scheme authority path parts cut h).2 h.path_text)
 
--- there is no URL where its authority holds a backslash
+-- there is no URL if its authority holds a backslash
 pub backslash_refutes : (b scheme authority path : List ℕ) (parts : UrlSyntax) → UrlCut b scheme authority path → ¬ FreeOf backslash authority → ¬ HasUrlSyntax b parts
 backslash_refutes b scheme authority path parts cut bad h =
     bad (subst (λ a. FreeOf backslash a) (parts_cut b scheme authority path parts cut h).1 h.no_backslash)
 
--- there is no URL where its authority is none
+-- there is no URL if its authority is none
 pub no_authority_refutes : (b scheme authority path : List ℕ) (parts : UrlSyntax) → UrlCut b scheme authority path → IsNoAuthority (host_syntax_of scheme) (requires_host scheme) authority → ¬ HasUrlSyntax b parts
 no_authority_refutes b scheme authority path parts cut none h =
     let pieces = parts_cut b scheme authority path parts cut h in
@@ -190,6 +190,6 @@ simple_held syntax needed t host h e p = record {
   hosted = λ need. refl;
 }
 
--- what holds of the whole holds of each answer
+-- a property of the whole holds of each answer
 pub on_each_ok : {A B : Type 0} (r : Result A B) (P : Type 0) → P → IfOk r (λ _. P)
 on_each_ok r P h = grind arith

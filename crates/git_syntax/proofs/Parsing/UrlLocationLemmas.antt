@@ -26,17 +26,17 @@ use Rattle.git_syntax.proofs.Parsing.UrlLemmas.{scheme_no_mark}
 
 -- ---- paths
 
--- `/` stands for an empty path
+-- `/` denotes an empty path
 pub root_meant : (path : List ℕ) → length path ≡ 0 → percent_decode (slash ∷ []) ≡ or_root (percent_decode path)
 root_meant path empty = grind (arith, nat_tests, decode_byte, nil_from_length, percent_decode-nil)
 
--- any other path stands for itself
+-- any other path denotes itself
 pub path_meant : (path : List ℕ) → 0 < length path → percent_decode path ≡ or_root (percent_decode path)
 path_meant path some = grind (arith, nat_tests, decode_empty)
 
 -- ---- hosts
 
--- text behind an opening bracket, without a last colon and then without a last bracket, is in brackets
+-- text after an opening bracket, without a last colon and then without a last bracket, is in brackets
 pub inside_brackets : (host behind closed : List ℕ) (found : Option (Bor (List ℕ))) → host ≡ left_bracket ∷ behind → DropsLast colon behind closed → StripsLast right_bracket closed found → MatchOption found ((inside : List ℕ) → ¬ InBrackets host inside) (λ inside. InBrackets host inside.now)
 inside_brackets host behind closed None e (DropsLast.dropped d) none =
     λ inside brackets. elim brackets [
@@ -53,7 +53,7 @@ inside_brackets host behind closed None e (DropsLast.kept ends same) none =
 inside_brackets host behind closed (Some front) e (DropsLast.kept ends same) strip =
     inl (e ∙ ap (λ x. left_bracket ∷ x) (sym same ∙ strip))
 
--- what Secure Shell takes of a text is text
+-- the host that Secure Shell takes from a text is text
 pub ssh_host_utf8 : {host ssh_host : List ℕ} → IsSshHost host ssh_host → IsUtf8 host → IsUtf8 ssh_host
 ssh_host_utf8 {host} {ssh_host} (IsSshHost.brackets e) h =
     (utf8_parts ssh_host [] right_bracket (utf8_parts [] (ssh_host ++ right_bracket ∷ []) left_bracket (subst IsUtf8 e h) (lit< tt)).1 (lit< tt)).0
@@ -77,14 +77,14 @@ host_text : (syntax : HostSyntax) (piece : List ℕ) (host : Option (List ℕ)) 
 host_text syntax piece None port h = tt
 host_text syntax piece (Some host) port h = names_utf8 syntax piece host port h
 
--- what an authority holds is text
+-- the parts of an authority are text
 authority_texts : (syntax : HostSyntax) (text : List ℕ) (user password host : Option (List ℕ)) (port : Option ℕ) → Authority syntax text user password host port → IfSome user IsUtf8 × IfSome password IsUtf8 × IfSome host IsUtf8
 authority_texts syntax text user password host port (host_alone f h u p) =
     (subst (λ o. IfSome o IsUtf8) (sym u) tt, subst (λ o. IfSome o IsUtf8) (sym p) tt, host_text syntax text host port h)
 authority_texts syntax text user password host port (with_user i piece f e c h s) =
     (user_text i user password c, password_text i user password c, host_text syntax piece host port h)
 
--- what a URL holds is text
+-- the parts of a URL are text
 pub texts : {b : List ℕ} {parts : UrlSyntax} → HasUrlSyntax b parts → AreTexts parts
 texts {b} {parts} h =
     let held = authority_texts (host_syntax_of parts.scheme) h.authority parts.user parts.password parts.host parts.port h.named in
@@ -110,7 +110,7 @@ pieces_unique {b} {p} {q} h k =
 means_pathed : (p : Scheme) (b : List ℕ) (parts : UrlSyntax) (v : Location) → requires_path p ≡ true → DenotesAs p b parts v → 0 < length parts.path
 means_pathed p b parts v need h = grind arith
 
--- a URL without a path stands for no location where its scheme needs one
+-- a URL without a path denotes no location if its scheme needs one
 pub no_path_refutes : {b : List ℕ} {parts : UrlSyntax} → HasUrlSyntax b parts → requires_path (scheme_of parts.scheme) ≡ true → parts.path ≡ [] → (v : Location) → ¬ SpellsUrl b v
 no_path_refutes {b} {parts} h need empty v other =
     let same = pieces_unique h other.spelled in
@@ -123,6 +123,6 @@ pub path_missed : {b : List ℕ} {parts : UrlSyntax} → HasUrlSyntax b parts �
 path_missed {b} {parts} h need empty =
     MissesPath.in_url parts.scheme h.authority need (free_of_lacked (is_path_start (is_web_scheme parts.scheme)) slash h.authority h.before_path refl) (h.joined ∙ ap (λ p. parts.scheme ++ (codes "://" ++ (h.authority ++ p))) empty ∙ ap (λ a. parts.scheme ++ (codes "://" ++ a)) (append-nil h.authority))
 
--- a URL that was read stands for what its parts mean, by its scheme
+-- a URL that was read denotes the location of its parts, by its scheme
 pub spelled_url : {b : List ℕ} {parts : UrlSyntax} {p : Scheme} {v : Location} → HasUrlSyntax b parts → p ≡ scheme_of parts.scheme → ¬ (p ≡ ext) → DenotesByScheme p parts v → SpellsUrl b v
 spelled_url h e other means = grind arith

@@ -1,4 +1,4 @@
--- Texts of printable ASCII, and escapes that stand for ASCII.
+-- Texts of printable ASCII, and escapes that decode to ASCII.
 use Rattle.std.proofs.Common.{◌≡◌, ◌∙◌, ◌<◌, ◌&&◌, ◌++◌, ◌∷◌, ◌*◌, ◌+◌, ℕ, suc, true, false, List, [], IsAscii, refl, sym, ap, subst, inl, inr, arith}
 use Rattle.std.specs.Prelude.{nat_le}
 use Rattle.std.specs.Char.{is_digit, digit_value, is_whitespace}
@@ -38,19 +38,19 @@ printable_parts x y printable = and_parts _ _ (sym (list_all-append is_printable
 
 -- ---- the first `%`
 
--- a text is sound where its first `%` has two digits behind it and the text behind the `%` is sound
+-- a text is sound if its first `%` has two digits after it and the text after the `%` is sound
 pub sound_at_cut : (front behind : List ℕ) → FreeOf percent_sign front → is_sound (front ++ percent_sign ∷ behind) ≡ (begins_with_digits behind && is_sound behind)
 sound_at_cut [] behind free = sound_step percent_sign behind
 sound_at_cut (b ∷ front) behind free =
     let (other, more) = free_head_tail percent_sign b front free in sound_kept b (front ++ percent_sign ∷ behind) other ∙ sound_at_cut front behind more
 
--- ---- escapes that stand for ASCII
+-- ---- escapes that decode to ASCII
 
 -- a byte of ASCII in front
 pub ascii_cons : (b : ℕ) (t : List ℕ) → b < 128 → IsAscii t → IsAscii (b ∷ t)
 ascii_cons b t low h = grind arith
 
--- an escape whose first digit is below 8 stands for ASCII
+-- an escape whose first digit is below 8 decodes to ASCII
 low_escape : (high low : ℕ) → is_digit high 16 ≡ true → is_digit low 16 ≡ true → nat_le 56 high ≡ false → 16 * digit_value high + digit_value low < 128
 low_escape high low h l below = grind (arith, nat_tests)
 
@@ -73,6 +73,6 @@ ascii_escape (high ∷ low ∷ rest) below h =
 pub ascii_kept : (t : List ℕ) → is_printable t ≡ true → FreeOf percent_sign t → IsAscii (percent_decode t)
 ascii_kept t printable free = subst IsAscii (sym (decode_kept t free)) (ascii_class is_printable_byte printable_ascii t printable)
 
--- what decodes to ASCII decodes to UTF-8
+-- a text that decodes to ASCII decodes to UTF-8
 pub ascii_means_utf8 : (t : List ℕ) → IsAscii (percent_decode t) → IsUtf8 (percent_decode t)
 ascii_means_utf8 t h = IsUtf8-from_ascii (percent_decode t) h

@@ -1,5 +1,5 @@
--- Texts cut around a byte or a mark: what the pieces lack, that the
--- text determines them, and what classes of bytes lack.
+-- Texts cut around a byte or a mark: the bytes that the pieces lack, that the
+-- text determines them, and the bytes that classes lack.
 use Rattle.std.proofs.Common.{◌≡◌, ℕ, zero, suc, ◌+◌, ◌<◌, ◌≤◌, Bool, true, false, ◌==◌, ◌⊎◌, inl, inr, List, [], ◌∷◌, ◌++◌, length, take, drop, get_or, refl, sym, ap, subst, ◌∙◌, arith, append_assoc, add-one, eqb, Some, None, bytes_eq}
 use Rattle.std.proofs.lemmas.Bool.Decides.{nat_tests}
 use Rattle.std.specs.List.{list_any, list_all, position_or_len}
@@ -27,16 +27,16 @@ tails e = cc
 pub different_bytes : {A : Type 0} (a b : ℕ) {x y : List ℕ} → eqb a b ≡ false → a ∷ x ≡ b ∷ y → A
 different_bytes a b h e = absurd (both_ways (eqb a b) h (eq-eqb a b (heads e)))
 
--- ---- what a text lacks
+-- ---- the bytes that a text lacks
 
--- the whole lacks what both parts lack
+-- the whole lacks each byte that both parts lack
 pub lacks-append : (test : ℕ → Bool) (x y : List ℕ) → Lacks test x → Lacks test y → Lacks test (x ++ y)
 lacks-append test [] y h k = k
 lacks-append test (b ∷ x) y h k =
     let parts = or_parts (test b) (list_any test x) h in
     or_from (test b) (list_any test (x ++ y)) parts.0 (lacks-append test x y parts.1 k)
 
--- the parts lack what the whole lacks
+-- the parts lack each byte that the whole lacks
 pub lacks_parts : (test : ℕ → Bool) (x y : List ℕ) → Lacks test (x ++ y) → Lacks test x × Lacks test y
 lacks_parts test [] y h = (refl, h)
 lacks_parts test (b ∷ x) y h =
@@ -44,15 +44,15 @@ lacks_parts test (b ∷ x) y h =
     let rest = lacks_parts test x y parts.1 in
     (or_from (test b) (list_any test x) parts.0 rest.0, rest.1)
 
--- a text lacks what its first byte and the others lack
+-- a text lacks each byte that its first byte and the others lack
 pub lacks-cons : (test : ℕ → Bool) (b : ℕ) (x : List ℕ) → test b ≡ false → Lacks test x → Lacks test (b ∷ x)
 lacks-cons test b x h k = or_from (test b) (list_any test x) h k
 
--- and its first byte and the others lack what it lacks
+-- and its first byte and the others lack each byte that it lacks
 pub lacks_head_tail : (test : ℕ → Bool) (b : ℕ) (x : List ℕ) → Lacks test (b ∷ x) → (test b ≡ false) × Lacks test x
 lacks_head_tail test b x h = or_parts (test b) (list_any test x) h
 
--- what lacks a wider class of bytes lacks a narrower one
+-- a text that lacks a wider class of bytes lacks a narrower one
 pub lacks_weaker : (t u : ℕ → Bool) → ((b : ℕ) → t b ≡ true → u b ≡ true) → (bs : List ℕ) → Lacks u bs → Lacks t bs
 lacks_weaker t u within [] h = refl
 lacks_weaker t u within (b ∷ bs) h =
@@ -73,14 +73,14 @@ lacks_of_all test other apart (b ∷ bs) h =
     let parts = and_parts (test b) (list_all test bs) h in
     or_from _ _ (apart b parts.0) (lacks_of_all test other apart bs parts.1)
 
--- bytes up to a place lack what none of them passes
+-- bytes up to a place lack each byte that none of them passes
 pub lacks_before : (test : ℕ → Bool) (bs : List ℕ) (n : ℕ) → ((k : ℕ) → k < n → ¬ (test (get_or bs k 0) ≡ true)) → Lacks test (take n bs)
 lacks_before test bs zero h = refl
 lacks_before test [] (suc n) h = refl
 lacks_before test (b ∷ bs) (suc n) h =
     or_from (test b) (list_any test (take n bs)) (false_from_ne_true (test b) (h 0 (omega arith))) (lacks_before test bs n (λ k l. h (suc k) (omega arith)))
 
--- bytes from a place on lack what none of them passes
+-- bytes from a place on lack each byte that none of them passes
 pub lacks_after : (test : ℕ → Bool) (bs : List ℕ) (n : ℕ) → ((k : ℕ) → n ≤ k → k < length bs → ¬ (test (get_or bs k 0) ≡ true)) → Lacks test (drop n bs)
 lacks_after test [] zero h = refl
 lacks_after test (b ∷ bs) zero h =
@@ -88,13 +88,13 @@ lacks_after test (b ∷ bs) zero h =
 lacks_after test [] (suc n) h = refl
 lacks_after test (b ∷ bs) (suc n) h = lacks_after test bs n (λ k l m. h (suc k) (omega arith) (omega arith))
 
--- ---- what a text is free of
+-- ---- the bytes that a text is free of
 
--- the whole is free of what both parts are free of
+-- the whole is free of each byte that both parts are free of
 pub free-append : (c : ℕ) (x y : List ℕ) → FreeOf c x → FreeOf c y → FreeOf c (x ++ y)
 free-append c = lacks-append (λ b. b == c)
 
--- the parts are free of what the whole is free of
+-- the parts are free of each byte that the whole is free of
 pub free_parts : (c : ℕ) (x y : List ℕ) → FreeOf c (x ++ y) → FreeOf c x × FreeOf c y
 free_parts c = lacks_parts (λ b. b == c)
 
@@ -114,7 +114,7 @@ free_of_all test c bs h k = grind (arith, nat_tests, lacks_of_all, both_ways, eq
 pub free_of_lacked : (test : ℕ → Bool) (c : ℕ) (bs : List ℕ) → Lacks test bs → test c ≡ true → FreeOf c bs
 free_of_lacked test c bs h k = lacks_weaker (λ b. b == c) test (λ b e. ap test (eqb-true b c e) ∙ k) bs h
 
--- a text is free of a byte, or is the text before the first such byte, the byte, and the text behind it
+-- a text is free of a byte, or is the text before the first such byte, the byte, and the text after it
 pub free_or_cut : (c : ℕ) (bs : List ℕ) → FreeOf c bs ⊎ ((x : List ℕ) × (y : List ℕ) × FreeOf c x × (bs ≡ x ++ c ∷ y))
 free_or_cut c [] = inl refl
 free_or_cut c (b ∷ bs) =
@@ -130,7 +130,7 @@ free_or_cut c (b ∷ bs) =
 abbrev pub EndsOrNot : ℕ → List ℕ → Type 0
 EndsOrNot c t = ((front : List ℕ) × (t ≡ front ++ c ∷ [])) ⊎ ((front : List ℕ) → ¬ (t ≡ front ++ c ∷ []))
 
--- by whether the byte behind all but one byte of the text makes it up
+-- by whether the byte after all but one byte of the text makes it up
 pub ends_or_not : (c : ℕ) (t : List ℕ) → EndsOrNot c t
 ends_or_not c [] = inr (λ front e. absurd (omega (arith, ap length e, length-append front (c ∷ []))))
 ends_or_not c (b ∷ t) =
@@ -144,7 +144,7 @@ ends_or_not c (b ∷ t) =
           both_ways _ other (same.1 (e ∙ ap (λ x. x ++ c ∷ []) (sym is))))
     ]
 
--- a text that begins with a byte is the byte and what follows
+-- a text that begins with a byte is the byte and the rest
 pub begins_cut : (c : ℕ) (bs : List ℕ) → begins_with c bs ≡ true → (rest : List ℕ) × (bs ≡ c ∷ rest)
 begins_cut c bs h = grind arith
 
@@ -152,7 +152,7 @@ begins_cut c bs h = grind arith
 pub free_begins : (c : ℕ) (bs : List ℕ) → FreeOf c bs → begins_with c bs ≡ false
 free_begins c bs h = grind arith
 
--- how a text begins, so does the whole with another text behind it
+-- how a text begins, so does the whole with another text after it
 pub begins-append : (c : ℕ) (x y : List ℕ) → 0 < length x → begins_with c (x ++ y) ≡ begins_with c x
 begins-append c x y some = grind arith
 
@@ -162,7 +162,7 @@ not_free c x y h = grind (arith, nat_tests, free_parts, free_head_tail, both_way
 
 -- ---- cuts at a byte
 
--- a text is the text before a byte, the byte, and the text behind it
+-- a text is the text before a byte, the byte, and the text after it
 joined_around : (c : ℕ) (bs : List ℕ) (n : ℕ) → n < length bs → (get_or bs n 0 == c) ≡ true → bs ≡ take n bs ++ c ∷ drop (n + 1) bs
 joined_around c [] n l h = absurd (omega arith)
 joined_around c (b ∷ bs) zero l h = ap (λ d. d ∷ bs) (eqb-true b c h)
@@ -244,7 +244,7 @@ cut_at_first test xs = (sym (take-append-drop (position_or_len test xs) xs), lac
 pub cut_at_place : (test : ℕ → Bool) (xs : List ℕ) (n : ℕ) → IsFirstByte test xs (Some n) → (xs ≡ take n xs ++ drop n xs) × Lacks test (take n xs) × ((drop n xs ≡ []) ⊎ (begins_by test (drop n xs) ≡ true))
 cut_at_place test xs n h = grind (arith, nat_tests, lacks_before, begins_at, take-append-drop)
 
--- where none was found, the whole is the front
+-- if none was found, the whole is the front
 pub cut_at_end : (test : ℕ → Bool) (xs : List ℕ) (n : ℕ) → n ≡ length xs → IsFirstByte test xs None → (xs ≡ take n xs ++ drop n xs) × Lacks test (take n xs) × ((drop n xs ≡ []) ⊎ (begins_by test (drop n xs) ≡ true))
 cut_at_end test xs n all h = grind (arith, nat_tests, lacks_before, drop_all, take-append-drop)
 
@@ -289,7 +289,7 @@ last_cut_unique c (d ∷ a) (k ∷ b) x y f g e =
 pub held_free : (bs : List ℕ) → FreeOf colon bs → ¬ Holds url_mark bs
 held_free bs h (front, rest, e) = not_free colon front (47 ∷ 47 ∷ rest) (subst (λ z. FreeOf colon z) e h)
 
--- what follows the first byte of a text without a mark holds none
+-- the text after the first byte of a text without a mark holds none
 not_held_behind : (mark : List ℕ) (b : ℕ) (bs : List ℕ) → ¬ Holds mark (b ∷ bs) → ¬ Holds mark bs
 not_held_behind mark b bs h (front, rest, e) = h (b ∷ front, rest, ap (λ z. b ∷ z) e)
 

@@ -11,13 +11,13 @@ use Rattle.git_syntax.specs.Bytes.{is_hexadecimal, percent_sign}
 use Rattle.git_syntax.specs.Internal.Decoding.{PadsBlock}
 use Rattle.git_syntax.proofs.Texts.EscapeLemmas.{decode_broken, decode_escape}
 
--- ---- the byte that `%` and what follows begin with
+-- ---- the byte that `%` and the text after begin with
 
--- a `%` with less than two bytes behind it stays
+-- a `%` with less than two bytes after it stays
 pub percent_short : (behind : List ℕ) → length behind < 2 → percent_decode (percent_sign ∷ behind) ≡ percent_sign ∷ percent_decode behind
 percent_short behind short = grind (arith, nat_tests, decode_broken)
 
--- so does one with no digit behind it
+-- so does one with no digit after it
 pub percent_before_none : (behind : List ℕ) → 2 ≤ length behind → is_hexadecimal (get_or behind 0 0) ≡ false → percent_decode (percent_sign ∷ behind) ≡ percent_sign ∷ percent_decode behind
 percent_before_none behind long none = grind (arith, nat_tests, decode_broken)
 
@@ -25,7 +25,7 @@ percent_before_none behind long none = grind (arith, nat_tests, decode_broken)
 pub percent_before_one : (behind : List ℕ) → 2 ≤ length behind → is_hexadecimal (get_or behind 0 0) ≡ true → is_hexadecimal (get_or behind 1 0) ≡ false → percent_decode (percent_sign ∷ behind) ≡ percent_sign ∷ percent_decode behind
 percent_before_one behind long one none = grind (arith, nat_tests, decode_broken)
 
--- one with two digits stands for their byte
+-- one with two digits decodes to their byte
 pub percent_before_two : (behind : List ℕ) (high low : ℕ) → 2 ≤ length behind → is_hexadecimal (get_or behind 0 0) ≡ true → high ≡ digit_value (get_or behind 0 0) → is_hexadecimal (get_or behind 1 0) ≡ true → low ≡ digit_value (get_or behind 1 0)
     → percent_decode (percent_sign ∷ behind) ≡ (high * 16 + low) ∷ percent_decode (take (length behind - 2) (drop 2 behind))
 percent_before_two [] high low long one is two same = absurd (omega (arith, long))
@@ -44,7 +44,7 @@ first_kept text behind b e other = ap percent_decode e ∙ percent_decode_not_pe
 pub nothing_decoded : (text : List ℕ) → text ≡ [] → percent_decode text ≡ []
 nothing_decoded text e = ap percent_decode e ∙ percent_decode-nil
 
--- where nothing is left, all is done
+-- if nothing is left, all is done
 pub all_decoded : (done rest text : List ℕ) → percent_decode text ≡ done ++ percent_decode rest → rest ≡ [] → done ≡ percent_decode text
 all_decoded done rest text joined e = sym (joined ∙ ap (λ left. done ++ left) (nothing_decoded rest e) ∙ append-nil done)
 
@@ -56,7 +56,7 @@ all_in_window window rest text count joined e small =
 
 -- ---- blocks of 64 bytes
 
--- the bytes so far and the rest are UTF-8 where they are with the block
+-- the bytes so far and the rest are UTF-8 if they are with the block
 pub with_block : (read rest block behind : List ℕ) → PadsBlock rest block behind → IsUtf8 (read ++ percent_decode rest) ↔ IsUtf8 ((read ++ block) ++ percent_decode behind)
 with_block read rest block behind (zeros, e) =
     let padded = IsUtf8-append_ascii (read ++ percent_decode rest) (replicate zeros 0) (IsAscii-replicate zeros 0 (omega arith)) in
@@ -75,7 +75,7 @@ last_block text block behind n none zeros e =
     let front : percent_decode text ≡ take n block = e ∙ ap (λ l. take n block ++ l) left ∙ append-nil (take n block) in
     (64 - n, ap (λ l. l ++ replicate (64 - n) 0) front ∙ ap (λ l. take n block ++ l) (sym zeros) ∙ take-append-drop n block ∙ sym (ap (λ l. block ++ l) left ∙ append-nil block))
 
--- the zeros behind one byte more
+-- the zeros after one byte more
 pub zeros_left : (block : List ℕ) (n b : ℕ) → n < 64 → drop n block ≡ replicate (64 - n) 0 → drop (n + 1) (slice_set block n b) ≡ replicate (64 - (n + 1)) 0
 zeros_left block n b within zeros =
     let count : 64 - n - 1 ≡ 64 - (n + 1) = omega arith in

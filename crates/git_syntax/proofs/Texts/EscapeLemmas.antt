@@ -1,4 +1,4 @@
--- Escaped texts: where they are sound, how they decode in parts, and how they are UTF-8 in parts.
+-- Escaped texts: when they are sound, how they decode in parts, and how they are UTF-8 in parts.
 use Rattle.std.proofs.Common.{◌≡◌, ◌∙◌, ◌<◌, ◌≤◌, ◌+◌, ℕ, zero, suc, Bool, true, false, not, ◌&&◌, ◌||◌, ◌==◌, List, [], ◌∷◌, ◌++◌, length, take, ◌*◌, nat_lt, All, IsAscii, get_or, arith, refl, sym, ap, subst, ⊎_elim, inl, inr}
 use Rattle.std.specs.Char.{is_digit, digit_value, is_whitespace, encode_utf8}
 use Rattle.std.specs.Str.{IsUtf8, encode_utf8_all}
@@ -25,7 +25,7 @@ use Rattle.git_syntax.proofs.Texts.CutLemmas.{free_or_cut, heads}
 
 -- ---- walks over a decoding
 
--- lists that differ at one place behind an equal front are different
+-- lists that differ at one place after an equal front are different
 pub differ_behind : (front xs ys : List ℕ) (x y : ℕ) → (y ≡ x → ⊥) → front ++ x ∷ xs ≡ front ++ y ∷ ys → ⊥
 differ_behind front xs ys x y other e = other (sym (heads (append_cancel_left front (x ∷ xs) (y ∷ ys) e)))
 
@@ -50,7 +50,7 @@ sound_kept b bs other = grind arith
 pub digit_not_percent : (b : ℕ) → is_digit b 16 ≡ true → (b == 37) ≡ false
 digit_not_percent b digit = grind (arith, nat_tests)
 
--- a text is sound where its first byte begins no broken escape and the rest is sound
+-- a text is sound if its first byte begins no broken escape and the rest is sound
 pub sound_step : (b : ℕ) (bs : List ℕ) → is_sound (b ∷ bs) ≡ ((not (b == 37) || begins_with_digits bs) && is_sound bs)
 sound_step b bs = grind (arith, nat_tests)
 
@@ -58,11 +58,11 @@ sound_step b bs = grind (arith, nat_tests)
 pub sound_head : (b : ℕ) (bs : List ℕ) → is_sound (b ∷ bs) ≡ true → (not (b == 37) || begins_with_digits bs) ≡ true
 sound_head b bs sound = (and_parts _ _ (sym (sound_step b bs) ∙ sound)).0
 
--- the text behind the first byte of a sound text is sound
+-- the text after the first byte of a sound text is sound
 pub sound_tail : (b : ℕ) (bs : List ℕ) → is_sound (b ∷ bs) ≡ true → is_sound bs ≡ true
 sound_tail b bs sound = (and_parts _ _ (sym (sound_step b bs) ∙ sound)).1
 
--- a sound text behind a byte that begins no broken escape
+-- a sound text after a byte that begins no broken escape
 pub sound_cons : (b : ℕ) (bs : List ℕ) → (not (b == 37) || begins_with_digits bs) ≡ true → is_sound bs ≡ true → is_sound (b ∷ bs) ≡ true
 sound_cons b bs head rest = sound_step b bs ∙ and_from _ _ head rest
 
@@ -122,7 +122,7 @@ decode_empty xs none =
 pub decode_escape : (b high low : ℕ) (rest : List ℕ) → (b == 37) ≡ true → is_digit high 16 ≡ true → is_digit low 16 ≡ true → percent_decode (b ∷ high ∷ low ∷ rest) ≡ (16 * digit_value high + digit_value low) ∷ percent_decode rest
 decode_escape b high low rest percent h l = percent_decode_escape b high low rest (eqb-true b 37 percent) (ltb-true _ _ h) (ltb-true _ _ l)
 
--- a byte with no two digits behind it stays, a `%` too
+-- a byte with no two digits after it stays, a `%` too
 pub decode_broken : (b : ℕ) (bs : List ℕ) → begins_with_digits bs ≡ false → percent_decode (b ∷ bs) ≡ b ∷ percent_decode bs
 unfolding percent_decode
 decode_broken b bs broken = grind arith
@@ -133,7 +133,7 @@ byte_in_parts b bs ys other h = grind (arith, nat_tests, decode_byte)
 escape_in_parts : (b high low : ℕ) (rest ys : List ℕ) → (b == 37) ≡ true → is_digit high 16 ≡ true → is_digit low 16 ≡ true → percent_decode (rest ++ ys) ≡ percent_decode rest ++ percent_decode ys → percent_decode (b ∷ high ∷ low ∷ (rest ++ ys)) ≡ percent_decode (b ∷ high ∷ low ∷ rest) ++ percent_decode ys
 escape_in_parts b high low rest ys percent h l parts = grind (arith, nat_tests, decode_escape)
 
--- what follows a sound text is decoded apart from it
+-- the text after a sound text is decoded apart from it
 pub decodes_in_parts : (xs ys : List ℕ) → is_sound xs ≡ true → percent_decode (xs ++ ys) ≡ percent_decode xs ++ percent_decode ys
 decodes_in_parts [] ys sound = sym (ap (λ front. front ++ percent_decode ys) percent_decode-nil)
 decodes_in_parts (b ∷ []) ys sound = byte_in_parts b [] ys (not-true _ sound) (decodes_in_parts [] ys refl)
@@ -195,7 +195,7 @@ encode_empty set (b ∷ bs) none =
 pub encode_byte_kept : (set : AsciiSet) (b : ℕ) (bs : List ℕ) → b < 128 → contains set b ≡ false → percent_encode set (b ∷ bs) ≡ b ∷ percent_encode set bs
 encode_byte_kept set b bs ascii out = percent_encode_kept set b bs (kept_from_outside set b ascii out)
 
--- the written text lacks what the text lacks, except the bytes of an escape
+-- the written text lacks each byte that the text lacks, except the bytes of an escape
 pub encode_lacks_kept : (test : ℕ → Bool) (set : AsciiSet) (t : List ℕ) → ((b : ℕ) → is_escape_byte b ≡ true → test b ≡ false) → Lacks test t → Lacks test (percent_encode set t)
 encode_lacks_kept test set [] escapes lacks = rw percent_encode-nil refl
 encode_lacks_kept test set (b ∷ bs) escapes lacks =
@@ -207,7 +207,7 @@ encode_lacks_kept test set (b ∷ bs) escapes lacks =
     (λ kept. rw (percent_encode_kept set b bs kept) (or_from _ _ parts.0 rest))
     (cases_Bool (should_percent_encode set b))
 
--- the text lacks what its writing lacks, where the test passes no byte that is escaped
+-- the text lacks each byte that its writing lacks, if the test passes no byte that is escaped
 pub lacks_from_encode : (test : ℕ → Bool) (set : AsciiSet) (t : List ℕ) → ((b : ℕ) → should_percent_encode set b ≡ true → test b ≡ false) → Lacks test (percent_encode set t) → Lacks test t
 lacks_from_encode test set [] escaped lacks = refl
 lacks_from_encode test set (b ∷ bs) escaped lacks = ⊎_elim
@@ -226,7 +226,7 @@ encode_free set t c has other = grind (arith, nat_tests, encode_lacks, both_ways
 
 -- ---- a `%` as its own escape
 
--- each text is what its `%` as escapes decode to
+-- each text is the decoding of its `%` as escapes
 pub decode_escaped_percents : (t : List ℕ) → percent_decode (escaped_percents t) ≡ t
 decode_escaped_percents [] = percent_decode-nil
 decode_escaped_percents (b ∷ bs) =
@@ -236,7 +236,7 @@ decode_escaped_percents (b ∷ bs) =
     (λ other. rw other (decode_byte b (escaped_percents bs) other ∙ rest))
     (cases_Bool (b == 37))
 
--- a text with its `%` as escapes lacks what the text lacks, except `%`, `2` and `5`
+-- a text with its `%` as escapes lacks each byte that the text lacks, except `%`, `2` and `5`
 pub lacks_escaped_percents : (test : ℕ → Bool) (t : List ℕ) → test 37 ≡ false → test 50 ≡ false → test 53 ≡ false → Lacks test t → Lacks test (escaped_percents t)
 lacks_escaped_percents test [] sign two five lacks = refl
 lacks_escaped_percents test (b ∷ bs) sign two five lacks =
@@ -264,14 +264,14 @@ escaped_percents-append (x ∷ xs) ys =
 
 -- ---- UTF-8 and white space in parts
 
--- what follows a UTF-8 front of a UTF-8 text is UTF-8
+-- the text after a UTF-8 front of a UTF-8 text is UTF-8
 pub utf8_behind : (xs ys : List ℕ) → IsUtf8 (xs ++ ys) → IsUtf8 xs → IsUtf8 ys
 utf8_behind xs ys whole front =
     let within : length xs ≤ length (xs ++ ys) = omega (arith, length-append xs ys) in
     let at = IsCharBoundary-from_take (xs ++ ys) (length xs) whole within (subst IsUtf8 (sym (take_at xs ys (length xs) refl)) front) in
     subst IsUtf8 (drop_at xs ys (length xs) refl) (IsUtf8-drop (xs ++ ys) (length xs) whole at)
 
--- bytes of a class are ASCII where the class is
+-- bytes of a class are ASCII if the class is
 pub ascii_class : (test : ℕ → Bool) → ((b : ℕ) → test b ≡ true → b < 128) → (bs : List ℕ) → list_all test bs ≡ true → IsAscii bs
 ascii_class test within [] h i = omega arith
 ascii_class test within (b ∷ bs) h zero = within b (and_parts (test b) (list_all test bs) h).0
@@ -309,11 +309,11 @@ utf8_parts xs ys c whole ascii =
 pub utf8_joined : (xs ys : List ℕ) (c : ℕ) → IsUtf8 xs → c < 128 → IsUtf8 ys → IsUtf8 (xs ++ c ∷ ys)
 utf8_joined xs ys c front ascii rest = IsUtf8-append xs (c ∷ ys) front (IsUtf8-append (c ∷ []) ys (utf8_byte c ascii) rest)
 
--- two parts lack white space where their whole does
+-- two parts lack white space if their whole does
 pub white_space_parts : (xs ys : List ℕ) → IsUtf8 xs → LacksWhiteSpace (xs ++ ys) → LacksWhiteSpace xs × LacksWhiteSpace ys
 white_space_parts xs ys front lacks = grind (arith, nat_tests, chars-append, list_any-append, or_parts)
 
--- texts joined lack white space where both do
+-- texts joined lack white space if both do
 pub white_space-append : (xs ys : List ℕ) → IsUtf8 xs → LacksWhiteSpace xs → LacksWhiteSpace ys → LacksWhiteSpace (xs ++ ys)
 white_space-append xs ys front first second = grind (arith, nat_tests, chars-append, list_any-append, or_from)
 

@@ -1,4 +1,4 @@
--- What the three sets of escaped bytes hold, by computing at each ASCII byte.
+-- The bytes of the three sets of escaped bytes, by computing at each ASCII byte.
 use Rattle.std.proofs.Common.{◌∙◌, ℕ, List, refl, arith}
 use Rattle.std.proofs.lemmas.Bool.{agree_below_at}
 use Rattle.std.proofs.lemmas.Bool.Decides.{nat_tests}

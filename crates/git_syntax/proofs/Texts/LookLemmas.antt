@@ -1,4 +1,5 @@
--- Looks at texts: escapes that stand for ASCII, and what is known of the path of a text that was looked at.
+-- Tests of texts: escapes that decode to ASCII, and the known facts about the path of a text that was
+-- classified.
 use Rattle.std.proofs.Common.{◌≡◌, ◌∙◌, ◌++◌, ◌∷◌, ◌&&◌, ◌||◌, ◌==◌, ℕ, Bool, true, false, List, [], IsAscii, append_assoc, codes, refl, sym, ap, subst, inl, inr, arith}
 use Rattle.std.specs.Char.{is_digit}
 use Rattle.std.specs.Str.{IsUtf8}
@@ -26,13 +27,13 @@ pub high_free : (t : List ℕ) → FreeOf percent_sign t → has_high_escape t �
 high_free [] free = refl
 high_free (b ∷ bs) free = let (other, more) = free_head_tail percent_sign b bs free in high_kept b bs other ∙ high_free bs more
 
--- the first `%` and what follows decide
+-- the first `%` and the rest decide
 pub high_at_cut : (front behind : List ℕ) → FreeOf percent_sign front → has_high_escape (front ++ percent_sign ∷ behind) ≡ (begins_high behind || has_high_escape behind)
 high_at_cut [] behind free = refl
 high_at_cut (b ∷ front) behind free =
     let (other, more) = free_head_tail percent_sign b front free in high_kept b (front ++ percent_sign ∷ behind) other ∙ high_at_cut front behind more
 
--- the text behind a front has none where the whole has none
+-- the text after a front has none if the whole has none
 high_behind : (front behind : List ℕ) → has_high_escape (front ++ behind) ≡ false → has_high_escape behind ≡ false
 high_behind [] behind low = low
 high_behind (b ∷ front) behind low = high_behind front behind (or_parts _ _ low).1
@@ -51,9 +52,9 @@ ascii_decoded (b ∷ bs) printable low =
       | inr other ↦ subst IsAscii (sym (decode_byte b bs other)) (ascii_cons b (percent_decode bs) (printable_ascii b first) rest)
     ]
 
--- ---- what is known of a text
+-- ---- the known facts about a text
 
--- what is known to be printable holds no white space
+-- a text that is known to be printable holds no white space
 pub known_white_space : (byte_class : ByteClass) (t : List ℕ) → HasByteClass byte_class t → knows_printable byte_class ≡ true → LacksWhiteSpace t
 known_white_space Plain t h known = plain_white_space t h
 known_white_space Ascii t h known = printable_white_space t h.printable
@@ -74,34 +75,34 @@ known_utf8 Ascii t h known = printable_utf8 t h.printable
 known_utf8 Escaped t h known = printable_utf8 t h.printable
 known_utf8 Other t h known = absurd (false≢true known)
 
--- what is known to decode to ASCII decodes to UTF-8
+-- a text that is known to decode to ASCII decodes to UTF-8
 pub known_means_utf8 : (byte_class : ByteClass) (t : List ℕ) → HasByteClass byte_class t → knows_ascii byte_class ≡ true → IsUtf8 (percent_decode t)
 known_means_utf8 Plain t h known = plain_means_utf8 t h
 known_means_utf8 Ascii t h known = ascii_means_utf8 t (ascii_decoded t h.printable h.low)
 known_means_utf8 Escaped t h known = absurd (false≢true known)
 known_means_utf8 Other t h known = absurd (false≢true known)
 
--- what is known to be plain holds no `%`
+-- a text that is known to be plain holds no `%`
 pub known_free : (byte_class : ByteClass) (t : List ℕ) → HasByteClass byte_class t → knows_plain byte_class ≡ true → FreeOf percent_sign t
 known_free Plain t h known = plain_free t h
 known_free Ascii t h known = absurd (false≢true known)
 known_free Escaped t h known = absurd (false≢true known)
 known_free Other t h known = absurd (false≢true known)
 
--- ---- the path of a text that was looked at
+-- ---- the path of a text that was classified
 
 -- a path starts with no digit
 start_no_digit : (web : Bool) (b : ℕ) → is_path_start web b ≡ true → is_digit b 16 ≡ false
 start_no_digit true b start = grind (arith, nat_tests)
 start_no_digit false b start = grind (arith, nat_tests)
 
--- a path is sound where the whole is
+-- a path is sound if the whole is
 sound_path : (web : Bool) (front path : List ℕ) → StartsPath web path → is_sound (front ++ path) ≡ true → is_sound path ≡ true
 sound_path web front [] starts sound = refl
 sound_path web front (c ∷ rest) (inl none) sound = absurd (cc)
 sound_path web front (c ∷ rest) (inr start) sound = (sound_parts front rest c (start_no_digit web c start) sound).1
 
--- what is known of a text is known of the path at its end
+-- the known facts about a text hold for the path at its end
 known_behind : (web : Bool) (byte_class : ByteClass) (front path : List ℕ) → StartsPath web path → HasByteClass byte_class (front ++ path) → HasByteClass byte_class path
 known_behind web Plain front path starts h = (plain_parts front path h).1
 known_behind web Ascii front path starts h = record { printable = (printable_parts front path h.printable).1; sound = sound_path web front path starts h.sound; low = high_behind front path h.low }

@@ -1,4 +1,4 @@
--- Plain texts: printable ASCII without `%`. What the other looks at a text would return for them.
+-- Plain texts: printable ASCII without `%`. The results of the other tests for them.
 use Rattle.std.proofs.Common.{◌≡◌, ◌∙◌, ◌<◌, ◌++◌, ℕ, true, List, refl, sym, arith}
 use Rattle.std.specs.Str.{IsUtf8}
 use Rattle.std.proofs.lemmas.Bool.{and_parts}
@@ -30,7 +30,7 @@ plain_free t plain = free_of_all is_plain_byte percent_sign t plain refl
 pub plain_sound : (t : List ℕ) → is_plain t ≡ true → is_sound t ≡ true
 plain_sound t plain = sound_free t (plain_free t plain)
 
--- it stands for itself, so what it stands for is UTF-8
+-- it decodes to itself, so its decoding is UTF-8
 pub plain_means_utf8 : (t : List ℕ) → is_plain t ≡ true → IsUtf8 (percent_decode t)
 plain_means_utf8 t plain = grind (arith, nat_tests, plain_utf8, plain_free, decode_kept)
 

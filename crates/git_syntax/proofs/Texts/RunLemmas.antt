@@ -1,4 +1,4 @@
--- Runs of escapes: what is left behind them is as sound as the whole, and has high escapes where the whole has.
+-- Runs of escapes: the rest after them is as sound as the whole, and has high escapes if the whole has.
 use Rattle.std.proofs.Common.{◌≡◌, ◌∙◌, ◌+◌, ◌&&◌, ◌||◌, ◌++◌, ◌∷◌, ℕ, Bool, true, false, not, nat_le, List, length, get_or, sym, ap, arith}
 use Rattle.std.proofs.lemmas.Bool.{and_from, and_parts, not-true}
 use Rattle.git_syntax.specs.Bytes.{FreeOf, is_hexadecimal, percent_sign}
@@ -34,7 +34,7 @@ pub escape_sound : (rest digits behind : List ℕ) (high : ℕ) → rest ≡ per
 escape_sound rest digits behind high e d =
     digits_sound digits behind high d ∙ sym (ap is_sound e ∙ sound_step percent_sign digits ∙ ap (λ b. b && is_sound digits) (digits_begin digits behind high d))
 
--- and high where its first digit is
+-- and high if its first digit is
 pub escape_high : (rest digits behind : List ℕ) (high : ℕ) → rest ≡ percent_sign ∷ digits → BeginsDigits digits high behind → nat_le 56 high ≡ false → has_high_escape behind ≡ has_high_escape rest
 escape_high rest digits behind high e d low =
     digits_high digits behind high d ∙ sym (ap has_high_escape e ∙ ap (λ b. b || has_high_escape digits) (digits_first digits behind high d ∙ low))
@@ -51,9 +51,9 @@ run_more text rest digits behind low high_digit high run e d is = record {
   shorter = omega (arith, run.shorter, ap length e, digits_shorter digits behind high d);
 }
 
--- ---- the first `%` and the run behind it
+-- ---- the first `%` and the run after it
 
--- a text is as sound as what is left behind the first run
+-- a text is as sound as the rest after the first run
 pub sound_past_run : (low : Bool) (rest front behind left : List ℕ) → rest ≡ front ++ percent_sign ∷ behind → FreeOf percent_sign front → PassesRun behind low left → is_sound left ≡ is_sound rest
 sound_past_run low rest front behind left e free run = run.sound ∙ sym (ap is_sound e ∙ sound_at_cut front behind free ∙ ap (λ b. b && is_sound behind) run.digits)
 
@@ -61,7 +61,7 @@ sound_past_run low rest front behind left e free run = run.sound ∙ sym (ap is_
 pub broken_at_cut : (rest front behind : List ℕ) → rest ≡ front ++ percent_sign ∷ behind → FreeOf percent_sign front → begins_with_digits behind ≡ false → is_sound rest ≡ false
 broken_at_cut rest front behind e free none = ap is_sound e ∙ sound_at_cut front behind free ∙ ap (λ b. b && is_sound behind) none
 
--- where the run is low, what is left behind it decides whether all escapes are
+-- if the run is low, the rest after it decides whether all escapes are
 pub low_past_run : (ascii low : Bool) (text rest front behind left : List ℕ) → rest ≡ front ++ percent_sign ∷ behind → FreeOf percent_sign front → PassesRun behind low left
     → (ascii ≡ true → has_high_escape rest ≡ has_high_escape text) → (ascii && low) ≡ true → has_high_escape left ≡ has_high_escape text
 low_past_run ascii low text rest front behind left e free run same both =

@@ -151,7 +151,7 @@ character c rest is =
     (cases_lt c 2048))
     (cases_lt c 128)
 
--- the bytes of characters hold white space where one of the characters is
+-- the bytes of characters hold white space if one of the characters is
 characters : (cs : List ℕ) → scalars cs ≡ true → holds_space (encode_utf8_all cs) ≡ list_any is_whitespace cs
 characters [] all = refl
 characters (c ∷ cs) all =

@@ -64,7 +64,7 @@ parts_unique b p q h k =
     let same = authority_unique (host_syntax_of q.scheme) k.authority p.user q.user p.password q.password p.host q.host p.port q.port (subst (λ a. Authority (host_syntax_of q.scheme) a p.user p.password p.host p.port) pieces.0 named) k.named in
     λ i. record { scheme = scheme i; user = same.0 i; password = same.1 i; host = same.2 i; port = same.3 i; path = pieces.1 i }
 
--- a text in brackets and one in brackets with a colon behind them are different
+-- a text in brackets and one in brackets with a colon after them are different
 brackets_apart : (x y : List ℕ) → left_bracket ∷ (x ++ right_bracket ∷ []) ≡ left_bracket ∷ (y ++ right_bracket ∷ (colon ∷ [])) → ⊥
 brackets_apart x y e =
     let ends = same_from_push x (y ++ right_bracket ∷ []) right_bracket colon (tails e ∙ sym (append_assoc y (right_bracket ∷ []) (colon ∷ []))) in
@@ -100,7 +100,7 @@ host_for_unique ssh None host other h k = h ∙ sym k
 host_for_unique ssh (Some named) host other (x, p, e) (y, q, f) = e ∙ ap (λ z. Some z) (ssh_host_unique named x y p q) ∙ sym f
 host_for_unique _ named host other h k = h ∙ sym k
 
--- what the parts of a URL mean with this host
+-- the location of the parts of a URL with this host
 abbrev pub meant_with : Scheme → UrlSyntax → Option (List ℕ) → Location
 meant_with scheme parts host = record {
   scheme = scheme;
@@ -113,12 +113,12 @@ meant_with scheme parts host = record {
   spelling = retained_spelling parts.path;
 }
 
--- the parts of a URL mean one location by its scheme
+-- the parts of a URL denote one location by its scheme
 by_scheme_unique : (scheme : Scheme) (parts : UrlSyntax) (v w : Location) → DenotesByScheme scheme parts v → DenotesByScheme scheme parts w → v ≡ w
 by_scheme_unique scheme parts v w h k =
     h.value ∙ ap (λ host. meant_with scheme parts host) (host_for_unique scheme parts.host h.host k.host h.hosted k.hosted) ∙ sym k.value
 
--- the parts of a URL mean one location
+-- the parts of a URL denote one location
 pub means_unique : (scheme : Scheme) (b : List ℕ) (parts : UrlSyntax) (v w : Location) → DenotesAs scheme b parts v → DenotesAs scheme b parts w → v ≡ w
 means_unique scheme b parts v w h k = grind (arith, nat_tests, by_scheme_unique, means_cases)
 
@@ -140,7 +140,7 @@ file_unique b v w h k = grind (arith, nat_tests, class_cut_unique, scheme_cut_un
 unbrackets_unique : (host x y : List ℕ) → Unbrackets host x → Unbrackets host y → x ≡ y
 unbrackets_unique host x y h k = grind (arith, nat_tests, same_from_push)
 
--- a host in the scp form stands for one
+-- a host in the scp form denotes one
 scp_host_unique : (host other x y : List ℕ) → host ≡ other → ScpHost host x → ScpHost other y → x ≡ y
 scp_host_unique host other x y same h k =
     let names = names_unique git_hosts (escaped_percents other) (Some h.named) (Some k.named) None None (subst (λ z. SpellsHostPort git_hosts (escaped_percents z) (Some h.named) None) same h.names) k.names in
@@ -150,7 +150,7 @@ scp_host_unique host other x y same h k =
 scp_same : (user other : Option (List ℕ)) (host second path last : List ℕ) → user ≡ other → host ≡ second → path ≡ last → scp_location user host path ≡ scp_location other second last
 scp_same user other host second path last e f g = λ i. scp_location (e i) (f i) (g i)
 
--- the scp form's bytes spell one location in it, where the form `user@[address]:path` isn't used
+-- the scp form's bytes spell one location in it, if the form `user@[address]:path` isn't used
 pub scp_before_unique : (b : List ℕ) (v w : Location) → SpellsScpBefore b v → SpellsScpBefore b w → v ≡ w
 scp_before_unique b v w h k =
     let whole = same_front b h.front h.path k.front k.path h.form.joined k.form.joined h.form.form k.form.form in
@@ -176,7 +176,7 @@ pub bracketed_address_named : (a : List ℕ) → IsIpv6Text a → SpellsHostPort
 bracketed_address_named a h =
     SpellsHostPort.bracketed a (lowercase a) (address_free right_bracket a refl h) (Bracketed.literal (lowercase a) (Literal.address h refl) (sym (lowercase_kept a h)) (address_utf8 (lowercase a) (address-lowercase a h))) refl refl refl
 
--- such a host of the scp form stands for the address in lower case
+-- such a host of the scp form denotes the address in lower case
 bracketed_address_host : (host a denoted : List ℕ) → host ≡ left_bracket ∷ (a ++ right_bracket ∷ []) → IsIpv6Text a → ScpHost host denoted → denoted ≡ lowercase a
 bracketed_address_host host a denoted e address h =
     let free : FreeOf percent_sign (a ++ right_bracket ∷ []) = free-append percent_sign a (right_bracket ∷ []) (address_free percent_sign a refl address) refl in
@@ -184,7 +184,7 @@ bracketed_address_host host a denoted e address h =
     let names = names_unique git_hosts (left_bracket ∷ (a ++ right_bracket ∷ [])) (Some h.named) (Some (left_bracket ∷ (lowercase a ++ right_bracket ∷ []))) None None (subst (λ z. SpellsHostPort git_hosts z (Some h.named) None) kept h.names) (bracketed_address_named a address) in
     unbrackets_unique h.named denoted (lowercase a) h.unbracketed (Unbrackets.brackets (same_Some h.named (left_bracket ∷ (lowercase a ++ right_bracket ∷ [])) names.0))
 
--- where both spell the bytes, they spell one location
+-- if both spell the bytes, they spell one location
 pub scp_forms_agree : (b : List ℕ) (v w : Location) → SpellsScpBefore b v → SpellsScpAddressed b w → v ≡ w
 scp_forms_agree b v w h k =
     let (x, y, f, e) = address_cut k.address k.form.cut.addressed in

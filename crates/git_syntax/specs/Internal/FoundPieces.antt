@@ -1,4 +1,4 @@
--- The slices that are found in a text: the location that they mean, and the buffer that they need.
+-- The slices that are found in a text: the location that they denote, and the buffer that they need.
 use Rattle.std.specs.Prelude.{◌≡◌, ℕ, ◌+◌, true, false, ◌==◌, List, [], ◌∷◌, length, Option, Some, None, option_map, IfSome, IsUtf8, if◌then◌else◌}
 use Rattle.std.specs.Option.{option_copied, unwrap_or}
 use Rattle.std.specs.List.{list_any}
@@ -53,9 +53,9 @@ host_for ext named = named
 host_for (helper name) named = named
 host_for (helper_url name) named = named
 
--- ---- the location that slices mean
+-- ---- the location that slices denote
 
--- the location that the fields of a URL mean, by its scheme: the one that `DenotesByScheme` allows
+-- the location that the fields of a URL denote, by its scheme: the one that `DenotesByScheme` allows
 abbrev pub url_location : Scheme → UrlSyntax → Location
 url_location scheme parts = record {
   scheme = scheme;
@@ -80,7 +80,7 @@ scp_host_of (host.Literal text) = lowercase_address text.now
 scp_host_of (host.Name text) = normal_host text.now
 scp_host_of (host.Kept text) = text.now
 
--- the location that the slices of a text mean
+-- the location that the slices of a text denote
 abbrev pub denoted : Found → Location
 denoted (found.Helper name address) = path_alone (helper_scheme name.now) true address.now
 denoted (found.Local path) = path_alone file true path.now
@@ -102,7 +102,7 @@ pub record AreScpTexts (user : Option (List ℕ)) (host : List ℕ) : Type 0 whe
   pub user_text : IfSome user IsUtf8
   pub host_text : IsUtf8 host
 
--- a location can be made of these slices: the ones that become text are UTF-8
+-- a location can be built from these slices: those of text fields are UTF-8
 abbrev pub IsReady : Found → Type 0
 IsReady (found.Helper name address) = IsUtf8 name.now
 IsReady (found.Local path) = Unit {0}
@@ -124,8 +124,8 @@ parts_length parts = optional_length parts.user + optional_length parts.password
     + optional_length parts.host
     + length (percent_decode parts.path)
 
--- a buffer of this length suffices for the fields that differ from the text: those of a URL, and the host of
--- the scp form
+-- a buffer of this length suffices for the fields whose bytes are not in the text: those of a URL, and the
+-- host of the scp form
 abbrev pub buffer_length_for : Found → ℕ
 buffer_length_for (found.Url rules url) = parts_length (syntax_of url)
 buffer_length_for (found.Scp user host path) = length (scp_slice host)

@@ -15,7 +15,7 @@ use Rattle.git_syntax.specs.Hosts.{HostSyntax, Inner, normal_host, SpellsHostPor
 use Rattle.git_syntax.specs.Hosts.HostSyntax.{http_hosts, git_hosts, other_hosts}
 use Rattle.git_syntax.specs.Flaws.{IsNoPort, HostPortFlaw}
 
--- the syntax of the definitions for that of the code
+-- the syntax that a `HostSyntax` represents
 abbrev pub host_syntax : rust.HostSyntax → HostSyntax
 host_syntax read.Http = http_hosts
 host_syntax read.Git = git_hosts
@@ -95,11 +95,11 @@ abbrev pub named_text : HostPort → List ℕ
 named_text named = if named.keeps_colon then denoted_host named.piece ++ colon ∷ []
     else denoted_host named.piece
 
--- the host that was read
+-- the host that a `HostPort` represents
 abbrev pub host_of : Option HostPort → Option (List ℕ)
 host_of named = option_map named_text named
 
--- the port of a host and port that were read, if there is one
+-- the port, if there is a host with a port
 abbrev pub port_of : Option HostPort → Option ℕ
 port_of None = None
 port_of (Some named) = named.port

@@ -1,4 +1,4 @@
--- Runs of escapes, one directly behind the other.
+-- Runs of consecutive escapes.
 use Rattle.std.specs.Prelude.{◌≡◌, ◌≤◌, ℕ, Bool, true, false, List, ◌∷◌, length, get_or, Option, MatchOption, IfSome}
 use Rattle.std.specs.Borrow.{Bor}
 use Rattle.git_syntax.specs.Bytes.{is_hexadecimal, percent_sign}
@@ -19,7 +19,8 @@ StripsDigits text result = MatchOption result (begins_with_digits text ≡ false
 abbrev pub StripsEscape : List ℕ → Option (ℕ × Bor (List ℕ)) → Type 0
 StripsEscape text result = IfSome result (λ parts. (digits : List ℕ) × (text ≡ percent_sign ∷ digits) × BeginsDigits digits parts.0 parts.1.now)
 
--- what is left of the text behind two digits and the escapes that follow them. If `low` is true, all of them stand for ASCII
+-- the rest of the text after two digits and the escapes that follow them. If `low` is true, all of them
+-- decode to ASCII
 pub record PassesRun (text : List ℕ) (low : Bool) (left : List ℕ) : Type 0 where
   pub digits : begins_with_digits text ≡ true
   pub sound : is_sound left ≡ is_sound text
@@ -27,6 +28,6 @@ pub record PassesRun (text : List ℕ) (low : Bool) (left : List ℕ) : Type 0 w
   pub others : low ≡ true → has_high_escape left ≡ has_high_escape text
   pub shorter : length left ≤ length text
 
--- the same as the result; `None` if the text doesn't begin with two digits
+-- that rest and `low` as a result; `None` if the text doesn't begin with two digits
 abbrev pub PassesDigits : List ℕ → Option (Bool × Bor (List ℕ)) → Type 0
 PassesDigits text result = MatchOption result (begins_with_digits text ≡ false) (λ run. PassesRun text run.0 run.1.now)

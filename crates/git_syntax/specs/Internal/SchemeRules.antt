@@ -1,4 +1,4 @@
--- The rules that the code finds for the scheme of a URL, and the definitions that they represent.
+-- The rules of the code for the scheme of a URL, and the definitions that they represent.
 use Rattle.std.specs.Prelude.{◌≡◌, List, ℕ}
 use Rattle.git_syntax.specs.declared.scheme.KnownScheme as rust
 use Rattle.git_syntax.specs.declared.scheme.KnownScheme.TheVariants as read
@@ -8,7 +8,7 @@ use Rattle.git_syntax.specs.Location.Scheme.{file, git, ssh, http, https, ext, h
 use Rattle.git_syntax.specs.Schemes.{is_web_scheme, scheme_of, host_syntax_of, requires_host, requires_path}
 use Rattle.git_syntax.specs.Internal.HostPieces.{host_syntax}
 
--- the scheme of the definitions for that of the code, with this text
+-- the scheme that a `KnownScheme` with this text represents
 abbrev pub scheme_named : rust.KnownScheme → List ℕ → Scheme
 scheme_named read.File scheme = file
 scheme_named read.Git scheme = git

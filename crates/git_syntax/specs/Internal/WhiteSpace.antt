@@ -17,7 +17,7 @@ may_begin_space b = is_ascii_space b || (b == 194 || is_between 225 227 b)
 abbrev pub is_wide_end : ℕ → ℕ → Bool
 is_wide_end c d = (c == 128 && (is_between 128 138 d || is_between 168 169 d || d == 175)) || (c == 129 && d == 159)
 
--- three bytes that begin with white space; the last two are only looked at where they belong to it
+-- three bytes that begin with white space; the last two are tested only if they are part of it
 abbrev pub are_space : ℕ → ℕ → ℕ → Bool
 are_space b c d = is_ascii_space b || (b == 194 && (c == 133 || c == 160)) || (b == 225 && (c == 154 && d == 128)) || (b == 226 && is_wide_end c d) || (b == 227 && (c == 128 && d == 128))
 

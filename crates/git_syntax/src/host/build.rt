@@ -15,7 +15,7 @@ use crate::text::into_text;
 use std::alloc::{AllocError, Global};
 
 impl HostPort<'_> {
-    /// The text of the host.
+    /// Returns the text of the host. Fails only if an allocation fails.
     pub fn build(self, alloc: Global) -> Result<String, AllocError>
         requires { IsUtf8 (named_text self) }
         ensures { IfOk result (λ s. string_bytes s ≡ named_text self.entry) }
@@ -26,7 +26,7 @@ impl HostPort<'_> {
         Ok(into_text(text))
     }
 
-    /// Writes the text of the host to the front of the buffer and returns its length.
+    /// Writes the text of the host to the front of the buffer and returns its length in bytes.
     pub fn put_into(self, buffer: &mut [u8]) -> usize
         requires { length (named_text self) ≤ length buffer.old }
         ensures size { result ≡ length (named_text self.entry) }

@@ -1,4 +1,4 @@
--- Components that are returned: they are those of the location, and what is lent is part of its path.
+-- Components that are returned: they are those of the location, and each borrowed text is part of its path.
 use Rattle.std.proofs.Common.{◌≡◌, ◌∙◌, ℕ, Bool, true, false, ◌⊎◌, inl, inr, List, [], ◌∷◌, ◌++◌, map, length, Option, Some, None, option_map, IfSome, All, Result, Ok, Err, IsOk, IsErr, refl, sym, ap, subst, append_assoc, arith, ⊎_elim}
 use Rattle.std.specs.List.{join_with_byte}
 use Rattle.std.proofs.lemmas.Bool.{cases_Bool}
@@ -31,7 +31,7 @@ use Rattle.git_laws.proofs.ComponentCuts.CutComponentLemmas.{path_unique, no_que
 not_every : (s : List ℕ) → ((t : List ℕ) → s ≡ t) → ⊥
 not_every s h = omega (arith, ap length (h (0 ∷ s)))
 
--- what was found is the spelling that matches
+-- the spelling that was found is the one that matches
 pub found_spelling : (s : List ℕ) (spelling : Option (List ℕ)) (path : List ℕ) → ((other : List ℕ) → s ≡ matching_or spelling path other) → (matches spelling path ≡ true) × (percent_decode s ≡ path)
 found_spelling s spelling path h = ⊎_elim
     (λ yes.
@@ -40,7 +40,7 @@ found_spelling s spelling path h = ⊎_elim
     (λ none. absurd (not_every s (λ t. h t ∙ unmatched spelling path t none)))
     (cases_Bool (matches spelling path))
 
--- where none was found, none matches
+-- if none was found, none matches
 pub no_spelling : (spelling : Option (List ℕ)) (path : List ℕ) → ((other : List ℕ) → other ≡ matching_or spelling path other) → matches spelling path ≡ false
 no_spelling spelling path h = ⊎_elim
     (λ yes.
@@ -51,7 +51,7 @@ no_spelling spelling path h = ⊎_elim
     (λ none. none)
     (cases_Bool (matches spelling path))
 
--- ---- what is part of the path
+-- ---- the texts that are part of the path
 
 -- a text is part of itself
 held_self : (t : List ℕ) → Holds t t
@@ -62,7 +62,7 @@ held_within : (a b c : List ℕ) → Holds a b → Holds b c → Holds a c
 held_within a b c (x, y, e) (z, w, k) =
     (z ++ x, y ++ w, k ∙ ap (λ t. z ++ (t ++ w)) e ∙ ap (λ t. z ++ t) (append_assoc x (a ++ y) w ∙ ap (λ t. x ++ t) (append_assoc a y w)) ∙ sym (append_assoc z x (a ++ (y ++ w))))
 
--- what the texts around a delimiter stand for is part of what the whole stands for
+-- the meaning of the texts around a delimiter is part of the meaning of the whole
 held_around : (escaped : Bool) (text x y : List ℕ) (c : ℕ) → Parts c → text ≡ x ++ c ∷ y → Holds (denoted_by escaped x) (denoted_by escaped text) × Holds (denoted_by escaped y) (denoted_by escaped text)
 held_around escaped text x y c parts cut =
     let split = ap (denoted_by escaped) cut ∙ meant_around escaped x y c parts in (
@@ -78,13 +78,13 @@ question_parts = record { digit = refl; percent = refl }
 number_parts : Parts number_sign
 number_parts = record { digit = refl; percent = refl }
 
--- what the parts of a text around its first c stand for is part of what the text stands for
+-- the meaning of the parts of a text around its first c is part of the meaning of the text
 held_off : (escaped : Bool) (text front : List ℕ) (behind : Option (List ℕ)) (c : ℕ) → Parts c → CutsText c text front behind → Holds (denoted_by escaped front) (denoted_by escaped text) × IfSome behind (λ x. Holds (denoted_by escaped x) (denoted_by escaped text))
 held_off escaped text front None c parts (free, e) =
     (subst (λ t. Holds (denoted_by escaped front) (denoted_by escaped t)) e (held_self (denoted_by escaped front)), tt)
 held_off escaped text front (Some x) c parts (free, e) = held_around escaped text front x c parts e
 
--- what the pieces of a path stand for is part of what the path stands for
+-- the meaning of the pieces of a path is part of the meaning of the path
 record HoldsPieces (escaped : Bool) (whole front : List ℕ) (query fragment : Option (List ℕ)) : Type 0 where
   front_held : Holds (denoted_by escaped front) whole
   query_held : IfSome query (λ q. Holds (denoted_by escaped q) whole)
@@ -99,11 +99,11 @@ held_pieces escaped text front query fragment (middle, first, second) =
     λ t inside. held_within (denoted_by escaped t) (denoted_by escaped middle) (denoted_by escaped text) inside middle_held in
     record { front_held = held front front_held; query_held = IfSome_then query query_held held; fragment_held = fragment_held }
 
--- what each of these texts stands for is part of the path
+-- the meaning of each of these texts is part of the path
 abbrev AreHeld : Bool → List ℕ → List (List ℕ) → Type 0
 AreHeld escaped path texts = All (λ t. Holds (denoted_by escaped t) path) texts
 
--- what the fields of a text stand for is part of what the text stands for
+-- the meaning of the fields of a text is part of the meaning of the text
 held_fields : (escaped : Bool) (path : List ℕ) (fields : List (List ℕ)) → Holds (denoted_by escaped (join_with_byte ampersand fields)) path → AreHeld escaped path fields
 held_fields escaped path [] held = All-nil (λ t. Holds (denoted_by escaped t) path)
 held_fields escaped path (t ∷ []) held = All-cons (λ x. Holds (denoted_by escaped x) path) t [] held (All-nil (λ x. Holds (denoted_by escaped x) path))
@@ -113,7 +113,7 @@ held_fields escaped path (t ∷ u ∷ us) held =
     let parts = held_around escaped whole t rest ampersand (record { digit = refl; percent = refl }) refl in
     All-cons (λ x. Holds (denoted_by escaped x) path) t (u ∷ us) (held_within (denoted_by escaped t) (denoted_by escaped whole) path parts.0 held) (held_fields escaped path (u ∷ us) (held_within (denoted_by escaped rest) (denoted_by escaped whole) path parts.1 held))
 
--- what name and value stand for is part of what the field stands for
+-- the meaning of name and value is part of the meaning of the field
 held_split : (escaped : Bool) (path field name value : List ℕ) → SplitsField field name value → Holds (denoted_by escaped field) path → Holds (denoted_by escaped name) path × Holds (denoted_by escaped value) path
 held_split escaped path field name value (SplitsField.name_alone free e j) (x, y, k) =
     (subst (λ t. Holds (denoted_by escaped t) path) (sym e) (x, y, k), subst (λ t. Holds (denoted_by escaped t) path) (sym j) (subst (λ t. Holds t path) (sym (denoted-nil escaped)) ([], path, refl)))
@@ -123,17 +123,17 @@ held_split escaped path field name value (SplitsField.with_value free e) held =
 
 -- ---- names and values
 
--- a name or a value is what its piece stands for
+-- a name or a value is the meaning of its piece
 term_meant : (v : Location) (piece : List ℕ) (text : QueryText) → BorrowsTerm (matches v.spelling v.path) piece text → text_bytes text ≡ term_of v piece
 term_meant v piece (Borrowed text) h = h.1 ∙ sym (meant_spaces (matches v.spelling v.path) piece h.0)
 term_meant v piece (Owned text) h = h.1
 
--- and is part of the path where it is lent
+-- and is part of the path if it is borrowed
 term_lent : (v : Location) (piece : List ℕ) (text : QueryText) → BorrowsTerm (matches v.spelling v.path) piece text → Holds (denoted_by (matches v.spelling v.path) piece) v.path → BorrowedTerm v piece text
 term_lent v piece (Borrowed text) h held = (h.0, subst (λ t. Holds t v.path) (sym h.1) held)
 term_lent v piece (Owned text) h held = h.0
 
--- names and values are what their fields stand for
+-- names and values are the meaning of their fields
 pairs_meant : (v : Location) (fields : List (List ℕ)) (pairs : List (QueryText × QueryText)) → BorrowsPairs (matches v.spelling v.path) fields pairs → PairsOf v fields (map pair_bytes pairs)
 pairs_meant v [] pairs h = ap (map pair_bytes) h
 pairs_meant v ([] ∷ fields) pairs h = pairs_meant v fields pairs h
@@ -142,7 +142,7 @@ pairs_meant v ((b ∷ bs) ∷ fields) pairs (pair, others, lends, rest, e) =
     let value = term_meant v lends.value pair.1 lends.value_lent in
     (lends.name, lends.value, map pair_bytes others, lends.split, pairs_meant v fields others rest, ap (map pair_bytes) e ∙ (λ i. (name i, value i) ∷ map pair_bytes others))
 
--- and are part of the path where they are lent
+-- and are part of the path if they are borrowed
 pairs_lent : (v : Location) (fields : List (List ℕ)) (pairs : List (QueryText × QueryText)) → BorrowsPairs (matches v.spelling v.path) fields pairs → AreHeld (matches v.spelling v.path) v.path fields → BorrowedPairs v fields pairs
 pairs_lent v [] pairs h held = h
 pairs_lent v ([] ∷ fields) pairs h held = pairs_lent v fields pairs h (All-tail (λ t. Holds (denoted_by (matches v.spelling v.path) t) v.path) [] fields held)
@@ -152,13 +152,13 @@ pairs_lent v ((b ∷ bs) ∷ fields) pairs (pair, others, lends, rest, e) held =
     let more = pairs_lent v fields others rest (All-tail (λ t. Holds (denoted_by syntax t) v.path) (b ∷ bs) fields held) in
     (lends.name, lends.value, pair, others, lends.split, term_lent v lends.name pair.0 lends.name_lent parts.0, term_lent v lends.value pair.1 lends.value_lent parts.1, more, e)
 
--- the names and values of a query are what it stands for
+-- the names and values of a query are its meaning
 query_meant : (v : Location) (text : Option (List ℕ)) (pairs : Option (List (QueryText × QueryText))) → BorrowsQuery (matches v.spelling v.path) text pairs → QueryOf v text (option_map (map pair_bytes) pairs)
 query_meant v None pairs h = ap (option_map (map pair_bytes)) h
 query_meant v (Some text) None h = absurd h
 query_meant v (Some text) (Some pairs) h = (h.field ∷ h.fields, map pair_bytes pairs, h.cut, pairs_meant v (h.field ∷ h.fields) pairs h.borrowed, refl)
 
--- so they are lent
+-- so they are borrowed
 query_handed : (v : Location) (front : List ℕ) (fragment text : Option (List ℕ)) (pairs : Option (List (QueryText × QueryText))) → CutsPath (original_path v) front text fragment → IfSome text (λ q. Holds (denoted_by (matches v.spelling v.path) q) v.path) → BorrowsQuery (matches v.spelling v.path) text pairs → BorrowedQuery v pairs
 query_handed v front fragment None pairs cut held h = subst (BorrowedQuery v) (sym h) tt
 query_handed v front fragment (Some text) None cut held h = absurd h
@@ -180,7 +180,7 @@ viewed : {A B C : Type 0} (f : A → B) (g : B → C) (o : Option A) → option_
 viewed f g None = refl
 viewed f g (Some x) = refl
 
--- what was returned are the components of a location of HTTP
+-- the returned components are those of a location of HTTP
 pub parts_meant : (v : Location) (parts : PathComponents) → BorrowsParts (matches v.spelling v.path) (original_path v) parts → WebComponents v (components parts)
 parts_meant v parts h = record {
   front = h.front;
@@ -192,13 +192,13 @@ parts_meant v parts h = record {
   fragment_meant = h.fragment_meant;
 }
 
--- what the pieces of a location's original path stand for is part of its path
+-- the meaning of the pieces of a location's original path is part of its path
 held_parts : (v : Location) (front : List ℕ) (query fragment : Option (List ℕ)) → denoted_by (matches v.spelling v.path) (original_path v) ≡ v.path → CutsPath (original_path v) front query fragment → HoldsPieces (matches v.spelling v.path) v.path front query fragment
 held_parts v front query fragment whole cut =
     let held = held_pieces (matches v.spelling v.path) (original_path v) front query fragment cut in
     subst (λ path. HoldsPieces (matches v.spelling v.path) path front query fragment) whole held
 
--- a path that stands for nothing is the root, and any other is part of what it was part of
+-- a path that denotes nothing is the root, and any other is part of the text that it was part of
 rooted : (t path b : List ℕ) → Holds t path → b ≡ or_root t → Holds b path ⊎ (b ≡ slash ∷ [])
 rooted [] path b held e = inr e
 rooted (c ∷ t) path b held e = inl (subst (λ x. Holds x path) (sym e) held)
@@ -207,11 +207,11 @@ rooted (c ∷ t) path b held e = inl (subst (λ x. Holds x path) (sym e) held)
 pub path_lent : (v : Location) (parts : PathComponents) → BorrowsParts (matches v.spelling v.path) (original_path v) parts → denoted_by (matches v.spelling v.path) (original_path v) ≡ v.path → Holds (bstr_bytes parts.path) v.path ⊎ (bstr_bytes parts.path ≡ slash ∷ [])
 path_lent v parts h whole = rooted (denoted_by (matches v.spelling v.path) h.front) v.path (bstr_bytes parts.path) (held_parts v h.front h.query h.fragment whole h.cut).front_held h.path_meant
 
--- the names and values of the query are lent
+-- the names and values of the query are borrowed
 pub query_lent : (v : Location) (parts : PathComponents) → BorrowsParts (matches v.spelling v.path) (original_path v) parts → denoted_by (matches v.spelling v.path) (original_path v) ≡ v.path → BorrowedQuery v (option_map (λ pairs. pairs.items) parts.query)
 query_lent v parts h whole = query_handed v h.front h.fragment h.query (option_map (λ pairs. pairs.items) parts.query) h.cut (held_parts v h.front h.query h.fragment whole h.cut).query_held h.query_lent
 
--- a fragment is part of what its text is part of
+-- a fragment is part of the text that its own text is part of
 fragment_in : (escaped : Bool) (path : List ℕ) (given : Option BStr) (fragment : Option (List ℕ)) → option_map bstr_bytes given ≡ option_map (denoted_by escaped) fragment → IfSome fragment (λ f. Holds (denoted_by escaped f) path) → IfSome given (λ f. Holds (bstr_bytes f) path)
 fragment_in escaped path None fragment e held = tt
 fragment_in escaped path (Some f) None e held = absurd (cc)
@@ -231,19 +231,19 @@ query_there v has components parts none =
     let wrong : Some has.query ≡ None = query ∙ absent in
     cc
 
--- what can't be refused is given
+-- a call that can't fail returns its value
 pub given : {A E : Type 0} (r : Result A E) → (IsErr r → ⊥) → IsOk r
 given (Ok x) h = refl
 given (Err e) h = absurd (h refl)
 
 -- ---- the original path
 
--- what the original path stands for is the path
+-- the meaning of the original path is the path
 pub whole_meant : (v : Location) (whole : EscapedText) → SpellsPath v whole → denoted_by (matches v.spelling v.path) (original_path v) ≡ v.path
 whole_meant v whole (text, denoted, syntax) =
     ap (λ b. denoted_by b (original_path v)) (sym syntax) ∙ ap (denoted_by whole.escaped) (sym text) ∙ sym whole.meaning ∙ denoted
 
--- what is lent of it is lent of the location's original path
+-- a text that is borrowed from it is borrowed from the location's original path
 pub lends_whole : (v : Location) (whole : EscapedText) (parts : PathComponents) → SpellsPath v whole → BorrowsParts whole.escaped whole.text.now parts → BorrowsParts (matches v.spelling v.path) (original_path v) parts
 lends_whole v whole parts (text, denoted, syntax) h =
     subst (λ b. BorrowsParts b (original_path v) parts) syntax (subst (λ t. BorrowsParts whole.escaped t parts) text h)

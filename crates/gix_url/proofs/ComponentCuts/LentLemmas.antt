@@ -1,4 +1,4 @@
--- Names and values that are lent: what was cut of a text stands for what the text stands for.
+-- Names and values that are borrowed: the pieces that were cut from a text denote the meaning of the text.
 use Rattle.std.proofs.Common.{◌≡◌, ◌∙◌, ◌+◌, ◌<◌, ℕ, Bool, true, false, ◌==◌, if◌then◌else◌, List, [], ◌∷◌, ◌++◌, Option, Some, None, length, take, drop, get_or, set, option_map, IfSome, All, filter, refl, sym, ap, subst, arith, append_assoc}
 use Rattle.std.specs.List.{slice_split, onto_first}
 use Rattle.std.proofs.lemmas.List.{append-nil, drop-drop, drop-set-lt, get_or-drop, map-append, take_more, take_more_set}
@@ -13,13 +13,13 @@ use Rattle.gix_url.specs.Internal.ComponentPieces.{CutsAround, CutsOff, BorrowsF
 use Rattle.git_syntax.proofs.Texts.CutLemmas.{free_head_tail, free_parts}
 use Rattle.gix_url.proofs.ComponentCuts.MeaningLemmas.{Parts, meant_around, meant_around_plus, meant_spaces}
 
--- ---- pieces and what they stand for
+-- ---- pieces and their meaning
 
--- what a piece stands for, by whether the escapes of the whole stand for their bytes
+-- the meaning of a piece, by whether the escapes of the whole denote their bytes
 pub meant_as : (piece : EscapedText) (escaped : Bool) → piece.escaped ≡ escaped → piece.denoted.now ≡ denoted_by escaped piece.text.now
 meant_as piece escaped e = piece.meaning ∙ ap (λ b. denoted_by b piece.text.now) e
 
--- the parts around a delimiter stand for what is around it in what the whole stands for
+-- the parts around a delimiter denote the texts around it in the meaning of the whole
 pub spelled_cut : (c : ℕ) (whole front behind : EscapedText) → Parts c → CutsAround c whole front behind → whole.denoted.now ≡ front.denoted.now ++ c ∷ behind.denoted.now
 spelled_cut c whole front behind parts cut =
     let first = meant_as front whole.escaped cut.front_escaped in
@@ -34,7 +34,7 @@ plus_parts = record { digit = refl; percent = refl }
 
 -- ---- spaces
 
--- what was made grows by the text before the next `+`, and a space
+-- the result grows by the text before the next `+`, and a space
 pub spaced_more : (escaped : Bool) (whole built rest front behind denoted new : List ℕ) → FreeOf plus_sign front → rest ≡ front ++ plus_sign ∷ behind → denoted ≡ denoted_by escaped front → whole ≡ built ++ denoted_by escaped (with_spaces rest) → new ≡ (built ++ denoted) ++ space ∷ [] → whole ≡ new ++ denoted_by escaped (with_spaces behind)
 spaced_more escaped whole built rest front behind denoted new free cut is before grown =
     let last = denoted_by escaped (with_spaces behind) in
@@ -45,7 +45,7 @@ spaced_more escaped whole built rest front behind denoted new free cut is before
     ∙ sym (append_assoc (built ++ denoted) (space ∷ []) last)
     ∙ ap (λ t. t ++ last) (sym grown)
 
--- and is whole with the text behind the last
+-- and is whole with the text after the last
 pub spaced_whole : (escaped : Bool) (whole built rest denoted : List ℕ) → FreeOf plus_sign rest → denoted ≡ denoted_by escaped rest → whole ≡ built ++ denoted_by escaped (with_spaces rest) → built ++ denoted ≡ whole
 spaced_whole escaped whole built rest denoted free is before =
     ap (λ t. built ++ t) (is ∙ sym (meant_spaces escaped rest free)) ∙ sym before
@@ -61,7 +61,7 @@ spaced_next text items i y inside size built left is =
     ∙ sym (map-append (λ b. if b == plus_sign then space else b) (take i text) (get_or text i 0 ∷ []))
     ∙ sym (ap with_spaces (take_more text i 0 (omega (arith, inside, size))))
 
--- and those behind it stay
+-- and those after it stay
 pub left_next : (text items : List ℕ) (i y : ℕ) → drop i items ≡ drop i text → drop (i + 1) (set items i y) ≡ drop (i + 1) text
 left_next text items i y left =
     drop-set-lt (i + 1) items i y (omega arith)
@@ -69,7 +69,7 @@ left_next text items i y left =
     ∙ ap (drop 1) left
     ∙ drop-drop 1 i text
 
--- the text behind a delimiter in a text without `+` has none
+-- the text after a delimiter in a text without `+` has none
 pub behind_free : (text front behind : List ℕ) → text ≡ front ++ ampersand ∷ behind → FreeOf plus_sign text → FreeOf plus_sign behind
 behind_free text front behind cut free =
     (free_head_tail plus_sign ampersand behind (free_parts plus_sign front (ampersand ∷ behind) (subst (FreeOf plus_sign) cut free)).1).1
@@ -128,7 +128,7 @@ field_count_begun text =
     let fields = begun text in
     fields.whole ∙ ap (λ parts. length (filter is_field parts)) (sym fields.split)
 
--- those that begin in a text begin in a front of it or in the rest behind that
+-- those that begin in a text begin in a front of it or in the rest after that
 pub begun_joined : (before : Bool) (front behind : List ℕ) → begun_in before (front ++ behind) ≡ begun_in before front + begun_in (ends_in before front) behind
 begun_joined before [] behind = omega arith
 begun_joined before (b ∷ bs) behind =
@@ -137,7 +137,7 @@ begun_joined before (b ∷ bs) behind =
 
 -- ---- names and values of the fields
 
--- names and values of the rest, behind those that a first field adds
+-- names and values of the rest, after those that a first field adds
 pub record Adds (escaped : Bool) (text : List ℕ) (old new : List (QueryText × QueryText)) : Type 0 where
   pub whole : List (QueryText × QueryText)
   pub borrowed : BorrowsFields escaped text whole
@@ -172,7 +172,7 @@ adds_field escaped text (b ∷ bs) behind old new more free cut (pair, lends, gr
   behind = ap (λ t. t ++ more) grown ∙ append_assoc old (pair ∷ []) more;
 }
 
--- what a field adds whose escapes stand for themselves
+-- the pair that a field adds whose escapes denote themselves
 pub adds_raw : (piece : EscapedText) (field : List ℕ) (old new : List (QueryText × QueryText)) → piece.text.now ≡ field → piece.escaped ≡ false → AddsPair piece.escaped piece.text.now old new → AddsPair false field old new
 adds_raw piece field old new text syntax adds =
     subst (λ t. AddsPair false t old new) text (subst (λ b. AddsPair b piece.text.now old new) syntax adds)
@@ -197,7 +197,7 @@ adds_last escaped (b ∷ bs) old new free (pair, lends, grown) = record {
 
 -- ---- the path, the query and the fragment
 
--- the part before the first c, the part behind it, and that both are escaped as the whole is
+-- the part before the first c, the part after it, and that both are escaped as the whole is
 record CutsPiece (c : ℕ) (whole front : EscapedText) (behind : Option EscapedText) : Type 0 where
   text : CutsText c whole.text.now front.text.now (option_map (λ p. p.text.now) behind)
   front_escaped : front.escaped ≡ whole.escaped
@@ -212,7 +212,7 @@ escaped_on : (piece : Option EscapedText) (part whole : Bool) → part ≡ whole
 escaped_on None part whole same syntax = tt
 escaped_on (Some piece) part whole same syntax = syntax ∙ same
 
--- what was cut off a text at `#`, and off its front at `?`
+-- the texts cut off a text at `#`, and off its front at `?`
 pub record CutsTwice (whole front : EscapedText) (query fragment : Option EscapedText) : Type 0 where
   pub cut : CutsPath whole.text.now front.text.now (option_map (λ p. p.text.now) query) (option_map (λ p. p.text.now) fragment)
   pub front_escaped : front.escaped ≡ whole.escaped
@@ -230,9 +230,9 @@ cuts_twice whole front path query fragment h k =
       fragment_escaped = first.behind_escaped;
     }
 
--- ---- what was returned
+-- ---- the returned components
 
--- the meaning of a fragment, by whether the escapes of the whole stand for their bytes
+-- the meaning of a fragment, by whether the escapes of the whole denote their bytes
 pub fragment_meant : (escaped : Bool) (fragment : Option EscapedText) → IfSome fragment (λ p. p.escaped ≡ escaped) → option_map (λ p. p.denoted.now) fragment ≡ option_map (denoted_by escaped) (option_map (λ p. p.text.now) fragment)
 fragment_meant escaped None same = refl
 fragment_meant escaped (Some piece) same = ap Some (meant_as piece escaped same)

@@ -1,4 +1,4 @@
--- Pieces of a text around a delimiter stand for the pieces of what the text stands for.
+-- Pieces of a text around a delimiter denote the pieces of the meaning of the text.
 use Rattle.std.proofs.Common.{◌≡◌, ◌∙◌, ◌≤◌, ◌<◌, ◌+◌, ◌*◌, ℕ, Bool, true, false, ◌==◌, List, [], ◌∷◌, ◌++◌, length, take, drop, refl, sym, ap, ⊎_elim, arith, append_assoc, eq-eqb, if◌then◌else◌}
 use Rattle.std.specs.Char.{is_digit, digit_value}
 use Rattle.std.proofs.lemmas.Bool.{cases_Bool, and_parts, false_from_ne_true, both_ways}
@@ -56,7 +56,7 @@ decoded_other b bs other =
     let one = ap length (percent_decode_not_percent b bs other) in
     omega (arith, one)
 
--- or one without two digits behind it
+-- or one without two digits after it
 pub decoded_broken : (b : ℕ) (bs : List ℕ) → begins_with_digits bs ≡ false → length (percent_decode (b ∷ bs)) ≡ length (percent_decode bs) + 1
 decoded_broken b bs broken =
     let one = ap length (decode_broken b bs broken) in
@@ -76,32 +76,32 @@ pub decoded_none : (bs : List ℕ) → length bs < 1 → length (percent_decode 
 decoded_none [] short = ap length percent_decode-nil
 decoded_none (b ∷ bs) short = absurd (omega (arith, short))
 
--- ---- what pieces stand for
+-- ---- the meaning of pieces
 
--- the empty text stands for itself
+-- the empty text denotes itself
 pub denoted-nil : (escaped : Bool) → denoted_by escaped [] ≡ []
 denoted-nil true = percent_decode-nil
 denoted-nil false = refl
 
--- the texts around a delimiter stand for what is around it in what the whole stands for
+-- the texts around a delimiter denote the texts around it in the meaning of the whole
 pub meant_around : (escaped : Bool) (xs ys : List ℕ) (c : ℕ) → Parts c → denoted_by escaped (xs ++ c ∷ ys) ≡ denoted_by escaped xs ++ c ∷ denoted_by escaped ys
 meant_around true xs ys c parts = decode_around xs ys c parts
 meant_around false xs ys c parts = refl
 
--- so the front is as long a front of what the whole stands for
+-- so the front is as long a front of the meaning of the whole
 pub meant_front : (escaped : Bool) (whole denoted xs ys : List ℕ) (c at : ℕ) → Parts c → denoted ≡ denoted_by escaped whole → whole ≡ xs ++ c ∷ ys → at ≡ length (denoted_by escaped xs) → take at denoted ≡ denoted_by escaped xs
 meant_front escaped whole denoted xs ys c at parts e cut size =
     let split = e ∙ ap (denoted_by escaped) cut ∙ meant_around escaped xs ys c parts in
     ap (take at) split ∙ take_at (denoted_by escaped xs) (c ∷ denoted_by escaped ys) at (sym size)
 
--- the text behind the delimiter
+-- the text after the delimiter
 pub meant_behind : (escaped : Bool) (whole denoted xs ys : List ℕ) (c at : ℕ) → Parts c → denoted ≡ denoted_by escaped whole → whole ≡ xs ++ c ∷ ys → at ≡ length (denoted_by escaped xs) → drop (at + 1) denoted ≡ denoted_by escaped ys
 meant_behind escaped whole denoted xs ys c at parts e cut size =
     let front = denoted_by escaped xs in
     let split = e ∙ ap (denoted_by escaped) cut ∙ meant_around escaped xs ys c parts ∙ sym (append_assoc front (c ∷ []) (denoted_by escaped ys)) in
     ap (drop (at + 1)) split ∙ drop_at (front ++ c ∷ []) (denoted_by escaped ys) (at + 1) (omega (arith, size, length-append front (c ∷ [])))
 
--- the cut is in what the whole stands for
+-- the cut is in the meaning of the whole
 pub meant_within : (escaped : Bool) (whole denoted xs ys : List ℕ) (c at : ℕ) → Parts c → denoted ≡ denoted_by escaped whole → whole ≡ xs ++ c ∷ ys → at ≡ length (denoted_by escaped xs) → at + 1 ≤ length denoted
 meant_within escaped whole denoted xs ys c at parts e cut size =
     let split = e ∙ ap (denoted_by escaped) cut ∙ meant_around escaped xs ys c parts in
@@ -109,13 +109,13 @@ meant_within escaped whole denoted xs ys c at parts e cut size =
 
 -- ---- spaces
 
--- with each `+` a space, the texts around the first `+` stand for what is around that space
+-- with each `+` a space, the texts around the first `+` denote the texts around that space
 pub meant_around_plus : (escaped : Bool) (xs ys : List ℕ) → FreeOf plus_sign xs → denoted_by escaped (with_spaces (xs ++ plus_sign ∷ ys)) ≡ denoted_by escaped xs ++ space ∷ denoted_by escaped (with_spaces ys)
 meant_around_plus escaped xs ys free =
     let parts : Parts space = record { digit = refl; percent = refl } in
     ap (denoted_by escaped) (map-append (λ b. if b == plus_sign then space else b) xs (plus_sign ∷ ys) ∙ ap (λ t. t ++ space ∷ with_spaces ys) (spaces_free xs free))
     ∙ meant_around escaped xs (with_spaces ys) space parts
 
--- a text without `+` stands for the same
+-- a text without `+` denotes the same
 pub meant_spaces : (escaped : Bool) (xs : List ℕ) → FreeOf plus_sign xs → denoted_by escaped (with_spaces xs) ≡ denoted_by escaped xs
 meant_spaces escaped xs free = ap (denoted_by escaped) (spaces_free xs free)

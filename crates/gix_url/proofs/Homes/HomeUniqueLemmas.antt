@@ -11,11 +11,11 @@ use Rattle.gix_url.proofs.Homes.PathUniqueLemmas.{parent_unique, some_parent, jo
 
 -- ---- splits
 
--- what a split is: a user and the rest
+-- the form of a split: a user and the rest
 abbrev pub Split : Type 0
 Split = Option HomeUser × List ℕ
 
--- a path that ends with a name has no `/` behind it
+-- a path that ends with a name has no `/` after it
 name_alone : {A : Type 0} (path name other below : List ℕ) → FreeOf slash name → path ≡ slash ∷ (tilde ∷ name) → path ≡ slash ∷ (tilde ∷ (other ++ slash ∷ below)) → A
 name_alone path name other below h e f = absurd (not_free slash other below (subst (FreeOf slash) (tails (tails (sym e ∙ f))) h))
 

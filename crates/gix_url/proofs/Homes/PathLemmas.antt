@@ -19,7 +19,7 @@ use Rattle.git_syntax.proofs.Texts.CutLemmas.{lacks_after, free_begins, last_cut
 free_of_char : (c : ℕ) (bs : List ℕ) → c < 128 → NoCharPasses (λ d. d == c) bs → FreeOf c bs
 free_of_char c bs small h = lacks_after (λ b. b == c) bs 0 (λ k l m e. NoCharPasses-char c bs k h small m (eqb-true _ _ e))
 
--- a text is the text before a character of one byte, that byte, and the text behind it
+-- a text is the text before a character of one byte, that byte, and the text after it
 char_cut : (c : ℕ) (bs : List ℕ) (i j : ℕ) → c < 128 → HasCharAt c bs i j → bs ≡ take i bs ++ c ∷ drop j bs
 char_cut c bs i j small h = sym (take-append-drop i bs) ∙ ap (λ r. take i bs ++ r) (drop_at_char c bs i j h small)
 
@@ -45,13 +45,13 @@ idle_more segment text h (segments, k, e) = (segment ∷ segments, or_from (coun
 
 -- ---- the last piece
 
--- behind the last piece a segment that doesn't count is idle
+-- after the last piece a segment that doesn't count is idle
 pub tail_more : (text front before segment : List ℕ) → front ≡ before ++ slash ∷ segment → counts segment ≡ false
     → (tail : List ℕ) × IsIdle tail × (text ≡ front ++ tail) → (tail : List ℕ) × IsIdle tail × (text ≡ before ++ tail)
 tail_more text front before segment e h (tail, idle, whole) =
     (slash ∷ (segment ++ tail), idle_more segment tail h idle, whole ∙ ap (λ t. t ++ tail) e ∙ append_assoc before (slash ∷ segment) tail)
 
--- what ends in a piece and holds a `/` ends in a piece behind a `/`
+-- a text that ends in a piece and holds a `/` ends in a piece after a `/`
 pub piece_behind : (text above last : List ℕ) → FreeOf slash last → text ≡ above ++ slash ∷ last → EndsInPiece text ⊎ (text ≡ []) → IsPiece last
 piece_behind text above last free e (inl (EndsInPiece.last_piece front piece h f)) =
     subst IsPiece (last_cut_unique slash front above piece last h.0 free (sym f ∙ e)).1 h
@@ -83,7 +83,7 @@ last_byte [] some = absurd (omega arith)
 last_byte (b ∷ []) some = ([], b, refl)
 last_byte (b ∷ c ∷ bs) some = let (front, last, e) = last_byte (c ∷ bs) (omega arith) in (b ∷ front, last, ap (λ t. b ∷ t) e)
 
--- one that doesn't end in `/` is with a `/` behind it
+-- one that doesn't end in `/` is with a `/` after it
 pub opens_name : (folder : List ℕ) → 0 < length folder → ((front : List ℕ) → ¬ (folder ≡ front ++ slash ∷ [])) → Opens folder (folder ++ slash ∷ [])
 opens_name folder some no_slash =
     let (front, last, e) = last_byte folder some in
@@ -91,27 +91,27 @@ opens_name folder some no_slash =
 
 -- ---- pieces, one after another
 
--- what a reader of segments has still to read: the `/` that it passed, and what follows
+-- the text that a reader of segments has still to read: the `/` that it skipped, and the rest
 abbrev pub unread : Option (Bor (List ℕ)) → List ℕ
 unread None = []
 unread (Some behind) = slash ∷ behind.now
 
--- what comes before the next piece: a `/`, but not before the first
+-- the text before the next piece: a `/`, but not before the first
 abbrev pub separator_of : List (List ℕ) → List ℕ
 separator_of [] = []
 separator_of (piece ∷ others) = slash ∷ []
 
--- a segment and the text behind it
+-- a segment and the text after it
 pub segment_cut : (text : List ℕ) (segment : Bor (List ℕ)) (behind : Option (Bor (List ℕ))) → CutsSegment text segment behind → text ≡ segment.now ++ unread behind
 segment_cut text segment None h = h.1 ∙ sym (append-nil segment.now)
 segment_cut text segment (Some more) h = h.1
 
--- where nothing is passed, nothing is left
+-- if nothing is passed, nothing is left
 pub unread_none : (left : Option (Bor (List ℕ))) → ((behind : Bor (List ℕ)) → left ≡ Some behind → ⊥) → unread left ≡ []
 unread_none None h = refl
 unread_none (Some behind) h = absurd (h behind refl)
 
--- the rest behind a segment is shorter than what was left with the `/` before it
+-- the rest after a segment is shorter than the rest with the `/` before it
 pub shorter : (left : Option (Bor (List ℕ))) (text : Bor (List ℕ)) (segment : Bor (List ℕ)) (behind : Option (Bor (List ℕ))) → left ≡ Some text → CutsSegment text.now segment behind → length (unread behind) < length (unread left)
 shorter left text segment behind e h = rw (e, segment_cut text.now segment behind h) (omega (arith, length-append segment.now (unread behind)))
 
@@ -128,12 +128,12 @@ joined_more (x ∷ []) piece = refl
 joined_more (x ∷ y ∷ ys) piece =
     append_assoc x (slash ∷ join_with_byte slash (y ∷ ys)) (slash ∷ piece) ∙ ap (λ t. x ++ slash ∷ t) (joined_more (y ∷ ys) piece)
 
--- behind a piece comes a `/`
+-- after a piece comes a `/`
 separator_more : (done : List (List ℕ)) (piece : List ℕ) → separator_of (done ++ piece ∷ []) ≡ slash ∷ []
 separator_more [] piece = refl
 separator_more (x ∷ xs) piece = refl
 
--- the pieces of the start that were read are joined behind the old
+-- the pieces of the start that were read are joined after the old
 -- text; with those of the rest they are its pieces
 pub record Gathers (old out separator start left : List ℕ) : Type 0 where
   pub done : List (List ℕ)
@@ -178,7 +178,7 @@ joined_begins (piece ∷ []) text (gap, rest, idle, is, more, e) = free_begins s
 joined_begins ([] ∷ other ∷ others) text (gap, rest, idle, is, more, e) = absurd (false≢true is.1)
 joined_begins ((b ∷ bs) ∷ other ∷ others) text (gap, rest, idle, is, more, e) = free_begins slash (b ∷ bs) is.0
 
--- a folder made ready, and the path without its first component behind it
+-- a folder made ready, and the path without its first component after it
 pub lies_below : (folder ready path whole : List ℕ) → Opens folder ready → (rest : List ℕ) × WithoutFirst path rest × (whole ≡ ready ++ rest) → LiesBelow folder path whole
 lies_below folder ready path whole o (rest, (first, pieces, h, e), f) =
     (rest, (first, pieces, h, e), Joins.within (ap (begins_with slash) e ∙ joined_begins pieces h.behind h.each) ready o f)

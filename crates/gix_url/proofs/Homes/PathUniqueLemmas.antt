@@ -1,4 +1,4 @@
--- A text has one first segment and one list of pieces behind it, one parent, and one place below a folder.
+-- A text has one first segment and one list of pieces after it, one parent, and one place below a folder.
 use Rattle.std.proofs.Common.{◌≡◌, ℕ, ◌<◌, true, false, ◌==◌, ◌⊎◌, inl, inr, List, [], ◌∷◌, ◌++◌, length, filter, if◌then◌else◌, Option, Some, None, refl, sym, ap, subst, ◌∙◌, arith, append_assoc, append-nil}
 use Rattle.std.specs.List.{list_any, join_with_byte}
 use Rattle.std.proofs.lemmas.Bool.{both_ways, cases_Bool, eqb-true, eq-eqb, false≢true, not-false, or_from, or_parts}
@@ -19,7 +19,7 @@ abbrev pub FreeEach : List (List ℕ) → Type 0
 FreeEach [] = Unit {0}
 FreeEach (segment ∷ segments) = FreeOf slash segment × FreeEach segments
 
--- the text is these segments, each behind a `/`
+-- the text is these segments, each after a `/`
 pub record Segments (segments : List (List ℕ)) (text : List ℕ) : Type 0 where
   pub each : FreeEach segments
   pub whole : text ≡ behind_slashes segments
@@ -41,7 +41,7 @@ starts : (segments : List (List ℕ)) → (behind_slashes segments ≡ []) ⊎ (
 starts [] = inl refl
 starts (segment ∷ segments) = inr refl
 
--- a first segment and those behind it
+-- a first segment and those after it
 pub first_unique : (a b : List ℕ) (xs ys : List (List ℕ)) → FreeOf slash a → FreeOf slash b → a ++ behind_slashes xs ≡ b ++ behind_slashes ys → (a ≡ b) × (behind_slashes xs ≡ behind_slashes ys)
 first_unique a b xs ys h k e = class_cut_unique (λ c. c == slash) a b (behind_slashes xs) (behind_slashes ys) h k (starts xs) (starts ys) e
 
@@ -55,7 +55,7 @@ segments_unique (x ∷ xs) (y ∷ ys) (h, hs) (k, ks) e =
     let rest = segments_unique xs ys hs ks cut.1 in
     λ i. cut.0 i ∷ rest i
 
--- every text is a first segment and segments behind it
+-- every text is a first segment and segments after it
 pub segmented : (text : List ℕ) → (first : List ℕ) × (segments : List (List ℕ)) × FreeOf slash first × FreeEach segments × (text ≡ first ++ behind_slashes segments)
 segmented [] = ([], [], refl, tt, refl)
 segmented (b ∷ bs) =
@@ -79,7 +79,7 @@ idle_each (segment ∷ segments) h =
     let parts = or_parts (counts segment) (list_any counts segments) h in
     (idle_free segment parts.0, idle_each segments parts.1)
 
--- what is idle holds no piece
+-- idle bytes hold no piece
 idle_pieces : (segments : List (List ℕ)) → list_any counts segments ≡ false → filter counts segments ≡ []
 idle_pieces [] h = refl
 idle_pieces (segment ∷ segments) h =
@@ -98,7 +98,7 @@ pieces_segments (piece ∷ others) text (gap, rest, (gaps, h, e), is, more, whol
       filter-append counts gaps (piece ∷ segments) ∙ rw (idle_pieces gaps h, is.1) (ap (λ t. piece ∷ t) found),
     )
 
--- a text has one first segment, and one list of pieces behind it
+-- a text has one first segment, and one list of pieces after it
 pub has_pieces_unique : (text first other : List ℕ) (pieces others : List (List ℕ)) → HasPieces text first pieces → HasPieces text other others → (first ≡ other) × (pieces ≡ others)
 has_pieces_unique text first other pieces others h k =
     let (xs, hx, fx) = pieces_segments pieces h.behind h.each in
@@ -165,7 +165,7 @@ some_last (segment ∷ segments) = elim (some_last segments) [
 
 -- ---- parents
 
--- what lies above the last piece, from what is the last piece in front of it
+-- the text above the last piece, from the last piece in front of it
 upper : List ℕ → Option (List (List ℕ) × List ℕ) → List ℕ
 upper first None = or_root first
 upper first (Some (front, piece)) = first ++ behind_slashes (front ++ piece ∷ [])
@@ -193,7 +193,7 @@ in_parts first xs gaps tails piece gap tail e f =
     ∙ (ap (λ t. t ++ behind_slashes (piece ∷ tails)) (flat_map-append (λ segment. slash ∷ segment) xs gaps)
     ∙ append_assoc (behind_slashes xs) (behind_slashes gaps) (behind_slashes (piece ∷ tails))))))
 
--- behind another piece
+-- after another piece
 shows_behind : (text front gap piece tail : List ℕ) → EndsInPiece front → IsIdle gap → IsPiece piece → IsIdle tail → text ≡ front ++ (gap ++ (slash ∷ (piece ++ tail))) → ShowsParent text (Some front)
 unfolding above upper
 shows_behind text front gap piece tail (EndsInPiece.last_piece before q isq ef) (gaps, g, eg) is (tails, t, et) e =
@@ -267,7 +267,7 @@ parent_of_idle : (text first : List ℕ) (idle : List (List ℕ)) → FreeOf sla
 parent_of_idle text [] idle h k e = (None, IsParent.above_none (idle, k, e) refl)
 parent_of_idle text (b ∷ bs) idle h k e = (Some [], IsParent.above_first (b ∷ bs) (behind_slashes idle) h (omega arith) (idle, k, refl) e refl)
 
--- a lone piece behind a first segment, or in the root
+-- a lone piece after a first segment, or in the root
 parent_of_lone : (text first : List ℕ) (gaps : List (List ℕ)) (piece : List ℕ) (idle : List (List ℕ)) → FreeOf slash first → list_any counts gaps ≡ false → IsPiece piece → list_any counts idle ≡ false
     → text ≡ first ++ (behind_slashes gaps ++ (slash ∷ (piece ++ behind_slashes idle))) → (parent : Option (List ℕ)) × IsParent text parent
 parent_of_lone text [] gaps piece idle h g p k e = (Some (slash ∷ []), IsParent.in_root (behind_slashes gaps) piece (behind_slashes idle) (gaps, g, refl) p (idle, k, refl) e refl)

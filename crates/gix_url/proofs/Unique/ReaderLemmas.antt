@@ -28,7 +28,7 @@ one_answer b (Err e) found (inr none) v spelled = absurd (none v spelled)
 pub reads_by : (b t : List ℕ) (r : Result Location Error) → b ≡ t → IfOk r (Spells b) → IfErr r (Refuses b) → IfErr r (Flaw b) → (b ≡ [] → r ≡ Err error.EmptyLocal) → Reads t r
 reads_by b t r same found refused flaw empty = subst (λ s. Reads s r) same record { found = found; refused = refused; flaw = flaw; empty = empty; answered = one_answer b r found refused }
 
--- an error of the one says that memory ran out, where the bytes spell a location
+-- an error of the one says that memory ran out, if the bytes spell a location
 memory_alone : (b : List ℕ) (e : Error) (v : Location) → Refuses b e → Spells b v → e ≡ error.Memory
 memory_alone b e v (inl memory) spelled = memory
 memory_alone b e v (inr none) spelled = absurd (none v spelled)
@@ -43,11 +43,11 @@ readers_agree b buffer_len (Err e) (Err unread.NoRoom) owned borrowed =
     let (some, short) = borrowed.refused in (memory_alone b e some.0 owned.refused some.1, short)
 readers_agree b buffer_len (Err e) (Err (unread.Refused refusal)) owned borrowed = tt
 
--- what the one answers, unless memory ran out, is what is spelled
+-- the location that the one returns, unless memory ran out, is the one that is spelled
 answer_owned : (b : List ℕ) (r : Result Location Error) → Reads b r → ¬ (r ≡ Err error.Memory) → (v : Location) → Spells b v → r ≡ Ok v
 answer_owned b r reads ample v spelled = elim (reads.answered v spelled) [ inl is ↦ is | inr memory ↦ absurd (ample memory) ]
 
--- and with room for as many bytes they answer the same locations
+-- and with a buffer as long as the bytes they return the same locations
 pub same_with_room : SameWithBuffer
 same_with_room b buffer_len owned borrowed enough reads reads_in ample v = (
   λ is. (reads_in.exact enough v).1 (answer_spelled b owned reads.found v is),

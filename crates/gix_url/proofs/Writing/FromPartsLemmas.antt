@@ -61,7 +61,7 @@ invalid_made v r e is (name, invalid, reported) = record {
   settled = λ h. absurd (invalid_unsettled v name invalid h);
 }
 
--- ---- what is read without a spelling
+-- ---- reading without a spelling
 
 -- the kinds that are never read with a spelling: by scheme and alternative-form flag
 is_bare_kind : Scheme → Bool → Bool
@@ -132,21 +132,22 @@ read_bare (helper_url name) v w t e bare a b is h same written spelled =
     readable_bare v w v.host t (other_readable name v v.host e refl is h) (written_other v name e h.scheme_text) h.url.common (none_retained v (helper_url name) e refl bare (raw_alone v bare h.url.raw)) written spelled
 read_bare _ v w t e bare a b is h same written spelled = spelled_bare t w spelled (ap (λ q. is_bare_kind q w.flag) (ap (λ l. l.scheme) same ∙ e))
 
--- ---- what was read
+-- ---- the location that was read
 
--- a path that is the given one is kept
+-- a path that is the argument's is kept
 given_same : (path : List ℕ) → given_or path path ≡ path
 given_same [] = refl
 given_same (b ∷ bs) = refl
 
--- what comes back of parts without a spelling is them, with the given path in place
+-- the location that is read of parts without a spelling is that of the parts, with the argument's path in
+-- place
 with_given_back : (v w : Location) → v.spelling ≡ None → fields w ≡ fields v → with_kept_path v.path w ≡ v
 with_given_back v w bare same =
     let path : v.path ≡ w.path = sym (ap (λ l. l.path) same) in
     let kept : given_or v.path w.path ≡ w.path = ap (λ p. given_or p w.path) path ∙ given_same w.path in
     ap (λ p. record w { path = p; spelling = None }) kept ∙ same ∙ ap (λ s. record v { spelling = s }) (sym bare)
 
--- and so it is where it has no spelling either
+-- and so it is if it has no spelling either
 bare_back : (v w : Location) → v.spelling ≡ None → w.spelling ≡ None → fields w ≡ fields v → w ≡ v
 bare_back v w bare none same = ap (λ s. record w { spelling = s }) none ∙ same ∙ ap (λ s. record v { spelling = s }) (sym bare)
 
@@ -163,7 +164,7 @@ parts_back v w bare is h again read =
     keeping_back v.scheme v w bare again.same_fields
     (λ a b. read_bare v.scheme v w back.written refl bare a b is h again.same_fields back.has_text (read back.written back.has_text).found)
 
--- what was read, with the path that is kept, is the answer
+-- the location that was read, with the path that is kept, is the result
 pub read_made : (v w built : Location) → v.spelling ≡ None → IsValue v → invalid_name v.scheme ≡ None → built ≡ keeping v.scheme v.path w
     → ((t : List ℕ) → text v ≡ Ok t → Reads t (Ok w)) → ((f : WriteFault) → text v ≡ Err f → (let answered : Result Location Error = Ok w in answered ≡ Err (error.Unwritable f))) → (IsSettled v → IsAgain v w)
     → BuiltFrom v (Ok built)
@@ -174,7 +175,7 @@ read_made v w built bare is valid kept read fault settled = record {
   settled = λ h. kept ∙ parts_back v w bare is h (settled h) read;
 }
 
--- what the text was refused with is the answer
+-- the refusal of the text is the result
 pub refused_made : (v : Location) (r : Result Location Error) (e : Error) → r ≡ Err e → invalid_name v.scheme ≡ None
     → ((t : List ℕ) → text v ≡ Ok t → Reads t (Err e)) → ((f : WriteFault) → text v ≡ Err f → (let answered : Result Location Error = Err e in answered ≡ Err (error.Unwritable f))) → (IsSettled v → e ≡ error.Memory)
     → BuiltFrom v r

@@ -1,7 +1,7 @@
 //! Equality and copies of components, whose names and values are compared by their bytes.
 //!
-//! A copy borrows what the original borrows. Equality allocates nothing; a copy allocates once for the list of
-//! a query and once for each owned name or value.
+//! A copy borrows from the same texts as the original. Equality allocates nothing; a copy allocates once for
+//! the list of a query and once for each owned name or value.
 
 ghost use Rattle.std.specs.Prelude.{◌≡◌, ◌+◌, ◌<◌, ◌≤◌, ◌↔◌, ◌++◌, [], ◌∷◌, IfErr, IfOk, IsOk, IsTrue, bytes_eq, length, map, option_map, true};
 ghost use Rattle.std.specs.Cmp.{on_equiv, on_per, partial_equiv_from_equiv};

@@ -1,7 +1,7 @@
 //! Equality of bytes, a word at a time.
 //!
-//! The result is that of `==`, which takes a call and a search in groups of 32. That is slower than comparing
-//! locations should be: most of their hosts and paths have 8 to 32 bytes.
+//! The result is that of `==`, which takes a call and a search in groups of 32. That is slow for the hosts
+//! and paths of locations, most of which have 8 to 32 bytes.
 
 ghost use Rattle.std.specs.Prelude.{◌≡◌, ◌≤◌, ◌-◌, bytes_eq, drop, length, take};
 ghost use Rattle.std.specs.Int.{from_le_bytes, to_le_bytes, w64};

@@ -1,4 +1,4 @@
-//! Makes the owned location that found slices mean. Allocates once for each field.
+//! Builds the owned location that found slices denote. Allocates once for each field.
 
 ghost use Rattle.std.specs.Prelude.{◌≡◌, IfOk, IfSome, IsUtf8, option_map, string_bytes};
 ghost use Rattle.std.specs.Option.{option_copied};
@@ -23,7 +23,7 @@ use git_syntax::simple::SimplePieces;
 use git_syntax::text::into_text;
 use std::alloc::{AllocError, Global};
 
-/// The location that found slices mean.
+/// The location that found slices denote.
 pub(super) fn build(alloc: Global, found: Found<'_>) -> Result<Url, AllocError>
     requires { IsReady found }
     ensures { IfOk result (λ v. v ≡ denoted found.entry) }

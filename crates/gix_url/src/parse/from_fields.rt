@@ -1,4 +1,4 @@
-//! Makes a [`Url`] of its fields. All other modules of `parse` do so by these functions.
+//! Builds a [`Url`] from its fields. All other modules of `parse` call these functions for that.
 
 ghost use Rattle.std.specs.Prelude.{◌≡◌, option_map, string_bytes};
 ghost use Rattle.bstr.specs.Owned.{bstring_bytes};

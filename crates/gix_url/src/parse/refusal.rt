@@ -1,4 +1,4 @@
-//! Makes the error of a refusal, with a copy of the text. Allocates once, for the copy; if that fails, the
+//! Builds the error of a refusal, with a copy of the text. Allocates once, for the copy; if that fails, the
 //! error is `Memory`.
 
 ghost use Rattle.std.specs.Prelude.{◌≡◌, ◌+◌, ◌≤◌, IfOk, Ok, length};

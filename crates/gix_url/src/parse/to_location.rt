@@ -1,4 +1,4 @@
-//! Makes the location that the fields of a URL denote. Each field is decoded once, into an owned text, and
+//! Builds the location that the fields of a URL denote. Each field is decoded once, into an owned text, and
 //! edited in place.
 
 ghost use Rattle.std.specs.Prelude.{◌≡◌, ◌<◌, ◌↔◌, List, ℕ, IsTrue, IfOk, IfSome, IsUtf8, true, length, option_map, string_bytes};

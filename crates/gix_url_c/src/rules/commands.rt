@@ -38,7 +38,7 @@ pub struct RequestBytes<'a> {
     pub family: u8,
 }
 
-/// What is reported about a command, apart from its words.
+/// The report about a command, apart from its words.
 #[repr(C)]
 #[derive(Clone, Copy)]
 pub struct WordNumbers {

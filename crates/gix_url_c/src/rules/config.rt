@@ -31,7 +31,7 @@ pub struct EntrySizes {
 enum Unlisted {
     /// Memory was refused.
     Memory,
-    /// The text is no listing.
+    /// The text isn't a listing.
     Flawed(EntryError),
 }
 
@@ -78,7 +78,7 @@ pub extern "C" fn gix_url_c_read_listing(
     }
 }
 
-/// Does for the text of a configuration file what [`gix_url_c_read_listing`] does for a listing:
+/// Reads the text of a configuration file as [`gix_url_c_read_listing`] reads a listing:
 /// [`git_modules::config_file::entries`].
 ///
 /// Returns 0; 1 if memory is refused; 102 if the parts or the numbers don't fit; 106 if the text is not a
@@ -212,7 +212,7 @@ fn put_written(
     }
 }
 
-/// What is reported about a place that is not an entry.
+/// The report about a place that is not an entry.
 fn flaw_stop(flaw: EntryError) -> Stop
     ensures { result ≡ flaw_stop flaw }
 {

@@ -1,5 +1,5 @@
-//! The export for what Git's credential code takes from a configuration for a URL. With 102 only the numbers are
-//! reported.
+//! The export for the settings of Git's credential code in a configuration, for a URL. With 102 only the
+//! numbers are reported.
 
 ghost use Rattle.std.specs.Prelude.{◌≡◌, ◌⊎◌};
 ghost use Rattle.git_reads.specs.Views.{credential_reading};
@@ -19,11 +19,11 @@ use git_rules::credentials::{Credentials, CredentialsError, credentials_for};
 use gix_url::credential::{Buffers, Request, reading};
 use std::alloc::Global;
 
-/// What is reported about credentials: numbers, and the length of the user. The caller's buffer has the user.
+/// The report about credentials: numbers, and the length of the user. The caller's buffer has the user.
 #[repr(C)]
 #[derive(Clone, Copy)]
 pub struct CredentialNumbers {
-    /// Whether Git's credential code reads anything in the URL. If not, all else is 0.
+    /// Whether Git's credential code reads a request in the URL. If not, all else is 0.
     pub is_read: bool,
     /// Whether there is a user.
     pub has_user: bool,
@@ -65,7 +65,7 @@ pub extern "C" fn gix_url_c_credentials(
     }
 }
 
-/// Copies and reports what Git uses for a text.
+/// Copies and reports the settings that Git uses for a text.
 fn put_for_text(
     alloc: Global,
     entries: &[Entry<'_>],
@@ -96,7 +96,7 @@ fn put_for_text(
     }
 }
 
-/// Copies and reports what Git uses for a request.
+/// Copies and reports the settings that Git uses for a request.
 fn put_for_request(
     alloc: Global,
     entries: &[Entry<'_>],

@@ -109,7 +109,7 @@ pub extern "C" fn gix_url_c_danger_name(danger: u8, buffer: &mut [u8], len: &mut
 
 ///
 
-/// Returns what [`gix_url_c_danger_name`] returns.
+/// Returns the numbers of [`gix_url_c_danger_name`].
 #[unsafe(no_mangle)]
 pub extern "C" fn gix_url_c_danger_words(danger: u8, buffer: &mut [u8], len: &mut usize) -> u32
     ensures reported { PutsDanger danger_words danger buffer.old buffer.new len.new result }

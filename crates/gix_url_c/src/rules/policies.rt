@@ -30,13 +30,14 @@ pub struct PolicyBytes<'a> {
     pub has_from_user: bool,
 }
 
-/// Whether Git uses a transport, and what decides it.
+/// Whether Git uses a transport, and the variable or entry that decides.
 #[repr(C)]
 #[derive(Clone, Copy)]
 pub struct PermissionNumbers {
     /// 1 Git uses it, 2 Git refuses it, 3 Git stops at the entry that decides, 4 Git stops at the second variable.
     pub decision: u8,
-    /// What decides: 1 the first variable, 2 an entry, 3 neither; 0 if Git stops at the second variable.
+    /// The source of the decision: 1 the first variable, 2 an entry, 3 neither; 0 if Git stops at the second
+    /// variable.
     pub by: u8,
     /// The place of the entry that decides; otherwise 0.
     pub at: usize,

@@ -35,7 +35,7 @@ pub struct GivenVariables<'a> {
     pub has_variant: bool,
 }
 
-/// What is reported about a program, apart from its text.
+/// The report about a program, apart from its text.
 #[repr(C)]
 #[derive(Clone, Copy)]
 pub struct ProgramNumbers {

@@ -1,5 +1,5 @@
-//! The exports for what Git reads in a text: by one of its transports, and by its credential code. With 102 only the
-//! numbers are reported.
+//! The exports for Git's readings of a text: by one of its transports, and by its credential code. With 102
+//! only the numbers are reported.
 
 ghost use Rattle.std.specs.Prelude.{◌≡◌, ◌⊎◌};
 ghost use Rattle.git_reads.specs.Views.{credential_reading, git_reading, scheme_of_protocol};

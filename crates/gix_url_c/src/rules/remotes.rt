@@ -21,8 +21,8 @@ use git_rules::rewrite::outcome::Rewritten;
 use git_rules::rewrite::{RewriteError, Rewrites};
 use std::alloc::{AllocError, Global};
 
-/// What is reported about a remote: numbers, and the lengths of its values in bytes. The caller's buffer has the URLs,
-/// and then the values in this order.
+/// The report about a remote: numbers, and the lengths of its values in bytes. The caller's buffer has the
+/// URLs, and then the values in this order.
 #[repr(C)]
 #[derive(Clone, Copy)]
 pub struct RemoteNumbers {

@@ -20,7 +20,7 @@ use git_rules::rewrite::outcome::Rewritten;
 use git_rules::rewrite::{RewriteError, Rewrites};
 use std::alloc::Global;
 
-/// What is reported about a rewritten text, apart from the text.
+/// The report about a rewritten text, apart from the text.
 #[repr(C)]
 #[derive(Clone, Copy)]
 pub struct RewriteNumbers {
@@ -61,7 +61,7 @@ pub extern "C" fn gix_url_c_rewrite_fetch(
 
 /// Copies the text that Git pushes to to the buffer: [`git_rules::rewrite::Rewrites::rewrite_push`].
 ///
-/// Returns what [`gix_url_c_rewrite_fetch`] returns.
+/// Returns the numbers of [`gix_url_c_rewrite_fetch`].
 #[unsafe(no_mangle)]
 pub extern "C" fn gix_url_c_rewrite_push(
     alloc: Global,

@@ -17,7 +17,7 @@ use git_rules::normal::{NormalError, NormalUrl, needed_buffer_len};
 use git_rules::pattern::settings::{SettingsError, settings_for, settings_without_place};
 use std::alloc::Global;
 
-/// What is reported about settings, apart from their indices.
+/// The report about settings, apart from their indices.
 #[repr(C)]
 #[derive(Clone, Copy)]
 pub struct SettingNumbers {

@@ -22,7 +22,7 @@ pub struct Stop {
     pub flaw: u8,
 }
 
-/// What is reported if Git doesn't stop.
+/// The report if Git doesn't stop.
 pub(crate) fn no_stop() -> Stop
     ensures { result ≡ no_stop }
 {

@@ -21,7 +21,7 @@ use git_modules::submodules::refusal::{Refused, check};
 use git_modules::submodules::{Submodule, Used, submodules};
 use std::alloc::{AllocError, Global};
 
-/// What is reported about a resolved URL, apart from its text.
+/// The report about a resolved URL, apart from its text.
 #[repr(C)]
 #[derive(Clone, Copy)]
 pub struct ResolvedNumbers {
@@ -35,13 +35,13 @@ pub struct ResolvedNumbers {
     pub len: usize,
 }
 
-/// What `git fsck` refuses of an entry of `.gitmodules`.
+/// The parts of an entry of `.gitmodules` that `git fsck` refuses.
 #[repr(C)]
 #[derive(Clone, Copy)]
 pub struct CheckNumbers {
     /// 1 if it refuses the name; otherwise 0.
     pub name: u8,
-    /// What it refuses as the value: 2 the URL, 3 the path, 4 the way to update; otherwise 0.
+    /// The value that it refuses: 2 the URL, 3 the path, 4 the way to update; otherwise 0.
     pub value: u8,
 }
 
@@ -134,7 +134,7 @@ fn unresolved_number(error: ResolveError) -> u8
     }
 }
 
-/// Reports what `git fsck` refuses of an entry: [`git_modules::submodules::refusal::check`].
+/// Reports the parts of an entry that `git fsck` refuses: [`git_modules::submodules::refusal::check`].
 ///
 /// Returns 0.
 #[unsafe(no_mangle)]

@@ -1,4 +1,4 @@
-//! The calls over a configuration that find where Git fetches from and pushes to, and whether it may.
+//! The calls over a configuration that find the URLs that Git fetches from and pushes to, and whether it may.
 
 use super::buffers::{filled, filled_bytes, Filled, Sizes};
 use super::configuration::{Entries, GivenEntry, Stop};

@@ -1,4 +1,4 @@
-//! Finds where Git fetches from and pushes to, and by which transports.
+//! Finds the URLs that Git fetches from and pushes to, and their transports.
 
 use super::reasons::reasons;
 use super::Error;

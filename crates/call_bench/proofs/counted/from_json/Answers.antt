@@ -1,4 +1,4 @@
--- What is restored is what the record that was read means.
+-- The restored location is the one that the record that was read represents.
 use Rattle.std.proofs.Common.{◌∙◌, ap, length, sym}
 use Rattle.call_bench.proofs.counted.from_json.Goals as goal
 

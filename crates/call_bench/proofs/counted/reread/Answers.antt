@@ -1,4 +1,4 @@
--- What is read is read in the text, and the length is that of its path.
+-- The location is read from the text, and the length is that of its path.
 use Rattle.std.proofs.Common.{◌∙◌, ap, length, sym}
 use Rattle.call_bench.proofs.counted.reread.Goals as goal
 

@@ -1,4 +1,4 @@
--- What Git and other programs take from the text is found out once.
+-- The hosts that Git and other programs read in the text are determined once.
 use Rattle.std.proofs.Common.{◌≡◌, subst}
 use Rattle.std.specs.List.{filter}
 use Rattle.git_audit.specs.Dangers.{every_danger, has_danger}

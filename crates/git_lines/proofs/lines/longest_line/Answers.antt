@@ -1,4 +1,4 @@
--- What is within the length of the longest line: the lines in front of the rest, and then the rest.
+-- The text within the length of the longest line: the lines in front of the rest, and then the rest.
 use Rattle.std.proofs.Common.{sym, subst, arith}
 use Rattle.git_lines.proofs.LineAnswers.LineLemmas.{Measured, measured_step, measured_all}
 use Rattle.git_lines.proofs.lines.longest_line.Goals as goal

@@ -1,4 +1,4 @@
--- What was read so far, and a byte at least in each turn.
+-- The bytes read so far, and at least one byte in each turn.
 use Rattle.std.proofs.Common.{◌≤◌, length}
 use Rattle.std.specs.Io.KnownBytes.{Consumes}
 use Rattle.git_lines.proofs.lines.read_to_end.Given as goal

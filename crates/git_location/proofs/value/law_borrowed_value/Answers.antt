@@ -1,4 +1,4 @@
--- A location is a value: each field by what its type says.
+-- A location is a value: each field by its type.
 use Rattle.std.proofs.Common.{subst}
 use Rattle.git_location.specs.Settled.{IsValue}
 use Rattle.git_location.proofs.value.law_borrowed_value.Goals as goal

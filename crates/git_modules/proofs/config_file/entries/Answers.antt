@@ -1,4 +1,4 @@
--- What is read is read one item further; at the end the entries are those of the text.
+-- The text that is read grows by one item; at the end the entries are those of the text.
 use Rattle.std.proofs.Common.{ap, ◌+◌, ◌∙◌, ℕ, arith}
 use Rattle.git_modules.proofs.ConfigFile.PlaceLemmas.{left_some, left_none}
 use Rattle.git_modules.proofs.ConfigFile.ProgressLemmas.{begins, goes_on, all_read}

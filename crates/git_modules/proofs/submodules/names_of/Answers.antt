@@ -1,4 +1,4 @@
--- An entry more adds its name where that comes first.
+-- An entry more adds its name if that comes first.
 use Rattle.std.proofs.Common.{◌∙◌, ◌∷◌, [], ap, map, not, sym}
 use Rattle.std.proofs.lemmas.List.{map-append}
 use Rattle.git_modules.specs.SubmoduleInternal.{is_noted}

@@ -1,4 +1,4 @@
--- The next byte is looked at.
+-- The next byte is tested.
 use Rattle.std.proofs.Common.{◌∙◌, ◌+◌, ◌&&◌, ap, drop, arith}
 use Rattle.std.specs.List.{list_all}
 use Rattle.git_readers.specs.Unambiguous.{is_path_byte}

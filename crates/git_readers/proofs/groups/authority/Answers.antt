@@ -1,4 +1,4 @@
--- An authority ends where a path starts.
+-- An authority ends if a path starts.
 use Rattle.git_readers.proofs.GroupLemmas.{before_path}
 use Rattle.git_readers.proofs.groups.authority.Goals as goal
 

@@ -1,4 +1,4 @@
--- The port is what is before the first byte that isn't a digit.
+-- The port is the text before the first byte that isn't a digit.
 use Rattle.std.proofs.Common.{◌∙◌, ◌≤◌, ◌-◌, length, take, Some, sym, ap, subst}
 use Rattle.std.proofs.lemmas.Bool.{cond-true}
 use Rattle.git_readers.specs.Groups as spec

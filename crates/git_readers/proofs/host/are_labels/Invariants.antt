@@ -1,4 +1,4 @@
--- The labels so far are plain, so the host is one of labels where the rest is.
+-- The labels so far are plain, so the host is one of labels if the rest is.
 use Rattle.std.proofs.Common.{◌↔◌, length}
 use Rattle.git_readers.specs.Unambiguous.{AreLabels}
 use Rattle.git_readers.proofs.host.are_labels.Given as goal

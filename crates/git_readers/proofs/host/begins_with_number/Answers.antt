@@ -1,4 +1,4 @@
--- Digits are free of dots, so they are what is before the first one.
+-- Digits are free of dots, so they are the text before the first one.
 use Rattle.std.proofs.Common.{◌∙◌, refl, sym}
 use Rattle.git_readers.proofs.PartLemmas.{number_first}
 use Rattle.git_syntax.specs.Bytes.{dot}

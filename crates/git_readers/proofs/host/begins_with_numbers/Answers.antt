@@ -1,4 +1,4 @@
--- The first label is what is before the first dot.
+-- The first label is the text before the first dot.
 use Rattle.std.proofs.Common.{◌∙◌, ◌++◌, ◌∷◌, refl, sym, ap}
 use Rattle.std.proofs.lemmas.Bool.{both_ways}
 use Rattle.git_syntax.specs.Bytes.{dot}

@@ -1,4 +1,4 @@
--- Digits are free of slashes, so they are what is before the first one.
+-- Digits are free of slashes, so they are the text before the first one.
 use Rattle.std.proofs.Common.{◌≡◌, ◌∙◌, refl, sym, subst, true}
 use Rattle.std.specs.List.{list_all}
 use Rattle.std.specs.Char.{is_ascii_digit}

@@ -1,4 +1,4 @@
--- The rest has a segment of dots where the path does.
+-- The rest has a segment of dots if the path does.
 use Rattle.std.proofs.Common.{◌↔◌, length}
 use Rattle.git_readers.specs.Unambiguous.{HasDots}
 use Rattle.git_readers.proofs.path.has_dots.Given as goal

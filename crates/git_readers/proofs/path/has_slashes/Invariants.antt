@@ -1,4 +1,4 @@
--- The rest holds `//` where the path does.
+-- The rest holds `//` if the path does.
 use Rattle.std.proofs.Common.{◌↔◌, length}
 use Rattle.git_syntax.specs.Bytes.{Holds}
 use Rattle.git_readers.specs.Unambiguous.{slashes}

@@ -1,4 +1,4 @@
--- The path is what is tested, or that and `.git`.
+-- The path is the text that is tested, or that and `.git`.
 use Rattle.std.proofs.Common.{⊎_elim, subst, sym}
 use Rattle.git_syntax.specs.Bytes.{FreeOf, dot}
 use Rattle.git_readers.proofs.PartLemmas.{no_dots_free, no_dots_git}

@@ -1,4 +1,4 @@
--- A piece is decoded where there is one.
+-- A piece is decoded if there is one.
 use Rattle.std.proofs.Common.{ap, option_map, refl}
 use Rattle.git_reads.specs.Internal.{DecodesPart}
 use Rattle.git_reads.proofs.credential.decode_part.Goals as goal

@@ -1,4 +1,4 @@
--- The path is what is left behind the slashes, decoded and trimmed.
+-- The path is the rest after the slashes, decoded and trimmed.
 use Rattle.git_reads.proofs.credential.decode_path.Goals as goal
 
 pub returns : goal.returns

@@ -1,4 +1,4 @@
--- What precedes the first colon and the colon are put, and what follows it decoded.
+-- The text before the first colon and the colon are put, and the text after it decoded.
 use Rattle.std.proofs.Common.{subst, sym}
 use Rattle.git_reads.specs.Credentials.{CredentialDecodes}
 use Rattle.git_reads.proofs.Reading.CredentialLemmas.{decoded_behind}

@@ -1,4 +1,4 @@
--- What is left of the bytes behind the first is their front.
+-- The rest of the bytes after the first is their front.
 use Rattle.git_reads.proofs.Reading.CredentialLemmas.{trimmed_fits, trimmed_front}
 use Rattle.git_reads.proofs.credential.trimmed_path.Goals as goal
 

@@ -1,4 +1,4 @@
--- What precedes the rest is slashes.
+-- The text before the rest is slashes.
 use Rattle.std.proofs.Common.{◌≡◌, ◌++◌, ℕ, true, List, length}
 use Rattle.git_reads.specs.Credentials.{are_slashes}
 use Rattle.git_reads.proofs.credential.without_first_slashes.Given as goal

@@ -1,4 +1,4 @@
--- The same is left of what is left so far.
+-- The same is left of the rest so far.
 use Rattle.std.proofs.Common.{◌≡◌, length}
 use Rattle.git_reads.specs.Credentials.{without_last_slashes}
 use Rattle.git_reads.proofs.credential.without_last_slashes.Given as goal

@@ -1,4 +1,4 @@
--- What was decoded and what is left make up the whole.
+-- The bytes decoded so far and the rest make up the whole.
 use Rattle.std.proofs.Common.{◌≡◌, ◌≤◌, ◌++◌, length}
 use Rattle.git_reads.specs.Git.{git_decode}
 use Rattle.git_reads.proofs.decode.append_decoded.Given as goal

@@ -1,4 +1,4 @@
--- The first mark behind the brackets, or none.
+-- The first mark after the brackets, or none.
 use Rattle.std.proofs.Common.{refl}
 use Rattle.git_reads.proofs.Texts.PlaceLemmas.{cut_behind, uncut}
 use Rattle.git_reads.proofs.place.cut_place.Goals as goal

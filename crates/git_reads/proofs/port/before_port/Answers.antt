@@ -1,4 +1,4 @@
--- The text behind the first colon decides.
+-- The text after the first colon decides.
 use Rattle.std.proofs.Common.{arith, refl, sym}
 use Rattle.git_reads.specs.Git.BeforePort.{marked, unmarked}
 use Rattle.git_reads.proofs.port.before_port.Goals as goal

@@ -1,4 +1,4 @@
--- Digits are text, and std reads them as a number where there is one of 16 bits.
+-- Digits are text, and std reads them as a number if there is one of 16 bits.
 use Rattle.std.proofs.Common.{◌∙◌, sym}
 use Rattle.git_syntax.proofs.Parsing.HostLemmas.{digits_utf8}
 use Rattle.git_reads.proofs.Texts.PortLemmas.{port_parsed}

@@ -1,4 +1,4 @@
--- What is left of the text writes the same port.
+-- The rest of the text writes the same port.
 use Rattle.std.proofs.Common.{◌≡◌, length}
 use Rattle.git_reads.specs.Git.{git_port}
 use Rattle.git_reads.proofs.port.port_of.Given as goal

@@ -1,4 +1,4 @@
--- The front of the text is the mark, or no text behind the mark makes it up.
+-- The front of the text is the mark, or no text after the mark makes it up.
 use Rattle.std.proofs.lemmas.Bool.Decides.{Decides-eqb}
 use Rattle.std.proofs.lemmas.Slice.Eq.{starts_is}
 use Rattle.git_reads.proofs.transport.begins_by.Goals as goal

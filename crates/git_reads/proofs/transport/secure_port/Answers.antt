@@ -1,4 +1,4 @@
--- A port behind the host stays.
+-- A port after the host stays.
 use Rattle.std.proofs.Common.{refl, subst, sym}
 use Rattle.git_reads.specs.Git.{SecurePort}
 use Rattle.git_reads.proofs.transport.secure_port.Goals as goal

@@ -1,4 +1,4 @@
--- The scheme names the transport, and what is behind the mark is decoded.
+-- The scheme names the transport, and the text after the mark is decoded.
 use Rattle.std.proofs.Common.{◌∙◌, ◌++◌, ap, subst}
 use Rattle.std.proofs.lemmas.Result.{IfErr-weaker, IfOk-weaker, err_from_is_err_and}
 use Rattle.git_reads.specs.Git.{ReadsInput, git_decode}

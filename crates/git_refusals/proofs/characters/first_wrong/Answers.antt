@@ -1,4 +1,4 @@
--- The character at hand is the first, or none is.
+-- The current character is the first, or none is.
 use Rattle.std.proofs.Common.{[], ◌∷◌, ◌++◌, refl, sym, ap, ◌∙◌, append_assoc, arith, length, length-append, encode_utf8, encode_utf8_all}
 use Rattle.std.specs.Str.Iter.{char_indices_rest}
 use Rattle.std.proofs.lemmas.List.{append-nil, nil_from_length}

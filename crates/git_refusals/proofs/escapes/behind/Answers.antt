@@ -1,4 +1,4 @@
--- One byte more of the decoding is left behind.
+-- One more byte of the decoding is left.
 use Rattle.std.proofs.Common.{ap, drop, ◌∙◌}
 use Rattle.std.proofs.lemmas.List.{take_rest}
 use Rattle.git_refusals.proofs.Refusing.EscapeLemmas.{unit_more}

@@ -1,4 +1,4 @@
--- As many bytes of the decoding are left behind as turns are done.
+-- As many bytes of the decoding are left out as turns are done.
 use Rattle.std.proofs.Common.{◌≡◌, drop}
 use Rattle.git_refusals.specs.Characters.{spelled_len}
 use Rattle.git_refusals.proofs.escapes.behind.Given as goal

@@ -1,4 +1,5 @@
--- A byte of ASCII is a character; what begins with none is where the decoding stops being UTF-8.
+-- A byte of ASCII is a character; a text that begins with none is at the byte at which the decoding stops
+-- being UTF-8.
 use Rattle.std.proofs.Common.{arith}
 use Rattle.git_refusals.proofs.Refusing.EscapeLemmas.{ascii_front, left_at_fault, left_more, left_shorter, nothing_left, size_some, window_front, window_full}
 use Rattle.git_refusals.proofs.escapes.undecodable_end.Goals as goal

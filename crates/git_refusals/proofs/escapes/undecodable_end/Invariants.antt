@@ -1,4 +1,4 @@
--- What is before the rest spells UTF-8.
+-- The text before the rest spells UTF-8.
 use Rattle.std.proofs.Common.{length}
 use Rattle.git_refusals.proofs.Refusing.EscapeLemmas.{IsLeft}
 use Rattle.git_refusals.proofs.escapes.undecodable_end.Given as goal

@@ -1,4 +1,4 @@
--- Each form has its check: what that finds is the refusal, and where it finds nothing a location is spelled.
+-- Each form has its check: its result is the refusal, and if it finds nothing a location is spelled.
 use Rattle.std.proofs.Common.{◌≡◌, true, false, bytes_eq, codes, sym, ap, ◌∙◌}
 use Rattle.git_syntax.specs.declared.refusal.UrlKind.TheVariants.{Url}
 use Rattle.git_refusals.specs.Kinds as kinds

@@ -1,4 +1,4 @@
--- The first mark of the shown front cuts it into the scheme and what is shown of the rest.
+-- The first mark of the shown front cuts it into the scheme and the shown part of the rest.
 use Rattle.std.proofs.Common.{Some, ap}
 use Rattle.git_refusals.proofs.Refusing.FrontLemmas.{front_marked, front_cut, long_scheme_named, long_rest_named}
 use Rattle.git_refusals.proofs.front.refusal_of_front.Goals as goal

@@ -1,4 +1,4 @@
--- The text between brackets, and what follows it.
+-- The text between brackets, and the text after it.
 use Rattle.std.proofs.Common.{refl, ap, arith, ◌∷◌, ◌++◌, length, length-append}
 use Rattle.git_syntax.specs.Bytes.{left_bracket, right_bracket}
 use Rattle.git_syntax.specs.Internal.HostPieces.{host_syntax}

@@ -1,4 +1,4 @@
--- A literal stands for another in each syntax.
+-- A literal denotes another in each syntax.
 use Rattle.std.proofs.Common.{refl, ap, arith}
 use Rattle.std.proofs.lemmas.Bool.{false≢true}
 use Rattle.git_syntax.specs.Internal.HostPieces.{host_syntax, shown_literal}

@@ -1,4 +1,4 @@
--- In HTTP characters are looked at, and elsewhere the text is decoded.
+-- In HTTP characters are tested, and elsewhere the text is decoded.
 use Rattle.std.proofs.Common.{refl, ap}
 use Rattle.git_syntax.specs.Internal.HostPieces.{host_syntax}
 use Rattle.git_refusals.proofs.Refusing.HostLemmas.{lax_syntax, lax_text, no_web_host, web_host}

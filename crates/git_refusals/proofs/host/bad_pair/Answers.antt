@@ -1,4 +1,4 @@
--- What is in the port's place is looked at first, then the host, then the number.
+-- The text in the place of the port is tested first, then the host, then the number.
 use Rattle.std.proofs.Common.{refl, sym, subst, arith, ◌+◌, ◌≤◌, ◌∷◌, length, length-append}
 use Rattle.git_syntax.specs.Bytes.{colon}
 use Rattle.git_syntax.specs.Internal.HostPieces.{host_syntax}

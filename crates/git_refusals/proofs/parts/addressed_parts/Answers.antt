@@ -1,4 +1,4 @@
--- A user, brackets around an address, and a path are where the form has them.
+-- A user, brackets around an address, and a path are at the places of the form.
 use Rattle.std.proofs.Common.{◌+◌, length, Some, ap}
 use Rattle.git_refusals.specs.declared.parts.Parts.{Parts}
 use Rattle.git_refusals.specs.Parts.{HasParts, span}

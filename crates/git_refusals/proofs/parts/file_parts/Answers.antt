@@ -1,4 +1,4 @@
--- The path of a file URL begins at the first `/` behind its mark.
+-- The path of a file URL begins at the first `/` after its mark.
 use Rattle.std.proofs.Common.{◌+◌, length, Option, Some, ap, ◌∙◌}
 use Rattle.git_refusals.specs.declared.parts.Parts.{Parts}
 use Rattle.git_refusals.specs.declared.parts.Span.{Span}

@@ -1,4 +1,4 @@
--- The name is at the front, and the address is behind its two colons.
+-- The name is at the front, and the address is after its two colons.
 use Rattle.std.proofs.Common.{◌+◌, length, Some, ap}
 use Rattle.git_refusals.specs.declared.parts.Parts.{Parts}
 use Rattle.git_refusals.specs.Parts.{HasParts, span}

@@ -1,4 +1,4 @@
--- An authority and a path are behind the mark of a URL.
+-- An authority and a path are after the mark of a URL.
 use Rattle.std.proofs.Common.{refl}
 use Rattle.git_syntax.proofs.Parsing.UrlLemmas.{rest_cut}
 use Rattle.git_refusals.specs.Parts.{HasParts}

@@ -1,4 +1,4 @@
--- Where nothing is refused a location is spelled, and none is.
+-- If nothing is refused a location is spelled, and none is.
 use Rattle.git_refusals.proofs.read.refusal.Goals as goal
 
 pub returns-in-None-clause-refused : goal.returns-in-None-clause-refused

@@ -1,4 +1,4 @@
--- The host behind the last `@`, or the whole front.
+-- The host after the last `@`, or the whole front.
 use Rattle.std.proofs.Common.{Some, refl, sym, subst, lit<, IsUtf8}
 use Rattle.git_syntax.specs.Grammar.ScpUser.{with_user}
 use Rattle.git_syntax.specs.Bytes.{at_sign}

@@ -1,4 +1,4 @@
--- The colons of the host mark no port, or what is behind the only one is in a port's place.
+-- The colons of the host mark no port, or the text after the only one is in a port's place.
 use Rattle.std.proofs.Common.{inl, inr, refl, sym, subst}
 use Rattle.std.proofs.lemmas.Bool.{false≢true}
 use Rattle.git_refusals.specs.Internal.Readable.{Checks, NamesScpHost}

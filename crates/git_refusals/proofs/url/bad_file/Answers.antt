@@ -1,4 +1,4 @@
--- Text that has a `/` behind the mark of a file URL is one.
+-- Text that has a `/` after the mark of a file URL is one.
 use Rattle.std.proofs.lemmas.Bool.{false≢true}
 use Rattle.git_refusals.proofs.Refusing.SchemeLemmas.{file_read}
 use Rattle.git_refusals.proofs.url.bad_file.Goals as goal

@@ -1,4 +1,4 @@
--- What follows the mark is cut before its path, and each check that finds something has its place there.
+-- The text after the mark is cut before its path, and each check that finds something has its place there.
 use Rattle.std.proofs.Common.{subst, sym, ◌∙◌, arith, IsUtf8}
 use Rattle.std.proofs.lemmas.Bool.{both_ways}
 use Rattle.std.proofs.lemmas.Bool.Decides.{nat_tests}

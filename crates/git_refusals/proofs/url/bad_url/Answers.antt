@@ -1,4 +1,4 @@
--- Where no check before it finds anything, what is behind the scheme decides.
+-- If no check before it finds anything, the text after the scheme decides.
 use Rattle.std.proofs.Common.{◌≡◌, true, Some, subst}
 use Rattle.git_syntax.specs.Bytes.{LacksWhiteSpace, is_scheme_text}
 use Rattle.git_refusals.specs.Internal.Readable.{Checks, IsScheme}

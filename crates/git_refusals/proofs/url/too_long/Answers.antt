@@ -1,4 +1,4 @@
--- What follows `://` is reported up to its first 1,024 bytes.
+-- The text after `://` is reported up to its first 1,024 bytes.
 use Rattle.std.proofs.Common.{refl, arith, length-take}
 use Rattle.std.proofs.lemmas.Bool.{false≢true}
 use Rattle.git_refusals.specs.Reasons.{TooLong}

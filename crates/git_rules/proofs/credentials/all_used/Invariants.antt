@@ -1,4 +1,4 @@
--- What is used of the entries so far.
+-- The settings used by the entries so far.
 use Rattle.std.proofs.Common.{take}
 use Rattle.git_reads.specs.Views.{credential_reading}
 use Rattle.git_rules.specs.Credentials.{AreCredentials}

@@ -1,4 +1,4 @@
--- By what is behind the front.
+-- By the text after the front.
 use Rattle.git_rules.proofs.Matched.PathLemmas.{below_none, below_ends, below_goes_on}
 use Rattle.git_rules.proofs.pattern.is_below.Goals as goal
 

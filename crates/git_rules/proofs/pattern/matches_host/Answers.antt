@@ -1,4 +1,4 @@
--- With no label left of the pattern, the rest is empty where it matches.
+-- With no label left of the pattern, the rest is empty if it matches.
 use Rattle.git_rules.proofs.Matched.LabelLemmas.{at_end}
 use Rattle.git_rules.proofs.pattern.matches_host.Goals as goal
 

@@ -1,4 +1,4 @@
--- The rest of both hosts matches where they do.
+-- The rest of both hosts matches if they do.
 use Rattle.std.proofs.Common.{◌↔◌, length}
 use Rattle.git_rules.specs.Patterns.{MatchesHost}
 use Rattle.git_rules.proofs.pattern.matches_host.Given as goal

@@ -1,4 +1,4 @@
--- The name is in the rest exactly where it is in the list.
+-- The name is in the rest exactly if it is in the list.
 use Rattle.std.proofs.Common.{◌≡◌, length}
 use Rattle.git_rules.specs.Protocols.{is_listed}
 use Rattle.git_rules.proofs.protocols.is_listed.Given as goal

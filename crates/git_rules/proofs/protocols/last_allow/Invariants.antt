@@ -1,4 +1,4 @@
--- None of the entries behind those that are left sets the key.
+-- None of the entries after those that are left sets the key.
 use Rattle.std.proofs.Common.{◌≡◌, ◌++◌, List, All, length}
 use Rattle.std.specs.Prelude.{option_map}
 use Rattle.git_rules.specs.Config.{ConfigEntry}

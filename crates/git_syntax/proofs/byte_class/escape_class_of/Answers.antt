@@ -1,4 +1,4 @@
--- The first `%` and the run behind it decide.
+-- The first `%` and the run after it decide.
 use Rattle.std.proofs.Common.{◌∙◌, sym}
 use Rattle.git_syntax.proofs.Texts.EscapeLemmas.{sound_free}
 use Rattle.git_syntax.proofs.Texts.LookLemmas.{high_free}

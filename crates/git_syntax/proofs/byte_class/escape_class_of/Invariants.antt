@@ -1,4 +1,4 @@
--- A text is as sound as the text behind its escapes, and decodes to ASCII where that does and they do.
+-- A text is as sound as the text after its escapes, and decodes to ASCII if that does and they do.
 use Rattle.std.proofs.Common.{◌≡◌, length, true}
 use Rattle.git_syntax.specs.Escapes.{is_sound}
 use Rattle.git_syntax.specs.Internal.ByteClasses.{has_high_escape}

@@ -1,4 +1,4 @@
--- The pieces around the place where a path may first start, or the whole where it may nowhere.
+-- The pieces around the place where a path may first start, or the whole if it may nowhere.
 use Rattle.std.proofs.Common.{refl}
 use Rattle.git_syntax.specs.Bytes.{is_path_start}
 use Rattle.git_syntax.proofs.Texts.CutLemmas.{cut_at_place, cut_at_end}

@@ -1,4 +1,4 @@
--- The scp form and local paths, where no address is between brackets behind a user.
+-- The scp form and local paths, if no address is between brackets after a user.
 use Rattle.git_syntax.proofs.Parsing.ClassifierLemmas.{plain_scp, local_form, colon_nonempty}
 use Rattle.git_syntax.proofs.classify.classify_plain.Goals as goal
 

@@ -1,4 +1,4 @@
--- The colon of the scp form is the first behind brackets at the front.
+-- The colon of the scp form is the first after brackets at the front.
 use Rattle.git_syntax.proofs.Parsing.ClassifierLemmas.{front_unbracketed, front_taken}
 use Rattle.git_syntax.proofs.classify.cut_behind.Goals as goal
 

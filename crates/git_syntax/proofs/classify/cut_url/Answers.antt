@@ -1,4 +1,4 @@
--- Two slashes behind the first colon are the first mark, and without another colon there is no other.
+-- Two slashes after the first colon are the first mark, and without another colon there is no other.
 use Rattle.std.proofs.Common.{refl}
 use Rattle.git_syntax.proofs.Parsing.ClassifierLemmas.{mark_at_colon, no_mark_at_colon}
 use Rattle.git_syntax.proofs.classify.cut_url.Goals as goal

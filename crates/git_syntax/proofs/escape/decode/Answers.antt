@@ -1,4 +1,4 @@
--- A text with no `%` decodes to itself. What is as long as a text has room for its decoding.
+-- A text with no `%` decodes to itself. A buffer as long as a text suffices for its decoding.
 use Rattle.std.proofs.Common.{arith, sym}
 use Rattle.percent_encoding.proofs.PercentLemmas.{length-percent_decode}
 use Rattle.git_syntax.proofs.Texts.EscapeLemmas.{decode_kept}

@@ -1,4 +1,4 @@
--- What was decoded so far is in the front of the buffer.
+-- The bytes decoded so far are in the front of the buffer.
 use Rattle.std.proofs.Common.{◌≡◌, ◌++◌, ◌+◌, length, take}
 use Rattle.percent_encoding.specs.Percent.{percent_decode}
 use Rattle.git_syntax.proofs.escape.decode_into.Given as goal

@@ -1,4 +1,4 @@
--- The bytes that the checker read and the rest are UTF-8 where the whole decoding is.
+-- The bytes that the checker read and the rest are UTF-8 if the whole decoding is.
 use Rattle.std.proofs.Common.{◌↔◌, ◌++◌, ℕ, IsUtf8, List, length}
 use Rattle.percent_encoding.specs.Percent.{percent_decode}
 use Rattle.simdutf8.specs.Tracks.{HasRead}

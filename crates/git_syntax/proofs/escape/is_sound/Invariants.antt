@@ -1,4 +1,4 @@
--- A text is as sound as the text behind its escapes.
+-- A text is as sound as the text after its escapes.
 use Rattle.std.proofs.Common.{◌≡◌, length}
 use Rattle.git_syntax.specs.Escapes.{is_sound}
 use Rattle.git_syntax.proofs.escape.is_sound.Given as goal

@@ -1,4 +1,4 @@
--- What is refused has a flaw, so it spells nothing; the name of a helper is text.
+-- A text that is refused has a flaw, so it spells nothing; the name of a helper is text.
 use Rattle.std.proofs.lemmas.Result.{IfErr-weaker}
 use Rattle.git_syntax.specs.Flaws.{NamesFlaw}
 use Rattle.git_syntax.specs.Grammar.{Spells}

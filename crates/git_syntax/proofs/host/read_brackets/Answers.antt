@@ -1,4 +1,4 @@
--- The text between brackets, and what follows it.
+-- The text between brackets, and the text after it.
 use Rattle.std.proofs.Common.{Some, refl}
 use Rattle.std.proofs.lemmas.Bool.{false≢true}
 use Rattle.git_syntax.specs.Internal.HostPieces.{named_text, denoted_host, host_syntax}

@@ -1,4 +1,4 @@
--- The whole piece is the host, or stands for none.
+-- The whole piece is the host, or denotes none.
 use Rattle.std.proofs.Common.{[], ap, inl, refl, sym, Some}
 use Rattle.std.proofs.lemmas.List.{append-nil}
 use Rattle.git_syntax.specs.Flaws.{HasBadHost}

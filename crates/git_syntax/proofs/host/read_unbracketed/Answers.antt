@@ -1,4 +1,4 @@
--- The text up to the first `:`, and what follows it.
+-- The text up to the first `:`, and the text after it.
 use Rattle.std.proofs.Common.{◌∷◌, Some, inr, refl}
 use Rattle.std.proofs.lemmas.Bool.{false≢true}
 use Rattle.git_syntax.specs.Bytes.{colon}

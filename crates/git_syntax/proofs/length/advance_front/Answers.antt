@@ -1,5 +1,5 @@
--- A window is counted up to where a path starts: that fixes the
--- outcome, or the text behind the window is looked at.
+-- A window is counted up to the start of a path: that fixes the
+-- outcome, or the text after the window is tested.
 use Rattle.std.proofs.Common.{◌∙◌, ◌++◌, sym, arith}
 use Rattle.git_syntax.proofs.Parsing.LengthLemmas.{past_window, none_left, starts_in_time, window_behind}
 use Rattle.git_syntax.proofs.length.advance_front.Goals as goal

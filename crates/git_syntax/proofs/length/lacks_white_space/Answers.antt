@@ -1,4 +1,4 @@
--- Two searches find no byte of white space exactly where there is none.
+-- Two searches find no byte of white space exactly if there is none.
 use Rattle.git_syntax.proofs.Parsing.LengthLemmas.{white_space_searched}
 use Rattle.git_syntax.proofs.length.lacks_white_space.Goals as goal
 

@@ -1,4 +1,4 @@
--- The rest is as sound as the text, and has a high escape where that has one.
+-- The rest is as sound as the text, and has a high escape if that has one.
 use Rattle.std.proofs.Common.{length}
 use Rattle.git_syntax.specs.Internal.Runs.{PassesRun}
 use Rattle.git_syntax.proofs.runs.past_run.Given as goal

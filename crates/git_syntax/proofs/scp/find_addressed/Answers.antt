@@ -1,4 +1,4 @@
--- What is found of `user@[address]:path`, and what is refused.
+-- The result for `user@[address]:path`, and the refusals.
 use Rattle.std.proofs.Common.{refl, sym, ap, subst, Some, IsUtf8}
 use Rattle.git_syntax.specs.Addresses.{Literal}
 use Rattle.git_syntax.specs.Bytes.{lowercase}

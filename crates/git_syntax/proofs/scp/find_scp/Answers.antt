@@ -1,4 +1,4 @@
--- What is found of the scp form, and what is refused.
+-- The result for the scp form, and the refusals.
 use Rattle.std.proofs.Common.{refl, subst}
 use Rattle.std.specs.Option.{option_copied}
 use Rattle.git_syntax.specs.Internal.FoundPieces.{scp_host_of}

@@ -1,4 +1,4 @@
--- An address holds no `%`, so the first `%` is where a zone begins.
+-- An address holds no `%`, so the first `%` begins a zone.
 use Rattle.std.proofs.Common.{refl, sym, subst}
 use Rattle.std.proofs.lemmas.Bool.{false≢true}
 use Rattle.git_syntax.specs.Escapes.{escaped_percents}

@@ -1,4 +1,4 @@
--- Where each `%` is escaped, a zone is any text of its bytes.
+-- If each `%` is escaped, a zone is any text of its bytes.
 use Rattle.std.proofs.Common.{sym, ◌∙◌}
 use Rattle.git_syntax.proofs.Parsing.HostLemmas.{some_tested}
 use Rattle.git_syntax.proofs.Parsing.ScpLemmas.{zone_found, zone_unescaped}

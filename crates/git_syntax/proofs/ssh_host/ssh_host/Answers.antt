@@ -1,4 +1,4 @@
--- What Secure Shell takes of a text is text, and the only host that it takes.
+-- The host that Secure Shell takes from a text is text, and the only host that it takes.
 use Rattle.std.proofs.Common.{sym, subst, ap, ◌∙◌}
 use Rattle.std.specs.Str.{IsUtf8}
 use Rattle.std.proofs.lemmas.Str.{IsUtf8-string_bytes}

@@ -1,4 +1,4 @@
--- What Secure Shell takes of a text is the only host that it takes.
+-- The host that Secure Shell takes from a text is the only host that it takes.
 use Rattle.git_syntax.proofs.Parsing.FoundLemmas.{peels}
 use Rattle.git_syntax.proofs.Unique.UniqueLemmas.{ssh_host_unique}
 use Rattle.git_syntax.proofs.ssh_host.ssh_host_text.Goals as goal

@@ -1,4 +1,4 @@
--- A URL fits, and what was looked at may be known to be text.
+-- A URL fits, and a text that was classified may be known to be text.
 use Rattle.std.proofs.Common.{sym}
 use Rattle.std.proofs.lemmas.Bool.{false≢true}
 use Rattle.git_syntax.proofs.Texts.LookLemmas.{known_utf8}

@@ -1,5 +1,5 @@
 -- The scheme decides: `ext` keeps the text, a missing path is
--- reported, and any other URL means what its parts do.
+-- reported, and any other URL denotes the location of its parts.
 use Rattle.std.proofs.Common.{sym, ◌∙◌}
 use Rattle.std.proofs.lemmas.Bool.{both_ways, false≢true}
 use Rattle.git_syntax.proofs.Parsing.HostLemmas.{some_tested}

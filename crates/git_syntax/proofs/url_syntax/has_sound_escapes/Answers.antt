@@ -1,4 +1,4 @@
--- What was looked at is known to be sound.
+-- The classified text is known to be sound.
 use Rattle.std.proofs.Common.{◌∙◌, sym}
 use Rattle.git_syntax.proofs.Texts.LookLemmas.{known_sound}
 use Rattle.git_syntax.proofs.url_syntax.has_sound_escapes.Goals as goal

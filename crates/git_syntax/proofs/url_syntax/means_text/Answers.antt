@@ -1,4 +1,4 @@
--- What decodes to ASCII decodes to UTF-8.
+-- A text that decodes to ASCII decodes to UTF-8.
 use Rattle.std.proofs.Common.{refl, sym}
 use Rattle.git_syntax.proofs.Texts.LookLemmas.{known_means_utf8}
 use Rattle.git_syntax.proofs.url_syntax.means_text.Goals as goal

@@ -1,4 +1,4 @@
--- A user and a password are the texts around the first colon, where both decode to text.
+-- A user and a password are the texts around the first colon, if both decode to text.
 use Rattle.std.proofs.Common.{refl}
 use Rattle.std.proofs.lemmas.Bool.{false≢true}
 use Rattle.git_syntax.specs.Authority.Credentials.{with_password}

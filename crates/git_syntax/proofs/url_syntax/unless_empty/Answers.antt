@@ -1,4 +1,4 @@
--- An escaped text is empty exactly where it decodes to nothing.
+-- An escaped text is empty exactly if it decodes to nothing.
 use Rattle.std.proofs.Common.{arith}
 use Rattle.std.proofs.lemmas.Bool.Decides.{nat_tests}
 use Rattle.git_syntax.proofs.Parsing.UrlLemmas.{nothing_meant, something_meant}

@@ -1,4 +1,4 @@
--- White space begins with one of a few bytes. Where one of them is, the bytes of the text decide.
+-- White space begins with one of a few bytes. If one of them is, the bytes of the text decide.
 use Rattle.std.proofs.Common.{◌∙◌, ap, sym}
 use Rattle.git_syntax.specs.Internal.WhiteSpace.{holds_space}
 use Rattle.git_syntax.proofs.Texts.WhiteSpaceLemmas.{none_begins, space_in_bytes}

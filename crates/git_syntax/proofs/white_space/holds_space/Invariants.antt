@@ -1,4 +1,4 @@
--- Where the bytes so far begin none, the rest decides.
+-- If the bytes so far begin none, the rest decides.
 use Rattle.std.proofs.Common.{◌≡◌, length}
 use Rattle.git_syntax.specs.Internal.WhiteSpace.{holds_space}
 use Rattle.git_syntax.proofs.white_space.holds_space.Given as goal

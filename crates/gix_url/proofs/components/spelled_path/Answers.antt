@@ -1,4 +1,4 @@
--- The spelling that was found is the one that matches, and else the path stands for itself.
+-- The spelling that was found is the one that matches, and else the path denotes itself.
 use Rattle.std.proofs.Common.{◌∙◌, ap, sym}
 use Rattle.git_syntax.specs.Location.{Location}
 use Rattle.gix_url.proofs.ComponentCuts.HandedLemmas.{found_spelling, no_spelling}

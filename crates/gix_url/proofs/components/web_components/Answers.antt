@@ -1,4 +1,4 @@
--- The text is cut at `#` and its front at `?`, and the pieces stand for what the components are.
+-- The text is cut at `#` and its front at `?`, and the pieces denote the components.
 use Rattle.std.proofs.Common.{◌∙◌, option_map, ap}
 use Rattle.git_syntax.specs.Grammar.{or_root}
 use Rattle.gix_url.proofs.ComponentCuts.LentLemmas.{cuts_twice, fragment_meant, has_query, meant_as, query_absent, query_present}

@@ -1,4 +1,4 @@
--- The folder that was found is the user's, so what lies below it is the expanded path.
+-- The folder that was found is the user's, so the path below it is the expanded path.
 use Rattle.std.proofs.Common.{subst, ◌≡◌, ◌∙◌}
 use Rattle.std.specs.Option.{option_copied}
 use Rattle.bstr.specs.BStr.{bstr_bytes}

@@ -1,4 +1,4 @@
--- The name and what lies below, as they were cut.
+-- The name and the path below, as they were cut.
 use Rattle.std.proofs.Common.{subst}
 use Rattle.bstr.specs.BStr.{bstr_bytes}
 use Rattle.gix_url.specs.HomeReadings.{HomePath}

@@ -1,4 +1,4 @@
--- The name and what lies below, written one after the other.
+-- The name and the path below, written one after the other.
 use Rattle.std.proofs.Common.{ap, ◌∙◌, ◌∷◌, ◌++◌}
 use Rattle.git_syntax.specs.Bytes.{tilde}
 use Rattle.gix_url.proofs.Homes.HomeLemmas.{shell_at}

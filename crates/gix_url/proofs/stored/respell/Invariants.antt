@@ -1,4 +1,5 @@
--- What was appended and what the rest spells are the whole, and there is room for the rest.
+-- The bytes appended so far and the spelling of the rest make up the whole, and the capacity suffices for the
+-- rest.
 use Rattle.std.proofs.Common.{◌≡◌, ◌+◌, ◌≤◌, ◌++◌, length, vec_len, vec_capacity}
 use Rattle.git_laws.specs.Records.{new_spelling}
 use Rattle.gix_url.proofs.stored.respell.Given as goal

@@ -1,4 +1,4 @@
--- The length so far, with that of what the rest spells, is the whole, and no sum wraps.
+-- The length so far, with that of the spelling of the rest, is the whole, and no sum wraps.
 use Rattle.std.proofs.Common.{◌≡◌, ◌+◌, ◌*◌, ◌≤◌, length}
 use Rattle.git_laws.specs.Records.{new_spelling}
 use Rattle.gix_url.proofs.stored.respelled_len.Given as goal

@@ -1,4 +1,4 @@
--- What is refused is refused so.
+-- A text that is refused is refused so.
 use Rattle.std.proofs.Common.{length}
 use Rattle.gix_url_c.proofs.ReadingLemmas.{refused_so}
 use Rattle.gix_url_c.proofs.borrowing.gix_url_c_read_in.Goals as goal

@@ -1,4 +1,4 @@
--- What the next name and value add is what the pairs up to the next place have more.
+-- The lengths that the next name and value add are those that the pairs up to the next place have more.
 use Rattle.std.proofs.Common.{arith, append_assoc}
 use Rattle.std.proofs.lemmas.Grind.{common_steps}
 use Rattle.gix_url_c.proofs.ComponentLemmas.{lengths_more}

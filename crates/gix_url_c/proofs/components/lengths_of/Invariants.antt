@@ -1,4 +1,4 @@
--- What was appended is that of the pairs so far.
+-- The lengths of the pairs so far were appended.
 use Rattle.std.proofs.Common.{◌≡◌, map, take}
 use Rattle.gix_url.specs.ComponentViews.{pair_bytes}
 use Rattle.gix_url_c.specs.ComponentNumbers.{pair_lengths}

@@ -1,4 +1,4 @@
--- The buffer is as long as the bytes, so what is read is read with buffer enough.
+-- The buffer is as long as the bytes, so it suffices.
 use Rattle.std.proofs.Common.{Ok, Err, length}
 use Rattle.git_location.specs.declared.parse_error.ParseError.TheVariants as unread
 use Rattle.gix_url_c.proofs.ReadingLemmas.{read_with_buffer, refused_so}

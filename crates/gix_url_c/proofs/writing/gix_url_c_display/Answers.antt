@@ -1,4 +1,4 @@
--- What is answered for the location that is built is answered for the one that is passed.
+-- The result for the built location is the result for the passed one.
 use Rattle.std.proofs.Common.{subst}
 use mathlib.Core.Logic.{inr}
 use Rattle.gix_url_c.specs.Answers.{ReportsDisplay}

@@ -1,4 +1,4 @@
--- What is answered for the location that is built is answered for the one that is passed.
+-- The result for the built location is the result for the passed one.
 use Rattle.std.proofs.Common.{refl, subst, IsTrue, ◌↔◌}
 use mathlib.Core.Logic.{inr}
 use Rattle.gix_url.specs.Settled.{IsSettled}

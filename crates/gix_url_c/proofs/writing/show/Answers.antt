@@ -1,4 +1,4 @@
--- What is shown is what there is to be shown, and where the text has no length there is a fault.
+-- The shown text is the one that there is to be shown, and if the text has no length there is a fault.
 use Rattle.std.proofs.Common.{refl, sym, subst, string_bytes}
 use mathlib.Core.Logic.{inr}
 use Rattle.gix_url.specs.Text.{text}

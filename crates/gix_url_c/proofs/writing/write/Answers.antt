@@ -1,4 +1,4 @@
--- Where the text has no length there is a fault, and the buffer is as it was.
+-- If the text has no length there is a fault, and the buffer is as it was.
 use Rattle.std.proofs.Common.{refl, sym}
 use Rattle.gix_url.specs.Text.{text}
 use Rattle.gix_url_c.proofs.ShownLemmas.{unwritten}

@@ -1,4 +1,5 @@
--- Each entry that is used ranks for the place, so its URL is a pattern that stands for the place, and the law is for that.
+-- Each entry that is used ranks for the place, so its URL is a pattern that denotes the place, and the law is
+-- for that.
 use Rattle.std.proofs.Common.{◌≡◌, ℕ, ◌⊎◌, inl, inr, false, List, length, codes, Option, Some, None, Result, Ok, Err, IfOk, refl, subst}
 use Rattle.gix_url.specs.GitClass.{AgreesWithGit}
 use Rattle.gix_url.specs.Settled.{IsValue, IsWeb}
@@ -45,7 +46,7 @@ own law v buffer_len place entries found value web agrees placing (inl (list, ar
     }
 own law v buffer_len place entries found value web agrees placing (inr (single, best)) i held = absurd (single (inl refl))
 
--- what follows for a value that is there
+-- the consequence for a value that is there
 if_ok : {A E : Type 0} (P Q : A → Type 0) (r : Result A E) → ((a : A) → P a → Q a) → IfOk r P → IfOk r Q
 if_ok P Q (Ok a) f h = f a h
 if_ok P Q (Err e) f h = tt

@@ -1,4 +1,4 @@
--- Where memory sufficed, a refusal says that nothing is spelled.
+-- If memory sufficed, a refusal says that nothing is spelled.
 use Rattle.std.proofs.Common.{◌≡◌, ◌↔◌, inl, inr, IsTrue, List, ℕ, false, subst}
 use Rattle.std.proofs.lemmas.Bool.{false≢true}
 use Rattle.gix_url.specs.Grammar.{Spells}

@@ -1,5 +1,5 @@
--- The text of a settled location spells it again, and what is
--- spelled is what is read, unless memory is refused.
+-- The text of a settled location spells it again, and the location that is
+-- spelled is the one that is read, unless memory is refused.
 use Rattle.std.proofs.Common.{◌≡◌, inl, inr, List, ℕ, Result, IfOk, IfErr, refl, sym, subst}
 use Rattle.gix_url.specs.Readings.{Reads, SpellsAgain}
 use Rattle.gix_url.specs.Location.{Location, fields}

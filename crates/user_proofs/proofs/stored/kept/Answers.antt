@@ -1,4 +1,4 @@
--- What was read isn't taken for a record of the legacy form.
+-- A location that was read isn't taken for a record of the legacy form.
 use Rattle.std.proofs.Common.{◌≡◌, ℕ, List, Result, Ok, Err, IfOk, ap, ◌∙◌}
 use Rattle.gix_url.specs.Location.{Location}
 use Rattle.gix_url.specs.Grammar.{Spells}

@@ -14,7 +14,7 @@ spelled : (b : List ℕ) (v : Location) → SpellsHelper b v ⊎ SpellsLocal b v
 spelled b v (inl h) = remote_helper h
 spelled b v (inr h) = local_path h
 
--- the text of what comes back is the bytes
+-- the text of the location that is read back is the bytes
 same_bytes : Unique → Unchanged → (b s : List ℕ) (url back v : Location) → Spells b url → back ≡ url → text back ≡ Ok s → SpellsHelper b v ⊎ SpellsLocal b v → s ≡ b
 same_bytes unique unchanged b s url back v read kept written form =
     let whole : Ok s ≡ Ok b = sym written ∙ ap text (kept ∙ unique b url v read (spelled b v form)) ∙ (unchanged b v form).1 in

@@ -1,4 +1,4 @@
--- What is left of both texts is one edit apart exactly if the texts are.
+-- The rest of both texts is one edit apart exactly if the texts are.
 use Rattle.std.proofs.Common.{◌≡◌, length}
 use Rattle.explain_report.specs.Slips.{is_one_edit}
 use Rattle.explain_report.proofs.advice.slip.is_one_edit.Given as goal

@@ -14,7 +14,7 @@ reports_reread : (v other : Location) (t : List ℕ) → text v ≡ Ok t → Rea
 reports_reread v other t is read None report = report
 reports_reread v other t is read (Some it) report = record { bytes = t; other = other; written = is; spelled = read.found; field = report }
 
--- and so of what is returned
+-- and so of the result
 returns_reread : {E : Type 0} (v other : Location) (t : List ℕ) → text v ≡ Ok t → Reads t (Ok other) → (r : Result Reread E)
     → IfOk r (λ it. IfSome it.difference (ReportsField v other)) → IfOk r (λ it. IfSome it.difference (ReportsReread v))
 returns_reread v other t is read (Ok it) report = reports_reread v other t is read it.difference report

@@ -7,7 +7,7 @@ use Rattle.explain_report.specs.declared.refusal.Refusal.{Refusal}
 use Rattle.explain_report.specs.Refusals.{ReportsRefusal}
 use Rattle.explain_report.proofs.refusal.Refusal.of_line.Goals as goal
 
--- what is reported is the refusal that was returned
+-- the reported refusal is the one that was returned
 reported : (line : List ℕ) (refusal : library.Refusal) (report : Refusal) → ReturnsRefusal line (Some refusal)
     → report.at ≡ Some refusal.at → report.len ≡ Some refusal.len
     → option_map (λ name. name.now) report.reason ≡ Some (reason_name refusal.reason)

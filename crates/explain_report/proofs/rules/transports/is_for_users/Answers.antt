@@ -1,4 +1,4 @@
--- By what Git does without the two variables.
+-- By Git's decision without the two variables.
 use Rattle.std.proofs.Common.{None, subst}
 use Rattle.git_rules.specs.Policies.{Policy}
 use Rattle.git_rules.specs.Protocols.{Decides}

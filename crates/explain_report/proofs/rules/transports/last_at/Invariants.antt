@@ -1,4 +1,4 @@
--- None of the entries behind those that are left begins at the place.
+-- None of the entries after those that are left begins at the place.
 use Rattle.std.proofs.Common.{◌≡◌, ◌++◌, List, All, length}
 use Rattle.git_rules.specs.Config.{ConfigEntry}
 use Rattle.explain_report.proofs.rules.transports.last_at.Given as goal

@@ -1,4 +1,4 @@
--- What was compared is what the pieces so far are shown as.
+-- The text compared so far is the shown text of the pieces so far.
 use Rattle.std.proofs.Common.{◌≡◌, ◌++◌, ℕ, List, drop}
 use Rattle.explain_report.specs.Pieces.{pieces_shown}
 use Rattle.explain_report.proofs.text.joined.behind_all.Given as goal

@@ -1,4 +1,4 @@
--- What was written so far has no control character, nor has what is left of the escape.
+-- The text written so far has no control character, nor has the rest of the escape.
 use Rattle.std.proofs.Common.{◌≡◌, true}
 use Rattle.std.specs.List.{list_all}
 use Rattle.std.specs.Char.Iter.{escape_rest}

@@ -1,4 +1,4 @@
--- What is appended, and what is shown of the pieces that are left, is what is shown of the text.
+-- The text appended so far, and the shown text of the pieces that are left, is the shown text of the whole.
 use Rattle.std.proofs.Common.{◌≡◌, ◌++◌}
 use Rattle.explain_report.specs.Secrets.{parts_shown, shown_of}
 use Rattle.explain_report.proofs.text.secret.shown_bytes.Given as goal

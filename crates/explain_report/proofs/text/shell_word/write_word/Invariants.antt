@@ -1,4 +1,4 @@
--- What was written so far has no control character.
+-- The text written so far has no control character.
 use Rattle.explain_report.specs.Printed.{AddsPrinted}
 use Rattle.explain_report.proofs.text.shell_word.write_word.Given as goal
 

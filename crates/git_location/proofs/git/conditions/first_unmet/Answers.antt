@@ -1,4 +1,4 @@
--- The parts before the one that is looked at are unambiguous, so their conditions are met.
+-- The parts before the one that is tested are unambiguous, so their conditions are met.
 use Rattle.std.proofs.Common.{refl}
 use Rattle.git_location.proofs.SettledClass.ConditionLemmas.{host_met, password_met, settled_met, user_met}
 use Rattle.git_location.proofs.git.conditions.first_unmet.Goals as goal

@@ -1,4 +1,4 @@
--- A location is of the class by its parts, and by what settled URLs have beside their paths.
+-- A location is of the class by its parts, and by the conditions of settled URLs except for those on paths.
 use Rattle.git_location.proofs.SettledClass.SettledLemmas.{first_fails, second_decides}
 use Rattle.git_location.proofs.SettledClass.WebClassLemmas.{class_by_parts}
 use Rattle.git_location.proofs.Writing.WrittenAsUrlLemmas.{written_web}

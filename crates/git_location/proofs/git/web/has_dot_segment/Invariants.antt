@@ -1,4 +1,4 @@
--- The rest has a dot segment where the text does.
+-- The rest has a dot segment if the text does.
 use Rattle.std.proofs.Common.{◌↔◌, length}
 use Rattle.git_location.specs.WebClass.{HasDotSegment}
 use Rattle.git_location.proofs.git.web.has_dot_segment.Given as goal

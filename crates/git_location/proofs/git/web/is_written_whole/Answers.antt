@@ -1,4 +1,4 @@
--- A colon is written as itself, and a `%` where a byte is escaped.
+-- A colon is written as itself, and a `%` if a byte is escaped.
 use Rattle.std.proofs.Common.{inl, inr, sym, ◌∙◌, ⊎_elim, eqb-true}
 use Rattle.std.proofs.lemmas.Bool.{both_ways, eq-eqb}
 use Rattle.git_location.proofs.SettledClass.WebClassLemmas.{colon_written, percent_written}

@@ -1,4 +1,4 @@
--- A host of HTTP is closed before a colon behind it, and else a literal in brackets or a name.
+-- A host of HTTP is closed before a colon after it, and else a literal in brackets or a name.
 use Rattle.git_location.proofs.SettledClass.SettledLemmas.{none_tested, second_decides, first_fails, first_suffices, second_needed, web_host_colon, web_host_bare}
 use Rattle.git_location.proofs.settled.host.is_any_web_host.Goals as goal
 

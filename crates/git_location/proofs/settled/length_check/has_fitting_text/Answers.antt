@@ -1,4 +1,4 @@
--- The pieces at hand make up the text, and the scheme is that of the location.
+-- The pieces make up the text, and the scheme is that of the location.
 use Rattle.std.proofs.Common.{◌∙◌, ap, subst, sym}
 use Rattle.git_syntax.specs.Location.{Location}
 use Rattle.git_location.specs.Internal.Pieces.{AreOwn, pieces_text}

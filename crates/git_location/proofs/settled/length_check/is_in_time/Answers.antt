@@ -1,4 +1,4 @@
--- The walk past the whole text, with nothing behind it.
+-- The walk past the whole text, with nothing after it.
 use Rattle.std.proofs.Common.{[], ◌∙◌, ap, append-nil}
 use Rattle.git_location.specs.Internal.Pieces.{pieces_text}
 use Rattle.git_syntax.specs.Internal.LengthChecks.{is_text_in_time}

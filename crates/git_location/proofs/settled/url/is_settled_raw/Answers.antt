@@ -1,4 +1,4 @@
--- A settled URL with a raw path has its path and what there is beside it.
+-- A settled URL with a raw path has its path and meets the other conditions.
 use Rattle.git_location.proofs.SettledClass.SettledLemmas.{first_fails, second_decides, raw_by_parts}
 use Rattle.git_location.proofs.settled.url.is_settled_raw.Goals as goal
 

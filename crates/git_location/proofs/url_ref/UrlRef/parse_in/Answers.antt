@@ -1,6 +1,14 @@
 -- A simple text spells its location, so it is read.
-use Rattle.std.proofs.Common.{Err, Ok, cc, length, subst, sym, tt, ◌≡◌}
-use Rattle.git_syntax.specs.Grammar.{Spells}
-use Rattle.git_syntax.proofs.ByMasks.SimpleTextLemmas.{simple_spelled}
-use Rattle.git_location.proofs.Unique.AnsweredLemmas.{reads_in_by}
+use Rattle.std.proofs.Common.{◌≡◌, Ok, length, arith, subst, sym}
+use Rattle.git_syntax.specs.Internal.SimplePieces.{simple_location}
+use Rattle.git_location.specs.Readings.{ReadsIn}
+use Rattle.git_location.proofs.Unique.AnsweredLemmas.{simple_read, simple_short}
 use Rattle.git_location.proofs.url_ref.UrlRef.parse_in.Goals as goal
+
+pub returns-then-buffer-text : goal.returns-then-buffer-text
+returns-then-buffer-text c = simple_short c.args.text.now (length c.args.buffer.now) (simple_location c.in-Some.pieces) c.in-Some.ensures (omega (arith, c.if-buffer-text.true))
+
+pub returns-else-buffer-text : goal.returns-else-buffer-text
+returns-else-buffer-text c =
+    let read = simple_read c.args.text.now (length c.args.buffer.now) (simple_location c.in-Some.pieces) c.in-Some.ensures (omega (arith, c.if-buffer-text.false)) in
+    subst (λ v. ReadsIn c.args.text.now (length c.args.buffer.now) (Ok v)) (sym c.simple_url_ref.ensures) read

@@ -1,4 +1,4 @@
--- The buffer begins with what is written for the bytes so far, and is long enough for the rest.
+-- The buffer begins with the text that is written for the bytes so far, and is long enough for the rest.
 use Rattle.std.proofs.Common.{◌≡◌, ◌*◌, ◌≤◌, take}
 use Rattle.percent_encoding.specs.Percent.{percent_encode}
 use Rattle.git_location.proofs.writer.escaped.escape_block.Given as goal

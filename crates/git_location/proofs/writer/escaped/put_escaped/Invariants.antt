@@ -1,4 +1,4 @@
--- What was read was put.
+-- The text read so far was put.
 use Rattle.std.proofs.Common.{◌≡◌, List, ℕ, ◌++◌, length}
 use Rattle.percent_encoding.specs.Percent.{percent_encode}
 use Rattle.git_location.proofs.writer.escaped.put_escaped.Given as goal

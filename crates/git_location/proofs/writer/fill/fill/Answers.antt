@@ -1,4 +1,4 @@
--- The pieces filled the given buffer, from its front on.
+-- The pieces filled the buffer, from its front on.
 use Rattle.std.proofs.Common.{[], refl, rules}
 use Rattle.git_location.proofs.writer.fill.fill.Goals as goal
 

@@ -1,4 +1,4 @@
--- What the test for addresses answers is the test of the definitions, and no address lacks a colon.
+-- The result of the test for addresses is that of the definitions, and no address lacks a colon.
 use Rattle.std.proofs.Common.{◌≡◌, ◌∙◌, ℕ, false, List, sym, subst}
 use Rattle.std.proofs.lemmas.Bool.{false_from_ne_true}
 use Rattle.git_syntax.specs.Bytes.{colon, FreeOf}

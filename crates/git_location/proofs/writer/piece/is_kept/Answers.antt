@@ -1,4 +1,4 @@
--- Where no byte has to be escaped the text stays.
+-- If no byte has to be escaped the text stays.
 use Rattle.std.proofs.Common.{sym, ◌∙◌}
 use Rattle.git_location.proofs.Writing.PieceLemmas.{kept_text}
 use Rattle.git_location.proofs.writer.piece.is_kept.Goals as goal

@@ -1,4 +1,4 @@
--- The colon, and the digits behind it.
+-- The colon, and the digits after it.
 use Rattle.git_location.proofs.Writing.PieceLemmas.{on_ok}
 use Rattle.git_location.proofs.writer.piece.put_port.Goals as goal
 

@@ -1,4 +1,4 @@
--- What follows the line stays the same on the way to its end.
+-- The text after the line stays the same on the way to its end.
 use Rattle.std.proofs.Common.{◌≡◌, ◌≤◌, ◌-◌, length}
 use Rattle.git_modules.specs.ConfigFileBytes.{left_at, past_line}
 use Rattle.git_modules.proofs.config_file.bytes.past_line.Given as goal

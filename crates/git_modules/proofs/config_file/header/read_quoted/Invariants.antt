@@ -1,4 +1,4 @@
--- What was written so far and the rest of the subsection are the whole subsection.
+-- The bytes written so far and the rest of the subsection are the whole subsection.
 use Rattle.std.proofs.Common.{◌≡◌, ◌≤◌, ◌+◌, ◌-◌, false, length, take}
 use Rattle.git_modules.specs.ConfigFileBytes.{left_at}
 use Rattle.git_modules.specs.ConfigFileFlaws.{behind}

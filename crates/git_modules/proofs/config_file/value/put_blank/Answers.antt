@@ -1,4 +1,4 @@
--- White space counts only behind a byte, and only if something follows it.
+-- White space counts only after a byte, and only if something follows it.
 use Rattle.std.proofs.Common.{◌<◌, arith}
 use Rattle.git_modules.proofs.ConfigFile.PartLemmas.{blank_goes, blank_tail}
 use Rattle.git_modules.proofs.config_file.value.put_blank.Goals as goal

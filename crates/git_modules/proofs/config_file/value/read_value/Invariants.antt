@@ -1,4 +1,4 @@
--- What was written so far and the rest of the value are the whole value.
+-- The bytes written so far and the rest of the value are the whole value.
 use Rattle.std.proofs.Common.{◌≡◌, ◌≤◌, ◌+◌, ◌-◌, length}
 use Rattle.git_modules.specs.ConfigFileBytes.{left_at}
 use Rattle.git_modules.specs.ConfigFileValues.{value_of}

@@ -1,4 +1,4 @@
--- What follows the word stays the same on the way to its end.
+-- The text after the word stays the same on the way to its end.
 use Rattle.std.proofs.Common.{◌≡◌, ◌≤◌, ◌-◌, length}
 use Rattle.git_modules.specs.ConfigFileBytes.{left_at, past_word}
 use Rattle.git_modules.specs.ConfigFilePieces.{is_of}

@@ -1,4 +1,4 @@
--- What was written so far and the rest of the word are the whole word.
+-- The bytes written so far and the rest of the word are the whole word.
 use Rattle.std.proofs.Common.{◌≡◌, ◌≤◌, ◌+◌, ◌-◌, ◌++◌, length, take}
 use Rattle.git_syntax.specs.Bytes.{lowercase}
 use Rattle.git_modules.specs.ConfigFileBytes.{left_at, word, past_word}

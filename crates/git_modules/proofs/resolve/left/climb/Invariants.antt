@@ -3,7 +3,7 @@ use Rattle.git_modules.specs.ResolveParents.{chopped, form_of, whole_of}
 use Rattle.git_modules.specs.ResolveSteps.{behind_steps, ups}
 use Rattle.git_modules.proofs.resolve.left.climb.Given as goal
 
--- the steps that are left leave what all of them leave
+-- the remaining steps leave the same rest as all of them
 abbrev pub invariant-loop-next : goal.invariant-loop-next
 invariant-loop-next l = record {
   form : l.form ≡ form_of l.parent;

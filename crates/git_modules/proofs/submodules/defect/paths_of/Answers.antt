@@ -1,4 +1,4 @@
--- A submodule more changes what is noted for its path alone.
+-- A submodule more changes the record for its path alone.
 use Rattle.std.proofs.Common.{◌∙◌, ap, option_map, sym}
 use Rattle.git_modules.specs.SubmoduleInternal.{noted_path}
 use Rattle.git_modules.specs.SubmoduleView.{used_value}

@@ -1,4 +1,4 @@
--- A text is of several lines where a line feed is in what it decodes to.
+-- A text is of several lines if a line feed is in its decoding.
 use Rattle.git_modules.proofs.Urls.FeedLemmas.{tells_lines}
 use Rattle.git_modules.proofs.submodules.url.decodes_to_lines.Goals as goal
 

@@ -1,4 +1,4 @@
--- A host is found where the pieces of the text have one.
+-- A host is found if the pieces of the text have one.
 use Rattle.git_modules.proofs.Urls.HostLemmas.{finds_host}
 use Rattle.git_modules.proofs.submodules.url.finds_host.Goals as goal
 

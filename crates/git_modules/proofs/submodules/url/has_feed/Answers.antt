@@ -1,4 +1,4 @@
--- All escapes decoded, there is a line feed where Git has one.
+-- All escapes decoded, there is a line feed if Git has one.
 use Rattle.std.proofs.Common.{rules}
 use Rattle.percent_encoding.specs.Iter.{decoded_bytes}
 use Rattle.git_modules.proofs.Urls.FeedLemmas.{feeds_of}

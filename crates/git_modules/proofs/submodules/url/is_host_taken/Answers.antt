@@ -1,4 +1,4 @@
--- A host has bytes where its piece has.
+-- A host has bytes if its piece has.
 use Rattle.std.proofs.Common.{◌≡◌, ◌==◌, ◌&&◌, ap, arith, length, not, subst, true}
 use Rattle.std.proofs.lemmas.Bool.Decides.{nat_tests}
 use Rattle.git_modules.specs.SubmoduleInternal.{TellsHost}

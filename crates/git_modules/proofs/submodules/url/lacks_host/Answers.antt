@@ -1,4 +1,4 @@
--- There is a host, or none, in what curl would get, if the URL is for curl.
+-- There is a host, or none, in the URL that curl would get, if the URL is for curl.
 use Rattle.git_modules.proofs.Urls.HostLemmas.{lacks_host}
 use Rattle.git_modules.proofs.submodules.url.lacks_host.Goals as goal
 

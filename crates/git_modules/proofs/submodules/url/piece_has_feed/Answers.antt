@@ -1,4 +1,4 @@
--- A line feed is before the first colon, or behind it.
+-- A line feed is before the first colon, or after it.
 use Rattle.std.proofs.Common.{ap, not, refl, subst}
 use Rattle.git_reads.specs.Git.{git_decode}
 use Rattle.git_modules.specs.SubmoduleInternal.{TellsFeed}

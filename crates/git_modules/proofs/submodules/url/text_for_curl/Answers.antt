@@ -1,4 +1,4 @@
--- What curl would get is decided by what follows the first colon.
+-- The URL that curl would get is decided by the text after the first colon.
 use Rattle.git_modules.proofs.Urls.CurlLemmas.{curl_named, curl_other, curl_whole}
 use Rattle.git_modules.proofs.submodules.url.text_for_curl.Goals as goal
 

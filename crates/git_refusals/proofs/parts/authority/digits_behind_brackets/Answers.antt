@@ -1,4 +1,4 @@
--- The bracket in front of a host is closed, and a colon with something behind it marks a port.
+-- The bracket in front of a host is closed, and a colon with something after it marks a port.
 use Rattle.git_syntax.proofs.Parsing.ClassifierLemmas.{nil_tested}
 use Rattle.git_syntax.proofs.Parsing.HostLemmas.{some_tested}
 use Rattle.git_refusals.proofs.Refusing.PartLemmas.{never_open, brackets_alone, brackets_colon, brackets_port}

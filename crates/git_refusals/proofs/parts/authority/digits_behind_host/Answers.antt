@@ -1,4 +1,4 @@
--- Outside brackets the only colon behind a host marks a port, if something follows it.
+-- Outside brackets the only colon after a host marks a port, if something follows it.
 use Rattle.std.proofs.Common.{refl}
 use Rattle.std.proofs.lemmas.Bool.{false≢true}
 use Rattle.git_syntax.proofs.Parsing.ClassifierLemmas.{nil_tested}

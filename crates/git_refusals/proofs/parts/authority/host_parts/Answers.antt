@@ -1,4 +1,4 @@
--- A host is the whole piece, or what is before the colon of a port.
+-- A host is the whole piece, or the text before the colon of a port.
 use Rattle.std.proofs.Common.{arith}
 use Rattle.git_refusals.proofs.Refusing.PartLemmas.{port_within, port_spans}
 use Rattle.git_refusals.proofs.parts.authority.host_parts.Goals as goal

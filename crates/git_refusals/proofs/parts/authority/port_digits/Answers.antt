@@ -1,4 +1,4 @@
--- A piece with a bracket in front has its port behind the brackets, any other behind the host.
+-- A piece with a bracket in front has its port after the brackets, any other after the host.
 use Rattle.std.proofs.Common.{sym, subst, MatchOption}
 use Rattle.git_refusals.specs.Internal.Pieces.{IsHostAlone, HasPort}
 use Rattle.git_refusals.proofs.parts.authority.port_digits.Goals as goal

@@ -1,4 +1,4 @@
--- What was returned was appended.
+-- The returned pieces were appended.
 use Rattle.std.proofs.Common.{◌≡◌, ◌++◌}
 use Rattle.percent_encoding.specs.Percent.{percent_encode}
 use Rattle.percent_encoding.specs.Iter.{encoded_text}

@@ -1,4 +1,4 @@
--- The pieces around the place that was found, or the whole where there is none.
+-- The pieces around the place that was found, or the whole if there is none.
 use Rattle.std.proofs.Common.{refl, true}
 use Rattle.git_syntax.specs.Bytes.{is_path_start}
 use Rattle.git_syntax.proofs.Texts.CutLemmas.{cut_at_place, cut_at_end}

@@ -1,4 +1,4 @@
--- The pieces around the place that was found, or the whole where there is none.
+-- The pieces around the place that was found, or the whole if there is none.
 use Rattle.std.proofs.Common.{refl}
 use Rattle.git_rules.specs.Normal.{is_rest_start}
 use Rattle.git_syntax.proofs.Texts.CutLemmas.{cut_at_place, cut_at_end}

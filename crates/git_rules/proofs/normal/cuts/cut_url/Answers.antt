@@ -1,4 +1,4 @@
--- What doesn't begin with a scheme, a colon and two slashes isn't a URL.
+-- A text that doesn't begin with a scheme, a colon and two slashes isn't a URL.
 use Rattle.std.proofs.Common.{sym}
 use Rattle.git_rules.proofs.NormalForms.NormalCutLemmas.{no_scheme_no_url, no_slash_no_url, one_slash_no_url}
 use Rattle.git_rules.proofs.normal.cuts.cut_url.Goals as goal

@@ -1,4 +1,4 @@
--- What was written so far is the normal form of what precedes the rest.
+-- The text written so far is the normal form of the text before the rest.
 use Rattle.std.proofs.Common.{◌≡◌, ◌≤◌, ◌+◌, ◌*◌, ◌++◌, true, length, take}
 use Rattle.git_syntax.specs.Escapes.{is_sound}
 use Rattle.git_rules.specs.Normal.{normal_text}

@@ -1,4 +1,4 @@
--- The two digits behind a `%`.
+-- The two digits after a `%`.
 use Rattle.git_rules.proofs.NormalForms.NormalTextLemmas.{splits_escape}
 use Rattle.git_rules.proofs.normal.escapes.split_digits.Goals as goal
 

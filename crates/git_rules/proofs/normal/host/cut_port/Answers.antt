@@ -1,4 +1,4 @@
--- A bracket behind the last colon.
+-- A bracket after the last colon.
 use Rattle.std.proofs.Common.{refl}
 use Rattle.std.proofs.lemmas.Bool.{false≢true}
 use Rattle.git_rules.specs.Normal.{CutsPort}

@@ -1,4 +1,4 @@
--- The host is what the text is cut into, or missing.
+-- The host is one of the pieces that the text is cut into, or missing.
 use Rattle.std.proofs.Common.{refl, sym, ap, inl, ◌≡◌, rules, [], codes, length, arith}
 use Rattle.git_rules.proofs.NormalForms.NormalHostLemmas.{name_fits}
 use Rattle.std.proofs.lemmas.List.{nil_from_length}

@@ -1,4 +1,4 @@
--- The pieces of what follows the authority are as sound, and fit the buffer.
+-- The pieces of the text after the authority are as sound, and fit the buffer.
 use Rattle.std.proofs.Common.{◌∙◌, ap, sym, arith}
 use Rattle.git_syntax.specs.Escapes.{is_sound}
 use Rattle.git_rules.proofs.NormalForms.NormalPathLemmas.{sound_cut, sound_unrooted, length-pieces}

@@ -1,4 +1,4 @@
--- A segment is written behind the path of the stack, and taken off again where it is `.` or `..`.
+-- A segment is written after the path of the stack, and taken off again if it is `.` or `..`.
 use Rattle.std.proofs.Common.{◌∙◌, ◌++◌, ap, sym, take, arith}
 use Rattle.git_rules.specs.Normal.{normal_text}
 use Rattle.git_rules.proofs.NormalForms.NormalPathLemmas.{WritesBehind, after_dot, after_dots, after_other, front_length, normal_flat}

@@ -1,4 +1,4 @@
--- What precedes the last `/`.
+-- The text before the last `/`.
 use Rattle.git_rules.proofs.NormalForms.NormalPathLemmas.{top_cut}
 use Rattle.git_rules.proofs.normal.path.without_last.Goals as goal
 

@@ -1,4 +1,4 @@
--- What the front is refused for.
+-- The error of the front.
 use Rattle.std.proofs.Common.{false, length, subst}
 use Rattle.git_rules.specs.NormalFlaws.{NormalizesIn}
 use Rattle.git_rules.proofs.Matched.PlacedLemmas.{front_refused_by}

@@ -1,4 +1,4 @@
--- What was found in the entries so far, for which the buffer sufficed.
+-- The entries found so far, for which the buffer sufficed.
 use Rattle.std.proofs.Common.{length, take, option_copied, All, codes}
 use Rattle.git_rules.specs.PatternEntries.{BufferSuffices}
 use Rattle.git_rules.proofs.Settled.UsedLemmas.{ListedSoFar}

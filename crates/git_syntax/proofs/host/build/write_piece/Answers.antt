@@ -1,4 +1,4 @@
--- Brackets are around what is shown.
+-- Brackets are around the shown text.
 use Rattle.std.proofs.Common.{arith, sym, ◌∙◌}
 use Rattle.git_syntax.proofs.Parsing.RoomLemmas.{bracketed_host, bracketed_host_length, brackets_put}
 use Rattle.git_syntax.proofs.host.build.write_piece.Goals as goal

@@ -1,4 +1,4 @@
--- An address holds no `%`, so the first `%` is where a zone begins.
+-- An address holds no `%`, so the first `%` begins a zone.
 use Rattle.std.proofs.Common.{refl}
 use Rattle.std.proofs.lemmas.Bool.{false≢true}
 use Rattle.git_syntax.proofs.Parsing.HostLemmas.{literal_address, literal_alone, literal_parts, literal_zoned}

@@ -1,4 +1,4 @@
--- The bytes of the scheme and its mark are left out, in this text or in what follows it.
+-- The bytes of the scheme and its mark are left out, in this text or in the text after it.
 use Rattle.std.proofs.Common.{ap, sym, arith}
 use Rattle.git_syntax.specs.Internal.LengthChecks.{is_in_time}
 use Rattle.git_syntax.proofs.Parsing.LengthLemmas.{drop_joined}

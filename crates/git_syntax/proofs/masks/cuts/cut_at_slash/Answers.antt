@@ -1,4 +1,4 @@
--- The pieces around the place of the first slash, or the whole where there is none.
+-- The pieces around the place of the first slash, or the whole if there is none.
 use Rattle.std.proofs.Common.{refl}
 use Rattle.memchr.specs.Find.{is_byte}
 use Rattle.git_syntax.specs.Bytes.{slash}

@@ -1,4 +1,4 @@
--- What the buffers lend are the components of the location.
+-- The components that borrow from the buffers are those of the location.
 use Rattle.std.proofs.Common.{◌∙◌, inl, inr, ap, sym, ⊎_elim, subst}
 use Rattle.git_syntax.specs.Location.{Location}
 use Rattle.git_syntax.specs.Views.{borrowed_scheme}

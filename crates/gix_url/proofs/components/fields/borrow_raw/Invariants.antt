@@ -1,5 +1,5 @@
--- What the rest stands for, behind the names and values so far, is what the whole stands for, and there is
--- room for it; a whole without `+` leaves none in the rest.
+-- The meaning of the rest, after the names and values so far, is the meaning of the whole, and there is
+-- capacity for it; a whole without `+` leaves none in the rest.
 use Rattle.std.proofs.Common.{◌++◌, ◌+◌, ◌≤◌, List, IsTrue, false, length, vec_len, vec_capacity}
 use Rattle.gix_url.specs.declared.components.QueryText.{QueryText}
 use Rattle.git_syntax.specs.Bytes.{FreeOf, plus_sign}

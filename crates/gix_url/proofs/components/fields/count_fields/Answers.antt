@@ -1,5 +1,5 @@
--- At the start the whole is left, as behind an `&`; the fields of
--- the rest begin in its first piece or behind that.
+-- At the start the whole is left, as after an `&`; the fields of
+-- the rest begin in its first piece or after that.
 use Rattle.std.proofs.Common.{◌≡◌, ◌∙◌, ◌+◌, ◌++◌, ◌==◌, ap, sym, arith, length}
 use Rattle.std.proofs.lemmas.List.{length-append, take-append-drop}
 use Rattle.git_syntax.specs.Bytes.{ampersand}

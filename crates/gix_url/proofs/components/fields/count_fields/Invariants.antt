@@ -1,4 +1,4 @@
--- What was counted so far and the fields that begin in the rest make the whole.
+-- The fields counted so far and those that begin in the rest make up the whole.
 use Rattle.std.proofs.Common.{◌≡◌, ◌+◌, ◌≤◌, ◌==◌, length}
 use Rattle.git_syntax.specs.Bytes.{ampersand}
 use Rattle.gix_url.specs.Internal.ComponentPieces.{begun_in, field_count}

@@ -1,4 +1,4 @@
--- A byte is decoded alone, or with two digits behind a `%`.
+-- A byte is decoded alone, or with two digits after a `%`.
 use Rattle.std.proofs.Common.{◌∙◌, ◌+◌, ap, sym, length}
 use Rattle.percent_encoding.specs.Percent.{percent_decode}
 use Rattle.gix_url.proofs.ComponentCuts.MeaningLemmas.{decoded_broken, decoded_escape, decoded_other}

@@ -1,4 +1,5 @@
--- What was counted and what the rest decodes to make the whole, and no more was counted than there are bytes.
+-- The bytes counted so far and the decoding of the rest make up the whole, and no more was counted than there
+-- are bytes.
 use Rattle.std.proofs.Common.{◌≡◌, ◌≤◌, ◌+◌, length}
 use Rattle.percent_encoding.specs.Percent.{percent_decode}
 use Rattle.gix_url.proofs.components.measure.decoded_len.Given as goal

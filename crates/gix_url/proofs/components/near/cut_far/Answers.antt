@@ -1,4 +1,4 @@
--- The text before the place goes before what is cut behind it.
+-- The text before the place precedes the text that is cut after it.
 use Rattle.std.proofs.Common.{◌≡◌, ◌∙◌, ◌+◌, ◌++◌, ◌∷◌, sym, ap, subst, take, drop, length, append_assoc, arith}
 use Rattle.std.proofs.lemmas.List.{take-append-drop, take_at, length-append, length-take-le}
 use Rattle.git_syntax.specs.Bytes.{FreeOf}

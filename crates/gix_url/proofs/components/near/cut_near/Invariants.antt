@@ -1,4 +1,4 @@
--- The bytes so far are none of those that are looked for.
+-- None of the bytes so far is one that is searched for.
 use Rattle.std.proofs.Common.{take}
 use Rattle.git_syntax.specs.Bytes.{FreeOf}
 use Rattle.gix_url.proofs.components.near.cut_near.Given as goal

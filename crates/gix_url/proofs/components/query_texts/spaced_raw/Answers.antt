@@ -1,4 +1,4 @@
--- The byte of the turn has its space, those before it have theirs, and those behind it stay.
+-- The byte of the turn has its space, those before it have theirs, and those after it stay.
 use Rattle.std.proofs.Common.{◌<◌, ◌∙◌, arith, length}
 use Rattle.std.proofs.lemmas.List.{length-set}
 use Rattle.gix_url.proofs.ComponentCuts.LentLemmas.{left_next, spaced_next}

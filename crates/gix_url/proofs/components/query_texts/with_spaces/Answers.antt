@@ -1,4 +1,4 @@
--- The text before the next `+` and a space go behind what was made, and there is room for both.
+-- The text before the next `+` and a space are appended to the result, whose capacity suffices for both.
 use Rattle.std.proofs.Common.{◌+◌, ◌≤◌, ◌∷◌, ◌++◌, ◌∙◌, arith, ap, length, [], vec_len, vec_capacity}
 use Rattle.std.proofs.lemmas.List.{length-append}
 use Rattle.git_syntax.specs.Bytes.{plus_sign}

@@ -1,5 +1,5 @@
--- What was made so far and what the rest stands for, with its spaces,
--- make the whole, and there is room for the rest.
+-- The result so far and the meaning of the rest, with its spaces,
+-- make up the whole, and the capacity suffices for the rest.
 use Rattle.std.proofs.Common.{◌≡◌, ◌++◌, ◌+◌, ◌≤◌, length, vec_len, vec_capacity}
 use Rattle.git_laws.specs.Components.{with_spaces}
 use Rattle.gix_url.specs.Internal.Meanings.{denoted_by}

@@ -1,4 +1,4 @@
--- The pairs so far are copied, and there is room for the others.
+-- The pairs so far are copied, and the capacity suffices for the others.
 use Rattle.std.proofs.Common.{◌≡◌, ◌≤◌, map, length, take, vec_len, vec_capacity}
 use Rattle.gix_url.specs.ComponentViews.{pair_bytes, pair_borrowed}
 use Rattle.gix_url.proofs.components.same.copied_pairs.Given as goal

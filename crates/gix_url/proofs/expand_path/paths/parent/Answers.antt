@@ -1,4 +1,4 @@
--- The last piece is cut off, and what is idle before it.
+-- The last piece is cut off, and the idle bytes before it.
 use Rattle.std.proofs.Common.{arith}
 use Rattle.std.proofs.lemmas.Bool.Decides.{nat_tests}
 use Rattle.gix_url.proofs.Homes.PathLemmas.{parent_above, parent_of_first}

@@ -1,4 +1,4 @@
--- A folder is ready where it is empty or ends in `/`, and is made so by a `/`.
+-- A folder is ready if it is empty or ends in `/`, and is made so by a `/`.
 use Rattle.std.proofs.Common.{refl, sym, subst, ap, ◌<◌, ◌∙◌, ◌++◌, length, arith}
 use Rattle.std.specs.String.{string_bytes}
 use Rattle.std.proofs.lemmas.Bool.Decides.{nat_tests}

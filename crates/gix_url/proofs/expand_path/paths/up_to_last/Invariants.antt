@@ -1,4 +1,4 @@
--- Behind the front comes what is idle.
+-- After the front come idle bytes.
 use Rattle.std.proofs.Common.{◌≡◌, ◌++◌, List, ℕ, length}
 use denote.Text.{Utf8}
 use denote.Shadow.{shadow}

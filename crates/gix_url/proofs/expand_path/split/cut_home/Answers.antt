@@ -1,4 +1,4 @@
--- A path that begins with `/~` is these two bytes and what follows; any other doesn't begin so.
+-- A path that begins with `/~` is these two bytes and the rest; any other doesn't begin so.
 use Rattle.std.proofs.Common.{ap, refl, inl, inr, ◌∙◌, ◌∷◌}
 use Rattle.git_syntax.specs.Bytes.{slash, tilde}
 use Rattle.git_syntax.specs.Grammar.{begins_at_home}

@@ -1,4 +1,4 @@
--- What is found and what is refused is what reading answers.
+-- The results are those of reading.
 use Rattle.gix_url.proofs.Unique.ReaderLemmas.{reads_by}
 use Rattle.gix_url.proofs.location.Url.from_text.Goals as goal
 

@@ -1,4 +1,4 @@
--- What is read of the text that a settled location was written as is that location again.
+-- The location that is read from the text that a settled location was written as is that location again.
 use Rattle.gix_url.proofs.Writing.OwnedLemmas.{read_again}
 use Rattle.gix_url.proofs.location.Url.reread.Goals as goal
 

@@ -1,4 +1,4 @@
--- Each part decides where those before it don't.
+-- Each part decides if those before it don't.
 use Rattle.std.proofs.Common.{rules, ◌≡◌, nat_cmp}
 use Rattle.std.specs.Option.{option_cmp}
 use Rattle.std.specs.Ordering.{bool_cmp}

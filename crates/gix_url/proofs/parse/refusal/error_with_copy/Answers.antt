@@ -1,4 +1,4 @@
--- The error holds what its refusal names, and the copy that it keeps.
+-- The error has the flaw that its refusal names, and the copy that it keeps.
 use Rattle.std.proofs.Common.{refl, sym, ◌∙◌}
 use Rattle.gix_url.proofs.parse.refusal.error_with_copy.Goals as goal
 

@@ -1,4 +1,4 @@
--- What is reported of the location and the request that are built is reported of those that are passed.
+-- The report for the built location and request is the report for the passed ones.
 use Rattle.std.proofs.Common.{subst}
 use mathlib.Core.Logic.{inr}
 use Rattle.gix_url_c.specs.Codes.{UnlessMemory}

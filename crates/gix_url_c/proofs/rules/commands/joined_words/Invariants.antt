@@ -1,4 +1,4 @@
--- What was appended is the words so far.
+-- The words so far were appended.
 use Rattle.std.proofs.Common.{◌≡◌, map, take}
 use Rattle.std.specs.List.{concat}
 use Rattle.bstr.specs.Owned.{bstring_bytes}

@@ -1,4 +1,4 @@
--- What was appended are the lengths of the words so far.
+-- The lengths of the words so far were appended.
 use Rattle.std.proofs.Common.{◌≡◌, length, map, take}
 use Rattle.bstr.specs.Owned.{bstring_bytes}
 use Rattle.gix_url_c.proofs.rules.commands.word_lengths.Given as goal

@@ -1,4 +1,4 @@
--- The next entry is read and kept, or what is none ends the reading.
+-- The next entry is read and kept, or an item that is none ends the reading.
 use Rattle.std.proofs.Common.{◌∙◌, [], ◌∷◌, ◌++◌, ap, subst, sym}
 use Rattle.git_rules.specs.ConfigItems.{ReadsItems, start}
 use Rattle.gix_url_c.specs.EntryNumbers.{ReadsUpTo}

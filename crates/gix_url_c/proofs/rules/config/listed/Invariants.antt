@@ -1,4 +1,4 @@
--- What was read so far are the entries that were kept.
+-- The entries read so far are those that were kept.
 use Rattle.std.proofs.Common.{◌≡◌, map, Ok}
 use Rattle.git_rules.specs.ConfigItems.{start}
 use Rattle.gix_url_c.specs.EntryNumbers.{ReadsUpTo}

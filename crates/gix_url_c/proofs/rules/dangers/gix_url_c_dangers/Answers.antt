@@ -1,4 +1,4 @@
--- What is reported of the location that is built is reported of the one that is passed.
+-- The report for the built location is the report for the passed one.
 use Rattle.std.proofs.Common.{subst}
 use mathlib.Core.Logic.{inr}
 use Rattle.gix_url_c.specs.Codes.{UnlessMemory}

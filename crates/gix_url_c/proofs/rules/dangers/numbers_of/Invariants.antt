@@ -1,4 +1,4 @@
--- What was appended are the numbers of the dangers so far.
+-- The numbers of the dangers so far were appended.
 use Rattle.std.proofs.Common.{◌≡◌, map, take}
 use Rattle.gix_url_c.specs.DangerNumbers.{danger_number}
 use Rattle.gix_url_c.proofs.rules.dangers.numbers_of.Given as goal

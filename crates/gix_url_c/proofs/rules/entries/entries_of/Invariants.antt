@@ -1,4 +1,4 @@
--- What was copied are the entries so far.
+-- The entries so far were copied.
 use Rattle.std.proofs.Common.{◌≡◌, take}
 use Rattle.gix_url_c.specs.Entries.{entries_passed}
 use Rattle.gix_url_c.proofs.rules.entries.entries_of.Given as goal

@@ -1,4 +1,4 @@
--- What was appended is the texts so far.
+-- The texts so far were appended.
 use Rattle.std.proofs.Common.{◌≡◌, map, take}
 use Rattle.std.specs.List.{concat}
 use Rattle.gix_url_c.proofs.rules.pieces.joined.Given as goal

@@ -1,4 +1,4 @@
--- What was appended are the lengths of the texts so far.
+-- The lengths of the texts so far were appended.
 use Rattle.std.proofs.Common.{◌≡◌, length, map, take}
 use Rattle.gix_url_c.proofs.rules.pieces.lengths_of.Given as goal
 

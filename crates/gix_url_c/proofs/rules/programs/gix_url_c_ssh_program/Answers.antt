@@ -1,4 +1,4 @@
--- What is reported by the entries is reported by those that are passed.
+-- The report for the entries is the report for the passed entries.
 use Rattle.std.proofs.Common.{◌∙◌, subst}
 use mathlib.Core.Logic.{inr}
 use Rattle.gix_url_c.specs.ProgramNumbers.{ReportsProgram, settings_passed}

@@ -1,4 +1,4 @@
--- A request that is put is what the credential code reads.
+-- A request that is put is the one that the credential code reads.
 use Rattle.std.specs.Prelude.{MatchOption}
 use Rattle.std.proofs.Common.{subst}
 use mathlib.Core.Logic.{inr}

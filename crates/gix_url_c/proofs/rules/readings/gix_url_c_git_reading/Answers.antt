@@ -1,4 +1,5 @@
--- A place that is put is what Git reads, and why there is none is what the reading returns.
+-- A place that is put is the one that Git reads, and the reason why there is none is the one that the reading
+-- returns.
 use Rattle.std.proofs.Common.{refl}
 use mathlib.Core.Logic.{inl, inr}
 use Rattle.git_reads.specs.Views.{git_reading}

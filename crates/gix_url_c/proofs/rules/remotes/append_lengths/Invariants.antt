@@ -1,4 +1,4 @@
--- What was appended are the lengths of the texts so far.
+-- The lengths of the texts so far were appended.
 use Rattle.std.proofs.Common.{◌≡◌, ◌++◌, length, map, take}
 use Rattle.git_rules.specs.Rewrites.{outcome_text}
 use Rattle.gix_url_c.proofs.rules.remotes.append_lengths.Given as goal

@@ -1,4 +1,4 @@
--- The next text is put behind those before it.
+-- The next text is put after those before it.
 use Rattle.std.proofs.Common.{append_assoc, append-nil, arith}
 use Rattle.std.proofs.lemmas.List.{map_more}
 use Rattle.std.proofs.lemmas.List.Folds.{concat-append}

@@ -1,4 +1,4 @@
--- What is rewritten by the rules is rewritten by those of the entries.
+-- A text that is rewritten by the rules is rewritten by those of the entries.
 use Rattle.std.proofs.Common.{subst}
 use mathlib.Core.Logic.{inr}
 use Rattle.git_rules.specs.Rewrites.{IsRewritten}

@@ -1,4 +1,4 @@
--- What is reported by the entries is reported by those that are passed.
+-- The report for the entries is the report for the passed entries.
 use Rattle.std.proofs.Common.{◌∙◌, subst}
 use Rattle.git_rules.specs.RewriteEntries.{rules_of}
 use Rattle.git_rules.specs.Rewrites.{IsRewritten}

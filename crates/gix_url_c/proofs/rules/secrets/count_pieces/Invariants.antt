@@ -1,4 +1,4 @@
--- What was counted are the pieces so far.
+-- The pieces so far were counted.
 use Rattle.std.proofs.Common.{◌≡◌, ◌++◌, length, map}
 use Rattle.git_audit.specs.Secrets.{parts_of, piece_part}
 use Rattle.gix_url_c.specs.Answers.{reported_length}

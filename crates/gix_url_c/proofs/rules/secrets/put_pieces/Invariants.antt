@@ -1,4 +1,4 @@
--- What was put are the numbers of the pieces so far.
+-- The numbers of the pieces so far were put.
 use Rattle.std.proofs.Common.{◌≡◌, ◌++◌, length, map}
 use Rattle.std.specs.List.{flat_map}
 use Rattle.git_audit.specs.Secrets.{parts_of, piece_part}

@@ -1,4 +1,4 @@
--- What was appended is the names so far.
+-- The names so far were appended.
 use Rattle.std.proofs.Common.{◌≡◌, take}
 use Rattle.gix_url_c.specs.SubmoduleNumbers.{submodule_names}
 use Rattle.gix_url_c.proofs.rules.submodules.names_of.Given as goal

@@ -1,4 +1,4 @@
--- What was appended are the numbers of the submodules so far.
+-- The numbers of the submodules so far were appended.
 use Rattle.std.proofs.Common.{◌≡◌, take}
 use Rattle.std.specs.List.{flat_map}
 use Rattle.gix_url_c.specs.SubmoduleNumbers.{submodule_numbers}

@@ -1,4 +1,4 @@
--- The parts are put one behind the other.
+-- The parts are put one after the other.
 use Rattle.std.proofs.Common.{[], refl, rules, append_assoc}
 use Rattle.gix_url_c.proofs.BufferLemmas.{BeginsWith, put_behind}
 use Rattle.gix_url_c.proofs.rules.submodules.put_parts.Goals as goal

@@ -1,4 +1,4 @@
--- What was written are the entries so far.
+-- The entries so far were written.
 use Rattle.std.proofs.Common.{◌≡◌, map, take}
 use Rattle.std.specs.List.{flat_map}
 use Rattle.gix_url_c.specs.EntryNumbers.{entry_numbers, entry_texts}

@@ -1,4 +1,4 @@
--- By what was passed.
+-- By the bytes so far.
 use Rattle.std.proofs.Common.{◌∙◌, arith, sym}
 use Rattle.git_audit.proofs.Secrets.ClassLemmas.{passed_all, passed_here, passed_more, passed_none}
 use Rattle.git_audit.proofs.secret.mark.Class.first.Goals as goal

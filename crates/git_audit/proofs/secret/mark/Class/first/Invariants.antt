@@ -1,4 +1,4 @@
--- No byte of the class is in what was passed.
+-- No byte of the class is in the bytes so far.
 use Rattle.git_audit.proofs.Secrets.ClassLemmas.{Passed}
 use Rattle.git_audit.proofs.secret.mark.Class.first.Given as goal
 

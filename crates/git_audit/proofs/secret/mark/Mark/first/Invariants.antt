@@ -1,4 +1,4 @@
--- No mark is in what was passed.
+-- No mark is in the bytes so far.
 use Rattle.git_audit.proofs.Secrets.MarkLemmas.{Passed}
 use Rattle.git_audit.proofs.secret.mark.Mark.first.Given as goal
 

@@ -1,4 +1,4 @@
--- By what was passed.
+-- By the bytes so far.
 use Rattle.std.proofs.Common.{◌∙◌, ap, arith, sym, ◌-◌}
 use Rattle.git_audit.specs.Secrets.{begins_as}
 use Rattle.git_audit.proofs.Secrets.MarkLemmas.{last_found, none_is_last, none_at_end, none_from}

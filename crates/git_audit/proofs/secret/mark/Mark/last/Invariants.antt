@@ -1,4 +1,4 @@
--- No mark is in what was passed, which is behind the place.
+-- No mark is in the bytes so far, which is after the place.
 use Rattle.std.proofs.Common.{◌≡◌, drop, None}
 use Rattle.git_audit.specs.Secrets.{last_mark}
 use Rattle.git_audit.proofs.secret.mark.Mark.last.Given as goal

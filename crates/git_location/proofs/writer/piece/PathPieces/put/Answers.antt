@@ -1,4 +1,4 @@
--- The mark, the escapes, and nothing behind them.
+-- The mark, the escapes, and nothing after them.
 use Rattle.std.proofs.Common.{◌++◌, ap, subst, append-nil}
 use Rattle.git_location.proofs.Writing.PieceLemmas.{on_ok}
 use Rattle.git_location.proofs.writer.piece.PathPieces.put.Goals as goal

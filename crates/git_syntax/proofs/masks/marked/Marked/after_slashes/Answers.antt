@@ -1,4 +1,4 @@
--- What is before the rest: two slashes.
+-- The text before the rest: two slashes.
 use Rattle.std.proofs.Common.{[], ◌∷◌}
 use Rattle.git_syntax.specs.Bytes.{slash}
 use Rattle.git_syntax.proofs.masks.marked.Marked.after_slashes.Goals as goal

@@ -1,4 +1,4 @@
--- What is before the rest: the front and the mark.
+-- The text before the rest: the front and the mark.
 use Rattle.std.proofs.Common.{[], ◌∷◌, ◌++◌, sym, ◌∙◌, append_assoc}
 use Rattle.git_syntax.specs.Bytes.{colon}
 use Rattle.git_syntax.proofs.masks.marked.Marked.cut_at_colon.Goals as goal

@@ -1,4 +1,4 @@
--- What the text stands for is cut where the front that was counted ends.
+-- The meaning of the text is cut if the front that was counted ends.
 use Rattle.std.proofs.Common.{arith, ◌∙◌}
 use Rattle.gix_url.proofs.ComponentCuts.MeaningLemmas.{Parts, meant_front, meant_behind, meant_within}
 use Rattle.gix_url.proofs.components.cuts.EscapedText.around.Goals as goal

@@ -1,4 +1,4 @@
--- The empty text stands for itself.
+-- The empty text denotes itself.
 use Rattle.std.proofs.Common.{sym}
 use Rattle.gix_url.proofs.ComponentCuts.MeaningLemmas.{denoted-nil}
 use Rattle.gix_url.proofs.components.cuts.EscapedText.nothing.Goals as goal
