@@ -12,7 +12,8 @@ use git_syntax::find::find;
 impl<'a> UrlRef<'a> {
     /// Reads the one location that the bytes spell, like [`parse`]. Allocates nothing. The fields of the result
     /// are slices of the text or of `buffer`; no clause says which. The code copies a field to the buffer
-    /// only if its bytes differ from the text, as with an escape or with a capital letter in a host.
+    /// only if an escape in it is decoded, and a host also if it has a capital letter, brackets, or a colon
+    /// without a port.
     ///
     /// A buffer as long as the text always suffices; with a shorter one every text that spells a location gives
     /// `NoRoom`. Errors need no buffer. The contents of the buffer after the call are unspecified; that it is
