@@ -419,13 +419,14 @@ static gix_url_error error_with(const row *row, size_t buffer, size_t array) {
     return row->error == GIX_URL_OK && is_short ? GIX_URL_NO_ROOM : row->error;
 }
 
-/* Makes the call with buffers of these sizes, and then with each of its requests refused. Of refused memory it reports no more
- * than that; the dangers of a text may be listed by fewer requests. */
+/* Makes the call with buffers of these sizes, and then with each of its requests refused, which it reports; the dangers of a text
+ * may be listed by fewer requests. Only a call that may report it requests memory, and gix_url_parse only for a long text. */
 static void answers(const row *row, const input *in, size_t buffer, size_t array) {
     gix_url_error wanted = error_with(row, buffer, array);
     HOLDS(leaves(row, in, buffer, array, 0) == wanted);
     size_t requests = requests_made();
-    HOLDS(requests == 0 || calls[row->call].errors & BIT(MEMORY));
+    bool is_near = row->call == PARSE && in->text.len <= 256;
+    HOLDS(requests == 0 || (calls[row->call].errors & BIT(MEMORY) && !is_near));
     for (size_t number = 1; number <= requests; number++) {
         gix_url_error error = leaves(row, in, buffer, array, number);
         HOLDS(error == GIX_URL_MEMORY || (row->call == DANGERS && error == wanted));
