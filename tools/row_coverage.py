@@ -1,10 +1,13 @@
 """The calls without a row: public functions of the library, and calls that the program `answers` makes."""
+import json
 import re
 
 from public_items import files_of, public_items
 from rt_api import LAYERS, LIBRARIES
 
 PROGRAM = "answers"
+# A large order or outcome has more bytes.
+LARGE = 1 << 21
 # The items of lower layers for upper ones: public by a type or a module that the library re-exports, and not for users.
 OF_LAYERS = {
     "SchemeRef::of_known_scheme", "UrlRef::canonical_pieces", "UrlRef::form", "UrlRef::helper_pieces", "UrlRef::is_settled_as",
@@ -51,12 +54,18 @@ def program_calls():
     return found
 
 
+def is_large(row):
+    """Whether a row of a table of large texts has one, in its order or in its outcome."""
+    is_listed = row.place.partition(".")[0].endswith("large")
+    return is_listed and max(len(row.order()), len(json.dumps(row.expected))) > LARGE
+
+
 def missing_calls(table):
     """The calls of both libraries that have no row, or request memory and have no row with a large text; and the calls that
     rows name and the program doesn't make."""
     named, made = {it.members.get("call") for it in table}, program_calls()
     allocating = {it.members.get("call") for it in table if it.requests}
-    large = {it.members.get("call") for it in table if it.place.partition(".")[0].endswith("large")}
+    large = {it.members.get("call") for it in table if is_large(it)}
     faults = [f"{it} has no row" for it in sorted((contracts().keys() | made) - named)]
     faults += [f"{it} isn't a call that the library passes on" for it in sorted(OF_LAYERS - passed_calls().keys())]
     faults += [f"{it} asks for memory and has no row with a large text" for it in sorted(allocating - large)]

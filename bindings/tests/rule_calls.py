@@ -34,8 +34,8 @@ def config(order):
 
 def indices(entries, of):
     """The indices of entries in a configuration, by their positions."""
-    begins = [it.at for it in of.entries]
-    return [begins.index(it.at) for it in entries]
+    places = {it.at: index for index, it in enumerate(of.entries)}
+    return [places[it.at] for it in entries]
 
 
 def read_listing(order):

@@ -1,7 +1,7 @@
 //! Texts that are decoded into a caller's buffer.
 //!
-//! Each function returns the text that a slice denotes: the slice itself if it has the same bytes, and else the
-//! front of the buffer. It also returns the unused rest of the buffer.
+//! Each function returns the text that a slice denotes: the slice itself if a quick test shows that it has the
+//! same bytes, and else the front of the buffer. It also returns the unused rest of the buffer.
 
 ghost use Rattle.std.specs.Prelude.{◌≡◌, ◌+◌, ◌≤◌, IfSome, length};
 ghost use Rattle.std.specs.Option.{option_copied};

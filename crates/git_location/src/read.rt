@@ -12,14 +12,14 @@ use git_syntax::find::find;
 use git_syntax::simple::{SimplePieces, simple_pieces};
 
 impl<'a> UrlRef<'a> {
-    /// Reads the one location that the bytes spell, like [`parse`], without an allocation. The fields of the
+/// Reads the one location that the bytes spell, like [`parse`], without an allocation. The fields of the
     /// result are slices of the text or of `buffer`; no clause says which. The code copies a field to the
-    /// buffer only if its bytes are not in the text, as with an escape or with a capital letter in a host.
+    /// buffer only if an escape in it is decoded, and a host also if it has a capital letter, brackets, or a
+    /// colon without a port.
     ///
-    /// A buffer as long as the text always suffices. With a shorter one, the only possible error for a text
-    /// that spells a location is `NoRoom`; that the code always returns it is tested, not proved. Any other
-    /// text is refused whatever the length of the buffer. The contents of the buffer after the call are
-    /// unspecified; that it is unchanged after an error is tested, not proved.
+    /// A buffer as long as the text always suffices. With a shorter one every text that spells a location gives
+    /// `NoRoom`. Any other text is refused whatever the length of the buffer. The contents of the buffer after
+    /// the call are unspecified; that it is unchanged after an error is tested, not proved.
     ///
     /// # Errors
     ///

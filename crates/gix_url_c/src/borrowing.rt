@@ -1,5 +1,6 @@
-//! The export that reads and borrows. A part is a slice of the text if the text has its bytes, and otherwise of the
-//! caller's buffer. A caller who copies the parts copies them once.
+//! The export that reads and borrows. A part is a slice of the caller's buffer if an escape in it was decoded, and a
+//! host also if it has a capital letter, brackets, or a colon without a port; any other is a slice of the text. A
+//! caller who copies the parts copies them once.
 
 ghost use Rattle.std.specs.Prelude.{◌≡◌, length};
 ghost use Rattle.gix_url_c.specs.Codes.{memory, no_problem};

@@ -18,6 +18,7 @@ use Rattle.git_syntax.specs.Grammar.{begins_at_home}
 use Rattle.git_laws.proofs.Writing.WrittenPieces.{IsEscapedPiece, WritesPath, as_read}
 use Rattle.git_syntax.proofs.Texts.EscapeLemmas.{decode_kept, decode_encode_utf8, encode_byte_kept, encode_sound, sound_free, sound_kept, utf8_byte, utf8_encode, white_space-append, white_space_byte}
 use Rattle.git_syntax.proofs.Texts.EscapeSets.{path_holds, white_space_path}
+use Rattle.git_syntax.proofs.ByMasks.SimpleTextLemmas.{home_kept}
 use Rattle.std.proofs.lemmas.Str.{IsUtf8-append}
 
 -- ---- a path and its writing
@@ -285,10 +286,6 @@ homes : (v : Location) → (v.scheme ≡ ssh) ⊎ (v.scheme ≡ git) → HasHome
 homes v (inl e) = subst HasHomes (sym e) record { roots = refl; plain = λ path. refl; denoted = λ path. refl }
 homes v (inr e) = subst HasHomes (sym e) record { roots = refl; plain = λ path. refl; denoted = λ path. refl }
 
--- a path that isn't written below a home folder stays
-pub homeless_kept : (path : List ℕ) → begins_at_home path ≡ false → from_home path ≡ path
-homeless_kept path h1 = grind (arith, nat_tests, cond-false)
-
 -- a rooted path isn't empty
 some_rooted : (path : List ℕ) → begins_with slash path ≡ true → 0 < length path
 some_rooted [] begins = absurd (false≢true begins)
@@ -299,7 +296,7 @@ rooted_rawly : (v : Location) → HasHomes v.scheme → begins_with slash v.path
 rooted_rawly v facts begins other = record {
   root = cond-false _ _ _ (and_right _ _ (not_from_true _ begins));
   starts = other_starts v.path (inr begins);
-  denoted = facts.denoted v.path ∙ homeless_kept v.path other;
+  denoted = facts.denoted v.path ∙ home_kept v.path other;
   present = λ needed. some_rooted v.path begins;
   plain = facts.plain v.path;
 }

@@ -26,7 +26,7 @@ use Rattle.git_syntax.proofs.Parsing.FormLemmas.{address_cut, addressed_joined, 
 use Rattle.git_syntax.proofs.Parsing.ClassifierLemmas.{helper_front}
 use Rattle.git_syntax.proofs.Parsing.ScpLemmas.{escaped_some}
 use Rattle.git_syntax.proofs.Unique.UniqueLemmas.{bracketed_address_named}
-use Rattle.git_laws.proofs.Writing.WrittenPathLemmas.{homeless_kept}
+use Rattle.git_syntax.proofs.ByMasks.SimpleTextLemmas.{home_kept}
 use Rattle.git_syntax.specs.Internal.HostPieces.{in_brackets}
 use Rattle.std.proofs.lemmas.Str.{IsUtf8-append}
 use Rattle.git_laws.proofs.Writing.KeptLemmas.{value_of}
@@ -44,7 +44,7 @@ scp_value_of v h scheme s host =
 
 -- the location that is read is the value without a spelling
 scp_value_read : (user : Option (List ℕ)) (host path : List ℕ) → begins_at_home path ≡ false → scp_value user host path None ≡ scp_location user host path
-scp_value_read user host path h = ap (λ p. scp_value user host p None) (sym (homeless_kept path h))
+scp_value_read user host path h = ap (λ p. scp_value user host p None) (sym (home_kept path h))
 
 -- ---- texts
 

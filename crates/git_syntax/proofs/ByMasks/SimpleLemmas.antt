@@ -18,16 +18,7 @@ use Rattle.git_syntax.proofs.Parsing.ClassifierLemmas.{colon_nonempty, local_for
 use Rattle.git_syntax.proofs.Parsing.FormLemmas.{not_scp}
 use Rattle.git_syntax.proofs.Texts.CutLemmas.{held_free, not_free}
 
--- a text without a colon is a local path
-pub free_local : (b : List ℕ) → 0 < length b → FreeOf colon b → SpellsLocal b (path_alone file true b)
-free_local b some free = record {
-  nonempty = some;
-  neither = record { no_helper = no_helper_free b free; no_mark = held_free b free };
-  no_scp = not_scp b (λ front path form. not_free colon front path (subst (λ t. FreeOf colon t) form.joined free));
-  value = refl;
-}
-
--- so is one with a slash before its only colon
+-- a text with a slash before its only colon is a local path
 pub slashed_local : (b front rest : List ℕ) → is_common b ≡ true → ColonCut b front rest → ((behind : List ℕ) → ¬ (rest ≡ slash ∷ (slash ∷ behind)))
     → FreeOf colon rest → ¬ FreeOf slash front → SpellsLocal b (path_alone file true b)
 slashed_local b front rest common cut no_mark free slashed =
@@ -35,12 +26,6 @@ slashed_local b front rest common cut no_mark free slashed =
     let no_scp = no_scp_cut b front rest (around_colon b front rest common cut) slashed in
     let form = local_form b (colon_nonempty b front rest cut) neither (not_addressed b common) no_scp in
     record { nonempty = form.nonempty; neither = form.neither; no_scp = form.no_scp; value = refl }
-
--- a name before two colons makes a remote helper
-pub simple_helper : (b front rest address : List ℕ) → ColonCut b front rest → rest ≡ colon ∷ address → is_helper_name front ≡ true
-    → IsSimpleText b (path_alone (helper_scheme front) true address)
-simple_helper b front rest address cut marked named =
-    helper_text (record { name = front; address = address; parts = record { named = named; joined = cut.joined ∙ ap (λ r. front ++ colon ∷ r) marked }; value = refl })
 
 -- a simple host before the only colon makes the scp form
 pub simple_scp : (b front rest : List ℕ) (user : Option (List ℕ)) (host : List ℕ) → is_common b ≡ true → ColonCut b front rest → ((behind : List ℕ) → ¬ (rest ≡ slash ∷ (slash ∷ behind)))

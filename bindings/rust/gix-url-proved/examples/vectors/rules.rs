@@ -92,9 +92,11 @@ fn configuration(order: &Order) -> Configuration {
     Configuration::from_listing(order.bytes("config")).expect("an order has a listing")
 }
 
-/// The index of an entry in a listing in which all positions differ.
-fn index(configuration: &Configuration, entry: &Entry<'_>) -> String {
-    configuration.entries().position(|it| it.at == entry.at).expect("it is an entry of the configuration").to_string()
+/// The indices of entries in a listing, whose positions increase.
+fn indices(configuration: &Configuration, entries: &[Entry<'_>]) -> String {
+    let positions: Vec<usize> = configuration.entries().map(|it| it.at).collect();
+    let index = |entry: &Entry<'_>| positions.binary_search(&entry.at).expect("it is an entry of the configuration");
+    list(entries.iter().map(|entry| index(entry).to_string()))
 }
 
 /// Calls over the entries of a configuration.
@@ -157,7 +159,7 @@ fn told_permission(order: &Order, call: &str) -> String {
 }
 
 fn told_settings(configuration: &Configuration, name: &str, text: &[u8]) -> String {
-    told(configuration.settings(name, text), |it| list(it.entries.iter().map(|entry| index(configuration, entry))))
+    told(configuration.settings(name, text), |it| indices(configuration, &it.entries))
 }
 
 /// The value of the best entry for a URL. For an entry of `of_pattern`, whether it applies.
@@ -179,7 +181,7 @@ fn of_pattern(pattern: &[u8]) -> Configuration {
 
 fn told_credentials(configuration: &Configuration, found: &Credentials<'_>) -> String {
     object([
-        ("helpers", Some(list(found.helpers.iter().map(|entry| index(configuration, entry))))),
+        ("helpers", Some(indices(configuration, &found.helpers))),
         ("user", found.user.as_ref().map(quoted)),
         ("use_http_path", Some(found.use_http_path.to_string())),
     ])

@@ -1,0 +1,83 @@
+#!/usr/bin/env python3
+"""Executes orders as vectors.py does, with a pattern in each buffer and in each result before a call. After an error all of
+them have to be unchanged, apart from lengths if a buffer is too short, and after a result what is behind it. The buffers of
+calls over a configuration begin with one element, so that most are too short at first."""
+import ctypes
+import os
+import sys
+
+sys.dont_write_bytecode = True
+sys.path.append(f"{os.path.dirname(os.path.realpath(__file__))}/../python")
+import gix_url
+import vectors
+from gix_url import _calls, _library
+
+PATTERN = 0xA5
+
+
+def fill(items):
+    """The array or the struct, filled with the pattern."""
+    ctypes.memset(ctypes.byref(items), PATTERN, ctypes.sizeof(items))
+    return items
+
+
+def is_blank(items, used=0):
+    """Whether all behind this many bytes holds the pattern."""
+    return set(bytes(memoryview(items).cast("B"))[used:]) <= {PATTERN}
+
+
+class Checked:
+    """An export over a configuration or a text, whose buffers and results are checked around each call."""
+
+    def __init__(self, name):
+        self.name, self.call, self.export = name, _calls.CALLS[name], getattr(_library.lib, f"gix_url_{name}")
+
+    def __call__(self, *given):
+        count, first = len(self.call.buffers), len(self.call.given)
+        buffers = [fill(it) for it in given[first : first + 2 * count : 2]]
+        stored = [it._obj for it in given[first + 2 * count :]]
+        results, sizes = stored[: bool(self.call.result)], stored[bool(self.call.result) :][:count]
+        for it in (*results, *sizes):
+            fill(it)
+        error = self.export(*given)
+        used = [it.value for it in (sizes[::-1] if self.call.is_turned else sizes)]
+        assert error == 0 or all(map(is_blank, (*buffers, *results))), f"{self.name} changes a buffer or a result with error {error}"
+        assert error in (0, _calls._NO_ROOM) or all(map(is_blank, sizes)), f"{self.name} stores a length with error {error}"
+        behind = (is_blank(it, number * ctypes.sizeof(it._type_)) for it, number in zip(buffers, used))
+        assert error or all(behind), f"{self.name} writes behind its result"
+        # The package made what isn't stored 0.
+        for it in () if error == 0 else results if error == _calls._NO_ROOM else (*results, *sizes):
+            ctypes.memset(ctypes.byref(it), 0, ctypes.sizeof(it))
+        return error
+
+
+class Library:
+    """The library with checked calls."""
+
+    def __init__(self):
+        for name in _calls.CALLS:
+            setattr(self, f"gix_url_{name}", Checked(name))
+
+
+class Located:
+    """An export over locations: the buffer that it takes holds the pattern until it succeeds."""
+
+    def __init__(self, export):
+        self.export = export
+
+    def __call__(self, *given):
+        buffers = [fill(it) for it in given if isinstance(it, ctypes.Array)]
+        error = self.export(*given)
+        assert error == 0 or all(map(is_blank, buffers)), f"a buffer is changed with error {error}"
+        return error
+
+
+def main():
+    _calls.lib, _calls._START = Library(), 1
+    for name in ("parse", "from_parts", "write", "display", "path_query_fragment", "reason_name", "reason_words"):
+        setattr(gix_url.lib, f"gix_url_{name}", Located(getattr(gix_url.lib, f"gix_url_{name}")))
+    vectors.main()
+
+
+if __name__ == "__main__":
+    main()
