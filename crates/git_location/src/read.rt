@@ -12,7 +12,7 @@ use git_syntax::find::find;
 use git_syntax::simple::{SimplePieces, simple_pieces};
 
 impl<'a> UrlRef<'a> {
-/// Reads the one location that the bytes spell, like [`parse`], without an allocation. The fields of the
+    /// Reads the one location that the bytes spell, like [`parse`], without an allocation. The fields of the
     /// result are slices of the text or of `buffer`; no clause says which. The code copies a field to the
     /// buffer only if an escape in it is decoded, and a host also if it has a capital letter, brackets, or a
     /// colon without a port.

@@ -18,8 +18,8 @@ use bstr::BStr;
 use build::{build, build_simple};
 use git_refusals::read;
 use git_syntax::find::find;
-use git_syntax::simple::simple_pieces;
 pub use git_syntax::refusal::UrlKind;
+use git_syntax::simple::simple_pieces;
 use refusal::error_of;
 use std::alloc::Global;
 

@@ -53,7 +53,16 @@ pub(super) fn build_simple(alloc: Global, pieces: SimplePieces<'_>) -> Result<Ur
     let user = copy_if_some(alloc, pieces.user)?;
     let host = copy_if_some(alloc, pieces.host)?;
     let path = copy(alloc, pieces.path)?;
-    Ok(from_fields(scheme, user, None, host, pieces.flag, pieces.port, path, None))
+    Ok(from_fields(
+        scheme,
+        user,
+        None,
+        host,
+        pieces.flag,
+        pieces.port,
+        path,
+        None,
+    ))
 }
 
 /// A copy of the scheme.
