@@ -1,11 +1,11 @@
-//! Makes calls of the library and reports their results, which `scripts/vectors` compares with the rows of `vectors/`.
+//! Makes calls of the library and reports their results, which `tests/rows` compares with the rows of `vectors/`.
 //!
 //! Each line of the standard input is an order: one call, as JSON. Its result is one line of JSON. `order` parses
 //! orders, `build` builds the inputs of calls, `calls` is the table of calls, `rules` that of calls of `git_rules`, and
 //! `report` and `parts` report results.
 //!
 //! All memory except the call's own is allocated before the call is made, and an order can end there. So
-//! `scripts/hostile` can count the allocations of a call, and refuse each of them.
+//! `tests/hostile` can count the allocations of a call, and refuse each of them.
 #![tactic(auto)]
 
 mod build;

@@ -1,6 +1,6 @@
 //! The examples of the documents and of the doc comments, letter by letter. Each is proved to be safe and to terminate.
 //!
-//! `scripts/documents` refuses a block of code in a document that isn't in one of these files. A block of
+//! `tests/documents` refuses a block of code in a document that isn't in one of these files. A block of
 //! `docs/CALLING.md` with clauses is in `crates/user_proofs`.
 #![tactic(auto)]
 

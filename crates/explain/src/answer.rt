@@ -4,7 +4,7 @@
 //! `explain_report` finds which parts of the line may be shown, the facts about a location or the reason of a parse
 //! error, likely mistakes, and what Git does with the line by a configuration. `shown` lays these out for people, and
 //! `only` prints one part; with `--json` the report is one object, and `--html` adds the object and the row of the line
-//! to the page. `scripts/hostile` and the stored run test the reports.
+//! to the page. `tests/programs` and the stored run test the reports.
 
 use crate::results::Origin;
 use crate::style::{Layout, Style};

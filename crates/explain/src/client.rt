@@ -1,6 +1,6 @@
 //! The program that Git runs for Secure Shell: by a configuration and variables of the environment, or by default.
 //!
-//! `scripts/hostile commands` compares the commands with those that Git runs.
+//! `tests/programs/test_ssh_commands.py` compares the commands with those that Git runs.
 
 use git_rules::config::Entry;
 use git_rules::protocols::Protocols;

@@ -1,8 +1,8 @@
 //! The command with which Git fetches from a location of Secure Shell, as a line for a POSIX shell; or why there is
 //! none.
 //!
-//! The contract of `git_rules::ssh` specifies the words, and `client` finds the program. `scripts/hostile commands`
-//! compares the commands with those that Git runs.
+//! The contract of `git_rules::ssh` specifies the words, and `client` finds the program.
+//! `tests/programs/test_ssh_commands.py` compares the commands with those that Git runs.
 
 use crate::answer::Line;
 use crate::client::Client;

@@ -1,7 +1,7 @@
 //! The lines of the input, and the report about each of them.
 //!
 //! The lines are those of files, of arguments or of standard input. Each report is written as soon as the line is read.
-//! `scripts/hostile arguments` tests which lines are read.
+//! `tests/programs/test_command_lines.py` tests which lines are read.
 
 use crate::answer::Line;
 use crate::commands;

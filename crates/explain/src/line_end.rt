@@ -1,6 +1,6 @@
 //! The end of a line of the input.
 //!
-//! `scripts/hostile arguments` tests which lines are read.
+//! `tests/programs/test_command_lines.py` tests which lines are read.
 
 /// The end of a line of the input.
 #[derive(Clone, Copy)]

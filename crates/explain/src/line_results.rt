@@ -1,6 +1,6 @@
 //! The results about lines and remotes in a SARIF log.
 //!
-//! The messages are the words that people see. `scripts/hostile arguments` tests logs.
+//! The messages are the words that people see. `tests/programs/test_command_lines.py` tests logs.
 
 use crate::answer::{Line, Notes};
 use crate::results::{Origin, push_items};

@@ -1,6 +1,6 @@
 //! The output for a submodule of a file: rows for people, a JSON object for programs, results of a log.
 //!
-//! `scripts/hostile arguments` tests the output.
+//! `tests/programs/test_command_lines.py` tests the output.
 
 use crate::line_results::add_route;
 use crate::remote_rows::{routed, value};

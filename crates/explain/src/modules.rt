@@ -1,6 +1,6 @@
 //! Reports about the submodules of a file.
 //!
-//! `scripts/hostile arguments` tests the output, and the files that are refused.
+//! `tests/programs/test_command_lines.py` tests the output, and the files that are refused.
 
 use crate::results::Origin;
 use crate::source::text_of;

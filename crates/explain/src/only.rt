@@ -1,7 +1,7 @@
 //! One part of each location on a line of its own, for scripts.
 //!
-//! A password can't be requested. A part is taken from the line as it is shown. `scripts/hostile golden` tests the
-//! output.
+//! A password can't be requested. A part is taken from the line as it is shown. `tests/programs/test_golden.py`
+//! tests the output.
 
 use bstr::ByteSlice;
 use explain_report::memory::no_memory;

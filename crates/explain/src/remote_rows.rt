@@ -1,6 +1,6 @@
 //! The output for a remote of a configuration: rows for people, a JSON object for programs.
 //!
-//! `scripts/hostile rules` tests the output.
+//! `tests/programs/test_explain_rules.py` tests the output.
 
 use crate::results::Origin;
 use crate::shown::row;

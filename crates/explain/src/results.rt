@@ -1,7 +1,7 @@
 //! A SARIF log: its beginning with the tool and its rules, its results, and its end.
 //!
 //! Each result begins with a comma, which is omitted when the first one is written, so the log is written result by
-//! result. `scripts/hostile arguments` tests logs.
+//! result. `tests/programs/test_command_lines.py` tests logs.
 
 use crate::options::VERSION;
 use crate::style::{Layout, Style};

@@ -1,6 +1,6 @@
 //! The rows for people about what Git does by a configuration, for a terminal.
 //!
-//! `explain_report` has the rows. `scripts/hostile rules` tests the output.
+//! `explain_report` has the rows. `tests/programs/test_explain_rules.py` tests the output.
 
 use crate::shown::row;
 use explain_report::rules::rows::{Piece, Row};

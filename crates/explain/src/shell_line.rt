@@ -1,6 +1,6 @@
 //! A command as a line for a POSIX shell: a variable, a program and words, each in quotes if a shell needs them.
 //!
-//! `scripts/hostile commands` runs the lines in a shell.
+//! `tests/programs/test_ssh_commands.py` runs the lines in a shell.
 
 use crate::client::Client;
 use bstr::BString;

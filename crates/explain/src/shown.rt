@@ -1,7 +1,7 @@
 //! Reports for people: a heading, and a row for each fact.
 //!
 //! Texts are in quotes with their control characters escaped, each byte in one way, so that no line of input can send
-//! control sequences to a terminal. `scripts/hostile golden` tests the output.
+//! control sequences to a terminal. `tests/programs/test_golden.py` tests the output.
 
 use crate::answer::{Line, Notes};
 use crate::paint::short::is_long;

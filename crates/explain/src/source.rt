@@ -1,6 +1,6 @@
 //! Reads the configuration: the file that `--config` names, or standard input, and five variables.
 //!
-//! `scripts/hostile rules` tests which files are read and which are refused.
+//! `tests/programs/test_explain_rules.py` tests which files are read and which are refused.
 
 use git_rules::config::is_listing;
 use std::alloc::AllocError;

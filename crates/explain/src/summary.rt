@@ -1,7 +1,7 @@
 //! The summary of all lines: how many lines there are of each form, verdict, danger and host.
 //!
 //! The memory of a summary grows with the number of different hosts, not with the number of lines.
-//! `scripts/hostile arguments` tests summaries.
+//! `tests/programs/test_command_lines.py` tests summaries.
 
 mod danger_counts;
 mod table;

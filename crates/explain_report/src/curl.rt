@@ -1,8 +1,8 @@
 //! The host and the port that curl connects to for the text of a location of HTTP, and the path that it requests.
 //!
 //! No definition says how libcurl reads a text: each function here is a step of libcurl 7.88.1. The stored run compares
-//! the results with `curl_reads` of `tools/web_reads.py`, a second implementation, which `scripts/web_witness` compares
-//! with libcurl itself.
+//! the results with `curl_reads` of `tools/web_reads.py`, a second implementation, which `tests/witnesses/test_web.py`
+//! compares with libcurl itself.
 
 ghost use Rattle.std.specs.Prelude.{◌≤◌};
 

@@ -1,6 +1,6 @@
 -- The readings of the text of a location of HTTP by two other readers: Git's credential code, and a reader of
 -- URIs of RFC 3986, like libcurl for texts in the normal form. This is a model of libcurl, not proved of it:
--- `scripts/web_witness` compares the two.
+-- `tests/witnesses/test_web.py` compares the two.
 use Rattle.std.specs.Prelude.{◌≡◌, ℕ, ◌<◌, Bool, true, false, ◌||◌, ◌==◌, ◌⊎◌, List, [], ◌∷◌, ◌++◌, decimal, codes, Option, Some, None, IfSome, option_map, if◌then◌else◌}
 use Rattle.std.specs.List.{list_all}
 use Rattle.std.specs.Char.{is_ascii_alphanumeric, is_ascii_digit}

@@ -1,5 +1,5 @@
 -- URLs of submodules that Git's fsck refuses. No proof shows that Git follows this definition:
--- `scripts/rules_witness` compares them.
+-- `tests/witnesses/test_rules.py` compares them.
 use Rattle.std.specs.Prelude.{◌≡◌, ℕ, ◌<◌, ◌⊎◌, Bool, true, false, ◌||◌, ◌==◌, bytes_eq, codes, List, ◌++◌, length, Option, Some, None}
 use Rattle.std.specs.List.{concat, list_any, list_all}
 use Rattle.git_syntax.specs.Bytes.{newline, slash, colon, FreeOf, Lacks, Holds, begins_by, is_option_like, is_path_start, StartsPath}

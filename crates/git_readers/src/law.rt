@@ -15,7 +15,7 @@ ghost use Rattle.git_readers.specs.ReaderLaws.{ReadByAll, UrlReadByAll};
 /// - `urls`: so does a reader of URLs only, like one of RFC 3986, in a text that is a URL.
 ///
 /// A law is a call with an empty body. That the readers in use are of the family is tested, not proved:
-/// `scripts/readers_witness` runs them.
+/// `tests/witnesses/test_readers.py` runs them.
 pub fn law_unambiguous()
     ensures all { ReadByAll }
     ensures urls { UrlReadByAll }

@@ -1,5 +1,5 @@
 -- What Git's credential code reads in a text before it asks helpers for a user and a password. This is a model
--- of Git, not proved of it: `scripts/web_witness` compares the two.
+-- of Git, not proved of it: `tests/witnesses/test_web.py` compares the two.
 use Rattle.std.specs.Prelude.{◌≡◌, ℕ, ◌<◌, Bool, true, false, ◌||◌, ◌==◌, List, [], ◌∷◌, ◌++◌, length, codes, Option, Some, None, IfSome, if◌then◌else◌}
 use Rattle.std.specs.List.{list_all}
 use Rattle.git_syntax.specs.Bytes.{newline, slash, colon, at_sign, Lacks, FreeOf, begins_with, Holds, is_path_start, StartsPath}
