@@ -7,6 +7,7 @@ is asked of a command that reads the entry: `ls-remote` over HTTP, and for a tex
 """
 import re
 
+from git_reads import git_reads
 from git_runs import Entry, answers_of, listed, rooms
 from row_text import text_of
 from second_reading import grammar
@@ -88,13 +89,20 @@ def name_of(said):
     return None
 
 
+def is_of_its_scheme(text):
+    """Whether the library reads a location in the text, whose scheme is the protocol in which Git reads the text by its definition, if Git
+    reads a place. `test_git.py` has the other texts, as `[:/]:p`."""
+    location = grammar.spells(text)
+    return location is not None and all(it.protocol == grammar.as_str(location.scheme).decode("latin-1") for it in git_reads(text))
+
+
 def names(texts):
     """The calls of the library for the texts, and for those that it reads as locations, each with the transport that Git names. After `--` a
     text that begins with `-` isn't an option."""
     for text, found in zip(texts, map(name_of, ask([([], b"none-of-these", None, it) for it in texts]))):
         if found is not None and not text.startswith(b"-"):
             yield {"call": "text::transport_of", "text": text_of(text)}, found
-        if isinstance(found, str) and grammar.spells(text) is not None:
+        if isinstance(found, str) and is_of_its_scheme(text):
             yield {"call": "protocols::transport", "url": text_of(text)}, found
 
 
