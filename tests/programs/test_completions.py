@@ -16,28 +16,11 @@ FOLDER = f"{ROOT}/completions"
 # The words of a command line, the last one to be completed, and the completions.
 COMPLETED = [
     (("explain", "--o"), "--only"),
-    (("explain", "--only", "f"), "fragment"),
-    (("explain", "--only", ""), "scheme user host port path query fragment text"),
     (("explain", "--only", "=", "qu"), "query"),
-    (("explain", "--only", "="), "scheme user host port path query fragment text"),
     (("explain", "--color", "a"), "auto always"),
-    (("explain", "--con"), "--config"),
     (("explain", "--fail-on", "r"), "refused"),
-    (("explain", "--config", f"{FOLDER}/_e"), f"{FOLDER}/_explain"),
-    (("explain", "--nu"), "--null"),
-    (("explain", "--ss"), "--ssh"),
-    (("explain", "--su"), "--summary"),
-    (("explain", "--cr"), "--crlf"),
-    (("explain", "--j"), "--json"),
-    (("explain", "--ht"), "--html"),
-    (("explain", "--sa"), "--sarif"),
-    (("explain", "--gi"), "--gitmodules"),
-    (("explain", "--pa"), "--parent"),
-    (("explain", "--gitmodules", f"{FOLDER}/_e"), f"{FOLDER}/_explain"),
-    (("explain", "--qu"), "--quiet"),
-    (("explain", "h"), ""),
-    (("explain", "--", "--o"), ""),
     (("explain", "-f", f"{FOLDER}/_e"), f"{FOLDER}/_explain"),
+    (("explain", "--", "--o"), ""),
 ]
 # Prints the results of the function that bash keeps for the first word, for all of them.
 ASK = """source "$1"; shift; COMP_WORDS=("$@"); COMP_CWORD=$(($# - 1))

@@ -1,26 +1,18 @@
 """Settings of a URL: `http.<url>.*`, `credential.<url>.*`, and the headers that Git sends.
 
 `git config --get-urlmatch SECTION URL` returns the entry that Git uses for each name, so one run covers as many sets of entries as a
-configuration has names. It doesn't print a normal form, for which there is a rule by hand. `git credential fill` shows what Git does by
+configuration has names. It doesn't print the normal forms by which it compares URLs. `git credential fill` shows what Git does by
 `credential.*`: each entry is a helper that reports its number, a name for the user, or whether helpers get the path of HTTP. The values of
 `http.extraHeader` accumulate: `git ls-remote` runs with a proxy on 127.0.0.1, which records the headers of a request and refuses it. Each
 entry names a header of its own, and the user agent names the case.
-
-Of normal forms git-config(1) says: all URLs are normalized before they are compared, the password is ignored, and a missing port is
-the scheme's default port. The details left open follow RFC 3986: scheme and host in lower case, zeros of a port and the
-scheme's default port left out, segments `.` and `..` removed from the path, and escapes in one form.
 """
-import functools
 import re
 import threading
-from collections import namedtuple
 from http.server import BaseHTTPRequestHandler, ThreadingHTTPServer
-from urllib.parse import quote, unquote_to_bytes
 
 from git_runs import Entry, answers_of, listed, rooms
 from row_text import text_of
 from texts import pieces_of
-from web_reads import cut_at_first
 
 ASK = r"""
 while [ $# -gt 0 ]; do GIT_DIR="$1" git config --get-urlmatch http "$2" 2>&1; printf '\0'; shift 2; done
@@ -59,7 +51,7 @@ def used(said):
 
 
 def matches(configurations):
-    """The calls of the library for sets of entries and URLs, each with Git's outcome, and for the normal forms of the URLs."""
+    """The calls of the library for sets of entries and URLs, each with Git's outcome."""
     with rooms([[it for entries in sets for it in entries] for sets, _ in configurations]) as (room, environment, folders):
         asked = asked_of(configurations, folders)
         said = answers_of(ASK, room, environment, [word for folder, _, url in asked for word in (folder, url)], each=2)
@@ -74,62 +66,13 @@ def matches(configurations):
                 pattern, is_used = {"pattern": text_of(entries[0].place), "text": text_of(url)}, outcome is not None
                 yield {"call": "UrlPattern::matches", **pattern}, REFUSED if outcome == REFUSED else is_used
                 yield {"call": "pattern::best", **pattern}, REFUSED if outcome == REFUSED else 0 if is_used else None
-    for url in sorted({url for _, _, url in asked}):
-        found = normal(url)
-        parts = {name: int(one) if name == "port" else text_of(one) for name, one in found._asdict().items() if one is not None} if found else REFUSED
-        yield {"call": "NormalUrl::parse_in", "text": text_of(url)}, parts
 
 
-# ---- normal forms
-
-# The user is None if there is no user information, and empty if that is empty; a port is None if it is the scheme's default
-# port; the path includes the query and the fragment.
-Normal = namedtuple("Normal", "scheme user host port path")
-URL = re.compile(rb"([A-Za-z][A-Za-z0-9+.-]*)://([^/?#]*)/?([^?#]*)(.*)", re.S)
-BROKEN_ESCAPE, HOST = re.compile(rb"%(?![0-9A-Fa-f]{2})"), re.compile(rb"[A-Za-z0-9._:\[\]-]*")
-OWN_PORTS = {b"http": b"80", b"https": b"443"}
-
-
-def escaped(text):
-    """Escapes in one form: one for each byte that no URL may contain, and for no byte that is never reserved."""
-    raw = quote(text, safe="%:/?#[]@!$&'()*+,;=")
-    return re.sub("%..", lambda it: quote(unquote_to_bytes(it[0]), safe=""), raw).encode()
-
-
-def without_dots(segments):
-    """The segments without `.` and `..`, each of which removes the one before it; None if there is none."""
-    found = []
-    for it in segments:
-        if it == b".." and not found:
-            return None
-        found = found[:-1] if it == b".." else found if it == b"." else [*found, it]
-    return found
-
-
-def host_and_port(scheme, named):
-    """The host and the port, None if they aren't allowed: only `file` may have no host, and then it has no port."""
-    host, colon, digits = named.rpartition(b":")
-    if not colon or b"]" in digits:
-        host, digits = named, b""
-    number = digits.lstrip(b"0") or digits[-1:]
-    is_port = not number or re.fullmatch(rb"[0-9]{1,5}", number) and 0 < int(number) < 65536
-    is_host = named[:1] not in (b"", b":") or scheme == b"file" and not digits
-    if not is_port or not is_host or not HOST.fullmatch(host):
-        return None
-    return host.lower(), None if number in (b"", OWN_PORTS.get(scheme)) else number
-
-
-@functools.lru_cache(1 << 17)
-def normal(text):
-    found = URL.fullmatch(text)
-    if found is None or BROKEN_ESCAPE.search(text):
-        return None
-    scheme, authority, path, rest = found.groups()
-    user, _, named = cut_at_first(authority)
-    where, segments = host_and_port(scheme.lower(), named), without_dots(escaped(it) for it in path.split(b"/"))
-    if where is None or segments is None:
-        return None
-    return Normal(scheme.lower(), user if user is None else escaped(user), *where, b"/" + b"/".join(segments) + escaped(rest))
+def without_normal_form(urls):
+    """Those of the URLs that Git refuses to compare with others."""
+    with rooms([[]]) as (room, environment, (folder,)):
+        said = answers_of(ASK, room, environment, [word for it in urls for word in (folder, it)], each=2)
+    return {url for url, it in zip(urls, said) if used(it) is None}
 
 
 # ---- headers
@@ -157,11 +100,11 @@ def headers(configurations):
         words = [word for at, (folder, _, url) in enumerate(asked) for word in (folder, url, str(at).encode())]
         answers_of(ASK_HEADERS, room, environment, words, each=3)
     proxy.shutdown()
-    for at, (_, entries, url) in enumerate(asked):
-        text, about = url.removesuffix(b"/") + b"/", {"config": text_of(listed(entries)), "name": "extraHeader"}
-        if str(at) in proxy.seen:
-            own = {"call": "settings::settings_for", "text": text_of(text)} if normal(text) else {"call": "settings::settings_without_place"}
-            yield {**own, **about}, proxy.seen[str(at)]
+    sent = [(url.removesuffix(b"/") + b"/", entries, proxy.seen[str(at)]) for at, (_, entries, url) in enumerate(asked) if str(at) in proxy.seen]
+    refused = without_normal_form([text for text, *_ in sent])
+    for text, entries, found in sent:
+        own = {"call": "settings::settings_without_place"} if text in refused else {"call": "settings::settings_for", "text": text_of(text)}
+        yield {**own, "config": text_of(listed(entries)), "name": "extraHeader"}, found
 
 
 # ---- credentials
