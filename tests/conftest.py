@@ -16,12 +16,12 @@ ROOT = os.path.dirname(os.path.dirname(os.path.realpath(__file__)))
 
 
 def has(name):
-    return bool(shutil.which(name) or importlib.util.find_spec(name))
+    return bool(name() if callable(name) else shutil.which(name) or importlib.util.find_spec(name))
 
 
 def pytest_runtest_setup(item):
-    """A test with the mark `needs` is skipped where a command or a module that it names is missing."""
-    missing = [name for mark in item.iter_markers("needs") for name in mark.args if not has(name)]
+    """A test with the mark `needs` is skipped where something that it names is missing."""
+    missing = [getattr(name, "__name__", name) for mark in item.iter_markers("needs") for name in mark.args if not has(name)]
     if missing:
         (pytest.fail if os.environ.get("CI") == "true" else pytest.skip)(f"{', '.join(missing)} is missing: scripts/needs installs it")
 
@@ -32,7 +32,7 @@ def pytest_addoption(parser):
 
 
 def pytest_configure(config):
-    config.addinivalue_line("markers", "needs(*names): the commands and modules of Python without which a test is skipped")
+    config.addinivalue_line("markers", "needs(*names): the commands and modules of Python, and functions that find something, without which a test is skipped")
 
 
 @pytest.fixture(scope="session", autouse=True)

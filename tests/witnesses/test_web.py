@@ -34,7 +34,7 @@ from web_plain import CONDITIONS, STRICTER, broken, is_number
 from web_reads import credential_reads, curl_reads, literal
 from web_wire import wire_faults
 
-pytestmark = [pytest.mark.needs("git"), pytest.mark.skipif(library_of_git() is None, reason="git-remote-http or its libcurl is missing")]
+pytestmark = pytest.mark.needs("git", library_of_git)
 COUNT, TEXTS = 26_000, made(WebMaker)
 # The number of texts for Git's credential code, and for `git ls-remote`; None for all.
 SCALES = [pytest.param(3_000, 120, marks=pytest.mark.sample, id="sample"), pytest.param(None, 500, marks=pytest.mark.whole, id="whole")]
