@@ -1,7 +1,7 @@
 """A second reading of `GitReads`, the definition of Git's reading of a text (`crates/git_reads/specs/Git.antt`).
 
 Each function is a relation of the definition, and returns everything that it relates to its arguments: it tries every split of
-the text, and checks the condition of each case. It doesn't call Git: `tests/witnesses` compares it with Git. `unread`
+the text, and checks the condition of each case. It doesn't call Git: `tests/witnesses/test_readers.py` compares it with Git. `unread`
 returns the reason why a text has no reading, by its name in `explain`.
 """
 import re

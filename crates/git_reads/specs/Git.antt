@@ -1,7 +1,7 @@
 -- What Git's own transports read in a text that is the name of a remote, on Linux. A text has no reading here
 -- if Git passes it to a remote helper, reads it as an option or refuses it, or if Secure Shell refuses its
--- user. This is a model of Git, not proved of it: `tests/witnesses/test_git.py` compares a second reading of the model
--- with Git.
+-- user. This is a model of Git, not proved of it: `tests/witnesses/test_git.py` compares `transport::reading`, which is
+-- proved of the model, with Git.
 use Rattle.std.specs.Prelude.{◌≡◌, ℕ, zero, suc, ◌+◌, ◌*◌, ◌<◌, Bool, false, not, ◌&&◌, ◌||◌, ◌==◌, nat_le, ◌⊎◌, List, [], ◌∷◌, ◌++◌, length, codes, Option, Some, None, if◌then◌else◌}
 use Rattle.std.specs.List.{list_all}
 use Rattle.std.specs.Char.{digit_value, is_ascii_digit}
