@@ -6,19 +6,18 @@ usage: scripts/page_template.py             writes crates/explain_page/src/templ
 
 The template is crates/explain_page/page/page.html. A slot is `<!-- name -->`, outside of style and script. The slot `policy` becomes
 the content security policy, which allows the style and the script of the template by their hashes and nothing else; the others
-are filled in by the program. A block of data isn't run. `scripts/documents` asks for `faults()`.
+are filled in by the program. A block of data isn't run. `tests/documents` asks for `faults()`.
 """
 import base64
 import hashlib
-import os
 import re
 import sys
 
 sys.dont_write_bytecode = True
 sys.path.append(f"{sys.path[0]}/../tools")
-from rt_api import ROOT
+from rt_api import ROOT, read
 
-SOURCE, CODE = (f"{ROOT}/crates/explain_page/{it}" for it in ("page/page.html", "src/template.rt"))
+SOURCE, CODE = "crates/explain_page/page/page.html", "crates/explain_page/src/template.rt"
 SLOTS = ("title", "lines", "dangerous", "rows", "hints", "data")
 SLOT = re.compile(r"<!-- (\w+) -->")
 INLINE = re.compile(r"<(style|script)>(.*?)</\1>", re.S)
@@ -63,7 +62,6 @@ def code(html):
 
 
 def template_faults(html):
-    """What is wrong with the template."""
     found = set(SLOT.findall(html))
     yield from (f"no slot {it}" for it in ("policy", *SLOTS) if it not in found)
     yield from (f"an unknown slot {it}" for it in sorted(found - {"policy", *SLOTS}))
@@ -79,18 +77,11 @@ def template_faults(html):
         yield "a byte that is not ASCII, or a text that ends a string"
 
 
-def read(path):
-    if not os.path.exists(path):
-        return ""
-    with open(path, encoding="utf-8") as it:
-        return it.read()
-
-
 def faults():
     html = read(SOURCE)
-    yield from (f"crates/explain_page/page/page.html: {it}" for it in template_faults(html))
+    yield from (f"{SOURCE}: {it}" for it in template_faults(html))
     if read(CODE) != code(html):
-        yield "crates/explain_page/src/template.rt isn't what scripts/page_template.py writes"
+        yield f"{CODE} isn't what scripts/page_template.py writes"
 
 
 def main(words):
@@ -99,7 +90,7 @@ def main(words):
     for it in found:
         print(f"page_template: {it}", file=sys.stderr)
     if not found and not words:
-        with open(CODE, "w", encoding="utf-8") as it:
+        with open(f"{ROOT}/{CODE}", "w", encoding="utf-8") as it:
             it.write(code(html))
     return 1 if found else 0
 

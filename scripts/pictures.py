@@ -6,7 +6,7 @@ usage: scripts/pictures.py                 writes docs/pictures/*.svg and docs/e
        scripts/pictures.py --terminal      the same, after it has stored the output of `explain` (`scripts/built`, or EXPLAIN)
 
 A row is `name = terms`: a quoted text is literal, a word is another row or a set of bytes, `[x]` may be missing, `{x}` occurs
-any number of times, `(x | y)` is one of them. `scripts/documents` calls `faults()`: the pictures that are not current.
+any number of times, `(x | y)` is one of them. `tests/documents` calls `faults()`: the pictures that are not current.
 """
 import os
 import re
@@ -16,7 +16,7 @@ from html import escape
 sys.dont_write_bytecode = True
 sys.path.append(f"{sys.path[0]}/../tools")
 import terminal
-from rt_api import ROOT
+from rt_api import ROOT, read
 
 FOLDER = f"{ROOT}/docs/pictures"
 TERMINAL = "../explain"
@@ -40,8 +40,7 @@ class Box:
         self.width, self.up, self.down = COLUMN * len(self.word) + 2 * GAP, HEIGHT // 2, HEIGHT // 2
 
     def draw(self, x, y):
-        kind = ' class="text"' if self.is_text else ' rx="10"'
-        yield f'<rect x="{x}" y="{y - self.up}" width="{self.width}" height="{HEIGHT}"{kind}/>'
+        yield f'<rect x="{x}" y="{y - self.up}" width="{self.width}" height="{HEIGHT}"' + (' class="text"/>' if self.is_text else ' rx="10"/>')
         yield f'<text x="{x + self.width / 2:g}" y="{y}">{escape(self.word)}</text>'
 
 
@@ -49,9 +48,7 @@ class Line:
     """An empty part: only the line."""
 
     width = up = down = 0
-
-    def draw(self, x, y):
-        yield from ()
+    draw = staticmethod(lambda x, y: ())
 
 
 class Sequence:
@@ -135,10 +132,7 @@ def diagram(terms):
 
 
 def rows():
-    """The rows of the grammar, by their names."""
-    with open(f"{ROOT}/docs/GRAMMAR.md", encoding="utf-8") as it:
-        block = re.search(r"(?ms)^```text\n(helper = .*?)^```$", it.read())[1]
-    return dict(re.findall(r"(?m)^([\w-]+) += (.*)$", block))
+    return dict(re.findall(r"(?m)^([\w-]+) += (.*)$", re.search(r"(?ms)^```text\n(helper = .*?)^```$", read("docs/GRAMMAR.md"))[1]))
 
 
 # Locations, each text with the name of its field, or None for a separator.
@@ -147,8 +141,8 @@ LOCATIONS = (
     (("https", "scheme"), ("://", ""), ("user", "user"), (":", ""), ("secret", "password"), ("@", ""), ("example.com", "host"),
      ("/path?query#fragment", "path")),
 )
+# The colours of fields, and the columns of a character of a location.
 COLOURS = {"scheme": "#8e44ad", "user": "#c0392b", "password": "#148f8f", "host": "#1f6fb2", "port": "#b9770e", "path": "#1e8449"}
-# The columns of a character of a location.
 WIDE = 12
 
 
@@ -170,7 +164,6 @@ def fields(location, y):
 
 
 def locations():
-    """The locations, each below the other."""
     width = WIDE * max(sum(len(text) for text, _ in it) for it in LOCATIONS)
     return framed(width + 4 * GAP, 188, [mark for number, it in enumerate(LOCATIONS) for mark in fields(it, 24 + 114 * number)])
 
@@ -182,25 +175,19 @@ def pictures():
 def faults():
     """The pictures that differ from the output of this script, and those that no document shows."""
     wanted = {f"{name}.svg": text for name, text in pictures().items()}
-    for name in sorted({*wanted, *(os.listdir(FOLDER) if os.path.isdir(FOLDER) else [])}):
-        path = f"{FOLDER}/{name}"
-        if name.endswith(".svg"):
-            stored = None
-            if os.path.exists(path):
-                with open(path, encoding="utf-8") as it:
-                    stored = it.read()
-            if stored != wanted.get(name):
-                yield f"{os.path.normpath(f'docs/pictures/{name}')} isn't what scripts/pictures.py draws"
+    for name in sorted({*wanted, *(it for it in os.listdir(FOLDER) if it.endswith(".svg"))}):
+        path = os.path.normpath(f"docs/pictures/{name}")
+        if not os.path.exists(f"{ROOT}/{path}") or read(path) != wanted.get(name):
+            yield f"{path} isn't what scripts/pictures.py draws"
 
 
 def main():
     if sys.argv[1:] == ["--terminal"]:
-        output = terminal.printed()
-        with open(terminal.STORED, "wb") as stored:
-            stored.write(output)
+        printed = terminal.printed()
+        with open(f"{ROOT}/{terminal.STORED}", "wb") as it:
+            it.write(printed)
     elif sys.argv[1:]:
         sys.exit(__doc__)
-    os.makedirs(FOLDER, exist_ok=True)
     for name, text in pictures().items():
         with open(f"{FOLDER}/{name}.svg", "w", encoding="utf-8") as it:
             it.write(text)

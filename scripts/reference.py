@@ -5,7 +5,7 @@ what is promised is seen there.
 
 usage: scripts/reference.py --write
 
-`scripts/documents` asks for `faults()`: pages that are not those of the sources.
+`tests/documents` asks for `faults()`: pages that are not those of the sources.
 """
 import glob
 import os
@@ -18,18 +18,13 @@ from definitions import named_in
 from doc_comments import documented, of_module, own_words, parted, sentence
 from public_items import DOC, documented_items, sources_of
 from reference_names import PASSED, anchors, by_last_name, crates, link, module_of, modules, name_for_programs, target
-from rt_api import LAYERS, LIBRARIES, ROOT
+from rt_api import LAYERS, LIBRARIES, ROOT, read
 
 FOLDER = "docs/reference"
 INDEX, HEAD = f"{FOLDER}/README.md", "<!-- Written by `scripts/reference.py --write`. -->\n"
 # The start of a clause, or of a statement in an implementation of a trait; a documented member.
 STATED = re.compile(r"(?m)^ *(?:(ensures|requires)(?: (\w+))?|ghost (\w+) =) (?=\{)")
 MEMBER = re.compile(r"(?m)((?:^( +)///.*\n)+)(?: +#\[.*\n)* *(?:pub )?(?:fn |type |const )?(\w+)")
-
-
-def read(name):
-    with open(f"{ROOT}/{name}", encoding="utf-8") as it:
-        return it.read()
 
 
 def stated(text):
@@ -81,7 +76,6 @@ def origin(crate, path, file):
 
 
 def item(crate, path):
-    """The section of an item."""
     module, text = documented_items(crate)[path]
     public, file = module_of(crate, path), f"crates/{crate}/src/{'/'.join(module) or 'lib'}.rt"
     head = f'<a id="{anchors(crate)[path]}"></a>\n\n{"#" * (2 + bool(public) + order(crate, path)[2])} `{path}`\n'
@@ -118,7 +112,6 @@ def contents(crate):
 
 
 def page(crate):
-    """The page of a crate."""
     yield f"{HEAD}\n# {crate}\n\n{of_module(crate, ())}\n"
     yield from contents(crate)
     items = sorted(documented_items(crate), key=lambda it: order(crate, it))

@@ -13,7 +13,6 @@ TAKEN = re.compile(r"(?m)^ *(?:ghost |pub )?use Rattle\.(\w+)\.specs\.([\w.]+?)(
 
 
 def plain(comment):
-    """The words of a comment, in one line."""
     return " ".join(line.strip().removeprefix("--").strip() for line in comment.splitlines())
 
 

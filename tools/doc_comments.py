@@ -36,12 +36,10 @@ def parted(words):
 
 
 def of_module(crate, module, page=None):
-    """The Markdown of the head of a module."""
     return documented(crate, module, "".join(f"//! {it}" for it in HEAD_COMMENT.findall(sources_of(crate).get(module, ""))), page)
 
 
 def own_words(text):
-    """The doc comment of an item."""
     found = OWN.match(text)
     return "".join(DOC.findall(found[0])) if found else ""
 

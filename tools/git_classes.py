@@ -1,13 +1,14 @@
 """The classes of texts in which Git and this library read different things.
 
 The classes that mean another machine or another user come first, then those of another path, of the same place spelled
-differently, and of texts that only one side refuses.
+differently, and of texts that only one side refuses. A case is a text and its readings. A class returns, for a case, the parts that
+differ because of it. A difference belongs to the classes that together return all of its parts, and is counted in the first of them.
 """
 import re
 from collections import namedtuple
 from functools import cached_property
 
-from witness import class_of, of, told  # rules_ssh.py has class_of from here.
+from row_text import text_of
 
 # The reading of a side: the protocol, `helper NAME` if Git passes it to another program, and the parts that are present.
 Reading = namedtuple("Reading", "protocol user password host port path")
@@ -19,6 +20,28 @@ ESCAPE = re.compile(rb"%([0-9A-Fa-f]{2})")
 # The form of a URL for Git.
 URL = re.compile(rb"[0-9A-Za-z][0-9A-Za-z+.-]*://(.*)", re.S)
 WHERE, ALL = "user host port", "user host port path"
+
+
+def of(parts, is_there=lambda case: True):
+    """The class of such cases, in which these parts differ. Only a case that differs in one of them is tested."""
+    names = frozenset(parts.split())
+    return lambda case: names if case.differing & names and is_there(case) else frozenset()
+
+
+def class_of(case, classes):
+    """The name of the class in which a difference is counted; None if the classes don't return all of its parts."""
+    named = {name: case.differing & parts(case) for name, parts in classes.items()}
+    if frozenset().union(*named.values()) < case.differing:
+        return None
+    return next(name for name, found in named.items() if found)
+
+
+def told(reading):
+    """A reading in one line, in the form of the examples."""
+    if not isinstance(reading, tuple):
+        return f"refused {reading or ''}".strip()
+    first, *parts = (text_of(it) if isinstance(it, bytes) else it for it in reading)
+    return " ".join([first, *(f"{name}={it}" for name, it in zip(reading._fields[1:], parts) if it is not None)])
 
 
 class Case:

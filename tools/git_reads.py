@@ -1,7 +1,7 @@
 """A second reading of `GitReads`, the definition of Git's reading of a text (`crates/git_reads/specs/Git.antt`).
 
 Each function is a relation of the definition, and returns everything that it relates to its arguments: it tries every split of
-the text, and checks the condition of each case. It doesn't call Git: `scripts/git_witness` compares it with Git. `unread`
+the text, and checks the condition of each case. It doesn't call Git: `tests/witnesses/test_readers.py` compares it with Git. `unread`
 returns the reason why a text has no reading, by its name in `explain`.
 """
 import re
@@ -52,7 +52,6 @@ def git_port(text):
 
 
 def before_ports(text):
-    """The text before a port, and the port."""
     found = [] if b":" in text else [(text, None)]
     for front, digits in first_cuts(text, b":"):
         port = git_port(digits)
@@ -136,7 +135,6 @@ def own_urls(text):
 
 
 def git_reads(text):
-    """All readings of a text."""
     if b"\0" in text or text[:1] == b"-":
         return set()
     urls = own_urls(text)
@@ -153,13 +151,11 @@ def is_for_helper(text):
 
 
 def secure_places(text):
-    """The places and paths of a text that is for Secure Shell."""
     urls = [(place, b"/" + path) for protocol, rest in own_urls(text) if protocol == "ssh" for place, path in places(b"/", rest)]
     return [*urls, *(places(b":", text) if is_other(text) and is_remote(text) else [])]
 
 
 def unread(text):
-    """The reason why a text has no reading."""
     words = [it for place, path in secure_places(text) for it, _ in secure_words(place, from_tilde(path))]
     reasons = {
         "ByteZero": b"\0" in text,

@@ -9,7 +9,7 @@ import re
 import sys
 
 sys.dont_write_bytecode = True
-from rt_api import ROOT
+from rt_api import read
 
 PROGRAMS = {"locations": "docs/locations.txt", "explain": "crates/explain/help"}
 # The pages that each page names, except itself.
@@ -19,11 +19,6 @@ LIBRARIES = {
     "gix_url": "parses, writes and compares Git remote locations, by proved code",
     "gix_url_rules": "what Git does with a remote by its configuration, by proved code",
 }
-
-
-def read(name):
-    with open(f"{ROOT}/{name}", encoding="utf-8") as it:
-        return it.read()
 
 
 def plain(line):
@@ -57,7 +52,6 @@ def also(own):
 
 
 def comment(text):
-    """The lines of a comment, without its marks."""
     return [re.sub(r"^ \* ?", "", it) for it in text.strip().removeprefix("/* ").removesuffix("*/").split("\n")]
 
 
@@ -74,13 +68,11 @@ def is_call(declared):
 
 
 def title(declared):
-    """The declared name."""
     found = re.findall(r"\b(gix_url_\w+)\(|^#define (\w+)|^} (\w+);", declared, re.M)
     return ", ".join("".join(it) for it in found)
 
 
 def library_page(name, header):
-    """The page of a header, its lines."""
     version = re.search(r'GIX_URL_VERSION "(.*)"', read("bindings/c/include/gix_url.h"))[1]
     yield from [*heading(name, 3, version), f"{name} \\- {plain(LIBRARIES[name])}"]
     yield from [".SH SYNOPSIS", ".nf", f".B #include <{name}.h>", ".PP", "cc program.c $(pkg\\-config \\-\\-cflags \\-\\-libs gix_url)", ".fi"]

@@ -40,7 +40,6 @@ def sources_of(crate):
 
 @functools.cache
 def modules_of(crate):
-    """The items of each module, by its path."""
     return {path: items(SILENT.sub("", text), 0) for path, text in sources_of(crate).items()}
 
 

@@ -4,7 +4,7 @@ import functools
 import re
 
 from public_items import documented_items, modules_of, opened, public_items, sources_of
-from row_coverage import OF_LAYERS
+from contracts import OF_LAYERS
 from rt_api import LIBRARIES, lines_of_crates
 
 # Crates that prove or measure calls of others, and offer none.

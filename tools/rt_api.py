@@ -1,8 +1,7 @@
-"""The common code of scripts and tools: the crates of the repository, and the programs that are proved and built from them.
+"""The common code of scripts, tools and tests: files and crates of the repository, and the programs that are proved and built from them.
 
-`scripts/` has the commands that people and CI call, without an ending unless `scripts/documents` imports them too;
-`tools/` has the modules that they import and the programs that they start. A command adds `tools/` to its path in the line that follows
-`sys.dont_write_bytecode`.
+`scripts/` has the commands that people and CI call, without an ending unless `tests/documents` imports them too; `tools/` has the modules
+that they import and the programs that they start. A command adds `tools/` to its path in the line that follows `sys.dont_write_bytecode`.
 """
 import functools
 import os
@@ -16,11 +15,20 @@ ROOT = os.path.dirname(os.path.dirname(os.path.realpath(__file__)))
 KIT = os.path.dirname(os.path.dirname(os.path.realpath(shutil.which("rt") or "/no/toolchain/rt")))
 
 
+def read(name):
+    with open(f"{ROOT}/{name}", encoding="utf-8") as it:
+        return it.read()
+
+
+def stored(name):
+    with open(f"{ROOT}/{name}", "rb") as it:
+        return it.read()
+
+
 @functools.cache
 def lines_of_crates():
     """The crates of crates.txt, each with its line and the crates that it uses."""
-    with open(f"{ROOT}/crates.txt", encoding="utf-8") as it:
-        lines = [line for line in it if line.strip() and not line.startswith("#")]
+    lines = [line for line in read("crates.txt").splitlines() if line.strip() and not line.startswith("#")]
     return {re.match(r"\w+", line)[0]: (line, line.partition(":")[2].split()) for line in lines}
 
 

@@ -2,7 +2,7 @@
 in the text of an HTTP location (`crates/git_reads/specs/Credentials.antt`, `crates/git_laws/specs/GitWeb.antt`).
 
 Each function is a relation of the definitions, and returns everything that it relates to its arguments: it tries every split of
-a text, and checks the condition of each case. It doesn't call Git or libcurl: `scripts/web_witness` compares.
+a text, and checks the condition of each case. It doesn't call Git or libcurl: `tests/witnesses` compares.
 """
 import re
 from collections import namedtuple
@@ -53,7 +53,6 @@ def credential_paths(behind):
 
 
 def credential_readings(text):
-    """All readings of Git's credential code."""
     found = [
         CredentialReading(protocol, user, password, host, path)
         for protocol, rest in cuts(text, b"://") if protocol and b"://" not in protocol and b"\0" not in text
@@ -97,7 +96,6 @@ def has_uri_bytes(r):
 
 
 def uri_readings(text):
-    """All readings of a text as a URI with an authority."""
     found = {
         UriReading(scheme, information, host, port, path, query, fragment)
         for scheme, rest in cuts(text, b"://")

@@ -89,7 +89,6 @@ STRICTER = {
 
 
 def broken(location):
-    """The conditions that a location misses."""
     return [name for name, is_met in CONDITIONS.items() if not is_met(location)]
 
 

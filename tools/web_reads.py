@@ -77,7 +77,6 @@ def decoded_by_git(piece):
 
 
 def credential_cut(text):
-    """The parts into which Git's credential code splits a text."""
     scheme, authority, rest = cut(text)
     user, password, named = (it if it is None else decoded_by_git(it) for it in cut_at_first(authority))
     path = decoded_by_git(rest.lstrip(b"/"))
@@ -137,7 +136,6 @@ def shortest(found):
 
 
 def curl_host(host):
-    """A host in the form of libcurl, None if it isn't one."""
     if CONTROL.search(host):
         return None
     if host.startswith(b"[") or address(host):

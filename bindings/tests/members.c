@@ -1,5 +1,5 @@
 /* Prints the results of the calls for each line of the standard input, in words separated by a space: bytes as
- * hexadecimal digits after a `.`, and `-` for a missing value. tools/compare_bindings.py compares the output with
+ * hexadecimal digits after a `.`, and `-` for a missing value. tests/bindings/members.py compares the output with
  * explain's. */
 #define _GNU_SOURCE
 #include "told.h"

@@ -1,4 +1,4 @@
-/* Orders of tests, a line each, and the output of their results as JSON. tools/row_programs.py writes and describes
+/* Orders of tests, a line each, and the output of their results as JSON. tests/bindings/binding_rows.py writes and describes
  * orders. */
 #ifndef ORDERS_H
 #define ORDERS_H

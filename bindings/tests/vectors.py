@@ -1,6 +1,6 @@
 #!/usr/bin/env python3
 """Executes the orders on the standard input, one a line, by the package gix_url, and prints the result of each call as
-a line of JSON, as the program `answers` does. tools/row_programs.py writes and describes orders."""
+a line of JSON, as the program `answers` does. tests/bindings/binding_rows.py writes and describes orders."""
 import json
 import os
 import re

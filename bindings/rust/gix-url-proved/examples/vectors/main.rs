@@ -1,5 +1,5 @@
 //! Executes the orders on the standard input, one a line, by the calls of the crate, and prints the result of each call
-//! as a line of JSON, as the program `answers` does. `tools/row_programs.py` writes and describes orders.
+//! as a line of JSON, as the program `answers` does. `tests/bindings/binding_rows.py` writes and describes orders.
 
 mod rules;
 

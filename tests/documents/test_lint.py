@@ -1,0 +1,38 @@
+"""The scripts have no fault that shellcheck or mypy finds."""
+import glob
+import os
+import re
+import subprocess
+
+import pytest
+from rt_api import ROOT, read
+
+MYPY = ["mypy", "--cache-dir=/dev/null", "--ignore-missing-imports", "--scripts-are-modules", "--no-error-summary"]
+
+
+def scripts(shell):
+    """The files of the repository that begin as scripts of a shell, or that are Python."""
+    paths = (it for folder in ("scripts", "tools", "tests") for it in glob.glob(f"{folder}/**/*", root_dir=ROOT, recursive=True))
+    paths = [it for it in (*paths, "locations", "explain", ".ci/run") if os.path.isfile(f"{ROOT}/{it}") and "__pycache__" not in it]
+    return [it for it in paths if it.endswith(".py") or re.match(rf"#!.*{shell}", read(it))] if shell == "python3" else [
+        it for it in paths if not re.search(r"\.\w+$", it) and re.match(rf"#!.*{shell}", read(it))]
+
+
+@pytest.mark.quick
+@pytest.mark.needs("shellcheck")
+def test_scripts_for_bash():
+    assert len(scripts("bash")) > 5
+    said = subprocess.run(["shellcheck", "-x", *scripts("bash")], stdout=subprocess.PIPE, text=True).stdout
+    assert not said
+
+
+@pytest.mark.quick
+@pytest.mark.needs("mypy")
+@pytest.mark.parametrize("path, words", {
+    "scripts": ("tools:scripts:tests", lambda: scripts("python3")),
+    "tests of the package": ("bindings/python", lambda: glob.glob("bindings/tests/*.py", root_dir=ROOT)),
+    "package": ("", lambda: ["--strict", "bindings/python/gix_url"]),
+}.values(), ids=["scripts", "tests of the package", "package"])
+def test_python(path, words):
+    ran = subprocess.run([*MYPY, *words()], cwd=ROOT, env={**os.environ, "MYPYPATH": path}, stdout=subprocess.PIPE, text=True)
+    assert ran.returncode == 0, ran.stdout

@@ -1,0 +1,167 @@
+"""Refused memory: counts the requests of each call and their bytes, and refuses each of them in turn. After each
+run, with or without a refused request, as many bytes are held as after one without the call: everything that it requested is freed.
+
+The rows are those of all tables in `vectors/`, and the program `answers` makes the calls, an order in each run: one run ends
+before the call and one makes it, so the difference is the call's requests. Each request goes through `refuse_memory.c`, built
+by the toolchain's compiler: `rt try --fail-alloc N` counts the same, but builds for each N.
+"""
+import collections
+import concurrent.futures
+import itertools
+import json
+import os
+import re
+import subprocess
+
+import pytest
+from rt_api import KIT, ROOT, program
+from tables import MEMORY, rows, topics
+
+# At most this many of the rows of one line are taken.
+OF_A_LINE = 20
+# A longer order comes through the pipe in pieces, and then the number of requests to read it varies.
+LONGEST = 60_000
+LINES = b"/a\nhttp://u%41:p@h/a%20b\nhttp://h:0/\nssh+git:///p\nh%41:p\nuser@[::1]:p\na::b\n\n"
+ANSWER = (
+    b"settled\t/a\nsettled\thttp://uA:p@h/a%20b\nrefused\tBadUrl BadPort\nunsettled\tssh\nsettled\th%41:p\n"
+    b"settled\tuser@[::1]:p\nsettled\ta::b\nrefused\tEmptyLocal\n"
+)
+
+
+# Calls that collect into a list, which requests less if a larger request is refused: then they may return the correct result.
+COLLECTING = {"danger::dangers"}
+
+
+class Ran:
+    """A run of a program whose requests are counted, with one of them refused; with none for 0."""
+
+    def __init__(self, words, shim, given, refused):
+        with open(os.memfd_create("requests"), "rb") as told:
+            env = {"LD_PRELOAD": shim, "REFUSED": str(refused), "REQUESTS_TO": str(told.fileno())}
+            ran = subprocess.run(words, input=given, env=env, pass_fds=[told.fileno()], capture_output=True, timeout=60)
+            told.seek(0)
+            self.told = told.read()
+        self.status, self.out, self.err = ran.returncode, ran.stdout, ran.stderr
+        # The bytes of each request, and the bytes held at the end.
+        self.requests = [*map(int, re.findall(rb"(\d+)[+-]", self.told))]
+        self.held = int((re.findall(rb"(\d+)=", self.told) or [0])[-1])
+
+    def is_refused(self):
+        return b"-" in self.told
+
+
+@pytest.fixture(scope="module")
+def shim(tmp_path_factory):
+    """Before the allocator."""
+    clang, made = f"{KIT}/toolchain/bin/clang", tmp_path_factory.mktemp("shim") / "refuse.so"
+    subprocess.run([clang, "-O1", "-shared", "-fPIC", "-nostdlib", "-fuse-ld=lld", "-o", made, f"{ROOT}/tests/hostile/refuse_memory.c"], check=True)
+    return str(made)
+
+
+def sampled(table):
+    """The rows, only the first ones of those of one line, and none with a very long order."""
+    seen = collections.Counter()
+    for row in table:
+        seen[row.place] += 1
+        if seen[row.place] <= OF_A_LINE and len(row.order()) <= LONGEST:
+            yield row
+
+
+def refused_outcome(row):
+    """The required result of the call of a row if its memory is refused: that error, otherwise the row's expectation."""
+    call = row.members["call"]
+    if call == "expand_path::with":
+        return [MEMORY, row.expected[1]]
+    if call == "Url::canonicalized":
+        return [[MEMORY, 0], row.expected[1]]
+    if call == "lines::run":
+        return {"outcome": MEMORY, "status": 2, "out": ""}
+    return MEMORY
+
+
+def tells_memory(row, ran):
+    """Whether a run only reported that memory was refused to the call of a row."""
+    try:
+        return ran.status == 0 and json.loads(ran.out) == refused_outcome(row)
+    except ValueError:
+        return False
+
+
+def asked_faults(row, asked):
+    """The faults of the requests of the call of a row, whose bytes are given."""
+    if row.requests is not None and len(asked) > row.requests:
+        yield f"{row.place}: makes {len(asked)} requests for memory, and may make {row.requests}: {row.order()}"
+    if row.bytes is not None and sum(asked) > row.bytes:
+        yield f"{row.place}: asks for {sum(asked)} bytes of memory, and may ask for {row.bytes}: {row.order()}"
+
+
+def ample_fault(row, prepared, ample):
+    """The faults of the runs without and with the call of a row, with ample memory."""
+    if (prepared.status, prepared.out) != (0, b"\n"):
+        return f"{row.place}: what the call is over is not prepared: {prepared.out!r}: {row.order()}"
+    if ample.status:
+        return f"{row.place}: the program ended with status {ample.status}: {row.order()}"
+    return kept_fault(row, prepared, ample) or row.fault(ample.out.decode(errors="replace"))
+
+
+def kept_fault(row, prepared, ran):
+    """The fault of the memory that a run holds at the end, compared with a run without the call."""
+    if ran.held != prepared.held:
+        return f"{row.place}: {ran.held} bytes are held in the end, and {prepared.held} without the call: {row.order()}"
+    return None
+
+
+class Calls:
+    def __init__(self, shim):
+        self.shim, self.path = shim, program("answers")
+
+    def run(self, row, is_made, refused=0):
+        """A run over the order of a row. The orders with and without the call are equally long, and are read alike."""
+        order = row.order(prepare=not is_made) + ("" if is_made else " ")
+        return Ran([self.path], self.shim, f"{order}\n".encode(), refused)
+
+    def faults(self, row):
+        """The faults of the call of a row, and the number of its requests."""
+        prepared, ample = self.run(row, False), self.run(row, True)
+        fault = ample_fault(row, prepared, ample)
+        if fault:
+            return [fault], 0
+        asked = ample.requests[len(prepared.requests):]
+        found = [*asked_faults(row, asked)]
+        for number in range(1, len(asked) + 1):
+            found += self.refuse(row, prepared, number)
+        return found, len(asked)
+
+    def refuse(self, row, prepared, number):
+        """The faults if a request of the call is refused, which comes after those that were made before it."""
+        ran = self.run(row, True, len(prepared.requests) + number)
+        if kept_fault(row, prepared, ran):
+            yield f"with request {number} refused: {kept_fault(row, prepared, ran)}"
+        if not ran.is_refused():
+            yield f"{row.place}: request {number} is not made again: {row.order()}"
+        elif not tells_memory(row, ran) and not (row.members["call"] in COLLECTING and row.fault(ran.out.decode()) is None):
+            yield f"{row.place}: with request {number} refused it returns {ran.out!r}: {row.order()}"
+
+
+@pytest.mark.parametrize("topic", topics())
+def test_calls(topic, shim):
+    table = [*sampled(rows(topic))]
+    with concurrent.futures.ThreadPoolExecutor(2 * os.cpu_count()) as lanes:
+        found = [*lanes.map(Calls(shim).faults, table)]
+    assert not [it for faults, _ in found for it in faults]
+    for row, (_, made) in zip(table, found):
+        if row.requests is not None and made < row.requests:
+            print(f"{row.place}: makes {made} requests, and the row says {row.requests}")
+    # Otherwise the program's memory doesn't come by the shim.
+    assert any(made for _, made in found) or not any(it.requests for it in table)
+
+
+def test_locations(shim):
+    """The program, with each of its requests refused."""
+    for number in itertools.count(1):
+        ran = Ran([program("locations")], shim, LINES, number)
+        wanted = (2, b"", b"locations: out of memory\n", 0) if ran.is_refused() else (1, ANSWER, b"", 0)
+        assert (ran.status, ran.out, ran.err, ran.held) == wanted, f"with request {number} refused"
+        if not ran.is_refused():
+            assert number > 1
+            return

@@ -1,0 +1,244 @@
+"""Size: lines of 100 MB and millions of lines, answered correctly, in linear time, with few reads and with little memory; calls
+over texts of some MB, by the program `answers`, the page of `explain --html` over 100,000 lines, a configuration with
+100,000 rules and entries, and a file of 20,000 submodules, in linear time; and a summary of 2,000,000 lines, whose memory doesn't
+grow with them.
+
+Time is processor time. A quadratic algorithm takes ten times as long for each byte of a text that is ten times as long; four
+times is accepted, for a machine with other load.
+"""
+import filecmp
+import json
+import os
+import subprocess
+import sys
+
+import pytest
+from rt_api import program
+from runs import SUMMARY
+from texts import realistic
+
+LARGE = 100_000_000
+SMALL = LARGE // 10
+# For each byte that is read, in addition to the program's own memory.
+MOST_BYTES = 6
+OWN_BYTES = 2_000_000
+MOST_GROWTH = 4
+# The minimum of bytes that a system call reads, and the number of other such calls of the program.
+LEAST_READ = 1024
+OWN_READS = 1000
+# A program that takes longer is stopped.
+MOST_SECONDS = 120
+SETTLED, REFUSED = b"settled\t", b"refused\t"
+TOO_LONG, NO_HOST = REFUSED + b"TooLong\n", REFUSED + b"BadUrl HostRequired\n"
+
+# The start of a line, the repeated text, its end, and its answer: a refusal, or the front of the line again.
+SHAPES = [
+    (b"", b"a", b"", SETTLED),
+    (b"", b":", b"", NO_HOST),
+    (b"", b"@", b"", SETTLED),
+    (b"", b"/", b"", SETTLED),
+    (b"", b"%41", b"", SETTLED),
+    (b"", b"[", b"", SETTLED),
+    (b"", b" ", b"", SETTLED),
+    (b"http://", b"@", b"", TOO_LONG),
+    (b"http://", b"/", b"", TOO_LONG),
+    (b"http://h/", b"?a=b&", b"", SETTLED),
+    (b"http://h/", b"%41", b"", SETTLED),
+    (b"ssh://h/", b"/", b"", SETTLED),
+    (b"", b"@", b"h:p", SETTLED),
+    (b"a::", b":", b"", SETTLED),
+    (b"file://", b"[", b"/p", SETTLED),
+]
+# A line of a byte, and its answer.
+LINE, LINE_ANSWER = b"a\n", b"settled\ta\n"
+LINES = 5_000_000
+# A page, which has many bytes for each byte of the remotes, and its memory.
+REMOTES = 100_000
+MOST_PAGE_BYTES = 40
+# A configuration with this many rules, each with a base of its own, this many helpers and this many names of `http.*`.
+RULES = 100_000
+MOST_RULES_SECONDS = 10
+# A file with this many submodules, each with a path and a host of its own.
+MODULES = 20_000
+MOST_MODULES_SECONDS = 2
+# Lines with one host, for a summary, and the memory for each byte that a tenth of them lacks.
+SUMMED = 2_000_000
+MOST_SUMMARY_BYTES = 0.1
+CHUNK = 1 << 20
+
+# Calls over texts of some MB: the repeated text in the call's input, the order by that text, and the outcome by the number of
+# repetitions.
+LARGE_ORDER = 4_000_000
+SMALL_ORDER = LARGE_ORDER // 10
+CALLS = [
+    ("b%41=c+d&", lambda text: {"call": "Url::path_query_fragment", "url": f"http://h/?{text}"},
+     lambda count: {"path": "/", "query": [["bA", {"owned": "c d"}]] * count}),
+    ("+", lambda text: {"call": "Url::path_query_fragment", "url": f"http://h/?{text}"},
+     lambda count: {"path": "/", "query": [[{"owned": " " * count}, ""]]}),
+    ("%41", lambda text: {"call": "Url::path_query_fragment", "url": f"http://h/{text}#b"},
+     lambda count: {"path": "/" + "A" * count, "fragment": "b"}),
+    ("/./a", lambda text: {"call": "expand_path::expand_path", "path": text, "user": "~", "home": "/h"},
+     lambda count: "/h" + "/a" * count),
+    ("//.", lambda text: {"call": "expand_path::expand_path", "path": "/p", "user": "~u", "home": f"/g/h{text}"},
+     lambda count: "/g/u/p"),
+    ("~/", lambda text: {"call": "expand_path::parse", "text": f"/~u/{text}"},
+     lambda count: ["~u", "/" + "~/" * count]),
+    ("%41 ", lambda text: {"call": "Url::from_stored", "record": record(f"/{text}", f"/{text}")},
+     lambda count: record("/" + "A " * count, "/" + "%41%20" * count)),
+]
+
+
+def record(path, spelling):
+    return {"scheme": "Http", "host": "h", "path": path, "spelling": spelling}
+
+
+def chunks(begin, repeated, count, end):
+    """The pieces of a text, so that the memory of this process never holds all of it."""
+    at_once = max(1, CHUNK // len(repeated))
+    yield begin
+    for _ in range(count // at_once):
+        yield repeated * at_once
+    yield repeated * (count % at_once) + end
+
+
+def put(path, pieces):
+    with open(path, "wb") as it:
+        return sum(map(it.write, pieces))
+
+
+# Starts a program with its streams in files, and prints its status, its seconds, its bytes of memory and its system calls that read. The
+# memory of the process that starts a program counts for it, so this one is small.
+LAUNCHER = r"""
+import json, os, re, resource, sys
+given, out, seconds, *words = sys.argv[1:]
+resource.setrlimit(resource.RLIMIT_CPU, (int(seconds), resource.getrlimit(resource.RLIMIT_CPU)[1]))
+streams = [(os.POSIX_SPAWN_OPEN, 0, given, os.O_RDONLY, 0), (os.POSIX_SPAWN_OPEN, 1, out, os.O_WRONLY | os.O_CREAT | os.O_TRUNC, 0o600)]
+process = os.posix_spawn(words[0], words, {}, file_actions=streams)
+os.waitid(os.P_PID, process, os.WEXITED | os.WNOWAIT)
+with open(f"/proc/{process}/io", encoding="ascii") as it:
+    reads = int(re.search(r"(?m)^syscr: (\d+)", it.read())[1])
+_, status, used = os.wait4(process, 0)
+print(json.dumps([os.waitstatus_to_exitcode(status), used.ru_utime + used.ru_stime, used.ru_maxrss * 1024, reads]))
+"""
+
+
+class Ran:
+    """A run of a program over a text, and whether its answer is correct, if an answer is given."""
+
+    def __init__(self, words, folder, text, answer=None):
+        given, right, out = (f"{folder}/{it}" for it in ("given", "right", "out"))
+        self.size = put(given, text)
+        started = [sys.executable, "-I", "-S", "-c", LAUNCHER, given, out, str(MOST_SECONDS), *words]
+        said = subprocess.run(started, stdout=subprocess.PIPE, check=True).stdout
+        self.status, self.seconds, self.bytes, self.reads = json.loads(said)
+        if answer is None:
+            self.is_right = self.status in (0, 1) and os.path.getsize(out) > self.size
+            return
+        put(right, answer)
+        with open(right, "rb") as it:
+            # Each line has the same answer, so the front of the answer determines the status.
+            wanted = 1 if it.read(len(REFUSED)) == REFUSED else 0
+        # It takes files with equal names, sizes and times for the same ones.
+        filecmp.clear_cache()
+        self.is_right = self.status == wanted and filecmp.cmp(out, right, shallow=False)
+
+
+def line_of(shape, size):
+    """The pieces of a line of a shape, and of its answer."""
+    begin, repeated, end, answer = shape
+    count = (size - len(begin) - len(end)) // len(repeated)
+    if answer != SETTLED:
+        return chunks(begin, repeated, count, end + b"\n"), [answer]
+    return chunks(begin, repeated, count, end + b"\n"), chunks(SETTLED + begin, repeated, count, end + b"\n")
+
+
+def order_of(call, size):
+    """The pieces of an order over a text of a size, and of its outcome."""
+    repeated, order, outcome = call
+    count = size // len(repeated)
+    return tuple([json.dumps(it, separators=(",", ":")).encode() + b"\n"] for it in (order(repeated * count), outcome(count)))
+
+
+def remotes_of(size):
+    """This many remotes, each with another number, each tenth of which has a host of its own."""
+    remotes = realistic()
+    named = (remotes[n % len(remotes)] if n % 10 else b"https://host%d.example/p" % n for n in range(size))
+    return [b"%b%d\n" % (it, n // len(remotes)) for n, it in enumerate(named)], None
+
+
+def rules_of(size):
+    return "".join(f"url.https://h{n}/.insteadof\na{n}:\0" for n in range(size))
+
+
+def order_of_rules(size):
+    """The pieces of an order over this many rules, the last of which applies, and of its outcome."""
+    order = {"call": "Rewrites::rewrite_fetch", "config": rules_of(size), "text": f"a{size - 1}:p"}
+    return tuple([json.dumps(it, separators=(",", ":")).encode() + b"\n"] for it in (order, f"https://h{size - 1}/p"))
+
+
+def configuration_of(size):
+    """This many rules, helpers and names of `http.*`; the answer to an HTTP line shows all but the rules."""
+    settings = "".join(f"credential.helper\ns{n}\0http.n{n}\nv\0" for n in range(size))
+    return [f"{rules_of(size)}{settings}".encode()], None
+
+
+def modules_of(size):
+    return [b'[submodule "m%d"]\n\tpath = p/%d\n\turl = https://h%d.example/m.git\n' % (n, n, n) for n in range(size)], None
+
+
+def summed(size):
+    shown = SUMMARY % (size, 0, size, 0, 0, size, 0, 0, 0) + b'host\n%8d  "example.com"\n' % size
+    return chunks(b"", b"git@example.com:group/repo.git\n", size, b""), [shown]
+
+
+def compare(words, folder, make, small, large, most_bytes=None, most_seconds=MOST_SECONDS, most_more=None):
+    """Runs over two sizes, the smaller one twice; the memory for each byte and the seconds may be limited."""
+    tenths, whole = [Ran(words, folder, *make(small)) for _ in range(2)], Ran(words, folder, *make(large))
+    assert all(it.is_right for it in (*tenths, whole)), "it is answered otherwise"
+    # The ratio of the times for each byte in the larger and the smaller size.
+    growth = whole.seconds / max(0.001, min(it.seconds for it in tenths)) / (whole.size / tenths[0].size)
+    size = (whole.bytes - OWN_BYTES) / whole.size
+    # The memory for each byte that only the larger size has.
+    more = (whole.bytes - tenths[-1].bytes) / (whole.size - tenths[-1].size)
+    print(f"{whole.seconds:.1f} s, {growth:.2f} times as long for each byte as a tenth of it, {size:.2f} bytes of memory, {whole.reads} reads")
+    assert growth <= MOST_GROWTH, "that isn't linear"
+    assert whole.seconds <= most_seconds
+    assert not most_bytes or size <= most_bytes
+    assert not most_more or more <= most_more
+    assert whole.reads <= OWN_READS + whole.size // LEAST_READ
+
+
+@pytest.mark.parametrize("shape", SHAPES, ids=lambda it: repr(b"".join([it[0], it[1], b"..", it[2]]))[2:-1])
+def test_lines_of_a_shape(shape, tmp_path):
+    compare([program("locations")], tmp_path, lambda size: line_of(shape, size), SMALL, LARGE, MOST_BYTES)
+
+
+def test_lines_of_a_byte(tmp_path):
+    compare([program("locations")], tmp_path, lambda count: (chunks(b"", LINE, count, b""), chunks(b"", LINE_ANSWER, count, b"")),
+            LINES // 10, LINES, MOST_BYTES)
+
+
+@pytest.mark.parametrize("call", CALLS, ids=lambda it: f"{it[1]('')['call']} over {it[0]}..")
+def test_calls(call, tmp_path):
+    compare([program("answers")], tmp_path, lambda size: order_of(call, size), SMALL_ORDER, LARGE_ORDER)
+
+
+def test_page(tmp_path):
+    compare([program("explain"), "--html"], tmp_path, remotes_of, REMOTES // 10, REMOTES, MOST_PAGE_BYTES)
+
+
+def test_a_rewrite_by_many_rules(tmp_path):
+    compare([program("answers")], tmp_path, order_of_rules, RULES // 10, RULES, most_seconds=MOST_RULES_SECONDS)
+
+
+def test_a_large_configuration(tmp_path):
+    words = [program("explain"), "--json", "--config", "-", "https://h/p"]
+    compare(words, tmp_path, configuration_of, RULES // 10, RULES, most_seconds=MOST_RULES_SECONDS)
+
+
+def test_many_submodules(tmp_path):
+    compare([program("explain"), "--gitmodules", "-"], tmp_path, modules_of, MODULES // 10, MODULES, most_seconds=MOST_MODULES_SECONDS)
+
+
+def test_a_summary(tmp_path):
+    compare([program("explain"), "--summary"], tmp_path, summed, SUMMED // 10, SUMMED, most_more=MOST_SUMMARY_BYTES)

@@ -1,0 +1,23 @@
+"""The options of `explain`: how each is given, and which pairs of them exclude each other, as the help lists them."""
+import itertools
+import re
+
+from rt_api import read
+
+# Each option and TEXT with a value, so that a run ends at once and succeeds.
+GIVEN = {
+    "TEXT": "h:p", "--file": "--file=/dev/null", "--null": "--null", "--crlf": "--crlf", "--config": "--config=/dev/null", "--remotes": "--remotes",
+    "--gitmodules": "--gitmodules=/dev/null", "--parent": "--parent=https://h/p", "--json": "--json", "--sarif": "--sarif",
+    "--html": "--html=x", "--only": "--only=host", "--ssh": "--ssh", "--summary": "--summary", "--quiet": "--quiet", "--fail-on": "--fail-on=policy", "--color": "--color=never"}
+# The option that an option requires.
+NEEDED = {"--parent": "--gitmodules"}
+# The options by which `explain` prints a text about itself, and the files of its crate with the same text.
+OF_ITSELF = {"--help": "help", "-h": "help", "--version": "version", "-V": "version"}
+
+
+def excluded():
+    """The pairs that can't be combined, as the help lists them."""
+    text = read("crates/explain/help").partition("These can't be given together:\n")[2].partition("\n\n")[0]
+    for line in text.splitlines():
+        first, rest = (re.findall(r"TEXT|--[\w-]+", it) for it in line.partition(" with ")[::2])
+        yield from map(frozenset, itertools.product(first, rest) if rest else itertools.combinations(first, 2))

@@ -1,0 +1,85 @@
+"""The program `explain` over lines with a marked secret, in each layout: the parts that it shows.
+
+The lines are short inputs, realistic remotes, and random changes of lines with a secret. No layout shows the secret of a line
+that hides it by the second reading. The member `input` is that of the second reading; in the text layout each piece is the
+field of the second reading for the line as it is shown (`pieces.py`). No answer contains a control character. No layout shows the
+secret of lines in forty shapes, or that of a configuration.
+"""
+import json
+import re
+
+import pytest
+from pieces import is_of_fields, named
+from runs import ended, explain, run
+from second_reading import explain as second
+from second_reading import grammar, hidden, short_inputs
+from second_reading.seen import seen
+from texts import SECRET, SHAPES, TOKEN, Secrets, compare, examples, made, realistic
+
+# The number of changed lines.
+COUNT = 3_000
+ENTRIES = [
+    (b"url.https://u:%b@h/.insteadof" % SECRET, b"gh:"), (b"http.extraheader", b"Authorization: " + SECRET), (b"http.https://h/.extraheader", b"X: " + SECRET),
+    (b"http.proxy", b"socks5://u:%b@p" % SECRET), (b"http.https://u:%b@h/.sslverify" % SECRET, b"1"), (b"http.cookiefile", b"/c/" + TOKEN),
+    (b"credential.helper", b"!echo password=" + SECRET), (b"credential.https://h.helper", b"!echo " + SECRET), (b"credential.https://h.username", TOKEN),
+    (b"remote.%b.url" % TOKEN, b"https://u:%b@h/x" % SECRET), (b"remote.o.url", b"u:%b@h:x" % SECRET), (b"remote.o.proxy", b"u:%b@p:1" % SECRET),
+    (b"submodule.%b.url" % TOKEN, b"https://u%%3A%b@h/x" % SECRET), (b"core.sshcommand", b"ssh -o X=u:%b@h" % SECRET)]
+ENTRIES_GIVEN = b"".join(b"%b\n%b\0" % it for it in ENTRIES)
+LAYOUTS: tuple[list[str], ...] = (
+    [], ["--json"], ["--html=t", "--"], ["--sarif"], ["--summary"], ["--ssh"], ["--color=always"],
+    *([f"--only={it}"] for it in ("scheme", "user", "host", "port", "path", "query", "fragment")))
+CONTROL = re.compile(r"[^\n\x20-\x7e\xa1-\U0010ffff]")
+
+
+def is_secret(line):
+    """Whether the secret is hidden in all its places."""
+    return not any(SECRET in it for it in hidden.shown_parts(line))
+
+
+def faults_of(line, told, answer):
+    v, other = grammar.spells(line), seen(line)
+    if CONTROL.search(answer):
+        yield "a control character is shown"
+    if is_secret(line) and SECRET.decode() in told + answer:
+        yield "the secret is shown"
+    if json.loads(told)["input"] != second.shown_line(line):
+        yield f"`input` isn't {second.shown_line(line)!r}"
+    if (json.loads(told)["location"] is None) != (v is None or other is None):
+        yield "what it is read as is withheld, or isn't"
+    if v is not None and other is not None and len(answer.split("\n")[1]) <= 204:
+        if not is_of_fields(grammar.spells(other), named(answer), other):
+            yield f"the pieces {named(answer)} aren't those of {grammar.spells(other)}"
+
+
+def faults_of_lines(lines):
+    told = explain(["--json"], ended(lines)).decode().split("\n")[:-1]
+    shown = re.split(r"(?m)^(?=line \d+: )", explain((), ended(lines)).decode())[1:]
+    for line, *answers in zip(lines, told, shown, strict=True):
+        yield from ((line, f"{it}: {line!r}") for it in faults_of(line, *answers))
+
+
+@pytest.mark.sample
+def test_lines():
+    compare(made(Secrets), COUNT, faults_of_lines, [*short_inputs.short_inputs(), *realistic()])
+
+
+@pytest.mark.whole
+def test_many_lines():
+    compare(made(Secrets), 10 * COUNT, faults_of_lines)
+
+
+def shows_the_secret(words, given):
+    ran = run("explain", words, given, timeout=900)
+    return [it for it in (ran.stdout + ran.stderr).splitlines() if SECRET in it][:2]
+
+
+@pytest.mark.parametrize("words", LAYOUTS, ids=lambda it: it[0] if it else "text")
+def test_layouts(words):
+    lines = [*SHAPES, *filter(is_secret, examples(made(Secrets), COUNT))]
+    texts = [it.decode() for it in (*SHAPES, b"https://h/x", b"gh:x") if it.isascii()]
+    assert not shows_the_secret(words, ended(lines))
+    assert not shows_the_secret([*words, "--config=-", *texts], ENTRIES_GIVEN)
+
+
+def test_remotes():
+    assert not shows_the_secret(["--remotes"], ENTRIES_GIVEN)

@@ -1,0 +1,218 @@
+"""The rows of the tables in `vectors/`: a line of JSON each, a call with its inputs, and the expected outcome.
+
+In addition to the call and its members a row has `is`, the outcome, `from`, the source of the expectation, and `requests` and
+`bytes` if the requests of the call for memory are counted, and their bytes. `row_text.py` describes how a line spells long texts.
+
+For refused JSON a row may expect less than the whole: `{"refused": true}`, whatever the words are; words that end in `…`, which
+are the front of the returned ones; and a `column` of two numbers, between which that column lies. The rows of
+`vectors/git.jsonl` that read a text have `class` and `git`, or for HTTP `class`, `credential` and `curl` (`examples.py`).
+
+A line can be many rows, by the member that marks it:
+
+  in_order   a list of values for a call that compares two: all pairs of them. Each is less than those after it, equal only
+             to itself, and has a hash of its own
+  over       all choices of a value for each member that it names, as in `{"style": ["{:#}", null], "url.password": ["x", ""]}`;
+             null means that it is absent
+  fronts     the name of a text, which is truncated at each length but its own
+  each       the first and the last of some characters, or `"bytes"` for all bytes: every `*` in the texts of the line is each
+             of them in turn. The outcomes are those of the second reading, and `settled` is the number of rows in which `url` is
+             settled
+  texts_of   the name of a table: the call is over each text that this table reads by `parse::parse`, with the outcome of the
+             second reading
+  random     the number of random paths for the call, the same each time, with the outcomes that `plain_paths.py` computes
+"""
+import functools
+import glob
+import itertools
+import json
+import os
+
+from row_text import bytes_of, joined, text_of
+from rt_api import ROOT
+from second_reading import plain_paths, settled_class
+from second_reading.row_outcomes import location, outcome, recomputed_fault
+
+FOLDER = f"{ROOT}/vectors"
+# The possible sources of an expectation: never this library.
+SOURCES = {"crate", "oracle", "reading", "git", "hand", "rfc"}
+# The members of a row that aren't part of the order.
+OWN = {"is", "from", "requests", "bytes", "note", "class", "git", "credential", "curl"}
+# Errors that keep the text that they are about.
+KEEPING = ("MissingPath", "NotUtf8", "BadUrl")
+# Calls that read into a buffer, whose errors keep nothing.
+INTO_BUFFERS = ("UrlRef::parse_in", "host::texts_name_same_host")
+MEMORY = {"error": "Memory"}
+
+
+def keeps(outcome, text):
+    """The outcome with the text that an error keeps, if the row leaves it out: the text of the call."""
+    if not isinstance(outcome, dict) or not isinstance(text, str) or "kept" in outcome:
+        return outcome
+    name = str(outcome.get("error", "")).split(" ")[0]
+    if name in KEEPING:
+        return {**outcome, "kept": text}
+    return outcome
+
+
+def is_refusal(told):
+    """Whether an outcome is an error other than refused memory."""
+    return isinstance(told, dict) and "error" in told and told != MEMORY
+
+
+def fits(expected, told):
+    """Whether an outcome is the expected one; for refused JSON, whether it contains everything that is expected of it."""
+    if expected == {"refused": True}:
+        return is_refusal(told)
+    if isinstance(expected, dict) and str(expected.get("error", "")).endswith("…"):
+        first, last = expected.get("column", (0, float("inf")))
+        begins = is_refusal(told) and told["error"].startswith(expected["error"][:-1])
+        return begins and first <= told.get("column", 0) <= last
+    # Compared as JSON, since Python takes 1 for true.
+    return json.dumps(told, sort_keys=True) == json.dumps(expected, sort_keys=True)
+
+
+class Row:
+    """A call, and its expected outcome."""
+
+    def __init__(self, place, members):
+        self.place, self.source = place, members.get("from")
+        self.requests, self.bytes = members.get("requests"), members.get("bytes")
+        self.class_name, self.git = members.get("class"), members.get("git")
+        self.credential, self.curl = members.get("credential"), members.get("curl")
+        self.members = {name: joined(it) for name, it in members.items() if name not in OWN}
+        expected = joined(members.get("is"))
+        self.expected = expected if members.get("call") in INTO_BUFFERS else keeps(expected, self.members.get("text"))
+
+    def order(self, **more):
+        return json.dumps({**self.members, **more})
+
+    def fault(self, line, seen=lambda outcome: outcome):
+        """The fault of an outcome, if there is one, in its compared part."""
+        try:
+            if fits(seen(self.expected), seen(json.loads(line))):
+                return None
+        except ValueError:
+            pass
+        return f"{self.place}: {self.order()}\n  expected {json.dumps(self.expected)}\n  returned {line}"
+
+
+# The member of the first of two values that a call compares.
+COMPARED = {"Url:Ord": "url", "Scheme:Ord": "scheme", "ForUser:Ord": "user"}
+
+
+def pairs(members, values):
+    name = COMPARED[members["call"]]
+    for one, other in itertools.product(range(len(values)), repeat=2):
+        word = "Less" if one < other else "Greater" if one > other else "Equal"
+        outcome = [[word, word], [one == other, one == other]]
+        yield {**members, name: values[one], "other": values[other], "is": outcome}
+
+
+def put(members, name, value):
+    """Sets a value under this name in members; `url.password` is a member of a member."""
+    first, _, rest = name.partition(".")
+    return {**members, first: put(members.get(first, {}), rest, value) if rest else value}
+
+
+def choices(members, over):
+    """The rows of all choices of values, one for each member that is named."""
+    for values in itertools.product(*over.values()):
+        row = members
+        for name, value in zip(over, values):
+            row = put(row, name, value)
+        yield row
+
+
+def fronts(members, name):
+    whole = joined(members[name])
+    return ({**members, name: whole[:size]} for size in range(len(whole)))
+
+
+def characters(ends):
+    """The characters from the first to the last of two, or those for all bytes."""
+    if ends == "bytes":
+        return [text_of(bytes([it])) for it in range(256)]
+    first, last = ends
+    return [chr(it) for it in range(ord(first), ord(last) + 1)]
+
+
+def filled(value, character):
+    """A value with a character for each `*` in its texts."""
+    if isinstance(value, dict):
+        return {name: filled(it, character) for name, it in value.items()}
+    return value.replace("*", character) if isinstance(value, str) else value
+
+
+def each(members, ends):
+    """The rows of all these characters, with the outcomes of the second reading."""
+    wanted = members["settled"]
+    found = [filled({name: it for name, it in members.items() if name != "settled"}, it) for it in characters(ends)]
+    settled = sum(settled_class.settled(location(it["url"])) for it in found)
+    if wanted != settled:
+        raise ValueError(f"the locations of {settled} of the {len(found)} rows are settled")
+    if "is" in members or members.get("from") != "oracle":
+        raise ValueError("a line with each has its outcomes from the oracle, and no `is`")
+    return [{**it, "is": outcome(it)} for it in found]
+
+
+def texts_of(members, table):
+    """The rows of all texts that a table reads, with the outcomes of the second reading."""
+    found = [{**members, "text": joined(it["text"])} for _, it in lines(table) if it["call"] == "parse::parse" and "text" in it]
+    return [{**it, "is": outcome(it)} for it in found]
+
+
+def in_texts(value):
+    """A value with its bytes as texts of a row."""
+    if isinstance(value, dict):
+        return {name: in_texts(it) for name, it in value.items()}
+    if isinstance(value, list):
+        return [in_texts(it) for it in value]
+    return text_of(value) if isinstance(value, bytes) else value
+
+
+def random_rows(members, number):
+    for given, found in plain_paths.cases(members["call"], number):
+        yield {**members, **in_texts(given), "is": in_texts(found)}
+
+
+WAYS = {"in_order": pairs, "over": choices, "fronts": fronts, "each": each, "texts_of": texts_of, "random": random_rows}
+
+
+def expanded(members):
+    """The rows that a line represents: itself, unless a member marks it as several."""
+    for name, way in WAYS.items():
+        if name in members:
+            return way({it: value for it, value in members.items() if it != name}, members[name])
+    return [members]
+
+
+# ---- tables
+
+def lines(topic):
+    """The lines of a table that are rows: the place of each, and its members."""
+    with open(f"{FOLDER}/{topic}.jsonl", encoding="utf-8") as it:
+        return [(f"{topic}.jsonl:{number}", json.loads(line)) for number, line in enumerate(it, 1) if line.strip() and not line.startswith("#")]
+
+
+def topics(folders=(".", "rules")):
+    """The tables in these folders: those of the library, and those of Git's behaviour by its configuration."""
+    found = [it for folder in folders for it in glob.glob(f"{FOLDER}/{folder}/*.jsonl")]
+    return sorted(os.path.relpath(it, FOLDER).removesuffix(".jsonl") for it in found)
+
+
+@functools.cache
+def rows(*named):
+    return [Row(place, it) for topic in named or topics() for place, members in lines(topic) for it in expanded(members)]
+
+
+def texts_of_rows(longest):
+    """The texts and URLs of the tables of the library, as bytes, that are not longer than this."""
+    given = [joined(row[name]) for topic in topics(["."]) for _, row in lines(topic) for name in ("text", "url") if name in row]
+    return [it for it in (bytes_of(it) for it in given if isinstance(it, str)) if len(it) <= longest]
+
+
+def source_faults(table):
+    """The rows whose expectation has no known source, or is from the second reading, which has another."""
+    unknown = [f"{it.place}: its expectation is from {it.source!r}" for it in table if it.source not in SOURCES]
+    faults = (recomputed_fault(it) for it in table if it.source == "oracle")
+    return unknown + [it for it in faults if it]

@@ -1,0 +1,105 @@
+"""The place that a reader reads in a text, in a comparable form: the host in lower case without brackets, an address in its
+shortest form, the scheme's default port filled in, user and password decoded, and the path as a program of Git would send it.
+"""
+import ipaddress
+import re
+from collections import namedtuple
+
+from git_reads import decoded, git_reads
+from web_reads import curl_reads, Web
+
+# A reading; a part that is empty is None. `REFUSED` isn't a place, nor is `SILENT`: the reader finds no host in a text.
+Place = namedtuple("Place", "scheme user password host port path")
+REFUSED, SILENT = "refused", "silent"
+PORTS = {b"http": 80, b"https": 443, b"ssh": 22, b"git": 9418}
+ALIASES = {b"git+ssh": b"ssh", b"ssh+git": b"ssh", b"git+https": b"https", b"git+http": b"http"}
+# Other schemes by which a reader finds a host in a text that isn't a URL to Git.
+OTHER_SCHEMES = (b"ftp", b"ftps", b"ws", b"wss")
+ADDRESS = re.compile(rb"[0-9.]+|[0-9a-f:.]+")
+
+
+def plain_host(host):
+    """A host in lower case, without brackets, and an address in its shortest form."""
+    host = host.lower()
+    host = host[1:-1] if host[:1] == b"[" and host[-1:] == b"]" else host
+    if ADDRESS.fullmatch(host):
+        try:
+            return ipaddress.ip_address(host.decode()).compressed.encode()
+        except ValueError:
+            pass
+    return host
+
+
+def port_of(scheme, port):
+    if port in (None, b""):
+        return PORTS.get(scheme)
+    return int(port) if port.isdigit() else port
+
+
+def place(scheme, user, password, host, port, path):
+    scheme = ALIASES.get(scheme, scheme)
+    if scheme in (b"ssh", b"git") and path.startswith(b"/~"):
+        path = path[1:]
+    # Git appends `/info/refs` to an HTTP path, whatever slashes it ends with.
+    if scheme in (b"http", b"https"):
+        path = b"/" + path.rstrip(b"/") if not path.startswith(b"/") else path.rstrip(b"/") or b"/"
+    if scheme == b"file":
+        return Place(scheme, None, None, plain_host(host) if host else None, None, path)
+    return Place(scheme, user or None, password or None, plain_host(host) if host else None, port_of(scheme, port), path)
+
+
+def said_place(reader, form, said):
+    """The place that a reader reads in a text of a form, by its answer."""
+    if form == "file" and reader.name == "hosted-git-info":
+        return SILENT
+    is_elsewhere = form in ("scp", "local") and reader.kind != "git"
+    if is_elsewhere and reader.kind == "web":
+        return SILENT
+    if "refused" in said:
+        return SILENT if is_elsewhere else REFUSED
+    parts = {name: it if name in reader.decoded or name not in ("user", "password") else decoded(it) for name, it in said.items()}
+    scheme = parts.get("scheme", b"").lower()
+    is_known = scheme in PORTS or scheme in ALIASES or scheme in OTHER_SCHEMES
+    if is_elsewhere and not (parts.get("host") and (is_known or not scheme)):
+        return SILENT
+    path = parts.get("path", b"")
+    if scheme in (b"http", b"https"):
+        path += b"?" + parts["query"] if parts.get("query") else b""
+    elif "path" not in reader.decoded:
+        path = decoded(path)
+    return place(scheme, parts.get("user"), parts.get("password"), parts.get("host"), parts.get("port"), path)
+
+
+def git_place(text, form):
+    """The place that Git connects to; None if it connects to none."""
+    if form == "http":
+        found = curl_reads(text)
+        return place(*found) if isinstance(found, Web) else None
+    found = git_reads(text)
+    if len(found) != 1:
+        return None
+    protocol, user, _, host, port, path = next(iter(found))
+    return place(protocol.encode(), user, None, host, None if port is None else b"%d" % port, path)
+
+
+def with_decoded_path(it):
+    """The place that is compared with a reader that only shows the decoded path of HTTP."""
+    return it._replace(path=decoded(it.path)) if it.scheme in (b"http", b"https") else it
+
+
+def is_same(reader, form, wanted, found):
+    """Whether the reading is the same place. A program that converts the scp form to a URL puts a slash before its path."""
+    if found == SILENT or found == wanted:
+        return True
+    if found == REFUSED or wanted is None:
+        return False
+    if reader.name == "Mercurial":
+        wanted = with_decoded_path(wanted)
+    # `gh` drops every port of Secure Shell.
+    if reader.name == "gh" and wanted.scheme == b"ssh":
+        found = found._replace(port=wanted.port)
+    if form in ("scp", "local") and found.scheme == b"":
+        return (found.user, found.host, found.port or wanted.port) == (wanted.user, wanted.host, wanted.port)
+    if reader.kind == "forge" and form == "scp":
+        return found._replace(path=found.path.lstrip(b"/")) == wanted._replace(path=wanted.path.lstrip(b"/"))
+    return found == wanted

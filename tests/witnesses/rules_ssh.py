@@ -1,0 +1,336 @@
+"""The words with which Git runs Secure Shell, and the program that gets them.
+
+Git's words are those that a `GIT_SSH_COMMAND` gets, which shows them and fails: by `git ls-remote`, `git send-pack` and `git
+archive --remote`, or for an address family by `git fetch` and `git push`. If the library has other words than Git, or none, the
+difference is in a class: one of `git_classes.py`, or one of those below, which are described in docs/RULES.md. In each
+command `sh` must read the words of the program, by default only the service, and the path.
+
+Git's own events (`GIT_TRACE2_EVENT`) show which programs `git ls-remote` starts: the words of each start, and whether a shell
+runs them. Programs in a folder of the test's own, the only one in which Git finds them, replace Secure Shell: they end with a
+status of their own if they get `-G`, otherwise they show their words and fail. The location has a port, for which the variants
+have different options; if Git starts nothing, as for `simple`, it is run again without one. `plink` and `putty` have the same
+words, so the setting decides between the two.
+"""
+import json
+import random
+import re
+import tempfile
+from collections import namedtuple
+
+import git_classes
+from git_classes import Case as Compared
+from git_classes import Reading
+from git_reads import user_cuts
+from git_runs import answers_of, is_named, listed, put, rooms
+from row_text import bytes_of, text_of
+from runs import answers
+from second_reading import git_class, grammar, writing
+from texts import Programs
+
+SHOW = r"""f() { { printf '\001'; printf '%s\001' "$@"; printf '%s\001\002' "$GIT_PROTOCOL"; } >&2; false; }; f"""
+ASK = r"""
+while [ $# -gt 0 ]; do
+  export GIT_SSH_VARIANT="$1"
+  case $3$4 in
+  git-upload-pack) git -c protocol.version="$2" ls-remote ${5:+"--upload-pack$5"} -- "$6" 2>&1 ;;
+  git-upload-pack*) git -c protocol.version="$2" fetch "-$4" ${5:+"--upload-pack$5"} -- "$6" 2>&1 ;;
+  git-receive-pack) git -c protocol.version="$2" send-pack ${5:+"--receive-pack$5"} --all -- "$6" 2>&1 ;;
+  git-receive-pack*) git -c protocol.version="$2" push "-$4" ${5:+"--receive-pack$5"} -- "$6" :refs/heads/x 2>&1 ;;
+  *) git -c protocol.version="$2" archive ${5:+"--exec$5"} --remote="$6" HEAD 2>&1 ;;
+  esac
+  printf '\0'
+  shift 6
+done
+"""
+# A shell reads commands, and writes the words that it reads.
+READ = r"""
+for command; do eval "set -- $command"; printf '%s\001' "$@"; printf '\0'; done
+"""
+SERVICES = ("git-upload-pack", "git-receive-pack", "git-upload-archive")
+VARIANTS = ("ssh", "plink", "putty", "tortoiseplink", "simple")
+# The programs that may replace a service, with the words that a shell reads in them; None if it expands something.
+PROGRAMS = {
+    b"/opt/up": [b"/opt/up"], b"/opt/up x": [b"/opt/up", b"x"], b"'/opt/my up' -v": [b"/opt/my up", b"-v"], b"up\\ x\\'": [b"up x'"],
+    b"sudo  git-upload-pack": [b"sudo", b"git-upload-pack"], b"git-receive-pack": [b"git-receive-pack"], b"git-upload-pack": [b"git-upload-pack"],
+    b"git-receive-pack ": [b"git-receive-pack"], b"up\xc3\xa4\xff": [b"up\xc3\xa4\xff"], b"~/bin/up": None, b"A=1 $HOME/up": None, b"up;": None,
+    b"-x": None, b"--upload-pack": None, b"": None,
+}
+CALLS = ("ssh::ssh_command", "ssh::ssh_command_for", "SshCommand::git_protocol")
+# A run of Secure Shell: the variant, the version of the protocol, the service, the address family (4 or 6), and the program
+# that replaces the service's.
+Run = namedtuple("Run", "variant version service family program", defaults=(None, None))
+# A text, its run, and the value of `GIT_PROTOCOL` with the words after it: Git's, or its reason for none, and the library's,
+# None if it returns none.
+Case = namedtuple("Case", "text run git own")
+REFUSALS = {b"strange hostname": "strange hostname", b"strange pathname": "strange pathname", b"no path specified": "no path",
+            b"is not supported": "unknown protocol", b"git-over-rsync": "rsync", b"does not support setting port": "port-of-simple", b"does not support -": "family-of-simple"}
+# Texts that are always included: each is the only kind of its class, or nearly so.
+GIVEN = (b"ssh://ssh%3A%2F%2Fu@h/p", b"ssh://u@h/it's%21", b"u@h:a'b!c", b"[::1]:p", b"u@[::1]:p", b"ssh://[::1]:22/~/p", b"h:~u/p", b"h:/~u/p")
+# Texts that Git takes for Secure Shell, or for a remote helper of that name.
+FOR_SECURE_SHELL = re.compile(rb"(?!::|[0-9A-Za-z][0-9A-Za-z+.-]*:(:|//))[^/:]*:|(ssh|git\+ssh|ssh\+git)://|ssh::")
+# The reasons why a location has no command, which are classes of differences if Git runs one.
+REASONS = {
+    "not-read": lambda it, run: it is None,
+    "not-of-ssh": lambda it, run: it.scheme != ("Ssh",),
+    "password": lambda it, run: it.password is not None,
+    "empty-user": lambda it, run: it.user == b"",
+    "no-host": lambda it, run: not it.host,
+    "byte-zero": lambda it, run: any(b"\0" in (one or b"") for one in (it.user, it.host, it.path)),
+    "like-an-option": lambda it, run: any((one or b"").startswith(b"-") for one in (it.user, it.host, it.path)),
+    "at-sign-in-host": lambda it, run: b"@" in it.host,
+    "like-a-url": lambda it, run: (it.user or it.host).startswith(b"ssh://"),
+    "empty-program": lambda it, run: run.program == b"",
+    "option-like-program": lambda it, run: (run.program or b"").startswith(b"-"),
+    "family-of-simple": lambda it, run: run.variant == "simple" and run.family is not None,
+    "port-of-simple": lambda it, run: run.variant == "simple" and it.port is not None,
+}
+# The classes of differences, in addition to those of `git_classes`. For an address family Git has no words either.
+CLASSES = (*(it for it in REASONS if it != "family-of-simple"), "zeros-of-port")
+# Reasons against programs, which don't depend on the location.
+OF_PROGRAMS = ("empty-program", "option-like-program")
+# The run of the examples of classes in the documents.
+USUAL = Run("ssh", 2, SERVICES[0])
+RUNS = {"port-of-simple": USUAL._replace(variant="simple"), "empty-program": USUAL._replace(program=b""), "option-like-program": USUAL._replace(program=b"-x")}
+
+
+def runs_of(texts):
+    """Each text run by `ssh` and by `plink`, a tenth of them by other variants and services, and a fourth by an address family, for which
+    `git archive` has no option, a program that replaces the service's, or both."""
+    choice = random.Random(len(texts)).choice
+    for at, text in enumerate(texts):
+        yield from ((text, Run(variant, choice((2, 2, 0, 1)), SERVICES[0])) for variant in VARIANTS[:2])
+        if at % 10 == 0 and text[:1] != b"-":
+            yield text, Run(choice(VARIANTS), choice((0, 1, 2)), choice(SERVICES))
+        if at % 4 == 0 and text[:1] != b"-":
+            service, family = choice(SERVICES), choice((None, 4, 6))
+            yield text, Run(choice(("ssh", *VARIANTS)), choice((0, 1, 2)), service, None if service == SERVICES[2] else family, choice((None, *PROGRAMS)))
+
+
+# ---- Git and the library
+
+def answer(said):
+    found = re.search(rb"\x01(.*)\x01\x02", said, re.S)
+    if found:
+        *shown, version = found[1].split(b"\x01")
+        return [version, *shown]
+    return next((name for it, name in REFUSALS.items() if it in said), said.decode("latin-1"))
+
+
+def asked_of_git(asked):
+    """The words that Git passes to Secure Shell for texts, each with its run."""
+    with rooms([[]], GIT_SSH_COMMAND=SHOW) as (room, environment, (folder,)):
+        given = [word for text, run in asked for word in (*words_of(run), text)]
+        return map(answer, answers_of(ASK, room, {**environment, "GIT_DIR": folder.decode()}, given, each=6))
+
+
+def words_of(run):
+    return run.variant, str(run.version), run.service, str(run.family or ""), b"" if run.program is None else b"=" + run.program
+
+
+def call_of(run):
+    return CALLS[0] if (run.family, run.program) == (None, None) else CALLS[1]
+
+
+def order_of(call, text, run):
+    more = {**({} if run.family is None else {"family": run.family}), **({} if run.program is None else {"program": text_of(run.program)})}
+    return {"call": call, "url": text_of(text), "variant": run.variant, "version": run.version, "service": run.service, **more}
+
+
+def asked_of_library(asked):
+    """The library's words for the locations in texts, None if it returns none."""
+    read = [(text, run) for text, run in asked if grammar.spells(text) is not None]
+    said = answers([*(order_of(call_of(run), text, run) for text, run in read), *(order_of(CALLS[2], text, run) for text, run in read)])
+    found = {it: None if isinstance(words, dict) else [bytes_of(word) for word in (str(variable or ""), *words)]
+             for it, words, variable in zip(read, said, said[len(read) :])}
+    return map(found.get, asked)
+
+
+def commands(asked):
+    return [Case(*it, git, own) for it, git, own in zip(asked, asked_of_git(asked), asked_of_library(asked))]
+
+
+def path_of(command, run):
+    """The path in a command, without its quotes."""
+    return re.sub(rb"'\\(['!])'", rb"\1", command[len(program_of(run)) + 2 : -1])
+
+
+def program_of(run):
+    """The program that the server runs, before a space and the path."""
+    return run.service.encode() if run.program is None else run.program
+
+
+# ---- differences
+
+def cut(found, run):
+    """The reading of words, their port as written, and the words that belong to no part of a location."""
+    at = next((at for at, it in enumerate(found[:-2]) if it in (b"-p", b"-P")), len(found) - 2)
+    port = found[at + 1] if at < len(found) - 2 else None
+    user, host = next(iter(user_cuts(found[-2])), (None, None))
+    reading = Reading("ssh", user, None, host or None, None if port is None else int(port), path_of(found[-1], run))
+    return "empty user" if host is None else reading, port, [*found[:at], *found[at + 2 : -2], found[-1][: len(program_of(run)) + 2]]
+
+
+def is_alike(case):
+    """Whether the library has Git's words, or neither has any."""
+    return case.own == (None if isinstance(case.git, str) else case.git)
+
+
+def class_of(case, location, reason):
+    """The class of a text for which the library has other words than Git, or none: None without a class, and if the library's
+    words aren't for the location's own parts, or otherwise differ from Git's."""
+    of_git, port, others = (case.git, None, None) if isinstance(case.git, str) else cut(case.git, case.run)
+    if reason or of_git == "port-of-simple":
+        return reason or of_git
+    ours = Reading("ssh", location.user, None, location.host or None, location.port, location.path)
+    own, own_port, own_others = cut(case.own, case.run) if case.own else (None, None, None)
+    if own != ours or others not in (None, own_others):
+        return None
+    if of_git == ours:
+        return None if port == own_port else "zeros-of-port"
+    return git_classes.class_of(Compared(case.text, of_git, ours), git_classes.CLASSES)
+
+
+def is_own(text):
+    """Whether a text is the one written for a location for which `agrees_with_git` is true."""
+    location = grammar.spells(text)
+    return location is not None and git_class.agrees_with_git(location) and writing.text(location) == text
+
+
+def judged(cases):
+    """The cases in which the library has other words than Git, each with its class, and with None those with a fault: the
+    library has to return a command if no reason is against it, and Git's words if `agrees_with_git` is true."""
+    for it in cases:
+        location, is_given = grammar.spells(it.text), it.own is not None
+        reason = next((name for name, is_so in REASONS.items() if is_so(location, it.run)), None)
+        example = f"{it.text!r}, {it.run}: Git has {it.git}, and the library {it.own}"
+        if not is_alike(it):
+            yield None if is_own(it.text) and reason not in OF_PROGRAMS else class_of(it, location, reason), example
+        if is_given == (reason is not None):
+            yield None, example
+
+
+def misread(cases):
+    """The commands in which a shell reads other words than the program's and the path."""
+    ran = [it for it in cases if not isinstance(it.git, str) and PROGRAMS.get(program_of(it.run), [program_of(it.run)])]
+    with rooms([]) as (room, environment, _):
+        read = answers_of(READ, room, environment, [it.git[-1] for it in ran])
+    for it, words in zip(ran, read):
+        own = PROGRAMS.get(program_of(it.run), [program_of(it.run)])
+        if words != b"".join(word + b"\x01" for word in (*own, path_of(it.git[-1], it.run))):
+            yield f"a shell reads {words!r}: {it}"
+
+
+def orders(asked):
+    """The calls of the library for texts, each with its run, and Git's words."""
+    for it in commands(asked):
+        outcome = {"refused": True} if isinstance(it.git, str) else [*map(text_of, it.git[1:])]
+        yield order_of(call_of(it.run), it.text, it.run), outcome
+
+
+# ---- the program
+
+# Each case is five words: the repository, the variables, with `=` before them if they are set, and the status of `-G`.
+ASK_PROGRAM = r"""
+while [ $# -gt 0 ]; do
+  unset GIT_SSH_COMMAND GIT_SSH GIT_SSH_VARIANT
+  case $2 in =*) export GIT_SSH_COMMAND="${2#=}" ;; esac
+  case $3 in =*) export GIT_SSH="${3#=}" ;; esac
+  case $4 in =*) export GIT_SSH_VARIANT="${4#=}" ;; esac
+  export GIT_DIR="$1" STATUS="$5" GIT_TRACE2_EVENT=1
+  said=$(git ls-remote ssh://u@h:22/p 2>&1)
+  case $said in *'"child_start"'*) more= ;; *) more=$(git ls-remote ssh://u@h/p 2>&1) ;; esac
+  printf '%s\n\0%s\n\0' "$said" "$more"
+  shift 5
+done
+"""
+FAKE = r"""#!/bin/sh
+case " $* " in *" -G "*) exit "$STATUS" ;; esac
+{ printf '\001'; printf '%s\001' "$@"; printf '\002\n'; } >&2
+exit 1
+"""
+# The input of Git: the entries, the variables, None if they aren't set, and the status that a program has for `-G`.
+Setting = namedtuple("Setting", "entries command path variant status")
+
+
+def placed(case, folder):
+    entries = [it._replace(value=it.value and it.value.replace(b"@", folder)) for it in case.entries]
+    return case._replace(entries=entries, command=case.command and case.command.replace(b"@", folder), path=case.path and case.path.replace(b"@", folder))
+
+
+def set_word(value):
+    return b"" if value is None else b"=" + value
+
+
+def events(said):
+    """Git's events in its output, the rest of which is for the user."""
+    found = (json.loads(line.decode("utf-8", "surrogateescape")) for line in said.split(b"\n") if line.startswith(b'{"event":'))
+    return [it for it in found if it["event"] in ("child_start", "child_exit", "error")]
+
+
+def stopped(case, said):
+    """The place of the entry that Git stops at, None if it doesn't."""
+    found = re.search(rb"bad config variable '([a-z.]+)' in file '.*' at line ([0-9]+)", said)
+    if not found:
+        return None
+    at = int(found[2]) // 2 - 1
+    entry = case.entries[at]
+    if not is_named(entry, *found[1].split(b".")) or entry.value is not None:
+        raise ValueError(f"Git stops at another entry: {said!r}")
+    return {"error": "NoValue", "at": len(listed(case.entries[:at]))}
+
+
+def kept_variant(case):
+    own = [it.value for it in case.entries if it.place is None and is_named(it, b"ssh", b"variant")]
+    return case.variant if case.variant is not None else own[-1] if own else None
+
+
+def variant_of(case, found):
+    """The variant that Git takes the program for, by its starts: it runs a program with `-G`, and takes the status for an answer."""
+    words = next((it["argv"] for it in found if it["event"] == "child_start"), None)
+    if words is None:
+        return "Simple"
+    if words[1] == "-G":
+        ended = next(it["code"] for it in found if it["event"] == "child_exit")
+        if (ended == 0) != any("-p" in it["argv"][1:2] + it["argv"][3:4] for it in found if it["event"] == "child_start" and it["argv"][1] != "-G"):
+            raise ValueError(f"Git takes the status otherwise: {case}")
+        return "Asked"
+    if "-batch" in words:
+        return "TortoisePlink"
+    if "-p" in words:
+        return "Ssh"
+    return "Putty" if kept_variant(case) == b"putty" else "Plink"
+
+
+def outcome(case, said, more):
+    """Git's behaviour: it stops at an entry, or starts a program."""
+    found = events(said)
+    stop = stopped(case, said)
+    if stop is not None:
+        return stop
+    started = next(it for it in (*found, *events(more)) if it["event"] == "child_start")
+    text = started["argv"][0].encode("utf-8", "surrogateescape")
+    shown = re.search(rb"\x01(.*)\x01\x02", said, re.S)
+    last = [it["argv"] for it in found if it["event"] == "child_start"][-1:]
+    if shown and not started["use_shell"] and shown[1].split(b"\x01") != [it.encode("utf-8", "surrogateescape") for it in last[0][1:]]:
+        raise ValueError(f"the program gets other words than Git says: {said!r}")
+    return {"text": text_of(text), "is_command_line": started["use_shell"], "variant": variant_of(case, found)}
+
+
+def programs(configurations):
+    """The calls of the library for settings, each with Git's outcome."""
+    with tempfile.TemporaryDirectory(prefix="programs-") as room:
+        folder = room.encode()
+        some = [placed(Setting(entries, *it), folder) for entries, settings in configurations for it in settings]
+        for name in Programs.NAMES:
+            put(f"{room}/{name}", FAKE, 0o700)
+        files = [placed(Setting(entries, None, None, None, "0"), folder).entries for entries, _ in configurations]
+        with rooms(files) as (place, environment, folders):
+            environment["PATH"] = f"{room}:{environment['PATH']}"
+            owners = [it for it, (_, settings) in zip(folders, configurations) for _ in settings]
+            words = [word for owner, it in zip(owners, some)
+                     for word in (owner, set_word(it.command), set_word(it.path), set_word(it.variant), it.status)]
+            said = answers_of(ASK_PROGRAM, place, environment, words, each=5, answers=2)
+    for it, *both in zip(some, said[::2], said[1::2]):
+        given = {"git_ssh_command": it.command, "git_ssh": it.path, "git_ssh_variant": it.variant}
+        values = {name: text_of(value) for name, value in given.items() if value is not None}
+        yield {"call": "SshProgram::of", "config": text_of(listed(it.entries)), **values}, outcome(it, *both)

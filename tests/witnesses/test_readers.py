@@ -1,0 +1,207 @@
+"""What programs that read Git locations read, beside the place that Git connects to.
+
+The texts are the remotes of `crates/url_bench/remotes.txt`, or of the file that `--remotes` names, the texts of the tables in `vectors/`, and
+made ones, most of them near the class; a whole run also changes some texts of the class at each place by each byte.
+`tools/second_reading/unambiguous.py` defines the class, by conditions on the bytes. In a text of the class every reader must read
+the location's own scheme, user, password, host, port and path, and the location must be settled, be written as the text, and agree with
+Git; and `Url::is_unambiguous` must say so of each text that is written for a location.
+
+Outside of the class a reader that reads another place, or refuses, must be listed for one of the conditions that the text
+breaks, in `vectors/readers/conditions.jsonl`; a whole run also fails if no reader needs a condition that isn't listed as such.
+The hosts that readers find in the texts of `vectors/readers/confusions.jsonl` must be those listed there. A reader whose
+version isn't that of `vectors/readers/readers.jsonl` is run, but only its differences inside the class fail. docs/READERS.md
+must have the tables of these files, which `--record` writes.
+
+A program that represents a group of readers (`tools/second_reading/groups.py`) must find the group's host in each text in which
+it or the group finds another host than Git, except in texts of the shapes that `reader_groups.py` lists for the program.
+A whole run over the repository's remotes also fails if no text needs a shape, or if the counts aren't those of `vectors/readers/groups.jsonl`.
+
+Places are compared in one form: the host in lower case without brackets, addresses in their shortest form, the scheme's default
+port filled in, user and password decoded if the reader leaves that to its caller, and the path as a program of Git would send
+it, over HTTP without trailing slashes. A program that converts the scp form to a URL may refuse one, and its path is compared
+without its first slash. For texts other than URLs, a reader of URLs is only asked whether it finds a host in them.
+"""
+import functools
+from collections import defaultdict
+from concurrent.futures import ThreadPoolExecutor
+
+import pytest
+import reader_facts as facts
+import reader_groups as groups
+from hypothesis import strategies
+from reader_own import own_readers
+from reader_places import git_place, is_same, said_place, with_decoded_path
+from reader_programs import READERS, ask, build, version
+from row_text import text_of
+from runs import answers
+from second_reading import git_class, grammar, writing
+from second_reading.unambiguous import CONDITIONS, broken, pieces
+from tables import texts_of_rows
+from texts import LocationMaker, NearMaker, WebMaker, can_be_an_argument, changed_texts, compare, made, remotes
+
+pytestmark = pytest.mark.needs("git")
+TEXTS = strategies.one_of([made(NearMaker)] * 4 + [made(WebMaker), made(LocationMaker)]).filter(can_be_an_argument)
+# The number of made texts, and of texts for a reader that is started for each of them.
+SCALES = {"sample": (30_000, 1_500), "whole": (50_000, 12_000)}
+# Longer texts of rows are left out.
+LONGEST = 4096
+# Of shapes and conditions for which texts are rarely made.
+GIVEN = (b"[h]]:a/b", b"git@[h]]:p", b"https://github.com/a%20b/c:d", b"https://github.com/a%C3%A9b/c:d")
+
+
+class Case:
+    """A text, its form, the conditions that it breaks, the place that Git connects to, and the hosts that groups of readers
+    find, each with whether the group misreads the text."""
+
+    def __init__(self, text):
+        self.text, self.form, self.broken = text, pieces(text).form, broken(text)
+        self.wanted = git_place(text, self.form)
+        self.hosts = groups.hosts_of(self)
+        self.misread = {it for it in self.hosts if groups.is_misread(self, it)}
+
+
+class Asked:
+    """A reader, and the cases in which it reads another place, each with its reading. `seen` is its behaviour in cases of its groups."""
+
+    def __init__(self, name, found, asked, places, same):
+        self.name, self.version = name, found
+        self.seen = [*groups.seen(name, asked, places)]
+        self.differing = {case.text: (case, it) for case, it in zip(asked, places) if not same(case, it)}
+
+
+def some(cases, count):
+    return cases[:: max(1, len(cases) // count)][:count]
+
+
+def ask_program(reader, cases):
+    found = version(reader)
+    if found is None or not build(reader):
+        return None
+    places = [said_place(reader, case.form, it) for case, it in zip(cases, ask(reader, [it.text for it in cases]))]
+    return Asked(reader.name, found, cases, places, lambda case, it: is_same(reader, case.form, case.wanted, it))
+
+
+def ask_own(own, cases, count):
+    """Runs a reader that is started for each text: on this many texts of the class, on this many others, and on those that are shown."""
+    name, found, takes, places = own
+    fitting, shown = [it for it in cases if takes(it.text, it.form)], {*facts.texts(), *GIVEN}
+    if name != "libcurl":
+        inside = [it for it in fitting if not it.broken]
+        outside = [it for it in fitting if it.broken and it.wanted is not None and not it.text.startswith(b"-")]
+        fitting = [*dict.fromkeys([*(it for it in fitting if it.text in shown), *some(inside, count), *some(outside, count)])]
+    seen = with_decoded_path if name == "Git credential" else lambda it: it
+    return Asked(name, found, fitting, places([it.text for it in fitting]), lambda case, it: case.wanted and seen(case.wanted) == it)
+
+
+@functools.lru_cache(2)
+def asked(texts, started):
+    """The cases of texts, and the readers that are installed, two of which run at a time."""
+    cases = [*map(Case, texts)]
+    with ThreadPoolExecutor(2) as lanes:
+        found = [*lanes.map(lambda it: ask_program(it, cases), READERS)]
+    missing = [reader for reader, it in zip(READERS, found) if it is None]
+    if missing:
+        print(f"left out: {', '.join(it.name for it in missing)}: apt-get install {' '.join(it.packages for it in missing)}")
+    return cases, [*[ask_own(it, cases, started) for it in own_readers()], *filter(None, found)]
+
+
+def faults(texts, started):
+    """The faults of texts of the class, each with its text."""
+    cases, readers = asked(tuple(texts), started)
+    for case in (it for it in cases if not it.broken):
+        found = grammar.spells(case.text)
+        if not (found and git_class.agrees_with_git(found) and writing.text(found) == case.text and case.wanted):
+            yield case.text, f"{case.text!r} is in the class, and is no location of which agrees_with_git is true, written so"
+    own = [case for case in cases if (it := grammar.spells(case.text)) and writing.text(it) == case.text]
+    for case, found in zip(own, answers([{"call": "Url::is_unambiguous", "url": text_of(it.text)} for it in own])):
+        if found is not (not case.broken):
+            yield case.text, f"Url::is_unambiguous is {found} of {case.text!r}, which breaks {case.broken}"
+    for reader in readers:
+        yield from ((case.text, f"{reader.name} {reader.version} reads {it} in {case.text!r} of the class, and Git {case.wanted}")
+                    for case, it in reader.differing.values() if not case.broken)
+
+
+class Run:
+    """All texts of a scale, and what the readers read in them."""
+
+    def __init__(self, name, given):
+        count, self.started = SCALES[name]
+        self.is_whole, self.is_own = name == "whole", not given
+        given = [it for file in given for it in open(file, "rb").read().splitlines()] or remotes()
+        more = changed_texts() if self.is_whole else []
+        others = filter(can_be_an_argument, [*facts.texts(), *GIVEN, *given, *texts_of_rows(LONGEST), *more])
+        self.texts = lambda: compare(TEXTS, count, lambda texts: faults(texts, self.started), others)
+
+    @functools.cached_property
+    def cases(self):
+        return asked(tuple(self.texts()), self.started)[0]
+
+    @functools.cached_property
+    def readers(self):
+        return asked(tuple(it.text for it in self.cases), self.started)[1]
+
+    @property
+    def known(self):
+        return [it for it in self.readers if facts.versions().get(it.name) == it.version]
+
+    def alone(self):
+        """By conditions and readers, the differences in texts that break only this condition."""
+        found = defaultdict(lambda: defaultdict(list))
+        for reader in self.readers:
+            for case, it in reader.differing.values():
+                if len(case.broken) == 1 and case.wanted is not None:
+                    found[case.broken[0]][reader.name].append((case, it))
+        return found
+
+    def beside(self, found):
+        """The readers that differ in a text that breaks several conditions, and in none that breaks only one of them: by the first
+        of them."""
+        more = defaultdict(list)
+        for reader in self.readers:
+            for case, _ in reader.differing.values():
+                if case.wanted is not None and case.broken and not any(reader.name in [*found[name], *more[name]] for name in case.broken):
+                    more[case.broken[0]].append(reader.name)
+        return more
+
+
+@pytest.fixture(scope="module", params=[pytest.param(it, marks=getattr(pytest.mark, it)) for it in SCALES])
+def run(request):
+    made_run = Run(request.param, request.config.getoption("remotes"))
+    if request.config.getoption("record"):
+        facts.record(made_run.cases, made_run.readers, made_run.alone(), made_run.beside(made_run.alone()))
+    return made_run
+
+
+def test_the_class(run):
+    """All readers read its texts alike."""
+    assert any(not it.broken for it in run.cases) and run.readers
+
+
+def test_outside_of_the_class(run):
+    listed = facts.conditions()
+    assert not [f"{reader.name} {reader.version} reads {it} in {case.text!r}, and Git {case.wanted}; it breaks {case.broken}"
+                for reader in run.known for case, it in reader.differing.values()
+                if case.wanted is not None and not any(facts.is_listed(listed[name], reader.name) for name in case.broken)]
+
+
+def test_confusions(run):
+    assert not [*facts.confusion_faults(run.cases, run.known)]
+
+
+def test_groups(run):
+    assert not [*groups.group_faults(run.known)]
+
+
+def test_each_condition_and_shape_is_needed(run):
+    """In a whole run over the repository's remotes."""
+    if run.is_whole:
+        found, listed = run.alone(), facts.conditions()
+        assert not [name for name in CONDITIONS if not found[name] and facts.has_readers(listed[name])]
+    if run.is_whole and run.is_own:
+        assert not [*groups.shape_faults(run.known)]
+        assert not [*facts.count_faults(run.known)]
+
+
+@pytest.mark.quick
+def test_document():
+    assert not [*facts.page_faults()]

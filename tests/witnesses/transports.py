@@ -1,0 +1,264 @@
+"""The effects of Git's transports: the words that Git passes to their programs, the way OpenSSH reads them, and the repositories
+that Git's commands open on this machine.
+
+Scripts that show their arguments and exit replace Secure Shell, the connection of `git://` and `git-upload-pack`, so Git runs
+to its end and connects to nothing. `ssh -G` reports how OpenSSH reads a word; it doesn't connect either. The repositories are
+made each time in a folder of their own, which also has the home folder.
+"""
+import os
+import re
+import shutil
+import subprocess
+import tempfile
+
+from git_classes import HOME, SECURE_URL, Reading
+from git_reads import git_port
+from git_runs import alone, ask_loop, git
+
+OWN = ("ssh", "git", "file")
+# Git's reading, and the program to which it passes a text: only the transport `ssh` is allowed.
+ASK_GIT = r"""
+for text; do
+  git ls-remote -- "$text" 2>&1; printf '\0'
+  git fetch-pack --diag-url "$text" 2>&1; printf '\0'
+done
+"""
+# It shows its words, each followed by byte 1, between byte 1 and byte 2.
+SHOW = r"""#!/bin/sh
+{ printf '\001'; printf '%s\001' "$@"; printf '\002'; } >&2
+exit 1
+"""
+# It shows the request that Git sends after them, whose first four digits are its length, with byte 3 for each byte 0.
+SHOW_REQUEST = r"""#!/bin/sh
+length=$(dd bs=1 count=4 2>/dev/null)
+{
+  printf '\001'; printf '%s\001' "$@"
+  dd bs=1 count=$((0x$length - 4)) 2>/dev/null | tr '\000' '\003'
+  printf '\001\002'
+} >&2
+exit 1
+"""
+ASK_PROGRAMS = r"""
+for text; do git ls-remote --upload-pack="$SHOW" -- "$text" 2>&1; printf '\0'; done
+"""
+ASK_SECURE_SHELL = r"""
+while [ $# -gt 0 ]; do ssh -F "$SETTINGS" -G ${2:+-p "$2"} "$1" x 2>&1; printf '\0'; shift 2; done
+"""
+# OpenSSH uses this user if the word names none.
+NO_USER = b"not-named"
+PLAIN_WORD = re.compile(rb"([A-Za-z0-9_-]+@)?[A-Za-z0-9.-]+")
+GIT_PORT, SECURE_PORT = 9418, 22
+
+
+def shown(answer):
+    """The words that a program has shown in an answer; None if no program was started."""
+    found = re.search(rb"\x01(.*)\x01\x02", answer, re.S)
+    return found and found[1].split(b"\x01")
+
+
+def ask_git(texts):
+    """Git's results for texts: for each the transport with the words for Secure Shell, and the reading."""
+    said = ask_loop(ASK_GIT, texts, {"GIT_SSH": SHOW}, answers=2, GIT_ALLOW_PROTOCOL="ssh", GIT_SSH_VARIANT="ssh")
+    return list(zip(said[::2], said[1::2]))
+
+
+def host_and_port(text):
+    """Host and port of `git://`, split as Git's `get_host_and_port` does: around brackets, then at the first colon."""
+    start = text.find(b"@[") + 1
+    close = text.find(b"]", start) if text[start : start + 1] == b"[" else -1
+    name, colon, digits = text[close + 1 :].partition(b":")
+    port = git_port(digits)
+    if close >= 0:
+        return text[:start] + text[start + 1 : close], port
+    return text if port is None and (digits or not colon) else name, port
+
+
+def secure_reading(said):
+    found = re.search(rb"\nDiag: userandhost=(.*)\nDiag: port=(.*)\nDiag: path=(.*)\n\Z", said, re.S)
+    user, at, host = found[1].rpartition(b"@")
+    return Reading("ssh", user if at else None, None, host or None, None if found[2] == b"NONE" else int(found[2]), found[3])
+
+
+def diagnosed(said):
+    """The reading that `git fetch-pack --diag-url` shows; None if it shows none."""
+    if b"\nDiag: protocol=ssh\n" in said:
+        found = secure_reading(said)
+        return found._replace(protocol=SECURE_URL) if (found.user or found.host or b"").startswith(b"ssh://") else found
+    shown = re.search(rb"\nDiag: protocol=(git|file)\nDiag: hostandport=(.*)\nDiag: path=(.*)\n\Z", said, re.S)
+    if shown is None:
+        return None
+    # Git opens the path of a file URL on this machine, whatever its host.
+    host, port = host_and_port(shown[2]) if shown[1] == b"git" else (None, None)
+    protocol = HOME if shown[1] == b"file" and shown[3].startswith(b"~") else shown[1].decode()
+    return Reading(protocol, None, None, host or None, port, shown[3])
+
+
+def quoted(text):
+    """A text as Git quotes it for a shell."""
+    return b"'" + re.sub(rb"(['!])", rb"'\\\1'", text) + b"'"
+
+
+def words_got(protocol, words):
+    """The words that the program of a transport gets: a word for a host, a port and a path, or only a path."""
+    if protocol == "ssh":
+        return words[-2], int(words[words.index(b"-p") + 1]) if b"-p" in words[:-2] else None, words[-1]
+    if protocol == "git":
+        host, port, request = words
+        path = re.match(rb"\S+ (.*?)\x03host=", request, re.S)
+        return host, int(port), path and path[1]
+    return tuple(words)
+
+
+def words_wanted(reading):
+    """The words that the program of a transport must get for a reading."""
+    host, port, path = reading.host or b"", reading.port, reading.path
+    if reading.protocol == "ssh":
+        return host if reading.user is None else reading.user + b"@" + host, port, b"git-upload-pack " + quoted(path)
+    return (host, GIT_PORT if port is None else port, path) if reading.protocol == "git" else (path,)
+
+
+def is_blocked(text, answer):
+    """Whether Git refuses a text of `git://` by a rule of its own: for an end of a line, or, before such a program, for a host
+    or a port that begins with `-`."""
+    if b"%0a" in text.lower():
+        return answer.startswith(b"fatal: newline is forbidden")
+    return re.match(rb"fatal: strange (hostname|port) '-", answer) is not None
+
+
+def program_fault(text, answer, reading):
+    """The fault of the words that a program got for a reading, if there is one. After an empty path Git reads
+    the byte after the text's end, which may be a `~`, so there the path isn't compared."""
+    words = shown(answer)
+    if reading.protocol == "git" and (b"%0a" in text.lower() or words is None):
+        return None if words is None and is_blocked(text, answer) else f"Git answers {answer!r}"
+    if words is None:
+        return f"no program is started: {answer!r}"
+    if reading.path == b"" or text.endswith(b":") and reading.path.startswith(b"~"):
+        return None
+    return None if words_got(reading.protocol, words) == words_wanted(reading) else f"the program gets {words}"
+
+
+def program_faults(readings, answers):
+    """The texts for whose readings a program gets other words, each with the fault. For Secure Shell the answers have the
+    words; those of `git://` and of this machine are run again, with both allowed."""
+    own = {text: it for text, it in readings.items() if isinstance(it, Reading) and it.protocol in (*OWN, HOME)}
+    others = [text for text, it in own.items() if it.protocol != "ssh"]
+    said = ask_loop(ASK_PROGRAMS, others, {"SHOW": SHOW, "GIT_PROXY_COMMAND": SHOW_REQUEST}, GIT_ALLOW_PROTOCOL="git:file")
+    faults = {text: program_fault(text, it, own[text]) for text, it in {**answers, **dict(zip(others, said))}.items() if text in own}
+    return [(text, fault) for text, fault in faults.items() if fault]
+
+
+# ---- OpenSSH
+
+def ask_secure_shell(pairs):
+    """OpenSSH's answers to words, each with its port or None."""
+    words = [it for word, port in pairs for it in (word, b"" if port is None else b"%d" % port)]
+    return ask_loop(ASK_SECURE_SHELL, words, {"SETTINGS": f"User {NO_USER.decode()}\n"}, each=2)
+
+
+def is_heard(answer, reading):
+    """Whether OpenSSH reads a word as the reading. Its host is the one that it shows itself, not the host that it would look
+    up, which is in lower case."""
+    found = re.search(rb"(?:\A|\n)host (.*?)\nuser (.*?)\nhostname .*?\nport ([0-9]+)\n", answer, re.S)
+    user, port = NO_USER if reading.user is None else reading.user, SECURE_PORT if reading.port is None else reading.port
+    return found is not None and (found[1], found[2], int(found[3])) == (reading.host or b"", user, port)
+
+
+def is_refused(answer):
+    return not re.search(rb"\nport [0-9]+\n", answer)
+
+
+def heard_fault(answer, reading):
+    """The fault of OpenSSH's reading of the word for Git's reading, if there is one. It must refuse a word with an empty user,
+    and read a word that is a URL as another user and host; it may refuse others, as with port 0."""
+    if reading == "empty user":
+        return None if is_refused(answer) else "OpenSSH doesn't refuse it"
+    if reading.protocol == SECURE_URL:
+        return "OpenSSH doesn't read the word as a URL" if is_heard(answer, reading) else None
+    return None if is_refused(answer) or is_heard(answer, reading) else f"OpenSSH reads {answer[:200]!r}"
+
+
+def chosen(pairs):
+    """The words for OpenSSH: those with anything but a plain user and a plain host, and every tenth of the others."""
+    plain = [it for it in pairs if PLAIN_WORD.fullmatch(it[0])]
+    return [*{*pairs}.difference(plain), *plain[::10]]
+
+
+def secure_faults(readings, answers):
+    """The texts whose word OpenSSH reads differently, each with the fault, if it is installed."""
+    if not shutil.which("ssh"):
+        return []
+    named = [text for text, it in readings.items() if it == "empty user" or isinstance(it, Reading) and it.protocol in ("ssh", SECURE_URL)]
+    pairs = {text: words_got("ssh", shown(answers[text]))[:2] for text in named}
+    asked = chosen(dict.fromkeys(pairs.values()))
+    heard = dict(zip(asked, ask_secure_shell(asked)))
+    faults = ((text, heard_fault(heard[pair], readings[text])) for text, pair in pairs.items() if pair in heard)
+    return [(text, fault) for text, fault in faults if fault]
+
+
+# ---- repositories
+
+# The repositories, below the folder.
+REPOSITORIES = ("home/x", "here/x", "here/~/x", "here/~no-such-user/x", "here/a:b", "here/]/c", "here/a@[b]/c")
+# A text, with the folder's path for `{}`; the repository that `git ls-remote`, `git fetch` and `git push` open, and the one
+# that `git clone` opens: None if it is refused.
+OPENED = (
+    ("~/x", "home/x", "here/~/x"),
+    ("~no-such-user/x", None, "here/~no-such-user/x"),
+    ("./~/x", "here/~/x", "here/~/x"),
+    ("{}/here/~/x", "here/~/x", "here/~/x"),
+    ("file://{}/here/~/x", "here/~/x", "here/~/x"),
+    ("file://~{}/here/~/x", "here/~/x", "here/~/x"),
+    ("/~/x", None, None),
+    ("file:///~/x", None, None),
+    ("x", "here/x", "here/x"),
+    ("./a:b", "here/a:b", "here/a:b"),
+    ("a@[b]/c", "here/]/c", "here/]/c"),
+)
+
+
+class Room:
+    """Repositories in a folder, each identified by a commit of its own."""
+
+    def __init__(self, room):
+        self.room, self.here = room, f"{room}/here"
+        people = {f"GIT_{it}_{part}": "x" for it in ("AUTHOR", "COMMITTER") for part in ("NAME", "EMAIL")}
+        self.environment = alone(room, GIT_ALLOW_PROTOCOL="file", **people)
+        os.makedirs(f"{room}/home")
+        git(room, self.environment, "init", "--quiet", self.here)
+        self.tree = self.said("write-tree")
+        self.known = {self.made(it): it for it in REPOSITORIES}
+        self.commit = self.said("commit-tree", "-m", "pushed", self.tree)
+
+    def said(self, *words):
+        quiet = {"stdin": subprocess.DEVNULL, "stderr": subprocess.DEVNULL}
+        return subprocess.run(["git", *words], cwd=self.here, env=self.environment, stdout=subprocess.PIPE, check=False, **quiet).stdout.decode().strip()
+
+    def name(self, path):
+        found = os.path.relpath(os.path.realpath(os.path.join(self.here, path.decode())), self.room)
+        return found if found in REPOSITORIES else None
+
+    def made(self, name):
+        path = f"{self.room}/{name}"
+        commit = self.said("commit-tree", "-m", name, self.tree)
+        self.said("init", "--quiet", "--bare", "--initial-branch=main", path)
+        self.said("push", "--quiet", f"file://{path}", f"{commit}:refs/heads/main")
+        return commit
+
+    def pushed(self, text):
+        """The repository into which Git pushes: the branch is removed from it again, which Git reports."""
+        self.said("push", "--quiet", text, f"{self.commit}:refs/heads/pushed")
+        found = [it for it in REPOSITORIES if self.said("--git-dir", f"{self.room}/{it}", "branch", "-D", "pushed")]
+        return found[0] if len(found) == 1 else None
+
+    def opened(self, text):
+        """The repositories that the commands open, each with the command's name: None if it opens none."""
+        listed = self.said("ls-remote", text, "HEAD").partition("\t")[0]
+        self.said("update-ref", "-d", "FETCH_HEAD")
+        self.said("fetch", "--quiet", text)
+        fetched = self.said("rev-parse", "--quiet", "--verify", "FETCH_HEAD")
+        with tempfile.TemporaryDirectory(dir=self.room) as clone:
+            self.said("clone", "--quiet", "--bare", text, f"{clone}/x")
+            cloned = self.said("--git-dir", f"{clone}/x", "rev-parse", "--quiet", "--verify", "HEAD")
+        known = self.known.get
+        return {"ls-remote": known(listed), "fetch": known(fetched), "push": self.pushed(text), "clone": known(cloned)}
