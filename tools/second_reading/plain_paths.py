@@ -2,7 +2,7 @@
 
 The library splits texts at their marks. Here a path of a URL is read byte by byte, each byte in its role, and a path of files
 by its segments with their starts and ends. Both are tried on random paths, the same each time, from which `cases` makes the
-inputs of a call and its outcome. All texts are bytes here; `rows.py` makes rows of them.
+inputs of a call and its outcome. All texts are bytes here; `tests/tables.py` makes rows of them.
 """
 import re
 
