@@ -91,9 +91,9 @@ def test_finds(fault):
     copy = copied(f"{ROOT}/bindings/c", f"{OUT}/plant/c")
     plant(copy, *plants.C[fault])
     programs.cache_clear()
-    quick = ("nulls", "rule_nulls", *OF_MEMORY)
-    folder = programs(f"{OUT}/plant", *quick, sources=copy)
-    if not is_caught(*(lambda it=it: run(f"{folder}/{it}") for it in quick)):
+    folder = programs(f"{OUT}/plant", sources=copy)
+    made = (compiled(folder, it) for it in ("nulls", "rule_nulls", *OF_MEMORY))
+    if not any(is_caught(lambda it=it: run(it)) for it in made):
         compiled(folder, "answers")
         vectors = compiled(folder, "vectors")
         assert is_caught(*(lambda it=it: test_answers(it, folder) for it in inputs()), lambda: check(C().faults(vectors)))
