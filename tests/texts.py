@@ -23,6 +23,11 @@ class Enough(Exception):
     """As many examples are made as are asked for."""
 
 
+# Strategies are kept, since it takes time to make one.
+integers = functools.cache(strategies.integers)
+sampled_from = functools.lru_cache(10_000)(strategies.sampled_from)
+
+
 class Maker:
     """Makes texts by the draws of a strategy."""
 
@@ -30,10 +35,11 @@ class Maker:
         self.draw = draw
 
     def below(self, count):
-        return self.draw(strategies.integers(0, count - 1))
+        return self.draw(integers(0, count - 1))
 
     def one_of(self, pieces):
-        return self.draw(strategies.sampled_from(pieces))
+        is_of_texts = isinstance(pieces, tuple) and isinstance(pieces[-1], (str, bytes))
+        return self.draw(sampled_from(pieces) if is_of_texts else strategies.sampled_from(pieces))
 
     def pieces(self, some, most):
         return b"".join(self.one_of(some) for _ in range(self.below(most + 1)))
@@ -41,7 +47,11 @@ class Maker:
 
 @functools.cache
 def made(maker, what="text"):
-    return strategies.composite(lambda draw: getattr(maker(draw), what)())()
+    def by_draws(draw):
+        return getattr(maker(draw), what)()
+
+    # Of a function without a name hypothesis would read the source each time.
+    return strategies.composite(by_draws)()
 
 
 def drawn(strategy, number, take, phases=(Phase.generate,)):

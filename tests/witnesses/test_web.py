@@ -62,6 +62,7 @@ def curl():
     return Curl(library_of_git())
 
 
+@functools.lru_cache(2)
 def with_written(texts):
     """The cases of texts, and of those that are written for what is read in them; and the texts of the latter, by those."""
     cases = cases_of(texts)
@@ -72,7 +73,7 @@ def with_written(texts):
 
 @functools.cache
 def all_cases():
-    return with_written([*dict.fromkeys([*given(), *examples(TEXTS, COUNT)])])[0]
+    return with_written((*dict.fromkeys([*given(), *examples(TEXTS, COUNT)]),))[0]
 
 
 @functools.cache
@@ -122,7 +123,7 @@ def explain_faults(cases):
 
 
 def faults(texts, count):
-    cases, source = with_written(texts)
+    cases, source = with_written(tuple(texts))
     found = [*rule_faults([*texts, *source], count), *((case.text, fault) for case, fault in lost(cases, CLASSES)), *answer_faults(cases)]
     found += [(it.text, fault) for it in cases if it.is_written_so and not broken(it.location) for fault in agreement_faults(it)]
     found += explain_faults(cases)
