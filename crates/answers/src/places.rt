@@ -61,16 +61,33 @@ fn holds(bytes: &[u8], text: &str) -> bool {
     bytes.contains_str(text.as_bytes())
 }
 
-/// Reports the normal form of a text, or whether it is a pattern.
+/// Reports the normal form of a text, or whether it is a pattern. If the text isn't a URL or the buffer is too short, the
+/// buffer has to be unchanged.
 fn read(order: Order<'_>, text: &[u8], room: &mut [u8], out: &mut Out) -> Result<(), Halt> {
-    match order.call() {
-        "NormalUrl::parse_in" => report_owned(out, NormalUrl::parse_in(text, room)),
-        "UrlPattern::parse_in" => report_owned(
-            out,
-            UrlPattern::parse_in(text, room).map(is_pattern),
-        ),
-        call => unknown(call),
+    let is_kept = match order.call() {
+        "NormalUrl::parse_in" => {
+            let read = NormalUrl::parse_in(text, room);
+            let is_kept = keeps_buffer(&read);
+            report_owned(out, read)?;
+            is_kept
+        }
+        "UrlPattern::parse_in" => {
+            let read = UrlPattern::parse_in(text, room).map(is_pattern);
+            let is_kept = keeps_buffer(&read);
+            report_owned(out, read)?;
+            is_kept
+        }
+        call => return unknown(call),
+    };
+    if is_kept && !room.iter().all(|&byte| byte == b'#') {
+        return Err(Halt::Changed);
     }
+    Ok(())
+}
+
+/// Whether nothing was written into the buffer.
+fn keeps_buffer<T>(read: &Result<T, NormalError>) -> bool {
+    matches!(read, Err(NormalError::NoRoom | NormalError::NoUrl))
 }
 
 /// True for each pattern.

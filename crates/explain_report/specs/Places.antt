@@ -39,6 +39,23 @@ is_for_helper (helper_url name) = true
 abbrev pub named_host : Option (List ℕ) → Option (List ℕ)
 named_host host = option_and_then unless_empty host
 
+-- the place that Git reads has the fields of the location
+abbrev pub IsPlaceOf : Location → GitPlace → Type 0
+IsPlaceOf v found = (own_protocol v.scheme ≡ Some found.protocol)
+    × (v.user ≡ option_map (λ it. it.now) found.user)
+    × (named_host v.host ≡ option_map (λ it. it.now) found.host)
+    × (v.port ≡ found.port)
+    × (v.path ≡ found.path.now)
+
+-- both locations have the same fields but for their form, and the second has no password
+abbrev pub AreSamePlace : Location → Location → Type 0
+AreSamePlace v other = (v.scheme ≡ other.scheme)
+    × (v.user ≡ other.user)
+    × (other.password ≡ None)
+    × (v.host ≡ other.host)
+    × (v.port ≡ other.port)
+    × (v.path ≡ other.path)
+
 -- the part has the mark that ends a user or a password, or a part of it may be a secret
 abbrev pub may_hide : ℕ → List ℕ → Bool
 may_hide mark part = list_any (λ b. b == mark) part || has_secret part

@@ -441,7 +441,9 @@ fn unless_empty(text: &[u8]) -> Option<&[u8]>
 }
 
 /// Whether the fields that Git reads are those of the location.
-fn is_same(url: &Url, found: &GitPlace<'_>) -> bool {
+fn is_same(url: &Url, found: &GitPlace<'_>) -> bool
+    ensures { IsTrue result → spec.IsPlaceOf url.now found.now }
+{
     own_protocol(url) == Some(found.protocol)
         && user_of(url) == found.user
         && host_of(url) == found.host

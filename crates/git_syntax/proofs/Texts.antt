@@ -3,6 +3,7 @@ pub mod CutLemmas
 pub mod EscapeLemmas
 pub mod EscapeSets
 pub mod PlainLemmas
+pub mod BlockLemmas
 pub mod AsciiLemmas
 pub mod DecodingLemmas
 pub mod LookLemmas

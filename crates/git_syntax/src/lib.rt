@@ -9,6 +9,7 @@
 #![tactic(auto)]
 
 pub mod address_law;
+mod blocks;
 mod byte_class;
 pub mod bytes;
 pub mod classify;

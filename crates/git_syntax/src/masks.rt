@@ -27,8 +27,6 @@ pub(crate) struct Masks {
     pub(crate) slash: u64,
     /// `@`.
     pub(crate) at: u64,
-    /// Letters, digits, and `+`, `,`, `-`, `.`, `/`, `:`, `@`, `_` and `~`.
-    pub(crate) common: u64,
     /// Bytes of a simple host.
     pub(crate) host: u64,
 }
@@ -43,7 +41,6 @@ impl Masks {
             colon: front(self.colon, place),
             slash: front(self.slash, place),
             at: front(self.at, place),
-            common: front(self.common, place),
             host: front(self.host, place),
         }
     }
@@ -57,7 +54,6 @@ impl Masks {
             colon: rest(self.colon, place),
             slash: rest(self.slash, place),
             at: rest(self.at, place),
-            common: rest(self.common, place),
             host: rest(self.host, place),
         }
     }
@@ -106,7 +102,6 @@ fn join(text: &[u8], done: usize, front: Masks, at: usize, block: Masks) -> Mask
         colon: join_mask(text, done, front.colon, at, block.colon),
         slash: join_mask(text, done, front.slash, at, block.slash),
         at: join_mask(text, done, front.at, at, block.at),
-        common: join_mask(text, done, front.common, at, block.common),
         host: join_mask(text, done, front.host, at, block.host),
     }
 }

@@ -17,7 +17,7 @@ use crate::bytes::{after, is_helper_name, starts_with_byte};
 use crate::home::begins_at_home;
 use crate::host::HostSyntax;
 use crate::host::port::read_port;
-use crate::masks::marked::{Marked, mark};
+use crate::masks::marked::{Marked, mark_common};
 use crate::scheme::{SchemeRef, helper_scheme, is_named};
 use crate::text::as_text;
 
@@ -54,11 +54,7 @@ pub fn is_simple_text(bytes: &[u8]) -> bool
 pub fn simple_pieces(bytes: &[u8]) -> Option<SimplePieces<'_>>
     ensures { IfSome result (λ pieces. IsSimpleText bytes.now (simple_location pieces)) }
 {
-    let text = mark(bytes)?;
-    if !text.are_common_bytes() {
-        return None;
-    }
-    cut_simple(text)
+    cut_simple(mark_common(bytes)?)
 }
 
 /// The fields of the location that such a text spells.

@@ -5,17 +5,18 @@
 ghost use Rattle.std.specs.Prelude.{◌≡◌, ◌↔◌, IsTrue, IsUtf8, string_bytes};
 ghost use Rattle.git_syntax.specs.Escapes as spec;
 
+use crate::blocks::are_plain;
+
 /// Whether each byte is printable ASCII and none is `%`. Such a text is UTF-8, has no white space, and decodes
 /// to itself.
 pub fn is_plain(text: &[u8]) -> bool
     ensures { result ≡ spec.is_plain text.now }
 {
-    // A loop without an early exit is compiled to test many bytes at once.
-    let mut plain = true;
-    for byte in text {
-        plain &= is_plain_byte(*byte);
+    if text.len() >= 16 {
+        are_plain(text)
+    } else {
+        text.iter().all(|byte| is_plain_byte(*byte))
     }
-    plain
 }
 
 /// Whether the byte is printable ASCII and isn't `%`.

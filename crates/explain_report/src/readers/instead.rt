@@ -3,6 +3,7 @@
 //! The URL is written from the fields, parsed, and compared with the location of the line.
 
 ghost use Rattle.std.specs.Prelude.{◌≡◌, IfOk, IfSome, IsTrue, None, false, string_bytes};
+ghost use Rattle.explain_report.specs.Places.{AreSamePlace};
 ghost use Rattle.explain_report.specs.Secrets.{has_secret};
 
 use crate::advice::slip::has_one_slash;
@@ -131,7 +132,9 @@ fn is_read_better(line: &[u8], url: &Url, text: &[u8], other: &Url) -> bool
 }
 
 /// Whether the fields of both are equal. Neither may have a password.
-fn is_same_place(url: &Url, other: &Url) -> bool {
+fn is_same_place(url: &Url, other: &Url) -> bool
+    ensures { IsTrue result → AreSamePlace url.now other.now }
+{
     url.scheme == other.scheme
         && url.user() == other.user()
         && other.password().is_none()

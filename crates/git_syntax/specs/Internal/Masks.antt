@@ -32,7 +32,6 @@ pub record AreMasksOf (text : List ℕ) (masks : Masks) : Type 0 where
   pub colon : masks.colon ≡ mask_of (λ b. b == colon) text
   pub slash : masks.slash ≡ mask_of (λ b. b == slash) text
   pub at : masks.at ≡ mask_of (λ b. b == at_sign) text
-  pub common : masks.common ≡ mask_of is_common_byte text
   pub host : masks.host ≡ mask_of is_simple_byte text
 
 -- the masks are those of the text

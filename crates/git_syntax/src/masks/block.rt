@@ -2,16 +2,13 @@
 
 ghost use Rattle.std.specs.Prelude.{◌≡◌, ◌==◌};
 ghost use Rattle.git_syntax.specs.Internal.HostPieces.{is_simple_byte};
-ghost use Rattle.git_syntax.specs.Internal.Masks.{AreMasksOf, is_common_byte, mask_of};
+ghost use Rattle.git_syntax.specs.Internal.Masks.{AreMasksOf, mask_of};
 
 use super::Masks;
 use std::simd::prelude::*;
 
-/// The distance from `a` to `z`, and from `A` to `Z`.
+/// The distance from `a` to `z`.
 const LETTER_SPAN: u8 = 25;
-
-/// The distance from `+` to `:`.
-const SIGN_SPAN: u8 = 15;
 
 /// The distance from `-` to `9`.
 const DIGIT_SPAN: u8 = 12;
@@ -25,7 +22,6 @@ pub(super) fn block(bytes: u8x16) -> Masks
         colon: equal_to(bytes, b':'),
         slash: equal_to(bytes, b'/'),
         at: equal_to(bytes, b'@'),
-        common: commons(bytes),
         host: hosts(bytes),
     }
 }
@@ -36,20 +32,6 @@ fn equal_to(bytes: u8x16, byte: u8) -> u64
     ensures { result ≡ mask_of (λ b. b == byte) bytes }
 {
     bytes.simd_eq(u8x16::splat(byte)).to_bitmask()
-}
-
-/// Which bytes are a letter, a digit, or one of `+`, `,`, `-`, `.`, `/`, `:`, `@`, `_` and `~`.
-#[inline(always)]
-fn commons(bytes: u8x16) -> u64
-    ensures { result ≡ mask_of is_common_byte bytes }
-{
-    // A byte below the first of a range wraps to a large number.
-    let lower = (bytes - u8x16::splat(b'a')).simd_le(u8x16::splat(LETTER_SPAN));
-    let upper = (bytes - u8x16::splat(b'A')).simd_le(u8x16::splat(LETTER_SPAN));
-    let sign = (bytes - u8x16::splat(b'+')).simd_le(u8x16::splat(SIGN_SPAN));
-    let line = bytes.simd_eq(u8x16::splat(b'_')) | bytes.simd_eq(u8x16::splat(b'~'));
-    let other = bytes.simd_eq(u8x16::splat(b'@')) | line;
-    ((lower | upper) | (sign | other)).to_bitmask()
 }
 
 /// Which bytes are a lower-case letter, a digit, `-` or `.`.

@@ -6,7 +6,7 @@ ghost use Rattle.std.specs.List.{list_all};
 ghost use Rattle.git_syntax.specs.Bytes.{FreeOf, at_sign, begins_with, colon, slash};
 ghost use Rattle.git_syntax.specs.Internal.Cuts.{CutsAt, CutsAtLast};
 ghost use Rattle.git_syntax.specs.Internal.HostPieces.{is_simple_byte};
-ghost use Rattle.git_syntax.specs.Internal.Masks.{AreMasksOf, is_common};
+ghost use Rattle.git_syntax.specs.Internal.Masks.{AreMasksOf};
 
 use super::Masks;
 use super::bits::{all, first, last, none};
@@ -61,15 +61,6 @@ pub(super) fn lacks_slashes(text: &[u8], masks: &Masks) -> bool
     ensures { IsTrue result ↔ FreeOf slash text.now }
 {
     none(masks.slash)
-}
-
-/// Whether each byte is a letter, a digit, or one of `+`, `,`, `-`, `.`, `/`, `:`, `@`, `_` and `~`.
-#[inline(always)]
-pub(super) fn are_common_bytes(text: &[u8], masks: &Masks) -> bool
-    requires { AreMasksOf text.now masks.now }
-    ensures { IsTrue result ↔ (is_common text.now ≡ true) }
-{
-    all(masks.common, text.len())
 }
 
 /// Whether each byte is a lower-case letter, a digit, `-` or `.`, as in `a-1.b` but not in `a_b`.

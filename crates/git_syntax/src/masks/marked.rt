@@ -10,6 +10,7 @@ ghost use Rattle.git_syntax.specs.Internal.HostPieces.{IsSimpleHost, is_simple_b
 ghost use Rattle.git_syntax.specs.Internal.Masks.{IsMarked, is_common, texts_of};
 
 use super::{Masks, cuts, masks_of};
+use crate::blocks::are_common;
 use crate::classify::after_slashes;
 
 /// A text with its masks.
@@ -21,14 +22,15 @@ pub(crate) struct Marked<'a> {
     pub(crate) masks: Masks,
 }
 
-/// Returns the text with its masks, or `None` if it has less than 16 bytes or more than 64.
+/// Returns the text with its masks, if it has 16 to 64 bytes and they are common.
 #[inline(always)]
-pub(crate) fn mark(text: &[u8]) -> Option<Marked<'_>>
+pub(crate) fn mark_common(text: &[u8]) -> Option<Marked<'_>>
     ensures masks { IfSome result (λ found. IsMarked found) }
     ensures same { IfSome result (λ found. found.text.now ≡ text.now) }
     ensures long { IfSome result (λ found. 16 ≤ length text.now) }
+    ensures common { IfSome result (λ found. is_common text.now ≡ true) }
 {
-    if text.len() < 16 || text.len() > 64 {
+    if text.len() < 16 || text.len() > 64 || !are_common(text) {
         return None;
     }
     let masks = masks_of(text);
@@ -100,15 +102,6 @@ impl<'a> Marked<'a> {
         ensures { IsTrue result ↔ FreeOf slash self.now.text.now }
     {
         cuts::lacks_slashes(self.text, &self.masks)
-    }
-
-    /// Whether each byte is a letter, a digit, or one of `+`, `,`, `-`, `.`, `/`, `:`, `@`, `_` and `~`.
-    #[inline(always)]
-    pub(crate) fn are_common_bytes(&self) -> bool
-        requires { IsMarked self.now }
-        ensures { IsTrue result ↔ (is_common self.now.text.now ≡ true) }
-    {
-        cuts::are_common_bytes(self.text, &self.masks)
     }
 
     /// Whether each byte is a lower-case letter, a digit, `-` or `.`, as in `a-1.b` but not in `a_b`.

@@ -3,7 +3,7 @@ use Rattle.std.proofs.Common.{ℕ, refl, eqb, arith}
 use Rattle.std.proofs.lemmas.Simd.{zip2_splat, zip2_of_maps}
 use Rattle.git_syntax.specs.Internal.Masks.{is_common_byte}
 use Rattle.git_syntax.proofs.ByMasks.LaneLemmas.{compared, in_range_lanes, mask_of_lanes}
-use Rattle.git_syntax.proofs.masks.block.commons.Goals as goal
+use Rattle.git_syntax.proofs.blocks.commons.Goals as goal
 
 pub returns : goal.returns
 returns c =
