@@ -8,7 +8,7 @@ import members
 import plants
 import pytest
 from binding_rows import Rust
-from build import CRATE, OUT, RULE_TABLES, TEXTS, built, check, copied, is_caught, lines, needs_cargo, of_page, plant, run
+from build import CRATE, OUT, RULE_TABLES, TEXTS, built, check, copied, inputs, is_caught, lines, needs_cargo, of_page, plant, run
 from git_runs import put
 from rt_api import ROOT, stored
 
@@ -44,6 +44,8 @@ def test_rows():
 @pytest.mark.parametrize("words", ["test", "test --no-default-features --test drop_in --test original"])
 def test_own_tests(words):
     """Among them are the answers to the same lines as `locations` gives."""
+    for name, it in zip(("remotes", "remotes.wanted"), inputs()["remotes"]):
+        put(f"{built()}/{name}", it)
     cargo(words)
 
 

@@ -1,5 +1,5 @@
 //! Tests the short inputs and the remotes that the binding for C is tested with too. The expected results are those of
-//! the program `locations`; `scripts/bindings` writes those of the remotes. Also tests which bytes errors keep, the
+//! the program `locations`; `pytest tests/bindings` writes those of the remotes. Also tests which bytes errors keep, the
 //! order, and an escaped path that no longer decodes to the path.
 
 use gix_url_proved::parse::{parse, Error, UrlKind};
@@ -12,7 +12,7 @@ fn file(name: &str) -> Vec<u8> {
     let here = concat!(env!("CARGO_MANIFEST_DIR"), "/../../..");
     let repository = std::env::var("GIX_URL_REPOSITORY").unwrap_or(here.to_owned());
     let path = format!("{repository}/{name}");
-    fs::read(&path).unwrap_or_else(|error| panic!("{path}: {error}: call scripts/bindings first"))
+    fs::read(&path).unwrap_or_else(|error| panic!("{path}: {error}: call pytest tests/bindings first"))
 }
 
 fn lossy(bytes: &[u8]) -> String {
