@@ -32,7 +32,7 @@ class Declaration:
 
     def is_answer(self):
         """Whether it answers a goal of a function, or states a loop invariant."""
-        return " : goal." in self.lines[0]
+        return " : goal." in re.sub(r"\s+", " ", " ".join(self.lines[:2]))
 
     def parts(self):
         at = next((n for n, it in enumerate(self.lines) if n and it.startswith((f"{self.name} ", "unfolding "))), len(self.lines))
