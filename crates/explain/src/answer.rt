@@ -8,7 +8,7 @@
 
 use crate::results::Origin;
 use crate::style::{Layout, Style};
-use crate::{line_results, only, shown};
+use crate::{line_results, object, only, shown};
 use bstr::BStr;
 use explain_audit::kind::names_of;
 use explain_page::page::Page;
@@ -21,9 +21,9 @@ use explain_report::location_report::Report;
 use explain_report::memory::both;
 use explain_report::readers::{Readers, instead_of};
 use explain_report::refusal::Refusal;
-use explain_report::rules::{Rules, found_by};
+use explain_report::rules::{ReadLine, Rules, found_by};
 use explain_report::text::line::SeenLine;
-use explain_report::text::secret::has_secret;
+use explain_report::text::marked::MarkedLine;
 use explain_report::text::seen::Seen;
 use git_audit::danger::{Danger, dangers};
 use gix_url::parse::parse;
@@ -114,14 +114,20 @@ impl Line<'_, '_> {
         page: &mut Page,
     ) -> Result<(String, Findings), AllocError> {
         let found = dangers(alloc, self.bytes, &url.as_ref())?;
-        let (found, rules) = both(found, self.rules(alloc, Some(url)))?;
-        let findings = Findings::of_location(url, found.as_slice()).union(found_by(rules.as_ref()));
+        let own = Findings::of_location(url, found.as_slice());
+        let marked = marked(self);
+        let rules = self.rules(alloc, marked, Some(url), found.as_slice(), own);
+        let (found, rules) = both(found, rules)?;
+        let findings = own.union(found_by(rules.as_ref()));
         let notes = Notes::of(found.as_slice(), findings, rules.as_ref());
         let answer = match self.style.layout {
             Layout::Quiet => Ok(String::new(alloc)),
             Layout::Only(part) => only::line(alloc, self.bytes, url, part),
             Layout::Sarif => line_results::location(alloc, self, url, notes),
-            _ => self.location(alloc, url, notes, page),
+            _ => match marked {
+                Some(marked) => self.location(alloc, marked, url, notes, page),
+                None => Ok(String::new(alloc)),
+            },
         };
         drop(rules);
         drop(found);
@@ -132,15 +138,17 @@ impl Line<'_, '_> {
     fn location(
         self,
         alloc: Global,
+        marked: MarkedLine<'_>,
         url: &Url,
         notes: Notes<'_>,
         page: &mut Page,
     ) -> Result<String, AllocError> {
-        let seen = Seen::of(alloc, self.bytes, url)?;
-        let answer = match seen.shown(self.bytes, url) {
-            Some((bytes, shown)) => {
-                let readers = Readers::of_location(alloc, self.bytes, url, shown.host());
-                self.shown_so(alloc, bytes, shown, readers, notes, page)
+        let seen = Seen::of(alloc, marked, url)?;
+        let answer = match seen.shown(marked, url) {
+            Some((shown, location)) => {
+                let readers = Readers::of_location(alloc, marked, url, location.host());
+                let reading = (location, marked.has_secret());
+                self.shown_so(alloc, shown, reading, readers, notes, page)
             }
             None => self.withheld(alloc, url, notes, page),
         };
@@ -148,22 +156,23 @@ impl Line<'_, '_> {
         answer
     }
 
-    /// The report about a location whose line is shown as these bytes, with the programs that may read it differently.
+    /// The report about a location whose line is shown as this line, with the programs that may read it differently.
+    /// The location that this line is read as is given with whether a part of the own line may be a secret.
     fn shown_so<'t>(
         self,
         alloc: Global,
-        bytes: &'t [u8],
-        url: &'t Url,
+        line: MarkedLine<'t>,
+        (url, has_hidden): (&'t Url, bool),
         readers: Result<Option<Readers>, AllocError>,
         notes: Notes<'_>,
         page: &mut Page,
     ) -> Result<String, AllocError> {
         let readers = readers?;
-        let (readers, seen) = both(readers, SeenLine::of(alloc, bytes))?;
+        let (readers, seen) = both(readers, SeenLine::of(alloc, line))?;
         let ((readers, seen), report) = both((readers, seen), Report::of(alloc, url))?;
         let has_instead = instead_of(readers.as_ref()).is_some();
-        let reading = Reading::of(url, &report, has_instead, has_secret(self.bytes));
-        let found = hint::find(alloc, bytes, Some(reading));
+        let reading = Reading::of(url, &report, has_instead, has_hidden);
+        let found = hint::find(alloc, line.bytes(), Some(reading));
         let (((seen, report), readers), found) = both(((seen, report), readers), found)?;
         let notes = Notes {
             dangers: notes.dangers,
@@ -218,10 +227,26 @@ impl Line<'_, '_> {
         answer
     }
 
-    /// What Git does with the line by the configuration that is given. The line is parsed as this location, or is
-    /// refused.
-    fn rules(self, alloc: Global, url: Option<&Url>) -> Result<Option<Rules>, AllocError> {
-        Rules::of_input(alloc, self.style.config, self.bytes, url)
+    /// What Git does with the line by the configuration, if one is given. The line has this location, unless it is
+    /// refused, these dangers and these findings of its own.
+    fn rules(
+        self,
+        alloc: Global,
+        marked: Option<MarkedLine<'_>>,
+        url: Option<&Url>,
+        dangers: &[Danger],
+        found: Findings,
+    ) -> Result<Option<Rules>, AllocError> {
+        let Some(line) = marked else {
+            return Ok(None);
+        };
+        let read = ReadLine {
+            line,
+            url,
+            dangers,
+            found,
+        };
+        Rules::of_input(alloc, self.style.config, read)
     }
 
     /// The report about a line that isn't a location, and the findings in it. The error may be that memory was refused.
@@ -234,28 +259,32 @@ impl Line<'_, '_> {
         if let Error::Memory = error {
             return Err(AllocError);
         }
-        let rules = self.rules(alloc, None)?;
-        let findings = Findings::of_refused().union(found_by(rules.as_ref()));
+        let (own, marked) = (Findings::of_refused(), marked(self));
+        let rules = self.rules(alloc, marked, None, &[], own)?;
+        let findings = own.union(found_by(rules.as_ref()));
         let answer = match self.style.layout {
             Layout::Quiet => Ok(String::new(alloc)),
             Layout::Only(_) => String::from_str(alloc, "\n"),
             Layout::Sarif => line_results::refusal(alloc, self, error, rules.as_ref()),
-            _ => self.refusal(alloc, error, findings, rules.as_ref(), page),
+            _ => match marked {
+                Some(line) => self.refusal(alloc, error, line, (findings, rules.as_ref()), page),
+                None => Ok(String::new(alloc)),
+            },
         };
         drop(rules);
         Ok((answer?, findings))
     }
 
-    /// The report about a line that is refused.
+    /// The report about a line that is refused, with the findings in it and what Git does with it by a configuration.
     fn refusal(
         self,
         alloc: Global,
         error: &Error,
-        findings: Findings,
-        rules: Option<&Rules>,
+        line: MarkedLine<'_>,
+        (findings, rules): (Findings, Option<&Rules>),
         page: &mut Page,
     ) -> Result<String, AllocError> {
-        let seen = SeenLine::of(alloc, self.bytes)?;
+        let seen = SeenLine::of(alloc, line)?;
         let (seen, refusal) = both(seen, Refusal::with_git(alloc, self.bytes, error))?;
         let readers = Readers::of_refused(alloc, self.bytes);
         let ((seen, refusal), readers) = both((seen, refusal), readers)?;
@@ -318,10 +347,20 @@ impl Line<'_, '_> {
     }
 }
 
+/// The line, and whether a part of it may be a secret, if a configuration is given or the layout shows the line.
+fn marked<'a>(line: Line<'a, '_>) -> Option<MarkedLine<'a>> {
+    match (line.style.config, line.style.layout) {
+        (Some(_), _) | (None, Layout::People | Layout::Json | Layout::Page) => {
+            Some(MarkedLine::of(line.bytes))
+        }
+        (None, _) => None,
+    }
+}
+
 /// The object of a line with this row.
 fn object_of(alloc: Global, row: &Row<'_, '_>, notes: Notes<'_>) -> Result<String, AllocError> {
     let (names, found) = both(names(alloc, notes.dangers)?, names_of(alloc, notes.found))?;
-    let object = json(
+    let object = object::line_of(
         alloc,
         &Answer {
             line: row.number,

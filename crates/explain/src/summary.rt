@@ -11,11 +11,11 @@ use crate::summary::table::text_of;
 use bstr::BStr;
 use explain_report::finding::Findings;
 use explain_report::form::Form;
-use explain_report::memory::both;
 use explain_report::rules::config::Config;
-use explain_report::rules::{Rules, found_by};
+use explain_report::rules::{ReadLine, Rules};
+use explain_report::text::marked::MarkedLine;
 use explain_report::text::seen::Seen;
-use git_audit::danger::dangers;
+use git_audit::danger::{Danger, dangers};
 use gix_url::lines::RunError;
 use gix_url::parse::parse;
 use gix_url::{Error, Url};
@@ -76,6 +76,32 @@ fn add_host(
     let name = String::from_str(alloc, host)?;
     hosts.insert(name, lines)?;
     Ok(())
+}
+
+/// The findings about the texts to which a line is rewritten by the configuration, if one is given. The line has this
+/// location, unless it is refused, these dangers and these findings of its own.
+fn by_config(
+    alloc: Global,
+    config: Option<&Config<'_>>,
+    line: &[u8],
+    url: Option<&Url>,
+    dangers: &[Danger],
+    found: Findings,
+) -> Result<Findings, AllocError> {
+    let Some(config) = config else {
+        return Ok(Findings::none());
+    };
+    let line = MarkedLine::of(line);
+    let read = ReadLine {
+        line,
+        url,
+        dangers,
+        found,
+    };
+    let rules = Rules::of(alloc, config, read)?;
+    let found = rules.found();
+    drop(rules);
+    Ok(found)
 }
 
 impl Forms {
@@ -174,12 +200,11 @@ impl Summary {
         config: Option<&Config<'_>>,
     ) -> Result<Findings, AllocError> {
         let found = dangers(self.alloc, line, &url.as_ref())?;
-        let (found, rules) = both(found, Rules::of_input(self.alloc, config, line, Some(url)))?;
         let own = Findings::of_location(url, found.as_slice());
-        let findings = own.union(found_by(rules.as_ref()));
-        drop(rules);
+        let by_config = by_config(self.alloc, config, line, Some(url), found.as_slice(), own);
         self.dangers.add(found.as_slice());
         drop(found);
+        let findings = own.union(by_config?);
         self.forms.add(Form::of(url));
         self.verdicts.add_location(!own.unsettled);
         self.verdicts.add(findings);
@@ -193,6 +218,7 @@ impl Summary {
             bump(&mut self.without_host);
             return Ok(());
         };
+        let line = MarkedLine::of(line);
         let seen = Seen::of(self.alloc, line, url)?;
         let host = match seen.shown(line, url) {
             Some((_, shown)) => shown.host().unwrap_or(""),
@@ -209,9 +235,8 @@ impl Summary {
         line: &[u8],
         config: Option<&Config<'_>>,
     ) -> Result<Findings, AllocError> {
-        let rules = Rules::of_input(self.alloc, config, line, None)?;
-        let findings = Findings::of_refused().union(found_by(rules.as_ref()));
-        drop(rules);
+        let own = Findings::of_refused();
+        let findings = own.union(by_config(self.alloc, config, line, None, &[], own)?);
         bump(&mut self.verdicts.refused);
         self.verdicts.add(findings);
         bump(&mut self.without_host);

@@ -19,6 +19,7 @@ use crate::readers::instead::url_instead;
 use crate::readers::taken::{Taken, beside_host, beside_location, has, is_none};
 use crate::text::line::Quoted;
 use crate::text::lossy;
+use crate::text::marked::MarkedLine;
 use crate::text::secret::part_of_shown;
 use bstr::BString;
 use gix_url::Url;
@@ -60,7 +61,7 @@ impl Readers {
     /// Returns the other readings of a line that is read as this location, whose host is shown as `host`.
     pub fn of_location(
         alloc: Global,
-        line: &[u8],
+        line: MarkedLine<'_>,
         url: &Url,
         host: Option<&str>,
     ) -> Result<Option<Readers>, AllocError>
@@ -69,7 +70,7 @@ impl Readers {
         ensures instead { IfOk result (λ readers. IfSome readers (λ it.
             IfSome it.instead (λ text. has_secret (string_bytes text) ≡ false))) }
     {
-        let others = others_of_location(alloc, line, url, host)?;
+        let others = others_of_location(alloc, line.bytes(), url, host)?;
         match url.unmet_condition() {
             Some(unmet) => {
                 let (others, instead) = both(others, url_instead(alloc, line, url))?;

@@ -1,6 +1,7 @@
 //! The configuration of `--config`, which is read once for all lines, and its faults.
 
 use crate::memory::both;
+use crate::rules::transports::{Known, known_transports};
 use bstr::ByteSlice;
 use git_rules::config::{Entry, EntryError, Reader, entries_of};
 use git_rules::normal::needed_buffer_len;
@@ -16,6 +17,8 @@ use std::collections::BTreeMap;
 pub struct Config<'a> {
     /// The entries of `protocol.*`, and the variables.
     pub protocols: Protocols<'a>,
+    /// The transports with common names, as the protocols allow or refuse them.
+    pub known: Vec<Known>,
     pub rewrites: Rewrites<'a>,
     /// The entries of `remote.*`.
     pub remotes: Vec<Entry<'a>>,
@@ -48,10 +51,12 @@ impl<'a> Config<'a> {
             (found, remotes),
             entries_of(alloc, entries, "credential"),
         )?;
-        let ((rewrites, http), remotes) = found;
+        let (found, known) = both((found, credentials), known_transports(alloc, &protocols))?;
+        let (((rewrites, http), remotes), credentials) = found;
         let longest = entries.iter().map(url_len).max().unwrap_or(0);
         Ok(Config {
             protocols,
+            known,
             rewrites,
             remotes,
             credentials,

@@ -7,6 +7,7 @@ ghost use Rattle.explain_report.specs.Secrets.{text_shown};
 ghost use Rattle.explain_report.specs.Rules.{IsAllowedToUsers, IsEntryAt, IsRefusing, IsVariableOf, ReportsPermission};
 
 use crate::memory::both;
+use crate::rules::config::Config;
 use crate::rules::setting::Setting;
 use crate::text::secret::shown_text;
 use git_rules::config::Entry;
@@ -16,7 +17,7 @@ use serde::Serialize;
 use std::alloc::{AllocError, Global};
 
 /// A transport, and whether it may be used.
-#[derive(Drop, Serialize)]
+#[derive(Clone, Drop, Serialize)]
 pub struct Transport {
     /// The name of the transport or the remote helper, with `redacted` in place of possible secrets.
     pub name: String,
@@ -69,15 +70,43 @@ pub struct Lack {
     pub words: String,
 }
 
+/// A transport with a common name, which is judged once.
+#[derive(Drop)]
+pub struct Known {
+    name: &'static str,
+    transport: Transport,
+}
+
+/// Returns the transports with common names.
+pub(crate) fn known_transports(
+    alloc: Global,
+    protocols: &Protocols<'_>,
+) -> Result<Vec<Known>, AllocError> {
+    let mut known = Vec::new(alloc);
+    for name in ["https", "ssh", "http", "git", "file"] {
+        let transport = Transport::named(alloc, protocols, name)?;
+        known.push(Known { name, transport })?;
+    }
+    Ok(known)
+}
+
 /// Returns the transport that Git uses for a text, or the reason why it has none.
 pub fn transport_for(
     alloc: Global,
-    protocols: &Protocols<'_>,
+    config: &Config<'_>,
     text: &[u8],
 ) -> Result<(Option<Transport>, Option<Lack>), AllocError> {
     match transport_of(text) {
-        Ok(name) => Ok((Some(Transport::named(alloc, protocols, name)?), None)),
+        Ok(name) => Ok((Some(judged(alloc, config, name)?), None)),
         Err(why) => Ok((None, Some(Lack::of(alloc, why)?))),
+    }
+}
+
+/// The transport with this name.
+fn judged(alloc: Global, config: &Config<'_>, name: &str) -> Result<Transport, AllocError> {
+    match config.known.iter().find(|it| it.name == name) {
+        Some(known) => known.transport.clone(),
+        None => Transport::named(alloc, &config.protocols, name),
     }
 }
 
