@@ -146,7 +146,8 @@ impl Line<'_, '_> {
         let seen = Seen::of(alloc, marked, url)?;
         let answer = match seen.shown(marked, url) {
             Some((shown, location)) => {
-                let readers = Readers::of_location(alloc, marked, url, location.host());
+                let host = location.host();
+                let readers = Readers::of_location(alloc, marked, url, notes.dangers, host);
                 let reading = (location, marked.has_secret());
                 self.shown_so(alloc, shown, reading, readers, notes, page)
             }

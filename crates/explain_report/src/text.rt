@@ -25,7 +25,7 @@ use std::alloc::{AllocError, Global};
 pub(crate) fn lossy(alloc: Global, bytes: &[u8]) -> Result<String, AllocError>
     ensures { IfOk result (λ text. string_bytes text ≡ lossy_text bytes.now) }
 {
-    bytes.as_bstr().to_string(alloc)
+    bytes.to_str_lossy(alloc)?.into_owned(alloc)
 }
 
 /// Decodes a part as text, if it is present.

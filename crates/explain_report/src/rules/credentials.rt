@@ -31,6 +31,10 @@ impl Credentials {
         let Some(request) = reading(text, &mut buffers)? else {
             return Ok(None);
         };
+        if entries.is_empty() {
+            let user = user_of(text, request.user, request.user);
+            return Ok(Some(Credentials::of_user(alloc, user)?));
+        }
         match credentials_for(alloc, entries, &request) {
             Ok(used) => {
                 let user = user_of(text, request.user, used.user);
@@ -41,6 +45,15 @@ impl Credentials {
                 Ok(None)
             }
         }
+    }
+
+    /// The settings without an entry for this user, as they are shown.
+    fn of_user(alloc: Global, user: Option<&[u8]>) -> Result<Credentials, AllocError> {
+        Ok(Credentials {
+            helpers: Vec::new(alloc),
+            user: shown_part(alloc, user)?,
+            use_http_path: false,
+        })
     }
 
     /// The settings by these entries for this user, as they are shown.
