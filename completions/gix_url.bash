@@ -4,8 +4,8 @@ _gix_url_words() {
   COMPREPLY=($(compgen -W "$1" -- "$2"))
 }
 
-# Behind -- there are texts alone, of which none is completed.
-_gix_url_is_behind_options() {
+# After -- there are texts alone, of which none is completed.
+_gix_url_is_after_options() {
   local it
   for it in "${COMP_WORDS[@]:1:COMP_CWORD-1}"; do
     [ "$it" = -- ] && return 0
@@ -16,7 +16,7 @@ _gix_url_is_behind_options() {
 _gix_url_explain() {
   local now=${COMP_WORDS[COMP_CWORD]} before=${COMP_WORDS[COMP_CWORD - 1]} first=${COMP_WORDS[COMP_CWORD - 2]-}
   COMPREPLY=()
-  _gix_url_is_behind_options && return
+  _gix_url_is_after_options && return
   # `--only=host` is three words where = breaks words.
   [ "$now" = = ] && now=""
   [ "$before" = = ] && before=$first

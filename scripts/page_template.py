@@ -1,12 +1,10 @@
 #!/usr/bin/env python3
-"""Writes the template of the page that `explain --html` makes, as code: the program can't read a file when it is built.
-
-usage: scripts/page_template.py             writes crates/explain_page/src/template.rt
-       scripts/page_template.py --check     reports whether that is current
+"""Writes crates/explain_page/src/template.rt: the template of the page that `explain --html` makes, as code, since the program can't read a
+file when it is built.
 
 The template is crates/explain_page/page/page.html. A slot is `<!-- name -->`, outside of style and script. The slot `policy` becomes
 the content security policy, which allows the style and the script of the template by their hashes and nothing else; the others
-are filled in by the program. A block of data isn't run. `tests/documents` asks for `faults()`.
+are filled in by the program. `tests/documents` compares the file.
 """
 import base64
 import hashlib
@@ -15,13 +13,12 @@ import sys
 
 sys.dont_write_bytecode = True
 sys.path.append(f"{sys.path[0]}/../tools")
-from rt_api import ROOT, read
+from rt_api import read, write
 
-SOURCE, CODE = "crates/explain_page/page/page.html", "crates/explain_page/src/template.rt"
+SOURCE, PAGES = "crates/explain_page/page/page.html", "crates/explain_page/src/template.rt"
 SLOTS = ("title", "lines", "dangerous", "rows", "hints", "data")
 SLOT = re.compile(r"<!-- (\w+) -->")
 INLINE = re.compile(r"<(style|script)>(.*?)</\1>", re.S)
-ISLAND = '<script type="application/json" id="data">'
 HEAD = """\
 //! The template of the page, as `scripts/page_template.py` writes it of `page/page.html`: edit that, and run the script.
 
@@ -61,39 +58,9 @@ def code(html):
     return f"{HEAD}{slots}}}\n\n/// The parts of the page, in order.\npub const PAGE: [Part; {len(parts)}] = [\n{listed}];\n"
 
 
-def template_faults(html):
-    found = set(SLOT.findall(html))
-    yield from (f"no slot {it}" for it in ("policy", *SLOTS) if it not in found)
-    yield from (f"an unknown slot {it}" for it in sorted(found - {"policy", *SLOTS}))
-    yield from (f"a slot in the {kind}" for kind, text in INLINE.findall(html) if SLOT.search(text))
-    for kind in ("style", "script"):
-        if len(re.findall(f"<{kind}\\b", html.replace(ISLAND, ""))) != 1 or html.count(f"<{kind}>") != 1:
-            yield f"there must be one {kind}, without attributes"
-    if html.count(ISLAND) != 1:
-        yield "there must be one block of data"
-    if re.search(r"\s(style|on\w+)=", INLINE.sub("", html)):
-        yield "an attribute style or on.., which the policy forbids"
-    if not html.isascii() or '"##' in html:
-        yield "a byte that is not ASCII, or a text that ends a string"
-
-
-def faults():
-    html = read(SOURCE)
-    yield from (f"{SOURCE}: {it}" for it in template_faults(html))
-    if read(CODE) != code(html):
-        yield f"{CODE} isn't what scripts/page_template.py writes"
-
-
-def main(words):
-    html = read(SOURCE)
-    found = [*(faults() if words == ["--check"] else template_faults(html))]
-    for it in found:
-        print(f"page_template: {it}", file=sys.stderr)
-    if not found and not words:
-        with open(f"{ROOT}/{CODE}", "w", encoding="utf-8") as it:
-            it.write(code(html))
-    return 1 if found else 0
+def wanted():
+    return {PAGES: code(read(SOURCE))}
 
 
 if __name__ == "__main__":
-    sys.exit(main(sys.argv[1:]))
+    write(wanted(), PAGES)

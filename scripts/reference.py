@@ -5,10 +5,8 @@ what is promised is seen there.
 
 usage: scripts/reference.py --write
 
-`tests/documents` asks for `faults()`: pages that are not those of the sources.
+`tests/documents` compares the pages, which are all files but CLAUSES.md.
 """
-import glob
-import os
 import re
 import sys
 
@@ -16,12 +14,12 @@ sys.dont_write_bytecode = True
 sys.path.append(f"{sys.path[0]}/../tools")
 from definitions import named_in
 from doc_comments import documented, of_module, own_words, parted, sentence
-from public_items import DOC, documented_items, sources_of
-from reference_names import PASSED, anchors, by_last_name, crates, link, module_of, modules, name_for_programs, target
-from rt_api import LAYERS, LIBRARIES, ROOT, read
+from public_items import DOC, documented_items, passed, sources_of
+from reference_names import anchors, by_last_name, crates, link, module_of, modules, name_for_programs, target
+from rt_api import LAYERS, LIBRARIES, read, write
 
 FOLDER = "docs/reference"
-INDEX, HEAD = f"{FOLDER}/README.md", "<!-- Written by `scripts/reference.py --write`. -->\n"
+PAGES, INDEX, HEAD = f"{FOLDER}/[a-z]*", f"{FOLDER}/README.md", "<!-- Written by `scripts/reference.py --write`. -->\n"
 # The start of a clause, or of a statement in an implementation of a trait; a documented member.
 STATED = re.compile(r"(?m)^ *(?:(ensures|requires)(?: (\w+))?|ghost (\w+) =) (?=\{)")
 MEMBER = re.compile(r"(?m)((?:^( +)///.*\n)+)(?: +#\[.*\n)* *(?:pub )?(?:fn |type |const )?(\w+)")
@@ -68,28 +66,23 @@ def members(crate, module, text):
     return re.sub(r"(?m)^ +$", "", found)
 
 
-def origin(crate, path, file):
-    """For whom an item is, and where its source is."""
-    known = name_for_programs(crate, path)
-    whose = "" if crate in LIBRARIES or " as " in path else f"In programs `{known}`. " if known else "For the crates above. "
-    return f"{whose if crate in LAYERS else ''}Source: [{file}](../../{file}).\n"
-
-
 def item(crate, path):
     module, text = documented_items(crate)[path]
     public, file = module_of(crate, path), f"crates/{crate}/src/{'/'.join(module) or 'lib'}.rt"
     head = f'<a id="{anchors(crate)[path]}"></a>\n\n{"#" * (2 + bool(public) + order(crate, path)[2])} `{path}`\n'
-    below = PASSED.fullmatch(text)
-    it = target(crate, module, f"{below[1]}::{below[2]}") if below and below[1] in crates() else None
+    below = passed(crate).get(path)
+    it = target(crate, module, "::".join(below)) if below and below[0] in crates() else None
     if it:
-        return f"{head}\n{sentence(crate, path, crate)} It is {link(it[0], crate, f'`{below[1]}::{below[2]}`', it[1])}.\n"
+        return f"{head}\n{sentence(crate, path, crate)} It is {link(it[0], crate, f'`{below[0]}::{below[1]}`', it[1])}.\n"
     signature, found = stated(text)
+    known = name_for_programs(crate, path)
+    whose = "" if crate in LIBRARIES or " as " in path else f"In programs `{known}`. " if known else "For the crates above. "
     words, examples = parted(documented(crate, module, own_words(text)))
     return "\n".join(filter(None, [
         head, words + "\n" if words else "", f"```rust\n{signature}```\n", members(crate, module, text),
         "[Promised](CLAUSES.md):\n\n" + "\n".join(clauses(crate, module, found)) + "\n" if found else "",
         "\n".join(f"Example, proved:\n\n{it}\n" for it in examples),
-        origin(crate, path, file)]))
+        f"{whose if crate in LAYERS else ''}Source: [{file}](../../{file}).\n"]))
 
 
 def order(crate, path):
@@ -135,28 +128,7 @@ def wanted():
     return {**found, INDEX: read(INDEX).partition(HEAD)[0] + HEAD + "\n" + "".join(index())}
 
 
-def written():
-    """The names of the files that are there, without the page on clauses."""
-    return {f"{FOLDER}/{it}" for it in glob.glob("*", root_dir=f"{ROOT}/{FOLDER}")} - {f"{FOLDER}/CLAUSES.md"}
-
-
-def faults():
-    """Which files have no crate or are not current."""
-    there, right = written(), wanted()
-    for name in sorted(there | right.keys()):
-        if name not in there or name not in right or read(name) != right[name]:
-            yield f"{name} is {'not what the sources say' if name in right else 'without a crate'}: scripts/reference.py --write mends it"
-
-
-def main(words):
-    if words != ["--write"]:
-        sys.exit(__doc__)
-    for name in written() - wanted().keys():
-        os.remove(f"{ROOT}/{name}")
-    for name, text in wanted().items():
-        with open(f"{ROOT}/{name}", "w", encoding="utf-8") as it:
-            it.write(text)
-
-
 if __name__ == "__main__":
-    main(sys.argv[1:])
+    if sys.argv[1:] != ["--write"]:
+        sys.exit(__doc__)
+    write(wanted(), PAGES)

@@ -2,7 +2,7 @@
 
 A folder is what is tested. The programs are those that environment variables name (ANSWERS, EXPLAIN, LOCATIONS), or those of these
 sources, which `scripts/built` proves and builds first. A test whose command or module is missing is skipped, and fails where CI is
-`true`. Texts are made by the strategies of `texts.py`, the same ones each time.
+`true`. Texts are made by `texts.py`, the same ones each time.
 """
 import importlib.util
 import os

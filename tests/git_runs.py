@@ -15,9 +15,9 @@ from contextlib import contextmanager
 Entry = namedtuple("Entry", "section place name value")
 
 
-def alone(room, **more):
+def alone(scratch, **more):
     """An environment with a home folder of its own, which has only these settings."""
-    return {"HOME": f"{room}/home", "PATH": os.environ["PATH"], "LC_ALL": "C", "GIT_CONFIG_NOSYSTEM": "1",
+    return {"HOME": f"{scratch}/home", "PATH": os.environ["PATH"], "LC_ALL": "C", "GIT_CONFIG_NOSYSTEM": "1",
             "GIT_CONFIG_GLOBAL": os.devnull, **more}
 
 
@@ -32,10 +32,10 @@ def put(path, text, mode=0o600):
     return path
 
 
-def answers_of(ask, room, environment, words, each=1, answers=1):
+def answers_of(ask, scratch, environment, words, each=1, answers=1):
     """The answers of a shell loop to words, run in parallel: this many answers for each group of this many words."""
     def said(some):
-        ran = subprocess.run(["sh", "-c", ask, "sh", *some], cwd=room, env=environment, stdin=subprocess.DEVNULL, stdout=subprocess.PIPE,
+        ran = subprocess.run(["sh", "-c", ask, "sh", *some], cwd=scratch, env=environment, stdin=subprocess.DEVNULL, stdout=subprocess.PIPE,
                              stderr=subprocess.DEVNULL, check=False)
         found = ran.stdout.split(b"\0")
         if len(found) != len(some) * answers // each + 1:
@@ -51,21 +51,21 @@ def answers_of(ask, room, environment, words, each=1, answers=1):
 def ask_loop(ask, words, programs, each=1, answers=1, **more):
     """The answers of a shell loop to words, in a repository of its own: variables name files with these texts, which may be
     scripts that replace programs."""
-    with tempfile.TemporaryDirectory(prefix="witness-") as room:
-        environment = alone(room, **{name: put(f"{room}/{name}", text, 0o700) for name, text in programs.items()}, **more)
-        git(room, environment, "init", "--quiet")
-        return answers_of(ask, room, environment, words, each, answers)
+    with tempfile.TemporaryDirectory(prefix="witness-") as scratch:
+        environment = alone(scratch, **{name: put(f"{scratch}/{name}", text, 0o700) for name, text in programs.items()}, **more)
+        git(scratch, environment, "init", "--quiet")
+        return answers_of(ask, scratch, environment, words, each, answers)
 
 
 @contextmanager
-def rooms(configurations, **more):
+def scratch_folders(configurations, **more):
     """A folder with a repository for each list of entries: the folder, an environment, and the folders of the repositories."""
-    with tempfile.TemporaryDirectory(prefix="rules-") as room:
+    with tempfile.TemporaryDirectory(prefix="rules-") as scratch:
         for it in ("home", "empty"):
-            os.makedirs(f"{room}/{it}")
-        folders = [repository(f"{room}/{at}", entries) for at, entries in enumerate(configurations)]
-        words = {"XDG_CONFIG_HOME": f"{room}/home", "GIT_EXEC_PATH": f"{room}/empty", "GIT_TERMINAL_PROMPT": "0", **more}
-        yield room, alone(room, **words), folders
+            os.makedirs(f"{scratch}/{it}")
+        folders = [repository(f"{scratch}/{at}", entries) for at, entries in enumerate(configurations)]
+        words = {"XDG_CONFIG_HOME": f"{scratch}/home", "GIT_EXEC_PATH": f"{scratch}/empty", "GIT_TERMINAL_PROMPT": "0", **more}
+        yield scratch, alone(scratch, **words), folders
 
 
 def repository(folder, entries):
@@ -120,7 +120,7 @@ for folder; do GIT_DIR="$folder" git config --local --list -z | tr '\000' '\001'
 
 def listing_faults(configurations):
     """The lists of entries that Git writes differently from `listed`."""
-    with rooms(configurations) as (room, environment, folders):
-        for entries, said in zip(configurations, answers_of(LISTED, room, environment, folders)):
+    with scratch_folders(configurations) as (scratch, environment, folders):
+        for entries, said in zip(configurations, answers_of(LISTED, scratch, environment, folders)):
             if said.replace(b"\1", b"\0") != listed(entries):
                 yield f"git config --list -z writes {said!r}, and not {listed(entries)!r}"

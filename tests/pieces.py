@@ -40,10 +40,10 @@ def named(answer):
         return {}
     end = next(n for n, it in enumerate(below) if ROW.match("    " + it))
     places = {found.start(): found[0] for row in below[1:end] for found in re.finditer(r"[a-z]+", row)}
-    found, behind = {}, 0
+    found, after = {}, 0
     for begin, end in runs(below[0], places):
-        front = begin - (places[begin] == "path" and begin == behind + 1 and shown[behind] == "/")
-        found[places[begin]], behind = unescaped(shown[front:end].replace("\x00", "")), end
+        front = begin - (places[begin] == "path" and begin == after + 1 and shown[after] == "/")
+        found[places[begin]], after = unescaped(shown[front:end].replace("\x00", "")), end
     return found
 
 

@@ -36,7 +36,7 @@ def outcomes(command, orders):
     given = "".join(f"{it}\n" for it in orders).encode()
     ran = subprocess.run([command], input=given, stdout=subprocess.PIPE, check=False)
     lines = ran.stdout.decode().split("\n")[:-1]
-    assert ran.returncode == 0 and len(lines) == len(orders), f"{command} ended with {ran.returncode} behind {len(lines)} of {len(orders)} orders"
+    assert ran.returncode == 0 and len(lines) == len(orders), f"{command} ended with {ran.returncode} after {len(lines)} of {len(orders)} orders"
     return lines
 
 

@@ -1,7 +1,7 @@
 """The public calls of the libraries, each with its contract."""
 import re
 
-from public_items import public_items
+from public_items import passed, public_items
 from rt_api import LAYERS, LIBRARIES
 
 # The items of lower layers for upper ones: public by a type or a module that the library re-exports, and not for users.
@@ -21,18 +21,10 @@ def calls(found):
     return named
 
 
-def passed_by(library):
-    """The public items of lower layers that a library re-exports, by their paths in it."""
-    for path, text in public_items(library).items():
-        below = re.fullmatch(r"pub use (\w+)::(\S+);\n", text)
-        if below and below[1] in LAYERS:
-            found = public_items(below[1])
-            yield from ((path + it.removeprefix(below[2]), found[it]) for it in found if f"{it}::".startswith(f"{below[2]}::"))
-
-
 def passed_calls():
     """The contracts of the calls that come with the re-exports of lower layers."""
-    return calls({path: it for library in LIBRARIES for path, it in passed_by(library)})
+    return calls({path + it.removeprefix(there): text for library in LIBRARIES for path, (below, there) in passed(library).items() if below in LAYERS
+                  for it, text in public_items(below).items() if f"{it}::".startswith(f"{there}::")})
 
 
 def contracts():

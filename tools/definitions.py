@@ -3,10 +3,10 @@ import functools
 import os
 import re
 
-from rt_api import ROOT
+from rt_api import ROOT, read
 
 # A definition at the margin with the comment above it, and a member of a record or of a `data` with its own.
-DEFINITION = re.compile(r"(?m)^((?:-- (?!----).*\n)*)((?:abbrev pub|abbrev|pub record|pub data|record|data|pub) (\w+) [:(].*\n(?:  .*\n)*)")
+DEFINITION = re.compile(r"(?m)^((?:-- (?!----).*\n)*)(?:abbrev |pub )*(?:(record|data) )?(?<=[a-z] )(\w+) [:(].*\n((?:  .*\n)*)")
 MEMBER = re.compile(r"(?m)^((?:  -- .*\n)*)  (?:pub )?(\w+) :")
 # The names that a source or a file of definitions takes from others: of a module the names in braces, or the module by another name.
 TAKEN = re.compile(r"(?m)^ *(?:ghost |pub )?use Rattle\.(\w+)\.specs\.([\w.]+?)(?:\.\{([^}]*)\}| as (\w+)|);?$")
@@ -20,21 +20,17 @@ def plain(comment):
 def text_of(crate, module):
     """The file of a module and its text; if a crate has no such module, none of either."""
     file = f"crates/{crate}/specs/{module.replace('.', '/')}.antt"
-    if not os.path.exists(f"{ROOT}/{file}"):
-        return "", ""
-    with open(f"{ROOT}/{file}", encoding="utf-8") as it:
-        return file, it.read()
+    return (file, read(file)) if os.path.exists(f"{ROOT}/{file}") else ("", "")
 
 
 @functools.cache
 def defined(crate, module):
     """The definitions of a module and the members of its `data`, by their names: the meaning of each, and the members of a record. One
     without a comment has that of its module."""
-    found = {}
-    about, *_ = re.findall(r"\A((?:--.*\n)*)", text_of(crate, module)[1])
-    for comment, text, name in DEFINITION.findall(text_of(crate, module)[1]):
-        members = [(member, plain(above)) for above, member in MEMBER.findall(text)]
-        kind = text.partition(" " + name)[0].split()[-1]
+    found, text = {}, text_of(crate, module)[1]
+    about = re.match(r"(?:--.*\n)*", text)[0]
+    for comment, kind, name, inside in DEFINITION.findall(text):
+        members = [(member, plain(above)) for above, member in MEMBER.findall(inside)]
         found[name] = plain(comment or about), members if kind == "record" else []
         if kind == "data":
             found.update({member: (above or f"a case of `{name}`", []) for member, above in members if member not in found})

@@ -1,27 +1,18 @@
 """Doc comments as Markdown, with links to the items that they name."""
 import re
 
-from public_items import DOC, HEAD_COMMENT, documented_items, sources_of
-from reference_names import PASSED, modules, prose, target
+from public_items import DOC, HEAD_COMMENT, documented_items, passed, sources_of
+from reference_names import modules, prose, target
 
 # The doc comment of an item: that at its margin, or, of a member of an `impl`, that below the first line.
 OWN = re.compile(r"(?:///.*\n)+|impl.*\n(?: {4}///.*\n)+")
 
 
-def words_of(text):
-    """The Markdown of doc comments without their marks: examples as code of Rust, headings in bold."""
-    lines, inside = [], False
-    for line in re.findall(r"(?m)^ *//[/!] ?(.*)$", text):
-        if line.startswith("```"):
-            line, inside = line if inside or len(line) > 3 else "```rust", not inside
-        lines.append(line if inside else re.sub(r"^#+ (.*)", r"**\1**", line))
-    return "\n".join(lines)
-
-
 def documented(crate, module, text, page=None):
-    """The Markdown of doc comments, with links outside of their examples."""
-    parts = re.split(r"(?ms)(^```.*?^```$)", words_of(text))
-    return "".join(it if at % 2 else prose(crate, module, it, page) for at, it in enumerate(parts)).strip()
+    """The Markdown of doc comments without their marks: examples as code of Rust, and outside of them links, and headings in bold."""
+    parts = re.split(r"(?ms)(^```.*?^```$)", "\n".join(re.findall(r"(?m)^ *//[/!] ?(.*)$", text)))
+    return "".join(re.sub(r"\A```\n", "```rust\n", it) if at % 2 else prose(crate, module, re.sub(r"(?m)^#+ (.*)", r"**\1**", it), page)
+                   for at, it in enumerate(parts)).strip()
 
 
 def parted(words):
@@ -40,15 +31,13 @@ def of_module(crate, module, page=None):
 
 
 def own_words(text):
-    found = OWN.match(text)
-    return "".join(DOC.findall(found[0])) if found else ""
+    return "".join(DOC.findall((OWN.match(text) or [""])[0]))
 
 
 def sentence(crate, path, page):
     """The first sentence of an item's doc comment, in one line."""
     module, text = documented_items(crate)[path]
-    below = PASSED.fullmatch(text)
-    it = target(crate, module, f"{below[1]}::{below[2]}") if below else None
+    it = target(crate, module, "::".join(passed(crate)[path])) if path in passed(crate) else None
     if it and not it[1].startswith("mod "):
         return sentence(*it, page)
     if it:

@@ -9,9 +9,8 @@ from collections import namedtuple
 from functools import cached_property
 
 from row_text import text_of
+from second_reading.git_reads import Reading
 
-# The reading of a side: the protocol, `helper NAME` if Git passes it to another program, and the parts that are present.
-Reading = namedtuple("Reading", "protocol user password host port path")
 # The values that replace the protocol if Git's reading isn't one place: a local path that begins with `~`, for which `git
 # fetch`, `git push` and `git ls-remote` look below a home folder and `git clone` takes the path literally; and a word that
 # OpenSSH reads as a URL.
@@ -89,12 +88,12 @@ def has(pattern, protocols, text="cut"):
     return lambda case: case.protocol in protocols.split() and find(getattr(case, text) or b"")
 
 
-def bracket_behind_at(case):
+def bracket_after_at(case):
     is_local = case.protocol == "file" and case.rest is None and case.git_protocol in (None, "file", HOME)
     return not is_local and b"@[" in case.cut
 
 
-def slash_behind_bracket(case):
+def slash_after_bracket(case):
     if "protocol" in case.differing:
         return case.git.protocol == "ssh" and re.match(rb"\[.*/", case.text, re.S)
     return case.rest is not None and has(rb"(\A|@)\[[^\]]*/", "ssh git file")(case)
@@ -121,9 +120,9 @@ CLASSES = {
     # Another machine or another user. `no-path`: Git finds no path because of brackets.
     "escaped-delimiter": of(ALL, has(rb"%(2[fF]|3[aA]|40|5[bBdD])", "ssh git", "authority")),
     "user-in-brackets": of(ALL, has(rb"\[[^\]/]*@[^\]/]*\]", "ssh git")),
-    "bracket-behind-at": of(ALL + " protocol no-path", bracket_behind_at),
-    "slash-behind-bracket": of(ALL + " protocol no-path", slash_behind_bracket),
-    "user-behind-bracket": of(ALL, has(rb"(\A|@)\[[^\]]*\][^/]*@", "ssh git")),
+    "bracket-after-at": of(ALL + " protocol no-path", bracket_after_at),
+    "slash-after-bracket": of(ALL + " protocol no-path", slash_after_bracket),
+    "user-after-bracket": of(ALL, has(rb"(\A|@)\[[^\]]*\][^/]*@", "ssh git")),
     "port-in-brackets": of(WHERE, is_cut(lambda it: "port" in it.differing and re.search(rb"\[[^\]]*:[ \t]*[+-]?[0-9]+\]", it.cut))),
     "port-without-host": of(WHERE, is_cut(lambda it: it.git.host is None and it.git.port is not None)),
     "password": of(WHERE, is_cut(has(rb"\A[^/]*:[^/]*@", "ssh", "rest"))),
@@ -146,29 +145,3 @@ CLASSES = {
     "character": of("BadCharacter"), "port": of("BadPort"), "no-host": of("HostRequired"), "no-path": of("MissingPath"),
     "no-utf8": of("NotUtf8"), "no-scheme": of("NoScheme"),
 }
-
-
-def is_careful(case, is_same):
-    """The rule of `docs/GIT.md`, written again here: the conditions on a text for which Git reads the place
-    that this library reads.
-
-    `Url::agrees_with_git` checks them for a text that is written as it was read. `is_same` is whether the text is settled and
-    `to_bstring` writes it.
-    """
-    if not is_same or case.text.startswith(b"rsync:") or case.ours.protocol.startswith("helper "):
-        return False
-    _, user, password, host, _, path = case.ours
-    named, authority = host or b"", case.authority or b""
-    address = re.fullmatch(rb"\[(.*)\]", named, re.S) if case.ours.protocol == "git" else None
-    if address:
-        # Git decodes the brackets and the colons, which are written as escapes, and removes the brackets.
-        named, authority = address[1], re.sub(rb"\A%5B([^/]*)%5D", lambda it: it[1].replace(b"%3A", b":"), authority)
-    if b"%" in authority or re.search(rb"[\[\]\0]", b"".join([user or b"", named, path])):
-        return False
-    is_known = password is None and not any((it or b"").startswith(b"-") for it in (user, host, path))
-    if case.ours.protocol == "ssh":
-        return is_known and user != b"" and host is not None and (path.startswith(b"/") or path[1:2] != b"~")
-    if case.ours.protocol == "git":
-        return is_known and user is None and b"\n" not in path
-    is_plain = case.rest is None or b"%" not in path
-    return is_known and user is None and host is None and is_plain and not path.startswith(b"~")

@@ -5,7 +5,7 @@ import glob
 import os
 import re
 
-from rt_api import ROOT
+from rt_api import ROOT, read
 
 # Comments that aren't documentation, and attributes without a contract; doc comments; the doc comment of a module.
 SILENT = re.compile(r"(?m)^\s*(?://(?!/)|#!|#\[(?:allow|inline|tactic)\b).*\n|^\n")
@@ -14,6 +14,7 @@ HEAD_COMMENT = re.compile(r"(?m)^//! ?(.*\n)")
 # The kind of an item and its name, and the kinds that have no path.
 ITEM = re.compile(r' *(?:pub(?:\(\w+\))? )?(?:const (?=fn)|unsafe |extern "C" )*(\w+)(?: (\w+))?')
 OTHER = ("ghost", "impl", "mod", "use")
+PASSED = re.compile(r"pub use (\w+)::(\S+);\n")
 IMPL = re.compile(r"impl(?:<.*?>)? (?:(.*) for )?((\w+).*) \{")
 
 
@@ -30,12 +31,9 @@ def items(text, depth=4):
 @functools.cache
 def sources_of(crate):
     """The text of each module, by its path."""
-    found = {}
-    for file in files_of(crate):
-        path = tuple(os.path.relpath(file, f"{ROOT}/crates/{crate}/src").removesuffix(".rt").split("/"))
-        with open(file, encoding="utf-8") as it:
-            found[() if path == ("lib",) else path] = it.read()
-    return found
+    front = f"crates/{crate}/src/"
+    paths = [os.path.relpath(it, f"{ROOT}/{front}").removesuffix(".rt") for it in files_of(crate)]
+    return {() if it == "lib" else tuple(it.split("/")): read(f"{front}{it}.rt") for it in paths}
 
 
 @functools.cache
@@ -138,3 +136,10 @@ def documented_items(crate):
 def public_items(crate):
     """The text of each public item, by its path and in the order of paths."""
     return {path: DOC.sub("", text) for path, (_, text) in documented_items(crate).items()}
+
+
+@functools.cache
+def passed(crate):
+    """The re-exports of other crates' items: by the path of each the crate and the path there."""
+    found = {path: PASSED.fullmatch(text) for path, text in public_items(crate).items()}
+    return {path: it.groups() for path, it in found.items() if it}

@@ -3,14 +3,13 @@ to which names in doc comments link."""
 import functools
 import re
 
-from public_items import documented_items, modules_of, opened, public_items, sources_of
 from contracts import OF_LAYERS
+from public_items import documented_items, modules_of, opened, passed, public_items, sources_of
 from rt_api import LIBRARIES, lines_of_crates
 
 # Crates that prove or measure calls of others, and offer none.
 FOR_NONE = ("user_proofs", "url_bench", "call_bench")
 CLAUSE = re.compile(r"(?m)^ *ensures(?: (\w+))? \{")
-PASSED = re.compile(r"pub use (\w+)::(\S+);\n")
 # A link to an item, a link with words, and code that is neither.
 LINK = re.compile(r"\[(`[^`]+`)\](?:\(([^)\s]+)\))?|\[([^\]`]+)\]\(([^)\s]+)\)|`[^`]*`")
 DOCUMENT = re.compile(r"`docs/([\w/.-]+)`")
@@ -52,13 +51,7 @@ def anchors(crate):
 def passed_on():
     """The names by which programs use the items that a library exports of a layer below: by the crate and the
     path there."""
-    found = {}
-    for library in LIBRARIES:
-        for path, text in public_items(library).items():
-            below = PASSED.fullmatch(text)
-            if below and below[1] in crates():
-                found[below[1], below[2]] = f"{library}::{path}"
-    return found
+    return {below: f"{library}::{path}" for library in LIBRARIES for path, below in passed(library).items() if below[0] in crates()}
 
 
 def name_for_programs(crate, path):
@@ -77,7 +70,7 @@ def by_last_name():
     found = {}
     for crate in crates():
         for path in anchors(crate):
-            if " as " not in path and not PASSED.fullmatch(public_items(crate).get(path, "")):
+            if " as " not in path and path not in passed(crate):
                 found.setdefault(re.split(r"::| ", path)[-1], []).append((crate, path))
     return found
 
@@ -88,9 +81,9 @@ def target(crate, module, name):
     words = re.sub(r"\(.*|!$", "", name).split("::")
     of = words[0] if words[0] in crates() else None
     words = [it for it in words if it not in ("crate", "super", "self", "Self") and it not in crates()]
-    below = PASSED.fullmatch(public_items(of or crate).get(words[0], "")) if words else None
-    if below and below[1] in crates():
-        return target(below[1], (), "::".join((below[1], below[2], *words[1:])))
+    below = passed(of or crate).get(words[0]) if words else None
+    if below and below[0] in crates():
+        return target(below[0], (), "::".join((*below, *words[1:])))
     source = sources_of(crate).get(module, "")
     for ending in (words, words[:-1]):
         same = by_last_name().get(ending[-1], ()) if ending else ()

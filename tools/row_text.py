@@ -15,6 +15,13 @@ def bytes_of(text):
     return text.translate(ESCAPED).encode("utf-8", "surrogateescape")
 
 
+def in_bytes(value):
+    """A value with its texts as bytes; the names of its members stay."""
+    if isinstance(value, dict):
+        return {name: in_bytes(it) for name, it in value.items()}
+    return [*map(in_bytes, value)] if isinstance(value, list) else bytes_of(value) if isinstance(value, str) else value
+
+
 def placed(value, place):
     """A value with its index among many: as five digits for each `#` of its texts, and times the step for `{"step": step}`."""
     if isinstance(value, dict) and set(value) == {"step"}:

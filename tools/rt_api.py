@@ -4,7 +4,10 @@
 that they import and the programs that they start. A command adds `tools/` to its path in the line that follows `sys.dont_write_bytecode`.
 """
 import functools
+import glob
+import json
 import os
+import pathlib
 import re
 import shutil
 import subprocess
@@ -16,20 +19,41 @@ KIT = os.path.dirname(os.path.dirname(os.path.realpath(shutil.which("rt") or "/n
 
 
 def read(name):
-    with open(f"{ROOT}/{name}", encoding="utf-8") as it:
-        return it.read()
+    return pathlib.Path(ROOT, name).read_text(encoding="utf-8")
 
 
 def stored(name):
-    with open(f"{ROOT}/{name}", "rb") as it:
-        return it.read()
+    return pathlib.Path(ROOT, name).read_bytes()
+
+
+def lines_of(name):
+    """The lines of a file of data, without its headings."""
+    return [line for line in read(name).splitlines() if line.strip() and not line.startswith("#")]
+
+
+def rows_of(name):
+    """The lines of a file of JSON lines."""
+    return [*map(json.loads, lines_of(name))]
+
+
+def outdated(wanted, pattern):
+    """The files with another text than the wanted one, and those of a pattern for which none is wanted."""
+    there = {it for it in (*glob.glob(pattern, root_dir=ROOT), *wanted) if os.path.exists(f"{ROOT}/{it}")}
+    return sorted(it for it in there | wanted.keys() if it not in there & wanted.keys() or read(it) != wanted[it])
+
+
+def write(wanted, pattern):
+    for name in outdated(wanted, pattern):
+        if name not in wanted:
+            os.remove(f"{ROOT}/{name}")
+        else:
+            pathlib.Path(ROOT, name).write_text(wanted[name], encoding="utf-8")
 
 
 @functools.cache
 def lines_of_crates():
     """The crates of crates.txt, each with its line and the crates that it uses."""
-    lines = [line for line in read("crates.txt").splitlines() if line.strip() and not line.startswith("#")]
-    return {re.match(r"\w+", line)[0]: (line, line.partition(":")[2].split()) for line in lines}
+    return {re.match(r"\w+", line)[0]: (line, line.partition(":")[2].split()) for line in lines_of("crates.txt")}
 
 
 @functools.cache

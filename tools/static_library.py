@@ -5,21 +5,11 @@
 left those of these very sources, the toolchain's own command is called over them, as a module.
 """
 import glob
-import importlib.machinery
-import importlib.util
 import os
+import runpy
 import shutil
 import subprocess
 import sys
-
-
-def load_kit():
-    """The toolchain's command `rt` as a module."""
-    loader = importlib.machinery.SourceFileLoader("rt", os.path.realpath(shutil.which("rt")))
-    kit = importlib.util.module_from_spec(importlib.util.spec_from_loader("rt", loader))
-    loader.exec_module(kit)
-    kit.rtlib.guarded()
-    return kit
 
 
 def is_current(crate):
@@ -30,13 +20,8 @@ def is_current(crate):
     return os.path.isfile(f"{crate.rlib}/format") and all(os.stat(it).st_mtime <= os.stat(made).st_mtime for it in files)
 
 
-def main():
-    kit, here = load_kit(), os.getcwd()
-    crate = next(it for it in kit.rtlib.crates_below(os.path.dirname(here)) if it.folder == here)
-    if all(map(is_current, crate.below())):
-        return crate.build_static([])
-    return subprocess.run(["rt", "lib"], check=False).returncode
-
-
 if __name__ == "__main__":
-    sys.exit(main())
+    rtlib, here = runpy.run_path(os.path.realpath(shutil.which("rt") or "rt"))["rtlib"], os.getcwd()
+    rtlib.guarded()
+    crate = next(it for it in rtlib.crates_below(os.path.dirname(here)) if it.folder == here)
+    sys.exit(crate.build_static([]) if all(map(is_current, crate.below())) else subprocess.run(["rt", "lib"], check=False).returncode)

@@ -7,17 +7,19 @@ themselves, and each rule must agree with them for each text.
 """
 import ipaddress
 import re
+import socket
 from collections import namedtuple
 
-from git_reads import decoded
-from second_reading import grammar, writing
+from second_reading import grammar, octets, writing
+from second_reading.git_reads import decoded
+from second_reading.web_defined import CredentialReading, with_query
+from second_reading.web_plain import CONTROL
 
 # The reading of a reader. A port is its digits, and the path includes the query; for libcurl it is that of the request.
 Web = namedtuple("Web", "scheme user password host port path")
 HTTP = (("Http",), ("Https",))
 HOST_AND_PORT = re.compile(rb"(.*?)(?::([0-9]+))?", re.S)
-# The bytes that libcurl refuses in each part of a URL, and in a decoded host.
-CONTROL = re.compile(rb"[\x01-\x20\x7f]")
+# The bytes that libcurl refuses in a decoded host.
 NO_HOST = re.compile(rb"[\x01-\x1f \"/:#?!@{}\[\]\\$'^`*<>=;,+&()]")
 LONGEST_ZONE = 15
 
@@ -93,22 +95,20 @@ def credential_reads(text):
 
 # ---- libcurl
 
-def number(digits):
-    """A number as C's `strtoul` reads it with base 0, None if it doesn't read all of it. More digits make no address."""
-    found = re.fullmatch(rb"0[xX]([0-9a-fA-F]+)|(0[0-7]*)|([1-9][0-9]{,9})", digits)
-    return found and int(found[found.lastindex], (16, 8, 10)[found.lastindex - 1])
-
-
 def address(host):
     """The address that libcurl takes a host of numbers for, None if it takes it for a name."""
-    numbers = [number(it) for it in host.split(b".")]
-    if len(numbers) > 4 or None in numbers:
+    try:
+        return socket.inet_ntoa(socket.inet_aton(host.decode("ascii"))).encode() if re.fullmatch(rb"[0-9A-Fa-fxX.]+", host) else None
+    except OSError:
         return None
-    *fronts, last = numbers
-    if any(it > 255 for it in fronts) or last >= 256 ** (5 - len(numbers)):
-        return None
-    value = sum(it << 24 - 8 * at for at, it in enumerate(fronts)) + last
-    return b"%d.%d.%d.%d" % tuple(value.to_bytes(4, "big"))
+
+
+def is_number(host):
+    """Whether the resolver takes a host for an address; no name is looked up."""
+    try:
+        return bool(socket.getaddrinfo(host, None, flags=socket.AI_NUMERICHOST))
+    except (OSError, UnicodeError):
+        return False
 
 
 def literal(host):
@@ -118,21 +118,11 @@ def literal(host):
         return None
     zone = re.sub(rb"\A25(?=.)", b"", zone, flags=re.S)
     try:
-        shorter = shortest(ipaddress.IPv6Address(inside.decode()))
+        shorter = socket.inet_ntop(socket.AF_INET6, ipaddress.IPv6Address(inside.decode()).packed).encode()
     except ValueError:
         return None
     kept = min(inside, shorter, key=len)
     return None if len(zone) > LONGEST_ZONE else b"[" + kept + (b"%" + zone if zone else b"") + b"]"
-
-
-def shortest(found):
-    """An address of IPv6 as C's `inet_ntop` writes it."""
-    value = found.packed
-    is_mapped = value[:12] == bytes(10) + b"\xff\xff"
-    is_compatible = value[:12] == bytes(12) and value[12:14] != bytes(2)
-    if is_mapped or is_compatible:
-        return (b"::ffff:" if is_mapped else b"::") + b"%d.%d.%d.%d" % tuple(value[12:])
-    return found.compressed.encode()
 
 
 def curl_host(host):
@@ -190,3 +180,20 @@ def curl_reads(text):
         return None
     user, password = (it if it is None else decoded(it) for it in (user, password))
     return Web(scheme.lower(), user, password, curl_host(host), b"%d" % int(digits) if digits else None, target(rest))
+
+
+# ---- comparison with the definitions
+
+def as_defined(credential):
+    """The reading of Git's credential code in the form of the definition: None if it refuses."""
+    if not isinstance(credential, Web):
+        return set()
+    scheme, user, password, host, port, path = credential
+    return {CredentialReading(scheme, user, password, host if port is None else host + b":" + port, path or None)}
+
+
+def for_transfer(uri):
+    """A URI as libcurl reads it for a transfer."""
+    user, colon, password = (uri.information or b"").partition(b":")
+    user, password = (octets.dec(it) if is_there else None for it, is_there in ((user, uri.information is not None), (password, colon)))
+    return Web(uri.scheme, user, password, uri.host, uri.port, escaped(with_query(uri)))

@@ -72,18 +72,18 @@ static void lies(gix_url_text part, int bit, size_t number, gix_url_text text, g
 
 static void of_text(size_t number) {
     char buffer[64];
-    gix_url_text text = {texts[number].text, strlen(texts[number].text)}, room = {buffer, text.len};
-    given lent;
+    gix_url_text text = {texts[number].text, strlen(texts[number].text)}, whole_buffer = {buffer, text.len};
+    given borrowed;
     problem told;
     about(text);
     memset(buffer, 0xA5, sizeof buffer);
-    HOLDS(gix_url_c_read_in(text.at, text.len, buffer, text.len, &lent, &told) == GIX_URL_OK);
-    lies(lent.name, NAME, number, text, room);
-    lies(lent.user, USER, number, text, room);
-    lies(lent.password, PASSWORD, number, text, room);
-    lies(lent.host, HOST, number, text, room);
-    lies(lent.path, PATH, number, text, room);
-    lies(lent.spelling, SPELLING, number, text, room);
+    HOLDS(gix_url_c_read_in(text.at, text.len, buffer, text.len, &borrowed, &told) == GIX_URL_OK);
+    lies(borrowed.name, NAME, number, text, whole_buffer);
+    lies(borrowed.user, USER, number, text, whole_buffer);
+    lies(borrowed.password, PASSWORD, number, text, whole_buffer);
+    lies(borrowed.host, HOST, number, text, whole_buffer);
+    lies(borrowed.path, PATH, number, text, whole_buffer);
+    lies(borrowed.spelling, SPELLING, number, text, whole_buffer);
     for (size_t i = text.len; i < sizeof buffer; i++) HOLDS((unsigned char)buffer[i] == 0xA5);
     for (size_t i = 0; i < text.len; i++) HOLDS(texts[number].copied || (unsigned char)buffer[i] == 0xA5);
 }
@@ -92,13 +92,13 @@ static void of_text(size_t number) {
 static void leaves(gix_url_text text, size_t len, bool is_short) {
     struct places {
         char buffer[64];
-        given lent;
+        given borrowed;
     } got, kept;
     problem told;
     memset(&got, 0xA5, sizeof got);
     memset(&kept, 0xA5, sizeof kept);
     about(text);
-    uint32_t error = gix_url_c_read_in(text.at, text.len, got.buffer, len, &got.lent, &told);
+    uint32_t error = gix_url_c_read_in(text.at, text.len, got.buffer, len, &got.borrowed, &told);
     HOLDS(is_short ? error == GIX_URL_NO_ROOM : is_refusal((gix_url_error)error));
     HOLDS(memcmp(&got, &kept, sizeof got) == 0);
 }

@@ -1,5 +1,5 @@
 /* Checks what each call leaves in its caller's memory, which holds a pattern before the call. After an error all of it is
- * unchanged, after GIX_URL_NO_ROOM all but lengths and counts, and after GIX_URL_OK what is behind the result. Each call is made
+ * unchanged, after GIX_URL_NO_ROOM all but lengths and counts, and after GIX_URL_OK what is after the result. Each call is made
  * with each buffer and each array that is too short, and with each of its requests for memory refused in turn. Whatever it
  * returns, it gives back all memory that it requested. Each call has to return each error that the headers list for it. */
 #include "../c/include/gix_url_rules.h"
@@ -18,7 +18,7 @@ typedef struct input {
     bool is_null;
 } input;
 
-/* The memory that the calls store into. What is behind a buffer or an array guards it. */
+/* The memory that the calls store into. What is after a buffer or an array guards it. */
 typedef struct places {
     char buffer[4096];
     union {

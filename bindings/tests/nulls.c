@@ -23,19 +23,19 @@ typedef struct places {
 } places;
 
 /* The pointers that a call takes: its subject, and the places of its results. */
-enum { SUBJECT = 1, ROOM = 2, PAIRS = 4, ANSWER = 8, LENGTH = 16, COUNT = 32, PROBLEM = 64, POINTERS = 128 };
+enum { SUBJECT = 1, BUFFER = 2, PAIRS = 4, ANSWER = 8, LENGTH = 16, COUNT = 32, PROBLEM = 64, POINTERS = 128 };
 
 /* The calls, with one of these pointers null. */
 typedef gix_url_error caller(const gix_url *url, places *to, size_t buffer, int null);
 #define OR_NULL(pointer, place) (null == (pointer) ? NULL : (place))
 
 static gix_url_error parse(const gix_url *url, places *to, size_t buffer, int null) {
-    return gix_url_parse(OR_NULL(SUBJECT, url->path.at), url->path.len, OR_NULL(ROOM, to->buffer), buffer, OR_NULL(ANSWER, &to->url),
+    return gix_url_parse(OR_NULL(SUBJECT, url->path.at), url->path.len, OR_NULL(BUFFER, to->buffer), buffer, OR_NULL(ANSWER, &to->url),
                          OR_NULL(LENGTH, &to->len), OR_NULL(PROBLEM, &to->problem));
 }
 
 static gix_url_error make(const gix_url *url, places *to, size_t buffer, int null) {
-    return gix_url_from_parts(OR_NULL(SUBJECT, url), OR_NULL(ROOM, to->buffer), buffer, OR_NULL(ANSWER, &to->url),
+    return gix_url_from_parts(OR_NULL(SUBJECT, url), OR_NULL(BUFFER, to->buffer), buffer, OR_NULL(ANSWER, &to->url),
                               OR_NULL(LENGTH, &to->len), OR_NULL(PROBLEM, &to->problem));
 }
 
@@ -60,12 +60,12 @@ static gix_url_error meet(const gix_url *url, places *to, size_t buffer, int nul
 }
 
 static gix_url_error write(const gix_url *url, places *to, size_t buffer, int null) {
-    return gix_url_write(OR_NULL(SUBJECT, url), OR_NULL(ROOM, to->buffer), buffer, OR_NULL(LENGTH, &to->len),
+    return gix_url_write(OR_NULL(SUBJECT, url), OR_NULL(BUFFER, to->buffer), buffer, OR_NULL(LENGTH, &to->len),
                          OR_NULL(PROBLEM, &to->problem));
 }
 
 static gix_url_error show(const gix_url *url, places *to, size_t buffer, int null) {
-    return gix_url_display(OR_NULL(SUBJECT, url), OR_NULL(ROOM, to->buffer), buffer, OR_NULL(LENGTH, &to->len),
+    return gix_url_display(OR_NULL(SUBJECT, url), OR_NULL(BUFFER, to->buffer), buffer, OR_NULL(LENGTH, &to->len),
                            OR_NULL(PROBLEM, &to->problem));
 }
 
@@ -75,7 +75,7 @@ static gix_url_error look(const gix_url *url, places *to, size_t buffer, int nul
 }
 
 static gix_url_error part(const gix_url *url, places *to, size_t buffer, int null) {
-    return gix_url_path_query_fragment(OR_NULL(SUBJECT, url), OR_NULL(ROOM, to->buffer), buffer, OR_NULL(PAIRS, to->pairs), 2,
+    return gix_url_path_query_fragment(OR_NULL(SUBJECT, url), OR_NULL(BUFFER, to->buffer), buffer, OR_NULL(PAIRS, to->pairs), 2,
                                        OR_NULL(ANSWER, &to->parts), OR_NULL(LENGTH, &to->len), OR_NULL(COUNT, &to->count));
 }
 
@@ -85,16 +85,16 @@ static const struct {
     caller *call;
     int takes, wants;
 } calls[CALLS] = {
-    [OF_READ] = {parse, SUBJECT | ROOM | ANSWER | LENGTH | PROBLEM, ANSWER},
-    [OF_MAKE] = {make, SUBJECT | ROOM | ANSWER | LENGTH | PROBLEM, SUBJECT | ANSWER},
+    [OF_READ] = {parse, SUBJECT | BUFFER | ANSWER | LENGTH | PROBLEM, ANSWER},
+    [OF_MAKE] = {make, SUBJECT | BUFFER | ANSWER | LENGTH | PROBLEM, SUBJECT | ANSWER},
     [OF_SETTLED] = {settle, SUBJECT | ANSWER, SUBJECT | ANSWER},
     [OF_AGREES] = {agree, SUBJECT | ANSWER, SUBJECT | ANSWER},
     [OF_JUDGED] = {judge, SUBJECT | ANSWER, SUBJECT | ANSWER},
     [OF_MET] = {meet, SUBJECT | ANSWER, SUBJECT | ANSWER},
-    [OF_WRITE] = {write, SUBJECT | ROOM | LENGTH | PROBLEM, SUBJECT | LENGTH},
-    [OF_SHOW] = {show, SUBJECT | ROOM | LENGTH | PROBLEM, SUBJECT | LENGTH},
+    [OF_WRITE] = {write, SUBJECT | BUFFER | LENGTH | PROBLEM, SUBJECT | LENGTH},
+    [OF_SHOW] = {show, SUBJECT | BUFFER | LENGTH | PROBLEM, SUBJECT | LENGTH},
     [OF_LOOK] = {look, SUBJECT | ANSWER, SUBJECT | ANSWER},
-    [OF_PARTS] = {part, SUBJECT | ROOM | PAIRS | ANSWER | LENGTH | COUNT, SUBJECT | ANSWER},
+    [OF_PARTS] = {part, SUBJECT | BUFFER | PAIRS | ANSWER | LENGTH | COUNT, SUBJECT | ANSWER},
 };
 
 /* The expected result of a call: an error with its problem, or GIX_URL_OK with this many bytes, and for components this
@@ -109,7 +109,7 @@ typedef struct answer {
 static answer answer_with(int call, answer wanted, size_t buffer, int null) {
     if (null & calls[call].wants) wanted = (answer){.error = GIX_URL_NULL};
     else if (null == SUBJECT) wanted = (answer){.error = GIX_URL_EMPTY_LOCAL, .problem.reason = GIX_URL_REASON_EMPTY};
-    else if (wanted.error == GIX_URL_OK && (buffer < wanted.len || (null == ROOM && wanted.len) || (null == PAIRS && wanted.count)))
+    else if (wanted.error == GIX_URL_OK && (buffer < wanted.len || (null == BUFFER && wanted.len) || (null == PAIRS && wanted.count)))
         wanted.error = GIX_URL_NO_ROOM;
     return wanted;
 }

@@ -1,6 +1,6 @@
 #!/usr/bin/env python3
 """Executes orders as vectors.py does, with a pattern in each buffer and in each result before a call. After an error all of
-them have to be unchanged, apart from lengths if a buffer is too short, and after a result what is behind it. The buffers of
+them have to be unchanged, apart from lengths if a buffer is too short, and after a result what follows it. The buffers of
 calls over a configuration begin with one element, so that most are too short at first."""
 import ctypes
 import os
@@ -22,7 +22,7 @@ def fill(items):
 
 
 def is_blank(items, used=0):
-    """Whether all behind this many bytes holds the pattern."""
+    """Whether all after this many bytes holds the pattern."""
     return set(bytes(memoryview(items).cast("B"))[used:]) <= {PATTERN}
 
 
@@ -43,8 +43,8 @@ class Checked:
         used = [it.value for it in (sizes[::-1] if self.call.is_turned else sizes)]
         assert error == 0 or all(map(is_blank, (*buffers, *results))), f"{self.name} changes a buffer or a result with error {error}"
         assert error in (0, _calls._NO_ROOM) or all(map(is_blank, sizes)), f"{self.name} stores a length with error {error}"
-        behind = (is_blank(it, number * ctypes.sizeof(it._type_)) for it, number in zip(buffers, used))
-        assert error or all(behind), f"{self.name} writes behind its result"
+        after = (is_blank(it, number * ctypes.sizeof(it._type_)) for it, number in zip(buffers, used))
+        assert error or all(after), f"{self.name} writes after its result"
         # The package made what isn't stored 0.
         for it in () if error == 0 else results if error == _calls._NO_ROOM else (*results, *sizes):
             ctypes.memset(ctypes.byref(it), 0, ctypes.sizeof(it))

@@ -5,7 +5,7 @@
 #include <stdio.h>
 #include <string.h>
 
-/* The part, if a command may be handed it as an argument. */
+/* The part, if it may be an argument of a command. */
 static const gix_url_text *usable(gix_url_argument judged, const gix_url_text *part) {
     return judged == GIX_URL_USABLE ? part : NULL;
 }

@@ -2,14 +2,16 @@
 import fcntl
 import functools
 import glob
+import json
 import os
 import re
 import shutil
 import subprocess
 
 import pytest
+from git_runs import put
 from rt_api import ROOT, program, read, stored
-from runs import ended, explained
+from runs import ended
 from texts import realistic
 
 OUT = f"{ROOT}/out/bindings"
@@ -55,13 +57,6 @@ def inputs():
     return {"short inputs": (stored("crates/locations/stdin"), stored("crates/locations/stdout")), "remotes": (remotes, wanted)}
 
 
-@functools.cache
-def lines():
-    """The same lines, each with the object of `explain --json`."""
-    given = [it for text, _ in inputs().values() for it in text.split(b"\n")[:-1]]
-    return given, explained(given)
-
-
 def of_page(language, word):
     """The first block of docs/BINDINGS.md in this language that has the word."""
     return next(it for it in re.findall(rf"(?ms)^```{language}\n(.*?)^```$", read("docs/BINDINGS.md")) if word in it)
@@ -72,15 +67,19 @@ def copied(source, folder):
     return shutil.copytree(source, folder, symlinks=True)
 
 
+def faults_of(*kinds):
+    """The faults of `plants.jsonl` for the unproved code of bindings, each with its kind and the texts that it replaces."""
+    found = map(json.loads, read("tests/bindings/plants.jsonl").splitlines())
+    return {it["fault"]: (it["in"], it["old"], it["new"]) for it in found if it["in"] in kinds}
+
+
 def plant(folder, old, new):
-    """Replaces a text, which must occur once in the files of a folder, by a fault."""
-    files = [it for it in glob.glob(f"{folder}/*") if os.path.isfile(it)]
-    texts = {it: open(it, encoding="utf-8").read() for it in files}
-    assert sum(it.count(old) for it in texts.values()) == 1, old
+    """Replaces a text, which must occur once in the files below a folder, by a fault."""
+    texts = {it: stored(os.path.relpath(it, ROOT)) for it in glob.glob(f"{folder}/**", recursive=True) if os.path.isfile(it)}
+    assert sum(it.count(old.encode()) for it in texts.values()) == 1, old
     for file, text in texts.items():
-        if old in text:
-            with open(file, "w", encoding="utf-8") as it:
-                it.write(text.replace(old, new))
+        if old.encode() in text:
+            put(file, text.replace(old.encode(), new.encode()), 0o644)
 
 
 def is_caught(*tests):

@@ -5,8 +5,12 @@ JSON, and are compared so. Whether Git reads the same is compared with the rule 
 line; whether all readers do, with the class by the bytes of the text that is written for it (docs/READERS.md). Lines are left out in which
 `explain` hides anything but a password: it reports its reading of the line as it is shown.
 """
+import functools
+
+from build import check, inputs, run
+from runs import ended, explained
 from second_reading import grammar, settled_class, unambiguous, writing
-from second_reading.explain import agrees_with_git
+from second_reading.git_class import agrees_with_git
 from second_reading.seen import seen
 
 
@@ -51,12 +55,15 @@ def of_binding(line):
     return [outcome, *front, text(path), text(original), *judged, settled, agrees, unambiguous_too, text(shown), text(parts)]
 
 
-def faults(lines, answers, explained):
-    compared = 0
-    for line, answer, said in zip(lines, answers, explained, strict=True):
-        if seen(line) == line:
-            compared += 1
-            binding, wanted = of_binding(answer.decode()), of_explain(said, line)
-            if binding != wanted:
-                yield f"{line!r}\n  binding: {binding}\n  wanted:  {wanted}"
-    assert compared > 1_000
+@functools.cache
+def lines():
+    """The lines that both are asked, each with the object of `explain --json`."""
+    given = [it for text, _ in inputs().values() for it in text.split(b"\n")[:-1]]
+    return [*zip(given, explained(given), strict=True)]
+
+
+def check_members(program):
+    said = run(program, given=ended(it for it, _ in lines())).decode().split("\n")[:-1]
+    pairs = {line: (of_binding(it), of_explain(wanted, line)) for (line, wanted), it in zip(lines(), said, strict=True) if seen(line) == line}
+    assert len(pairs) > 1_000
+    check([f"{line!r}\n  binding: {binding}\n  wanted:  {wanted}" for line, (binding, wanted) in pairs.items() if binding != wanted])

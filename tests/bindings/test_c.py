@@ -9,12 +9,11 @@ vectors/ whose calls C has are answered. These tests have to find faults that ar
 import functools
 import re
 
-import members
-import plants
 import pytest
 from binding_rows import C
-from build import OUT, TEXTS, built, check, copied, inputs, is_caught, lines, of_page, plant, run, sh
+from build import OUT, TEXTS, built, check, copied, faults_of, inputs, is_caught, of_page, plant, run, sh
 from git_runs import put
+from members import check_members
 from rt_api import ROOT, read, stored
 
 pytestmark = pytest.mark.needs("cc", "ar")
@@ -74,9 +73,7 @@ def test_rows(folder):
 
 
 def test_members(folder):
-    given, said = lines()
-    answers = run(f"{folder}/members", given=b"".join(it + b"\n" for it in given)).split(b"\n")[:-1]
-    check([*members.faults(given, answers, said)])
+    check_members(f"{folder}/members")
 
 
 def test_program_of_the_page():
@@ -85,11 +82,11 @@ def test_program_of_the_page():
     assert run(f"{OUT}/example", *TEXTS) == stored("bindings/tests/example.wanted")
 
 
-@pytest.mark.parametrize("fault", plants.C)
+@pytest.mark.parametrize("fault", faults_of("c"))
 def test_finds(fault):
     """The quick tests come first."""
     copy = copied(f"{ROOT}/bindings/c", f"{OUT}/plant/c")
-    plant(copy, *plants.C[fault])
+    plant(copy, *faults_of("c")[fault][1:])
     programs.cache_clear()
     folder = programs(f"{OUT}/plant", sources=copy)
     made = (compiled(folder, it) for it in ("nulls", "rule_nulls", *OF_MEMORY))

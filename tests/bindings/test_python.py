@@ -4,10 +4,9 @@ configuration have to find."""
 import functools
 import os
 
-import plants
 import pytest
 from binding_rows import Python
-from build import OUT, RULE_TABLES, TEXTS, built, check, inputs, is_caught, of_page, plant, run, sh
+from build import OUT, RULE_TABLES, TEXTS, built, check, faults_of, inputs, is_caught, of_page, plant, run, sh
 from git_runs import put
 from rt_api import ROOT, stored
 
@@ -59,12 +58,12 @@ def test_answers():
     assert run("python3", "-W", "error", "-m", "gix_url", given=given, statuses=(0, 1), **where) == wanted
 
 
-@pytest.mark.parametrize("fault", plants.PYTHON)
+@pytest.mark.parametrize("fault", faults_of("python"))
 def test_finds(fault, monkeypatch):
     """The fault has to load."""
     folder = f"{built()}/python-plant"
     sh(f"rm -rf {folder}; put_package {folder}")
-    plant(f"{folder}/gix_url", *plants.PYTHON[fault])
+    plant(f"{folder}/gix_url", *faults_of("python")[fault][1:])
     for name, value in {"PYTHONPATH": folder, "GIX_URL_LIB": f"{OUT}/lib", **FOUND}.items():
         monkeypatch.setenv(name, value)
     run("python3", "-c", "import gix_url.audit")

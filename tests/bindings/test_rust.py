@@ -4,12 +4,11 @@ import functools
 import os
 import shutil
 
-import members
-import plants
 import pytest
 from binding_rows import Rust
-from build import CRATE, OUT, RULE_TABLES, TEXTS, built, check, copied, inputs, is_caught, lines, needs_cargo, of_page, plant, run
+from build import CRATE, OUT, RULE_TABLES, TEXTS, built, check, copied, faults_of, inputs, is_caught, needs_cargo, of_page, plant, run
 from git_runs import put
+from members import check_members
 from rt_api import ROOT, stored
 
 pytestmark = needs_cargo
@@ -50,9 +49,7 @@ def test_own_tests(words):
 
 
 def test_members():
-    given, said = lines()
-    answers = run(f"{examples()}/members", given=b"".join(it + b"\n" for it in given)).split(b"\n")[:-1]
-    check([*members.faults(given, answers, said)])
+    check_members(f"{examples()}/members")
 
 
 def test_program_of_the_page():
@@ -63,12 +60,12 @@ def test_program_of_the_page():
     assert cargo("run", f"{OUT}/readme/Cargo.toml", more=("--", *TEXTS)) == stored("bindings/tests/example.wanted")
 
 
-@pytest.mark.parametrize("fault", [*plants.RUST, *plants.RULES])
+@pytest.mark.parametrize("fault", faults_of("rust", "rules"))
 def test_finds(fault):
-    """The fault has to compile. Cargo takes the crate and a newer copy for the same, so the copies are built in a folder of their own."""
-    copy = copied(f"{ROOT}/{CRATE}", f"{OUT}/rust-plant")
-    folder, *texts = (".", *plants.RUST[fault]) if fault in plants.RUST else plants.RULES[fault]
-    plant(f"{copy}/src/{folder}", *texts)
+    """The fault, in calls over locations or over a configuration, has to compile. Cargo takes the crate and a newer copy for the same, so the
+    copies are built in a folder of their own."""
+    copy, (kind, *texts) = copied(f"{ROOT}/{CRATE}", f"{OUT}/rust-plant"), faults_of("rust", "rules")[fault]
+    plant(f"{copy}/src", *texts)
     cargo("build --example vectors", f"{copy}/Cargo.toml", f"{OUT}/cargo-plant")
-    tables = TABLES if fault in plants.RUST else RULE_TABLES
+    tables = TABLES if kind == "rust" else RULE_TABLES
     assert is_caught(lambda: check(Rust().faults(f"{OUT}/cargo-plant/debug/examples/vectors", *tables)))

@@ -16,7 +16,7 @@ import pytest
 import reference
 from reference_names import CLAUSE
 from contracts import contracts
-from rt_api import LAYERS, ROOT, lines_of_crates, read, stored
+from rt_api import LAYERS, ROOT, lines_of_crates, outdated, read, stored
 from second_reading import explain_tables, stored_run
 
 pytestmark = pytest.mark.quick
@@ -30,7 +30,7 @@ OLD_IN_COMMENTS = re.compile(
 COMMENTED = ("scripts/*", "tools/**/*", "tests/**/*", "bindings/c/**/*.[ch]", "bindings/tests/*.*", "bindings/python/**/*.py",
              *(f"bindings/rust/*/{it}/**/*.rs" for it in ("src", "tests", "examples")), "crates/*/proofs/**/*.antt")
 IN_SCRIPT, IN_C = r'(?m)(?:^|\s)# (.*)|"""((?s:.*?))"""', r"/\*((?s:.*?))\*/|// (.*)"
-REMARKS = {".antt": r"(?m)^ *-- (.*)", ".rs": r"(?m)(?:^|\s)//[/!]? (.*)", ".c": IN_C, ".h": IN_C, ".cc": IN_C}
+REMARKS = {".antt": r"(?m)^ *-- (.*)", ".rs": r"(?m)(?:^|\s)//[/!]? (.*)", **dict.fromkeys([".c", ".h", ".cc", ".js"], IN_C)}
 GLOSSARY, PROOFS = "docs/GLOSSARY.md", "docs/PROOFS.md"
 # A file that a document names. The changes name files that were, and FIRST_HOUR a crate that its reader makes.
 FILE = re.compile(r"`((?:crates|scripts|tools|tests/\w+|docs|bindings|vectors|examples)/[\w./-]+)`")
@@ -127,11 +127,15 @@ def test_each_crate_is_in_the_table_of_layers():
     assert {it for row in re.findall(r"(?m)^\| (`\w+`(?:, `\w+`)*) \| .* \|", text) for it in re.findall(r"`(\w+)`", row)} == {*lines_of_crates()}
 
 
-@pytest.mark.parametrize("faults", [
-    explain_tables.table_faults, explain_tables.reason_faults, explain_tables.hint_faults, reference.faults, page_template.faults, pictures.faults,
-], ids=["table of the grammar", "reasons", "hints", "reference", "template of the page", "pictures"])
-def test_is_what_it_is_made_of(faults):
+@pytest.mark.parametrize("faults", [explain_tables.table_faults, explain_tables.reason_faults, explain_tables.hint_faults], ids=lambda it: it.__name__)
+def test_table(faults):
     assert not [*faults()]
+
+
+@pytest.mark.parametrize("script", [reference, page_template, pictures], ids=lambda it: it.__name__)
+def test_is_what_the_script_writes(script):
+    files = outdated(script.wanted(), script.PAGES)
+    assert not files
 
 
 @pytest.mark.parametrize("name", stored_run.stored_run())
@@ -176,7 +180,7 @@ def test_each_link_and_file_is_there(name):
 # ---- the promises of docs/PROOFS.md
 
 def promises():
-    """What the promises name in their parentheses: of each group of calls the clauses behind its colon."""
+    """What the promises name in their parentheses: of each group of calls the clauses after its colon."""
     rows = re.findall(r"(?m)^- .* \((`.*)\)$", ITEM.sub(r"\1", read(PROOFS)))
     for group in (part for row in rows for part in row.split("; ")):
         calls, _, clauses = group.partition("`: ")

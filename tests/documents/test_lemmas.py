@@ -34,10 +34,6 @@ class Declaration:
         """Whether it answers a goal of a function, or states a loop invariant."""
         return " : goal." in re.sub(r"\s+", " ", " ".join(self.lines[:2]))
 
-    def parts(self):
-        at = next((n for n, it in enumerate(self.lines) if n and it.startswith((f"{self.name} ", "unfolding "))), len(self.lines))
-        return " ".join(self.lines[:at]).partition(" : ")[2], " ".join(self.lines[at:])
-
     @functools.cached_property
     def variables(self):
         """The names that the text binds: in heads of clauses, in types, by `λ`, `let` and `elim`."""
@@ -54,22 +50,20 @@ class Declaration:
     def normal(self):
         """The statement, for a definition with its body, with numbers for variables, whole names for others, and each argument
         separate."""
-        statement, body = self.parts()
+        at = next((n for n, it in enumerate(self.lines) if n and it.startswith((f"{self.name} ", "unfolding "))), len(self.lines))
         # A negation is an implication of falsity.
-        statement = re.sub(r"→ ¬ \((.*)\)$|→ ¬ ([^→]*)$", r"→ \1\2 → ⊥", f"→ {statement}")
-        text = f"{statement} = {body}" if self.marks & {"abbrev", "unfoldable"} else statement
+        text = re.sub(r"→ ¬ \((.*)\)$|→ ¬ ([^→]*)$", r"→ \1\2 → ⊥", "→ " + " ".join(self.lines[:at]).partition(" : ")[2])
+        if self.marks & {"abbrev", "unfoldable"}:
+            text += " = " + " ".join(self.lines[at:])
         text, numbers = GROUP.sub(lambda it: "".join(f"({name} : {it[2]}) → " for name in it[1].split()), text), {}
 
         def spelled(found):
-            word = found[0]
-            if word == self.name:
-                return "$own"
-            if text[found.start() - 1] == ".":
-                return word
+            word, whole = found[0], self.file.names.get(found[0], found[0])
+            if word == self.name or text[found.start() - 1] == ".":
+                return "$own" if word == self.name else word
             if word in self.variables:
                 return f"${numbers.setdefault(word, len(numbers))}"
             # The kit has its words under several paths.
-            whole = self.file.names.get(word, word)
             return whole if whole.startswith(OF_LAYERS) else whole.rpartition(".")[2]
 
         return re.sub(r"\s+", " ", WORD.sub(spelled, text)).strip()
@@ -102,19 +96,15 @@ class File:
 
     def take(self, is_passed_on, module, names, other):
         self.names.update({} if names else {other or module.rpartition(".")[2]: module})
-        for name in names.split(", ") if names else []:
-            name, _, short = name.partition(" as ")
-            self.names[short or name] = f"{module}.{name}"
-            if is_passed_on:
-                self.passed_on[f"{self.module}.{short or name}"] = f"{module}.{name}"
+        taken = dict((it.split(" as ") * 2)[1::-1] for it in names.split(", ")) if names else {}
+        self.names.update({here: f"{module}.{there}" for here, there in taken.items()})
+        self.passed_on.update({f"{self.module}.{here}": f"{module}.{there}" for here, there in taken.items() if is_passed_on})
 
 
 def known_names(files):
     """The declarations by their whole names, and by those of their constructors and of modules that re-export them."""
     known = {f"{file.module}.{it.name}": it for file in files for it in file.declared}
-    for name in (it for file in files for it in file.names.values()):
-        if name.rpartition(".")[0] in known:
-            known[name] = known[name.rpartition(".")[0]]
+    known.update({it: known[it.rpartition(".")[0]] for file in files for it in file.names.values() if it.rpartition(".")[0] in known})
     for file in files:
         known.update({new: known[old] for new, old in file.passed_on.items() if old in known})
     return known

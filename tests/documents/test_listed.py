@@ -11,12 +11,12 @@ A line of a list is a place, a tab, and the reason; a place in which nothing is 
 """
 import glob
 import re
-import typing
+from collections import namedtuple
 
 import pytest
 from rt_api import ROOT, read, stands_on
 
-CALLS = "cut|last_cut|cut_at_mark|cut_place|before|after|behind|find|rfind|find_byte|rfind_byte|r?split_once_str|strip_prefix|halves|last_halves|holds"
+CALLS = "cut|last_cut|cut_at_mark|cut_place|before|after|suffix|find|rfind|find_byte|rfind_byte|r?split_once_str|strip_prefix|halves|last_halves|holds"
 SEARCH = re.compile(rf"\b(?:{CALLS})\((?:[^()]|\([^()]*\))*b?['\"](?:://|[@:\[])['\"]|\bcut_at_mark\(")
 ENTRY = re.compile(r"\.(?:sets|is_section|is_name)\(|\b(?:entry|it)\.(?:section|subsection|name|value)\b")
 # Words of the program where a text is expected, and a text that a report has.
@@ -44,15 +44,8 @@ BYTES = re.compile(r"(?m)(?<!#\[serde\(skip\)\]\n)^    pub \w+: .*(?:\[u8\]|<u8>
 TYPE = re.compile(r"(?m)^(?:pub(?:\(\w+\))? )?(enum|struct) (\w+)")
 FUNCTION = re.compile(r"(?m)^( *)(?:pub(?:\(\w+\))? )?(?:const )?fn (\w+)(?:.*\{\}|(?:.*\n)*?\1\})$")
 IMPL = re.compile(r"(?m)^impl(?:<.*?>)? (?:.* for )?(?:\w+::)*(\w+)")
-
-
-class Function(typing.NamedTuple):
-    """A function: its name behind that of its type, its head, its clauses, and all of it but those, each on one line."""
-
-    name: str
-    head: str
-    clauses: str
-    text: str
+# A function: its name after that of its type, its head, its clauses, and all of it but those, each on one line.
+Function = namedtuple("Function", "name head clauses text")
 
 
 def on_one_line(text):

@@ -26,8 +26,6 @@ ANSWER = (
     b"settled\t/a\nsettled\thttp://uA:p@h/a%20b\nrefused\tBadUrl BadPort\nunsettled\tssh\nsettled\th%41:p\n"
     b"settled\tuser@[::1]:p\nsettled\ta::b\nrefused\tEmptyLocal\n"
 )
-
-
 # Calls that collect into a list, which requests less if a larger request is refused: then they may return the correct result.
 COLLECTING = {"danger::dangers"}
 
@@ -70,13 +68,9 @@ def sampled(table):
 def refused_outcome(row):
     """The required result of the call of a row if its memory is refused: that error, otherwise the row's expectation."""
     call = row.members["call"]
-    if call == "expand_path::with":
-        return [MEMORY, row.expected[1]]
-    if call == "Url::canonicalized":
-        return [[MEMORY, 0], row.expected[1]]
-    if call == "lines::run":
-        return {"outcome": MEMORY, "status": 2, "out": ""}
-    return MEMORY
+    if call in ("expand_path::with", "Url::canonicalized"):
+        return [MEMORY if call == "expand_path::with" else [MEMORY, 0], row.expected[1]]
+    return {"outcome": MEMORY, "status": 2, "out": ""} if call == "lines::run" else MEMORY
 
 
 def tells_memory(row, ran):
@@ -87,73 +81,50 @@ def tells_memory(row, ran):
         return False
 
 
-def asked_faults(row, asked):
-    """The faults of the requests of the call of a row, whose bytes are given."""
+def run_row(shim, row, is_made, refused=0):
+    """A run over the order of a row. The orders with and without the call are equally long, and are read alike."""
+    order = row.order(prepare=not is_made) + ("" if is_made else " ")
+    return Ran([program("answers")], shim, f"{order}\n".encode(), refused)
+
+
+def faults_of(shim, row):
+    """The number of requests of the call of a row, and its faults: with ample memory, and if a request is refused, which comes after
+    those that were made before the call."""
+    prepared, ample = (run_row(shim, row, is_made) for is_made in (False, True))
+    asked = ample.requests[len(prepared.requests):]
+    found = [it for it in (
+        (prepared.status, prepared.out) != (0, b"\n") and f"what the call is over is not prepared: {prepared.out!r}",
+        ample.status and f"the program ended with status {ample.status}",
+        ample.held != prepared.held and f"{ample.held} bytes are held in the end, and {prepared.held} without the call",
+        row.fault(ample.out.decode(errors="replace"))) if it]
+    if found:
+        return 0, found
     if row.requests is not None and len(asked) > row.requests:
-        yield f"{row.place}: makes {len(asked)} requests for memory, and may make {row.requests}: {row.order()}"
+        found.append(f"makes {len(asked)} requests for memory, and may make {row.requests}")
     if row.bytes is not None and sum(asked) > row.bytes:
-        yield f"{row.place}: asks for {sum(asked)} bytes of memory, and may ask for {row.bytes}: {row.order()}"
-
-
-def ample_fault(row, prepared, ample):
-    """The faults of the runs without and with the call of a row, with ample memory."""
-    if (prepared.status, prepared.out) != (0, b"\n"):
-        return f"{row.place}: what the call is over is not prepared: {prepared.out!r}: {row.order()}"
-    if ample.status:
-        return f"{row.place}: the program ended with status {ample.status}: {row.order()}"
-    return kept_fault(row, prepared, ample) or row.fault(ample.out.decode(errors="replace"))
-
-
-def kept_fault(row, prepared, ran):
-    """The fault of the memory that a run holds at the end, compared with a run without the call."""
-    if ran.held != prepared.held:
-        return f"{row.place}: {ran.held} bytes are held in the end, and {prepared.held} without the call: {row.order()}"
-    return None
-
-
-class Calls:
-    def __init__(self, shim):
-        self.shim, self.path = shim, program("answers")
-
-    def run(self, row, is_made, refused=0):
-        """A run over the order of a row. The orders with and without the call are equally long, and are read alike."""
-        order = row.order(prepare=not is_made) + ("" if is_made else " ")
-        return Ran([self.path], self.shim, f"{order}\n".encode(), refused)
-
-    def faults(self, row):
-        """The faults of the call of a row, and the number of its requests."""
-        prepared, ample = self.run(row, False), self.run(row, True)
-        fault = ample_fault(row, prepared, ample)
-        if fault:
-            return [fault], 0
-        asked = ample.requests[len(prepared.requests):]
-        found = [*asked_faults(row, asked)]
-        for number in range(1, len(asked) + 1):
-            found += self.refuse(row, prepared, number)
-        return found, len(asked)
-
-    def refuse(self, row, prepared, number):
-        """The faults if a request of the call is refused, which comes after those that were made before it."""
-        ran = self.run(row, True, len(prepared.requests) + number)
-        if kept_fault(row, prepared, ran):
-            yield f"with request {number} refused: {kept_fault(row, prepared, ran)}"
+        found.append(f"asks for {sum(asked)} bytes of memory, and may ask for {row.bytes}")
+    for number in range(1, len(asked) + 1):
+        ran = run_row(shim, row, True, len(prepared.requests) + number)
+        if ran.held != prepared.held:
+            found.append(f"with request {number} refused {ran.held} bytes are held in the end, and {prepared.held} without the call")
         if not ran.is_refused():
-            yield f"{row.place}: request {number} is not made again: {row.order()}"
+            found.append(f"request {number} is not made again")
         elif not tells_memory(row, ran) and not (row.members["call"] in COLLECTING and row.fault(ran.out.decode()) is None):
-            yield f"{row.place}: with request {number} refused it returns {ran.out!r}: {row.order()}"
+            found.append(f"with request {number} refused it returns {ran.out!r}")
+    return len(asked), found
 
 
 @pytest.mark.parametrize("topic", topics())
 def test_calls(topic, shim):
     table = [*sampled(rows(topic))]
     with concurrent.futures.ThreadPoolExecutor(2 * os.cpu_count()) as lanes:
-        found = [*lanes.map(Calls(shim).faults, table)]
-    assert not [it for faults, _ in found for it in faults]
-    for row, (_, made) in zip(table, found):
+        found = [*lanes.map(lambda row: faults_of(shim, row), table)]
+    assert not [f"{row.place}: {it}: {row.order()}" for row, (_, faults) in zip(table, found) for it in faults]
+    for row, (made, _) in zip(table, found):
         if row.requests is not None and made < row.requests:
             print(f"{row.place}: makes {made} requests, and the row says {row.requests}")
     # Otherwise the program's memory doesn't come by the shim.
-    assert any(made for _, made in found) or not any(it.requests for it in table)
+    assert any(made for made, _ in found) or not any(it.requests for it in table)
 
 
 def test_locations(shim):

@@ -17,8 +17,7 @@ from rt_api import program
 from runs import SUMMARY
 from texts import realistic
 
-LARGE = 100_000_000
-SMALL = LARGE // 10
+LARGE, LARGE_ORDER = 100_000_000, 4_000_000
 # For each byte that is read, in addition to the program's own memory.
 MOST_BYTES = 6
 OWN_BYTES = 2_000_000
@@ -29,47 +28,15 @@ OWN_READS = 1000
 # A program that takes longer is stopped.
 MOST_SECONDS = 120
 SETTLED, REFUSED = b"settled\t", b"refused\t"
-TOO_LONG, NO_HOST = REFUSED + b"TooLong\n", REFUSED + b"BadUrl HostRequired\n"
-
-# The start of a line, the repeated text, its end, and its answer: a refusal, or the front of the line again.
-SHAPES = [
-    (b"", b"a", b"", SETTLED),
-    (b"", b":", b"", NO_HOST),
-    (b"", b"@", b"", SETTLED),
-    (b"", b"/", b"", SETTLED),
-    (b"", b"%41", b"", SETTLED),
-    (b"", b"[", b"", SETTLED),
-    (b"", b" ", b"", SETTLED),
-    (b"http://", b"@", b"", TOO_LONG),
-    (b"http://", b"/", b"", TOO_LONG),
-    (b"http://h/", b"?a=b&", b"", SETTLED),
-    (b"http://h/", b"%41", b"", SETTLED),
-    (b"ssh://h/", b"/", b"", SETTLED),
-    (b"", b"@", b"h:p", SETTLED),
-    (b"a::", b":", b"", SETTLED),
-    (b"file://", b"[", b"/p", SETTLED),
-]
-# A line of a byte, and its answer.
-LINE, LINE_ANSWER = b"a\n", b"settled\ta\n"
-LINES = 5_000_000
-# A page, which has many bytes for each byte of the remotes, and its memory.
-REMOTES = 100_000
-MOST_PAGE_BYTES = 40
-# A configuration with this many rules, each with a base of its own, this many helpers and this many names of `http.*`.
-RULES = 100_000
-MOST_RULES_SECONDS = 10
-# A file with this many submodules, each with a path and a host of its own.
-MODULES = 20_000
-MOST_MODULES_SECONDS = 2
-# Lines with one host, for a summary, and the memory for each byte that a tenth of them lacks.
-SUMMED = 2_000_000
-MOST_SUMMARY_BYTES = 0.1
 CHUNK = 1 << 20
 
+# The start of a line, the repeated text and its end, by its answer: the front of the line again, or a refusal.
+SHAPES = [(*it, SETTLED) for it in (
+    (b"", b"a", b""), (b"", b"@", b""), (b"", b"/", b""), (b"", b"%41", b""), (b"", b"[", b""), (b"", b" ", b""), (b"http://h/", b"?a=b&", b""),
+    (b"http://h/", b"%41", b""), (b"ssh://h/", b"/", b""), (b"", b"@", b"h:p"), (b"a::", b":", b""), (b"file://", b"[", b"/p"))]
+SHAPES += [(b"", b":", b"", REFUSED + b"BadUrl HostRequired\n"), *((b"http://", it, b"", REFUSED + b"TooLong\n") for it in (b"@", b"/"))]
 # Calls over texts of some MB: the repeated text in the call's input, the order by that text, and the outcome by the number of
 # repetitions.
-LARGE_ORDER = 4_000_000
-SMALL_ORDER = LARGE_ORDER // 10
 CALLS = [
     ("b%41=c+d&", lambda text: {"call": "Url::path_query_fragment", "url": f"http://h/?{text}"},
      lambda count: {"path": "/", "query": [["bA", {"owned": "c d"}]] * count}),
@@ -77,12 +44,9 @@ CALLS = [
      lambda count: {"path": "/", "query": [[{"owned": " " * count}, ""]]}),
     ("%41", lambda text: {"call": "Url::path_query_fragment", "url": f"http://h/{text}#b"},
      lambda count: {"path": "/" + "A" * count, "fragment": "b"}),
-    ("/./a", lambda text: {"call": "expand_path::expand_path", "path": text, "user": "~", "home": "/h"},
-     lambda count: "/h" + "/a" * count),
-    ("//.", lambda text: {"call": "expand_path::expand_path", "path": "/p", "user": "~u", "home": f"/g/h{text}"},
-     lambda count: "/g/u/p"),
-    ("~/", lambda text: {"call": "expand_path::parse", "text": f"/~u/{text}"},
-     lambda count: ["~u", "/" + "~/" * count]),
+    ("/./a", lambda text: {"call": "expand_path::expand_path", "path": text, "user": "~", "home": "/h"}, lambda count: "/h" + "/a" * count),
+    ("//.", lambda text: {"call": "expand_path::expand_path", "path": "/p", "user": "~u", "home": f"/g/h{text}"}, lambda count: "/g/u/p"),
+    ("~/", lambda text: {"call": "expand_path::parse", "text": f"/~u/{text}"}, lambda count: ["~u", "/" + "~/" * count]),
     ("%41 ", lambda text: {"call": "Url::from_stored", "record": record(f"/{text}", f"/{text}")},
      lambda count: record("/" + "A " * count, "/" + "%41%20" * count)),
 ]
@@ -147,16 +111,19 @@ def line_of(shape, size):
     """The pieces of a line of a shape, and of its answer."""
     begin, repeated, end, answer = shape
     count = (size - len(begin) - len(end)) // len(repeated)
-    if answer != SETTLED:
-        return chunks(begin, repeated, count, end + b"\n"), [answer]
-    return chunks(begin, repeated, count, end + b"\n"), chunks(SETTLED + begin, repeated, count, end + b"\n")
+    shown = chunks(SETTLED + begin, repeated, count, end + b"\n") if answer == SETTLED else [answer]
+    return chunks(begin, repeated, count, end + b"\n"), shown
+
+
+def compact(*values):
+    return tuple([json.dumps(it, separators=(",", ":")).encode() + b"\n"] for it in values)
 
 
 def order_of(call, size):
     """The pieces of an order over a text of a size, and of its outcome."""
     repeated, order, outcome = call
     count = size // len(repeated)
-    return tuple([json.dumps(it, separators=(",", ":")).encode() + b"\n"] for it in (order(repeated * count), outcome(count)))
+    return compact(order(repeated * count), outcome(count))
 
 
 def remotes_of(size):
@@ -171,9 +138,8 @@ def rules_of(size):
 
 
 def order_of_rules(size):
-    """The pieces of an order over this many rules, the last of which applies, and of its outcome."""
-    order = {"call": "Rewrites::rewrite_fetch", "config": rules_of(size), "text": f"a{size - 1}:p"}
-    return tuple([json.dumps(it, separators=(",", ":")).encode() + b"\n"] for it in (order, f"https://h{size - 1}/p"))
+    """The pieces of an order over this many rules, each with a base of its own, the last of which applies, and of its outcome."""
+    return compact({"call": "Rewrites::rewrite_fetch", "config": rules_of(size), "text": f"a{size - 1}:p"}, f"https://h{size - 1}/p")
 
 
 def configuration_of(size):
@@ -183,62 +149,55 @@ def configuration_of(size):
 
 
 def modules_of(size):
+    """This many submodules, each with a path and a host of its own."""
     return [b'[submodule "m%d"]\n\tpath = p/%d\n\turl = https://h%d.example/m.git\n' % (n, n, n) for n in range(size)], None
 
 
 def summed(size):
+    """This many lines with one host, and their summary."""
     shown = SUMMARY % (size, 0, size, 0, 0, size, 0, 0, 0) + b'host\n%8d  "example.com"\n' % size
     return chunks(b"", b"git@example.com:group/repo.git\n", size, b""), [shown]
 
 
-def compare(words, folder, make, small, large, most_bytes=None, most_seconds=MOST_SECONDS, most_more=None):
-    """Runs over two sizes, the smaller one twice; the memory for each byte and the seconds may be limited."""
-    tenths, whole = [Ran(words, folder, *make(small)) for _ in range(2)], Ran(words, folder, *make(large))
+def compare(words, folder, make, large, most_bytes=None, most_seconds=MOST_SECONDS, most_more=None):
+    """Runs over a size, and twice over a tenth of it; the memory for each byte, also for each that a tenth lacks, and the seconds
+    may be limited."""
+    name, *more = words
+    tenths, whole = [Ran([program(name), *more], folder, *make(large // 10)) for _ in range(2)], Ran([program(name), *more], folder, *make(large))
     assert all(it.is_right for it in (*tenths, whole)), "it is answered otherwise"
     # The ratio of the times for each byte in the larger and the smaller size.
     growth = whole.seconds / max(0.001, min(it.seconds for it in tenths)) / (whole.size / tenths[0].size)
     size = (whole.bytes - OWN_BYTES) / whole.size
-    # The memory for each byte that only the larger size has.
-    more = (whole.bytes - tenths[-1].bytes) / (whole.size - tenths[-1].size)
+    more_bytes = (whole.bytes - tenths[-1].bytes) / (whole.size - tenths[-1].size)
     print(f"{whole.seconds:.1f} s, {growth:.2f} times as long for each byte as a tenth of it, {size:.2f} bytes of memory, {whole.reads} reads")
     assert growth <= MOST_GROWTH, "that isn't linear"
     assert whole.seconds <= most_seconds
     assert not most_bytes or size <= most_bytes
-    assert not most_more or more <= most_more
+    assert not most_more or more_bytes <= most_more
     assert whole.reads <= OWN_READS + whole.size // LEAST_READ
 
 
 @pytest.mark.parametrize("shape", SHAPES, ids=lambda it: repr(b"".join([it[0], it[1], b"..", it[2]]))[2:-1])
 def test_lines_of_a_shape(shape, tmp_path):
-    compare([program("locations")], tmp_path, lambda size: line_of(shape, size), SMALL, LARGE, MOST_BYTES)
+    compare(["locations"], tmp_path, lambda size: line_of(shape, size), LARGE, MOST_BYTES)
 
 
 def test_lines_of_a_byte(tmp_path):
-    compare([program("locations")], tmp_path, lambda count: (chunks(b"", LINE, count, b""), chunks(b"", LINE_ANSWER, count, b"")),
-            LINES // 10, LINES, MOST_BYTES)
+    compare(["locations"], tmp_path, lambda count: (chunks(b"", b"a\n", count, b""), chunks(b"", b"settled\ta\n", count, b"")), 5_000_000, MOST_BYTES)
 
 
 @pytest.mark.parametrize("call", CALLS, ids=lambda it: f"{it[1]('')['call']} over {it[0]}..")
 def test_calls(call, tmp_path):
-    compare([program("answers")], tmp_path, lambda size: order_of(call, size), SMALL_ORDER, LARGE_ORDER)
+    compare(["answers"], tmp_path, lambda size: order_of(call, size), LARGE_ORDER)
 
 
-def test_page(tmp_path):
-    compare([program("explain"), "--html"], tmp_path, remotes_of, REMOTES // 10, REMOTES, MOST_PAGE_BYTES)
-
-
-def test_a_rewrite_by_many_rules(tmp_path):
-    compare([program("answers")], tmp_path, order_of_rules, RULES // 10, RULES, most_seconds=MOST_RULES_SECONDS)
-
-
-def test_a_large_configuration(tmp_path):
-    words = [program("explain"), "--json", "--config", "-", "https://h/p"]
-    compare(words, tmp_path, configuration_of, RULES // 10, RULES, most_seconds=MOST_RULES_SECONDS)
-
-
-def test_many_submodules(tmp_path):
-    compare([program("explain"), "--gitmodules", "-"], tmp_path, modules_of, MODULES // 10, MODULES, most_seconds=MOST_MODULES_SECONDS)
-
-
-def test_a_summary(tmp_path):
-    compare([program("explain"), "--summary"], tmp_path, summed, SUMMED // 10, SUMMED, most_more=MOST_SUMMARY_BYTES)
+@pytest.mark.parametrize("words, make, large, limits", [
+    # A page has many bytes for each byte of the remotes, and its memory.
+    (["explain", "--html"], remotes_of, 100_000, {"most_bytes": 40}),
+    (["answers"], order_of_rules, 100_000, {"most_seconds": 10}),
+    (["explain", "--json", "--config", "-", "https://h/p"], configuration_of, 100_000, {"most_seconds": 10}),
+    (["explain", "--gitmodules", "-"], modules_of, 20_000, {"most_seconds": 2}),
+    (["explain", "--summary"], summed, 2_000_000, {"most_more": 0.1}),
+], ids=["page", "a rewrite by many rules", "a large configuration", "many submodules", "a summary"])
+def test_many(words, make, large, limits, tmp_path):
+    compare(words, tmp_path, make, large, **limits)

@@ -1,6 +1,7 @@
 """Real streams: the programs with streams that fail, or transfer little at a time, and `explain` on a terminal."""
 import os
 import pty
+import re
 import subprocess
 
 import pytest
@@ -33,13 +34,14 @@ def test_stream(name, command, status, shown, reported):
 
 
 def test_end_of_a_terminal():
-    """The end of input on a terminal, typed after an unended line, ends the run: the shell gets everything typed later."""
+    """Reading a terminal is reported. The end of input, typed after an unended line, ends the run: the shell gets what is typed later."""
     terminal, other = pty.openpty()
-    started = subprocess.Popen([program("explain")], stdin=other, stdout=subprocess.PIPE, stderr=subprocess.DEVNULL)
+    started = subprocess.Popen([program("explain")], stdin=other, stdout=subprocess.PIPE, stderr=subprocess.PIPE)
     os.write(terminal, b"h:p\x04\x04next\n")
     try:
-        said = started.communicate(timeout=20)[0]
+        said, reported = started.communicate(timeout=20)
     finally:
         started.kill()
     assert (started.returncode, said.startswith(b"line 1: scp form, settled\n"), b"line 2" in said) == (0, True, False)
+    assert re.fullmatch(rb"explain: reads a location a line.*\n", reported)
     assert os.read(other, 100) == b"next\n"

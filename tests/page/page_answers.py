@@ -7,7 +7,7 @@ import json
 import re
 
 from pieces import is_of_fields, unescaped
-from runs import ended, explain, explained
+from rt_api import stored
 from second_reading import dangers, grammar, hidden
 from second_reading.seen import seen
 
@@ -16,37 +16,6 @@ MOST_HOSTS = 20
 REWRITTEN = "once the configuration has rewritten it"
 # The second reading takes much memory for longer lines.
 MOST_READ = 10_000
-# The data, and for each row its number, the text with a byte 0 around the marked parts, and the text of the
-# other cells.
-ROWS = """(() => {
-  const own = it => it.nodeType === 3 ? it.data : (end => end + [...it.childNodes].map(own).join('') + end)(it.nodeName === 'MARK' ? '\\0' : '');
-  return JSON.stringify([document.querySelector('#data').textContent, [...document.querySelectorAll('#lines > tbody > tr')].map(it =>
-    [+it.id.slice(1), own(it.cells[1]), ...[0, 2, 3, 4].map(at => it.cells[at].textContent)])]);
-})()"""
-# For each row: whether its number opens and closes its details, the named texts there, and the pieces with
-# their labels.
-DETAILS = """JSON.stringify([...document.querySelectorAll('#lines > tbody > tr')].map(row => {
-  const link = row.querySelector('a'), press = isOpen => (link.click(), link.getAttribute('aria-expanded') === String(isOpen));
-  const own = it => [...it.childNodes].filter(below => below.nodeName !== 'I').map(below => below.textContent).join('');
-  const opens = press(true), more = row.nextElementSibling;
-  const found = [[...more.querySelectorAll('[data-m]')].map(it => [it.dataset.m, it.textContent]),
-    [...more.querySelectorAll('.t > span[class]')].map(it => [it.querySelector('i').textContent, own(it)])];
-  return [+row.id.slice(1), opens && press(false) && row.nextElementSibling !== more, ...found];
-}))"""
-COUNTS = """['danger', 'verdict', 'form', 'host'].map(id => [...document.querySelectorAll(`#by-${id} tr`)].map(it =>
-  [it.querySelector('th').textContent, +it.querySelector('td').textContent]))"""
-# What a page is made of, each once; texts outside of all, controls without a label or an id, comments, and ids that are there twice.
-MADE = """(() => {
-  const all = (what, how) => [...new Set([...document.querySelectorAll(what)].flatMap(how))];
-  const bare = it => [...it.childNodes].filter(below => below.nodeType === 3 && below.data.trim()).map(below => below.data.slice(0, 40));
-  return { tags: all('*', it => it.localName), attributes: all('*', it => it.getAttributeNames()),
-    links: all('[href]', it => it.getAttribute('href').replace(/[0-9]+$/, '')), heading: document.querySelector('h1').textContent, title: document.title,
-    whole: [[...document.body.children].map(it => it.nodeName).join(' '), document.scripts.length, document.styleSheets.length, document.compatMode],
-    strays: [...all('body, main, table, tbody, tr', bare), ...all('label', it => it.control?.id ? [] : 'a label without a control'),
-      ...all('input, select', it => it.labels.length ? [] : 'a control without a label'),
-      ...(document.createNodeIterator(document, NodeFilter.SHOW_COMMENT).nextNode() ? ['a comment'] : []),
-      ...(all('[id]', it => it.id).length < document.querySelectorAll('[id]').length ? ['an id again'] : [])] };
-})()"""
 TAGS = set("html head meta title style body a header h1 h2 h3 p b code main form label input select option button table caption thead tbody tr "
            "th td span mark section div footer template script ul li dl dt dd i".split())
 ATTRIBUTES = set("lang charset http-equiv content name class id href role hidden type value autocomplete spellcheck scope colspan tabindex style "
@@ -54,15 +23,6 @@ ATTRIBUTES = set("lang charset http-equiv content name class id href role hidden
 WHOLE = ["A HEADER MAIN FOOTER TEMPLATE SCRIPT SCRIPT", 2, 1, "CSS1Compat"]
 POLICY = """<meta http-equiv="Content-Security-Policy" content="default-src 'none'; style-src 'sha256-%s'; \
 script-src 'sha256-%s'; base-uri 'none'; form-action 'none'">"""
-
-
-def run(words, lines, end=b"\n"):
-    return explain(words, ended(lines, end))
-
-
-def answers(lines, words=()):
-    """What `explain --json` answers with these words, an object for each line."""
-    return explained(lines, *words)
 
 
 def form(answer):
@@ -169,21 +129,20 @@ def sorted_counts(names):
 def count_faults(page, wanted):
     named = [[[dangers.WORDS[name], count] for name, count in sorted_counts(name for it in wanted for name in it["dangers"])],
              sorted_counts(map(verdict, wanted)), sorted_counts(map(form, wanted)), host_rows(wanted)]
-    found = [[[text_of(name), count] for name, count in it] for it in page.ask(COUNTS)]
+    found = [[[text_of(name), count] for name, count in it] for it in page.ask("counts")]
     yield from (f"counted are {it}, and not {other}" for it, other in zip(found, named) if it != other)
 
 
 def made_faults(page, title):
     """What is in a page that the template lacks, and whether its title is this one."""
-    with open(page.file, "rb") as it:
-        markup = it.read().decode("utf-8", "strict")
+    markup = stored(page.file).decode("utf-8", "strict")
     inside = [re.search(f"(?s)<{it}>(.*?)</{it}>", markup)[1].encode() for it in ("style", "script")]
     policy = POLICY % tuple(base64.b64encode(hashlib.sha256(it).digest()).decode() for it in inside)
     if not 0 <= markup.find(policy) < markup.find("<title>") or markup.count("Content-Security-Policy") != 1:
         yield "the policy isn't there, or allows something else"
     if re.search(r"[^\n\x20-\U0010ffff]", markup) or "<" in markup.partition('id="data">')[2].partition("</script>")[0]:
         yield "the page has a control character, or its data a tag"
-    made = page.ask(MADE)
+    made = page.ask("made")
     yield from (f"there is {it!r}" for it in [
         *{*made["tags"]} - TAGS, *{*made["attributes"]} - ATTRIBUTES, *{*made["links"]} - {"#lines", "#counts", "#l"}, *made["strays"]])
     if made["whole"] != WHOLE:
@@ -194,7 +153,7 @@ def made_faults(page, title):
 
 
 def faults_of(page, lines, wanted, title=None, script=True):
-    data, rows = json.loads(page.ask(ROWS))
+    data, rows = json.loads(page.ask("rows"))
     if json.loads(data) != wanted:
         yield from (f"line {it['line']}: the object is {found}" for found, it in zip(json.loads(data), wanted) if found != it)
         yield "the objects are others"
@@ -205,6 +164,6 @@ def faults_of(page, lines, wanted, title=None, script=True):
     yield from made_faults(page, title)
     if script:
         yield from count_faults(page, wanted)
-        for found, row in zip(json.loads(page.ask(DETAILS)), rows):
+        for found, row in zip(json.loads(page.ask("details")), rows):
             yield from (f"line {row[0]} {lines[row[0] - 1][:80]!r}: {fault}"
                         for fault in detail_faults(found, row, wanted[row[0] - 1], lines[row[0] - 1]))

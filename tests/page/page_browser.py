@@ -6,6 +6,7 @@ console, exceptions, what the content security policy refuses, other windows and
 import json
 import shutil
 
+from rt_api import read
 from selenium import webdriver
 from selenium.webdriver.chrome.service import Service
 
@@ -16,6 +17,7 @@ WORDS = ("--headless=new", "--no-sandbox", "--disable-gpu", "--disable-dev-shm-u
 # scripts are allowed.
 LISTENER = """document.addEventListener('securitypolicyviolation',
   it => console.error(`against the policy: ${it.violatedDirective} ${it.blockedURI}`))"""
+ASKED = read("tests/page/page.js")
 # Events that are faults, and those that are faults if the address in this member is another one.
 FAULTS = {"Page.javascriptDialogOpening", "Page.windowOpen", "Page.downloadWillBegin"}
 ELSEWHERE = {"Network.requestWillBeSent": "request", "Page.frameNavigated": "frame"}
@@ -51,16 +53,12 @@ class Browser(webdriver.Chrome):
         colours = {"name": "prefers-color-scheme", "value": "dark" if dark else "light"}
         self.execute_cdp_cmd("Emulation.setEmulatedMedia", {"media": media, "features": [colours]})
 
-    def ask(self, expression, *given):
-        """The value of an expression in the page, which may be a promise."""
-        return self.execute_script(f"return {expression}", *given)
+    def ask(self, name, *given):
+        """The result of a function of `page.js`, which may be a promise."""
+        return self.execute_script(f"{ASKED} return {name}(...arguments)", *given)
 
     def press(self, keys):
         webdriver.ActionChains(self).send_keys(keys).perform()
-
-    def settle(self):
-        """Waits until the typed text is drawn."""
-        self.ask("new Promise(done => requestAnimationFrame(() => requestAnimationFrame(() => done(1))))")
 
     def found(self):
         """What went wrong since the page was opened, or since the last call."""

@@ -1,26 +1,20 @@
-"""The page of `explain --html` in Chromium, without a window and without a network.
+"""The page of `explain --html` in Chromium, without a window and without a network: its data, its tables and the details of each line are
+what `explain --json` answers, and no line or title, of whatever bytes, runs anything or breaks the layout.
 
-  stored   docs/surprises.html is what the program writes of the texts in docs/GRAMMAR.md, and what the second reading says of them;
-           docs/page.png and docs/page_dark.png have the digest of the page that the program writes of the lines which they show.
-           `pytest tests/page -k stored --record` writes all three
-  answers  the data of pages of short inputs and realistic remotes are the objects of `explain --json`, and so are what their tables and
-           the details of each line show
-  hostile  lines and titles with markup, control characters, letters from right to left, a megabyte, and bytes that are not UTF-8
-           show as text, run nothing, and break no layout
-  rules    lines by configurations: what `explain --json --config` answers, and its status
-  use      the filter by the keyboard, without scripts, for screen readers, colours in light, dark and on paper
-  large    the pages of 10,000 and of 100,000 remotes: their sizes, how soon they are shown, whether they can be used
-  faults   faults which are put into a page are found
+`pytest tests/page -k stored --record` writes docs/surprises.html and the pictures docs/page.png and docs/page_dark.png.
 """
 import hashlib
 import io
 import json
 import os
 import re
+import shutil
 import time
 
 import pytest
+from git_runs import put
 from rt_api import ROOT, stored
+from runs import ended, explain, explained
 from second_reading import explain_lines, explain_tables, short_inputs, stored_run
 from texts import realistic
 
@@ -51,8 +45,6 @@ MOST_SECONDS, MOST_HEIGHT = 60, 400
 # Of the page of 10,000 remotes and of ten times as many: its bytes, in how many milliseconds it has to be loaded and its first text
 # seen, at best of a few tries. What a filter may take, from the top of the page: a dozen keys.
 SIZES, TRIES, MOST_FILTERED = {1: (10_000_000, 2_000), 10: (100_000_000, 5_000)}, 3, 10
-TIMES = """[performance.getEntriesByType('navigation')[0].loadEventEnd,
-  performance.getEntriesByName('first-contentful-paint')[0].startTime]"""
 
 
 def texts_that_surprise():
@@ -67,9 +59,7 @@ def second_reading(lines):
 def written(page, lines, title=None, end=b"\n", more=()):
     """The file of a page of lines, which is written with these words."""
     words = ["--html" if title is None else f"--html={title}", *(["--null"] if end == b"\0" else []), *more]
-    with open(f"{page.folder}/page.html", "wb") as it:
-        it.write(page_answers.run(words, lines, end))
-    return it.name
+    return put(f"{page.folder}/page.html", explain(words, ended(lines, end)))
 
 
 def shown_faults(page, file, lines, wanted, title=None, widths=page_look.WIDTHS, most=None):
@@ -78,29 +68,23 @@ def shown_faults(page, file, lines, wanted, title=None, widths=page_look.WIDTHS,
         page.open(file)
         faults = [*page_answers.faults_of(page, lines, wanted, title)]
         if widths:
-            page.ask(page_look.OPEN)
+            page.ask("openAll")
         return [*faults, *page_look.layout_faults(page, widths, most), *page.found()]
     except (WebDriverException, ValueError, KeyError, TypeError, IndexError) as fault:
         return [f"the page can't be read: {fault!r}"]
 
 
 def digest(page):
-    return hashlib.sha256(stored_at(written(page, PICTURED))).hexdigest()
-
-
-def stored_at(file):
-    with open(file, "rb") as it:
-        return it.read()
+    return hashlib.sha256(stored(written(page, PICTURED))).hexdigest()
 
 
 def record(page):
     """Writes the stored page, and the pictures of a page with the details of a line, in light and in dark, each with its digest."""
-    with open(f"{ROOT}/{SURPRISES}", "wb") as it:
-        it.write(stored_at(written(page, texts_that_surprise(), TITLE)))
+    shutil.copyfile(written(page, texts_that_surprise(), TITLE), f"{ROOT}/{SURPRISES}")
     for name, dark in PICTURES.items():
         page.open(written(page, PICTURED), 1152, dark=dark)
-        page.ask("document.querySelector('#l2 a').click()")
-        page.settle()
+        page.execute_script("document.querySelector('#l2 a').click()")
+        page.ask("drawn")
         text = PngImagePlugin.PngInfo()
         text.add_text(DIGEST, digest(page))
         Image.open(io.BytesIO(page.get_screenshot_as_png())).save(f"{ROOT}/{name}", pnginfo=text)
@@ -125,24 +109,23 @@ SCALES = [pytest.param(False, marks=pytest.mark.sample, id="sample"), pytest.par
 
 
 def test_stored(page, request):
-    """The program's page, and as the second reading says; and the pictures, whose points differ by fonts and versions."""
+    """The stored page is the program's, and says what the second reading does; and the pictures, whose points differ by fonts and versions,
+    have the digest of the page that the program writes of the lines which they show."""
     if request.config.getoption("record"):
         record(page)
     lines = texts_that_surprise()
     assert not shown_faults(page, f"{ROOT}/{SURPRISES}", lines, second_reading(lines), TITLE)
-    assert stored_at(written(page, lines, TITLE)) == stored(SURPRISES)
+    assert stored(written(page, lines, TITLE)) == stored(SURPRISES)
     assert {Image.open(f"{ROOT}/{it}").text[DIGEST] for it in PICTURES} == {digest(page)}
 
 
 @pytest.mark.parametrize("is_whole", SCALES)
 def test_answers(page, is_whole):
-    """Short inputs and remotes, as `explain --json` answers them."""
     for lines in (short_inputs.short_inputs(), realistic()[::1 if is_whole else STEP]):
-        assert not shown_faults(page, written(page, lines), lines, page_answers.answers(lines), widths=())
+        assert not shown_faults(page, written(page, lines), lines, explained(lines), widths=())
 
 
 def test_hostile_lines(page):
-    """They are what the second reading says, and nothing else happens."""
     lines = page_hostile.lines()
     assert not shown_faults(page, written(page, lines, end=b"\0"), lines, second_reading(lines))
 
@@ -155,9 +138,9 @@ def test_long_line(page, number, is_whole):
     lines = [b"h:p", line, b"h:q"]
     file, started = written(page, lines), time.monotonic()
     page.open(file)
-    page.settle()
+    page.ask("drawn")
     assert time.monotonic() - started <= MOST_SECONDS
-    assert not shown_faults(page, file, lines, page_answers.answers(lines), most=None if page_hostile.FIELD in line else MOST_HEIGHT)
+    assert not shown_faults(page, file, lines, explained(lines), most=None if page_hostile.FIELD in line else MOST_HEIGHT)
 
 
 @pytest.mark.parametrize("title", page_hostile.TITLES, ids=lambda it: ascii(it[:12]))
@@ -167,9 +150,8 @@ def test_title(page, title):
 
 @pytest.mark.parametrize("case", page_rules.CASES, ids=lambda it: ascii(it.lines[0]))
 def test_rules(page, case):
-    """Lines by a configuration: as `explain --json --config` answers them."""
     with page_rules.given(case, f"{page.folder}/config") as words:
-        file, wanted = written(page, case.lines, more=words), page_answers.answers(case.lines, words)
+        file, wanted = written(page, case.lines, more=words), explained(case.lines, *words)
         assert not [*shown_faults(page, file, case.lines, wanted), *page_rules.faults_of(case, words)]
         assert case is not page_rules.CASES[0] or not [*page_look.contrast_faults(page)]
 
@@ -179,10 +161,10 @@ def test_use(page, is_whole):
     """The page as it is used: by the keyboard, without scripts, by a screen reader, in each colour, on paper."""
     lines = [*texts_that_surprise(), *explain_lines.HELPERS, *explain_lines.URLS, *explain_lines.SLIPS, *explain_lines.REFUSED, *explain_lines.SECRETS]
     lines += realistic()[:None if is_whole else 300:40]
-    wanted, file = page_answers.answers(lines), written(page, lines)
+    wanted, file = explained(lines), written(page, lines)
     page.open(file)
     assert not [*page_filter.skip_faults(page), *page_filter.faults_of(page, wanted), *page_filter.detail_faults(page), *page_look.layout_faults(page)]
-    page.ask(page_look.OPEN)
+    page.ask("openAll")
     assert not [*page_look.contrast_faults(page), *page_look.name_faults(page, len(lines)), *page_look.print_faults(page), *page.found()]
     page.open(file, script=False)
     assert not [*page_filter.plain_faults(page, len(lines)), *page_answers.faults_of(page, lines, wanted, script=False)]
@@ -195,8 +177,8 @@ def test_large(page, times):
     file, taken = written(page, realistic() * times), []
     for _ in range(TRIES):
         page.open(file)
-        page.settle()
-        taken.append(page.ask(TIMES))
+        page.ask("drawn")
+        taken.append(page.ask("times"))
     started = time.monotonic()
     assert not [*page_filter.skip_faults(page)]
     page_filter.use(page, {"f-verdict": "settled", "f-host": "github"})
@@ -213,9 +195,7 @@ def test_finds(page, fault):
     file = written(page, lines, end=b"\0")
     if fault:
         pattern, new = page_hostile.FAULTS[fault]
-        changed = re.sub(pattern, new, stored_at(file), count=1)
-        with open(file, "wb") as it:
-            it.write(changed)
+        put(file, re.sub(pattern, new, stored(file), count=1))
     found = shown_faults(page, file, lines, second_reading(lines), widths=())
     page.found()
     assert bool(found) == bool(fault)

@@ -1,15 +1,10 @@
 """The text output of `explain` over the lines of `crates/explain/golden`, whose answers aren't its own output.
 
-The crate's one stored run is JSON. Among the lines are some with control characters in each part that is shown, which must
-not reach a terminal. By the second reading (`second_reading.text_answers`) are the answers to the lines 70, 77, 86, 95 to 101
-and from 111 on; those behind 117 were derived before the program had read them. All others are by hand: the second reading has
-its layout and words from them, and derives them too. Two sentences are in none of them, and were only read: the row of Git in
-line 98, and the heading of line 101. The answers in colours and by a configuration are by hand alone. Over the lines of both stored
-runs the program prints what the second reading derives, except for those that need words that are in no line here; a few details of
-their layout are the program's.
-
-Each line of the file `alarms` raises an alarm, and none of 10,000 plain remotes and 423 realistic ones does. A hint is one, except
-that the path of some begins in a home folder.
+By the second reading (`second_reading.text_answers`) are the answers to the lines 70, 77, 86, 95 to 101 and from 111 on; those after
+117 were derived before the program had read them. All others are by hand: the second reading has its layout and words from them, and
+derives them too. Two sentences are in none of them, and were only read: the row of Git in line 98, and the heading of line 101. The
+answers in colours and by a configuration are by hand alone. Over the lines of both stored runs the program prints what the second
+reading derives, except for those that need words that are in no line here; a few details of their layout are the program's.
 """
 import re
 
@@ -85,6 +80,7 @@ def test_the_picture_of_a_terminal():
 
 
 def test_alarms():
+    """Each line of the file `alarms` raises one, and no realistic remote does: a hint is one."""
     lines = [it for it in realistic() if PLAIN.fullmatch(it) and not OPTION.search(it) and not DOTS.match(it)]
     assert len(lines) >= 400
     assert not [line for line, answer in zip(lines, shown(lines), strict=True) if ALARM.search(answer)]

@@ -6,9 +6,9 @@ import signal
 import subprocess
 import tempfile
 import time
-from collections import namedtuple
 
 import pytest
+from git_runs import put
 from rt_api import ROOT
 
 pytestmark = [pytest.mark.quick, pytest.mark.needs("setpriv", "pgrep")]
@@ -28,113 +28,98 @@ STEPS = 4
 # `locations` uses two of these crates, and not the library.
 LINES = "git_syntax: bstr\ngit_lines: git_syntax\ngix_url: bstr git_syntax\nlocations: git_lines\nexplain: gix_url\n"
 CRATES = [it.partition(":")[0] for it in LINES.splitlines()]
-Tree = namedtuple("Tree", "root calls environment")
 
 
-def planted(root):
-    """A tree with the launchers, crates of a file each, and the command."""
-    for file in ("locations", "explain", "scripts/built"):
-        os.makedirs(os.path.dirname(f"{root}/{file}"), exist_ok=True)
-        shutil.copy2(f"{ROOT}/{file}", f"{root}/{file}")
-    for file, text in {"crates.txt": LINES, "bin/rt": RT, "calls": "", **{f"crates/{it}/src/lib.rt": "" for it in CRATES}}.items():
-        os.makedirs(os.path.dirname(f"{root}/{file}"), exist_ok=True)
-        with open(f"{root}/{file}", "w", encoding="utf-8") as it:
-            it.write(text)
-    os.chmod(f"{root}/bin/rt", 0o755)
-    # The user `nobody` records the calls of the command too.
-    os.chmod(f"{root}/calls", 0o666)
-    return Tree(root, f"{root}/calls", {"PATH": f"{root}/bin:{os.environ['PATH']}", "CALLS": f"{root}/calls"})
+class Tree:
+    """A tree with the launchers, crates of a file each, and the command, whose calls the user `nobody` records too."""
+
+    def __init__(self, root):
+        self.root, self.environment = root, {"PATH": f"{root}/bin:{os.environ['PATH']}", "CALLS": f"{root}/calls"}
+        for folder in ("bin", "scripts", *(f"crates/{it}/src" for it in CRATES)):
+            os.makedirs(f"{root}/{folder}")
+        for file in ("locations", "explain", "scripts/built"):
+            shutil.copy2(f"{ROOT}/{file}", f"{root}/{file}")
+        for file in ("calls", *(f"crates/{it}/src/lib.rt" for it in CRATES)):
+            put(f"{root}/{file}", "", 0o666)
+        put(f"{root}/crates.txt", LINES, 0o644)
+        put(f"{root}/bin/rt", RT, 0o755)
+
+    def run(self, *words, **more):
+        """Runs a launcher. Returns its status and its output on both streams."""
+        ran = subprocess.run(words, env={**self.environment, **more}, stdout=subprocess.PIPE, stderr=subprocess.STDOUT, text=True, timeout=60)
+        return ran.returncode, ran.stdout
+
+    def proofs(self):
+        """The number of calls of the command to check or to build."""
+        with open(f"{self.root}/calls", encoding="utf-8") as it:
+            return sum(line.split()[0] != "version" for line in it)
+
+    def younger(self, crate):
+        os.utime(f"{self.root}/crates/{crate}/src/lib.rt", (time.time() + 5,) * 2)
+
+    def refused(self, words, *how, **more):
+        """Whether a launcher ends with 2 and one sentence that has the words, and proves nothing."""
+        before = self.proofs()
+        status, said = self.run(*how, f"{self.root}/explain", **more)
+        return (status, said.count("\n") == 1 and words in said or said, self.proofs() - before) == (2, True, 0)
 
 
-def run(tree, *words, **more):
-    """Runs a launcher. Returns its status and its output on both streams."""
-    ran = subprocess.run(words, env={**tree.environment, **more}, stdout=subprocess.PIPE, stderr=subprocess.STDOUT, text=True, timeout=60)
-    return ran.returncode, ran.stdout
+@pytest.fixture
+def tree():
+    """The user `nobody` has to reach it."""
+    folder = tempfile.mkdtemp(prefix="launches-", dir=f"{ROOT}/out")
+    os.chmod(folder, 0o755)
+    yield Tree(f"{folder}/tree")
+    shutil.rmtree(folder)
 
 
-def proofs(tree):
-    """The number of calls of the command to check or to build."""
-    with open(tree.calls, encoding="utf-8") as it:
-        return sum(line.split()[0] != "version" for line in it)
-
-
-def younger(tree, crate):
-    os.utime(f"{tree.root}/crates/{crate}/src/lib.rt", (time.time() + 5,) * 2)
-
-
-def first_call(tree):
-    status, said = run(tree, f"{tree.root}/locations", "a", "b c")
-    return (status, said.endswith("locations a b c\n"), proofs(tree)), (0, True, STEPS)
-
-
-def by_a_link(tree):
+def test_what_is_built(tree):
+    """Nothing is proved again, unless a crate that the program uses is younger."""
+    status, said = tree.run(f"{tree.root}/locations", "a", "b c")
+    assert (status, said.endswith("locations a b c\n"), tree.proofs()) == (0, True, STEPS)
     os.symlink(f"{tree.root}/locations", f"{tree.root}/link")
-    return (run(tree, f"{tree.root}/link", "a"), proofs(tree)), ((0, f"{tree.root}/crates/locations/out/locations a\n"), STEPS)
+    assert tree.run(f"{tree.root}/link", "a") == (0, f"{tree.root}/crates/locations/out/locations a\n")
+    tree.younger("gix_url")
+    assert (tree.run(f"{tree.root}/locations")[0], tree.proofs()) == (0, STEPS)
+    tree.younger("git_syntax")
+    assert (tree.run(f"{tree.root}/locations")[0], tree.proofs()) == (0, 2 * STEPS)
 
 
-def another_crate(tree):
-    """If only a crate that the program does not use is younger, nothing is proved again."""
-    younger(tree, "gix_url")
-    return (run(tree, f"{tree.root}/locations")[0], proofs(tree)), (0, STEPS)
-
-
-def changed_source(tree):
-    younger(tree, "git_syntax")
-    return (run(tree, f"{tree.root}/locations")[0], proofs(tree)), (0, 2 * STEPS)
-
-
-def interrupted(tree):
+@pytest.mark.parametrize("sent", [signal.SIGTERM, signal.SIGINT])
+def test_interrupted(tree, sent):
     """No process runs on after a launcher that is ended while it proves."""
-    before, ends = proofs(tree), []
-    for sent in (signal.SIGTERM, signal.SIGINT):
-        started = subprocess.Popen([f"{tree.root}/explain"], env={**tree.environment, "SLOW": "1"}, stderr=subprocess.DEVNULL, start_new_session=True)
-        while proofs(tree) == before:
-            time.sleep(0.05)
-        os.killpg(started.pid, sent) if sent == signal.SIGINT else started.send_signal(sent)
-        status, before = started.wait(30), proofs(tree)
-        time.sleep(0.3)
-        ends.append((bool(status), subprocess.run(["pgrep", "-s", str(started.pid)], stdout=subprocess.PIPE, text=True).stdout))
-    return ends, [(True, "")] * 2
+    started = subprocess.Popen([f"{tree.root}/explain"], env={**tree.environment, "SLOW": "1"}, stderr=subprocess.DEVNULL, start_new_session=True)
+    while not tree.proofs():
+        time.sleep(0.05)
+    os.killpg(started.pid, sent) if sent == signal.SIGINT else started.send_signal(sent)
+    assert started.wait(30)
+    time.sleep(0.3)
+    assert not subprocess.run(["pgrep", "-s", str(started.pid)], stdout=subprocess.PIPE, text=True).stdout
 
 
-def refused(tree, words, *how, **more):
-    """Whether a launcher ends with 2 and one sentence that has the words, and proves nothing."""
-    before = proofs(tree)
-    status, said = run(tree, *how, f"{tree.root}/explain", **more)
-    return (status, said.count("\n") == 1 and words in said or said, proofs(tree) - before), (2, True, 0)
-
-
-def without_the_command(tree):
+def test_the_command_fails(tree):
     bare = ":".join(it for it in os.environ["PATH"].split(":") if not os.path.exists(f"{it}/rt"))
-    return refused(tree, "rt is not on the PATH", PATH=bare)
+    assert tree.refused("rt is not on the PATH", PATH=bare)
+    assert tree.refused("or fails", BROKEN="1")
 
 
-def broken_command(tree):
-    return refused(tree, "or fails", BROKEN="1")
+def test_little_disk(tree):
+    put(f"{tree.root}/bin/df", "#!/bin/sh\necho Avail\necho 5MB\n", 0o755)
+    assert tree.refused("MB of disk")
 
 
-def read_only(tree):
+def test_read_only(tree):
     """Root, which can write to any folder, runs it as `nobody`."""
-    made = planted(f"{tree.root}-read-only")
     how = ["setpriv", "--reuid=65534", "--regid=65534", "--clear-groups"] if not os.geteuid() else []
     for name in CRATES:
-        os.chmod(f"{made.root}/crates/{name}", 0o555)
-    return refused(made, "can't be written to", *how)
+        os.chmod(f"{tree.root}/crates/{name}", 0o555)
+    assert tree.refused("can't be written to", *how)
 
 
-def little_disk(tree):
-    """A command `df` that reports little is first on the PATH."""
-    made = planted(f"{tree.root}-little-disk")
-    with open(f"{made.root}/bin/df", "w", encoding="utf-8") as it:
-        it.write("#!/bin/sh\necho Avail\necho 5MB\n")
-    os.chmod(it.name, 0o755)
-    return refused(made, "MB of disk")
-
-
-def on_a_terminal(tree):
+def test_on_a_terminal(tree):
     """The phases and the counts are shown in one line, which is removed at the end."""
-    made, (terminal, streams) = planted(f"{tree.root}-terminal"), pty.openpty()
-    started = subprocess.Popen([f"{made.root}/locations"], env=made.environment, stdout=subprocess.DEVNULL, stderr=streams)
+    terminal, streams = pty.openpty()
+    started = subprocess.Popen([f"{tree.root}/locations"], env=tree.environment, stdout=subprocess.DEVNULL, stderr=streams)
     os.close(streams)
     said = b""
     try:
@@ -144,23 +129,5 @@ def on_a_terminal(tree):
         # This is how the end of a terminal is reported.
         os.close(terminal)
     text = said.decode()
-    shown = [f"{at} of 3: proving {it}, 1 of 3 functions" in text for at, it in enumerate(("git_syntax", "git_lines", "locations"), 1)]
-    return (started.wait(60), shown, "\n" in text, text.endswith("\r\x1b[K")), (0, [True] * 3, False, True)
-
-
-@pytest.fixture(scope="module")
-def tree():
-    """The user `nobody` has to reach it."""
-    folder = tempfile.mkdtemp(prefix="launches-", dir=f"{ROOT}/out")
-    os.chmod(folder, 0o755)
-    yield planted(f"{folder}/tree")
-    shutil.rmtree(folder)
-
-
-# In this order: later ones begin with what is built.
-@pytest.mark.parametrize("launch", [
-    first_call, by_a_link, another_crate, changed_source, interrupted, without_the_command, broken_command, read_only, little_disk, on_a_terminal],
-    ids=lambda it: it.__name__)
-def test_launch(launch, tree):
-    found, wanted = launch(tree)
-    assert found == wanted
+    assert all(f"{at} of 3: proving {it}, 1 of 3 functions" in text for at, it in enumerate(("git_syntax", "git_lines", "locations"), 1))
+    assert (started.wait(60), "\n" in text, text.endswith("\r\x1b[K")) == (0, False, True)

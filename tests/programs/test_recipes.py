@@ -6,7 +6,7 @@ import re
 import subprocess
 
 import pytest
-from git_runs import put
+from git_runs import alone, put
 from rt_api import program, read
 
 pytestmark = pytest.mark.needs("git")
@@ -15,32 +15,23 @@ GOOD = '[submodule "a"]\n\tpath = a\n\turl = https://github.com/a/b.git\n'
 BAD = '[submodule "a"]\n\tpath = a\n\turl = -u./payload\n'
 CLIMBS = '[submodule "a"]\n\tpath = a\n\turl = ../../../evil.com/x\n'
 REMOTE = '[core]\n\tbare = false\n[remote "origin"]\n\turl = {}\n\tfetch = +refs/heads/*:refs/remotes/origin/*\n'
-
-
-def recipes():
-    """The blocks of the page: a hook, the lines that the step runs, and a script."""
-    hook, step, clones = re.findall(r"^```(?:sh|yaml)\n(.*?)^```$", read("docs/AUDIT.md"), re.M | re.S)
-    lines = step.partition("run: |\n")[2].splitlines()
-    return hook, "\n".join(line.removeprefix("    ") for line in lines), clones
-
-
-HOOK, STEP, CLONES = recipes()
+# The blocks of the page: a hook, a step of a CI file, of which the lines that it runs are taken, and a script.
+HOOK, STEP, CLONES = re.findall(r"^```(?:sh|yaml)\n(.*?)^```$", read("docs/AUDIT.md"), re.M | re.S)
+STEP = re.sub(r"(?m)^    ", "", STEP.partition("run: |\n")[2])
 
 
 class Place:
     """A folder with the program on the PATH, in which commands run without a user's configuration."""
 
-    def __init__(self, room):
-        self.room = room
-        os.makedirs(f"{room}/bin")
-        os.symlink(program("explain"), f"{room}/bin/explain")
-        self.around = {
-            "PATH": f"{room}/bin:{os.environ['PATH']}", "HOME": room, "GIT_CONFIG_NOSYSTEM": "1", "GIT_AUTHOR_NAME": "a",
-            "GIT_AUTHOR_EMAIL": "a@h", "GIT_COMMITTER_NAME": "a", "GIT_COMMITTER_EMAIL": "a@h"}
+    def __init__(self, scratch):
+        self.scratch = scratch
+        os.makedirs(f"{scratch}/bin")
+        os.symlink(program("explain"), f"{scratch}/bin/explain")
+        self.around = alone(scratch, GIT_AUTHOR_NAME="a", GIT_AUTHOR_EMAIL="a@h", GIT_COMMITTER_NAME="a", GIT_COMMITTER_EMAIL="a@h",
+                            PATH=f"{scratch}/bin:{os.environ['PATH']}")
 
-    def run(self, *words, folder=".", given=None):
-        return subprocess.run(words, cwd=f"{self.room}/{folder}", env=self.around, input=given, stdout=subprocess.PIPE,
-                              stderr=subprocess.STDOUT, text=True, timeout=120)
+    def run(self, *words, folder="."):
+        return subprocess.run(words, cwd=f"{self.scratch}/{folder}", env=self.around, stdout=subprocess.PIPE, stderr=subprocess.STDOUT, text=True, timeout=120)
 
     def git(self, *words, folder="work"):
         ran = self.run("git", *words, folder=folder)
@@ -48,8 +39,8 @@ class Place:
         return ran.stdout
 
     def write(self, name, text, mode=0o644):
-        os.makedirs(os.path.dirname(f"{self.room}/{name}"), exist_ok=True)
-        put(f"{self.room}/{name}", text, mode)
+        os.makedirs(os.path.dirname(f"{self.scratch}/{name}"), exist_ok=True)
+        put(f"{self.scratch}/{name}", text, mode)
 
     def commit(self, text):
         """A commit with this .gitmodules, or without one."""
@@ -73,10 +64,10 @@ def test_the_hook(place):
     place.git("init", "-q", "-b", "main", "work", folder=".")
     for texts, accepted in (((GOOD,), True), ((BAD,), False), ((BAD, GOOD), False), ((BAD, None), False),
                             (("no configuration",), False), ((None,), True), ((GOOD, GOOD + "# a"), True)):
-        before = place.git("rev-parse", "-q", "--verify", "HEAD").strip() if os.path.exists(f"{place.room}/work/.gitmodules") else None
+        before = place.run("git", "rev-parse", "-q", "--verify", "HEAD", folder="work").stdout.strip()
         for text in texts:
             place.commit(text)
-        ran = place.run("git", "push", "-q", f"{place.room}/server.git", "HEAD:main", folder="work")
+        ran = place.run("git", "push", "-q", f"{place.scratch}/server.git", "HEAD:main", folder="work")
         assert (ran.returncode == 0) == accepted, f"{texts}: {ran.stdout}"
         if not accepted:
             place.git("reset", "-q", "--hard", before)
@@ -91,7 +82,7 @@ def test_the_step(text, status, place):
         place.write("step/.gitmodules", text)
     ran = place.run("sh", "-c", STEP, folder="step")
     assert ran.returncode == status, ran.stdout
-    assert text is None or status == 2 or os.path.getsize(f"{place.room}/step/audit.sarif")
+    assert text is None or status == 2 or os.path.getsize(f"{place.scratch}/step/audit.sarif")
 
 
 def test_all_clones(place):

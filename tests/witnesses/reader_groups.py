@@ -2,63 +2,21 @@
 
 A text counts if Git connects with it, and finds another host than the program or the group; the group's host isn't the host of
 the location either. `file` texts don't count, since Git finds no host in them. For `digits_are_port` the port is compared too.
-If a program finds a host that isn't the group's, the text has a shape that is listed for this program.
+If a program finds a host that isn't the group's, the text has a shape that `groups.jsonl` lists for this program: by `shapes.jsonl` a pattern is
+in the text or in the host of the group, or isn't at the front of the text.
 """
 import re
-from collections import Counter, namedtuple
+from collections import Counter
 
 from reader_places import REFUSED, SILENT, plain_host
+from reader_programs import lines
 from second_reading import grammar
 from second_reading.groups import GROUPS, host_by, is_own
 
 # The counts: texts in which the program finds another host than Git, and those of them in which it finds the group's; texts
 # that the group misreads, and the program's host in them: the group's, none, Git's, or another one.
 MEMBERS = ("differs", "takes", "misread", "same", "none", "gits", "another")
-
-
-# A shape of texts in which a program finds another host than its group: what the program does, and whether a text, and the host of the
-# group in it, have the shape.
-Shape = namedtuple("Shape", "words has")
-
-
-def text_with(words, pattern):
-    return Shape(words, lambda text, host: re.search(pattern, text, re.S))
-
-
-def text_without(words, pattern):
-    return Shape(words, lambda text, host: not re.match(pattern, text, re.S))
-
-
-def host_with(words, pattern):
-    return Shape(words, lambda text, host: re.search(pattern, host))
-
-
-TAB, ESCAPE = text_with("It drops a tab.", b"\t"), host_with("It decodes escapes in a host.", b"%")
-BRACKET = text_with("It ends a host at the last `]`.", rb"\[[^]/?#]*\][^/?#]*\]")
-NUMBER = host_with("It reads a host whose last label begins with a digit as an IPv4 address.", rb"(?:\A|\.)[0-9][^.]*\.?\Z")
-NOT_ASCII = host_with("It writes a host that isn't ASCII in Punycode.", rb"[\x80-\xff]")
-EMPTY_PUNYCODE = host_with("It takes `xn--` alone for an empty label.", rb"(?:\A|\.)xn--(?:\.|\Z)")
-SCHEME_WORD = host_with("It takes the word of a scheme before a single colon for a scheme.", rb"(?i)\A(?:https?|ssh|git)\Z")
-BLANK, NO_USER = host_with("It takes no host with a blank.", rb"\s"), text_with("It takes no empty user.", rb"\A@")
-NO_INNER_SLASH = text_without(
-    r"It takes no path without a `/` between two bytes, nor one with a `\` at the front or after that `/`.", rb"[^@]*@[^:]*:[^\\].*/[^\\]")
-NO_SLASH_BEHIND_PORT = text_without(
-    r"It takes no port before a path without a `/` between two bytes, nor before one with a `\` at the front or after that `/`.",
-    rb"[^:]*:[0-9]+[/:][^\\].*/[^\\]")
-LONG_PORT = host_with("It takes no port of six digits or more.", rb":[0-9]{6,}\Z")
-PORT_ZERO, PORT_ALONE = host_with("It takes port 0 for none.", rb":0+\Z"), host_with("It takes no empty host.", rb"\A:")
-USER_FIRST = text_with("It ends a user at the first `@`, with a `:` before it or not.", rb":.*@|@.*@")
-NO_OCTET = Shape("It takes numbers to 255 without leading zeros.",
-                 lambda text, host: any(int(it) > 255 or it != b"%d" % int(it) for it in host.split(b".")))
-PROGRAMS = {
-    "urls": {"Go net/url": (ESCAPE, BRACKET), "Python urllib": (TAB,)},
-    "url_standard": {"WHATWG (Node)": (TAB, ESCAPE, NOT_ASCII, NUMBER), "Rust url": (TAB, ESCAPE, NOT_ASCII, NUMBER, EMPTY_PUNYCODE)},
-    "made_urls": {"gh": (ESCAPE, BRACKET), "pip": (TAB,)},
-    "first_colon": {"dulwich": (SCHEME_WORD,)},
-    "first_at": {"go-git": (BLANK, NO_USER, NO_INNER_SLASH)},
-    "digits_are_port": {"go-git": (USER_FIRST, LONG_PORT, PORT_ZERO, PORT_ALONE, NO_SLASH_BEHIND_PORT)},
-    "four_numbers": {"Boost.URL": (NO_OCTET,)},
-}
+LISTED, SHAPES = lines("groups"), {it["words"]: it for it in lines("shapes")}
 
 
 # ---- the hosts of groups and programs
@@ -102,11 +60,12 @@ class Seen:
         self.differs = self.has_host and taken(group, it) != taken(group, case.wanted)
         self.is_wrong = self.has_host and not self.is_same and (self.is_misread or self.differs)
 
-    def is_listed(self, program):
-        return any(self.has(shape) for shape in PROGRAMS[self.group][program])
-
-    def has(self, shape):
-        return shape.has(self.case.text, self.case.hosts[self.group])
+    def has(self, words):
+        shape = SHAPES[words]
+        pattern = re.compile(shape["pattern"].encode(), re.S)
+        if shape["in"] == "host":
+            return pattern.search(self.case.hosts[self.group])
+        return pattern.search(self.case.text) if shape["in"] == "text" else not pattern.match(self.case.text)
 
     def members(self):
         if self.differs:
@@ -118,36 +77,38 @@ class Seen:
 
 def seen(name, cases, places):
     """The behaviour of the program in each case of its groups that counts."""
-    for group in (it for it in PROGRAMS if name in PROGRAMS[it]):
+    for group in (it["group"] for it in LISTED if it["program"] == name):
         for case, it in zip(cases, places):
             if group in case.hosts and (one := Seen(group, case, it)) and (one.differs or one.is_misread):
                 yield one
 
 
-def counts(readers):
+def counted(readers):
+    """The lines of the programs that were run, with their counts."""
     asked = {it.name: it for it in readers}
-    out = {}
-    for group, program in ((group, it) for group, named in PROGRAMS.items() for it in named if it in asked):
-        count = Counter(member for it in asked[program].seen if it.group == group for member in it.members())
-        out[group, program] = {member: count[member] for member in MEMBERS}
-    return out
+    for line in (it for it in LISTED if it["program"] in asked):
+        count = Counter(member for it in asked[line["program"]].seen if it.group == line["group"] for member in it.members())
+        yield {**line, **{member: count[member] for member in MEMBERS}}
 
 
 # ---- faults
 
+def wrong(readers):
+    """Texts in which a program finds another host than its group, each with the line of both."""
+    lines_of = {(it["group"], it["program"]): it for it in LISTED}
+    return [(lines_of[it.group, reader.name], it) for reader in readers for it in reader.seen if it.is_wrong]
+
+
 def group_faults(readers):
     """Texts in which a program finds another host than its group, and that have no shape that is listed for it."""
-    for reader in readers:
-        for it in reader.seen:
-            if it.is_wrong and not it.is_listed(reader.name):
-                text, host = it.case.text, it.case.hosts[it.group]
-                yield f"{reader.name} {reader.version} takes {it.host} in {text!r}, and its group {it.group} finds {host!r}"
+    for line, it in wrong(readers):
+        if not any(map(it.has, line["shapes"])):
+            yield f"{line['program']} takes {it.host} in {it.case.text!r}, and its group {it.group} finds {it.case.hosts[it.group]!r}"
 
 
 def shape_faults(readers):
-    for reader in readers:
-        for group in (it for it in PROGRAMS if reader.name in PROGRAMS[it]):
-            wrong = [it for it in reader.seen if it.group == group and it.is_wrong]
-            for shape in PROGRAMS[group][reader.name]:
-                if not any(it.has(shape) for it in wrong):
-                    yield f"in no text {reader.name} takes another host than {group} by the shape: {shape.words}"
+    found, names = wrong(readers), {it.name for it in readers}
+    for line in (it for it in LISTED if it["program"] in names):
+        for words in line["shapes"]:
+            if not any(of is line and it.has(words) for of, it in found):
+                yield f"in no text {line['program']} takes another host than {line['group']} by the shape: {words}"

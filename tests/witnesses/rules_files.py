@@ -19,7 +19,7 @@ import tempfile
 from collections import defaultdict
 from concurrent.futures import ThreadPoolExecutor
 
-from git_runs import Entry, alone, answers_of, entry_of, file_of, git, listed, put, quoted, rooms
+from git_runs import Entry, alone, answers_of, entry_of, file_of, git, listed, put, quoted, scratch_folders
 from row_text import text_of
 
 ASK = r"""
@@ -45,9 +45,9 @@ def outcome(text, said):
 
 def files(texts):
     """The calls of the library for files, each with Git's outcome."""
-    with rooms([]) as (room, environment, _):
-        os.makedirs(f"{room}/files")
-        said = answers_of(ASK, room, environment, [put(f"{room}/files/{at}", text).encode() for at, text in enumerate(texts)])
+    with scratch_folders([]) as (scratch, environment, _):
+        os.makedirs(f"{scratch}/files")
+        said = answers_of(ASK, scratch, environment, [put(f"{scratch}/files/{at}", text).encode() for at, text in enumerate(texts)])
     return [({"call": "config_file::entries", "file": text_of(text)}, outcome(text, it)) for text, it in zip(texts, said)]
 
 
@@ -59,18 +59,18 @@ REFUSED_BY_FSCK = re.compile(rb"error in blob ([0-9a-f]{40}): (gitmodules(?:Name
 def checks(configurations):
     """The calls of the library for files, each with the refusals of fsck, by Git's names and in the order of the entries."""
     texts = [*map(file_of, configurations)]
-    with tempfile.TemporaryDirectory(prefix="rules-") as room:
-        os.makedirs(f"{room}/home")
-        environment = alone(room, GIT_DIR=f"{room}/git")
-        git(room, environment, "init", "--quiet", "--bare")
+    with tempfile.TemporaryDirectory(prefix="rules-") as scratch:
+        os.makedirs(f"{scratch}/home")
+        environment = alone(scratch, GIT_DIR=f"{scratch}/git")
+        git(scratch, environment, "init", "--quiet", "--bare")
         blobs = [b"blob\nmark :%d\ndata %d\n%s\n" % (at + 1, len(it), it) for at, it in enumerate(texts)]
         places = [b"M 100644 :%d %d/%d/.gitmodules\n" % (at + 1, at // 256, at) for at in range(len(texts))]
         head = b"commit refs/heads/main\ncommitter a <a@b> 0 +0000\ndata 0\n"
-        git(room, environment, "fast-import", "--quiet", f"--export-marks={room}/marks", given=b"".join([*blobs, head, *places]))
-        with open(f"{room}/marks", "rb") as it:
+        git(scratch, environment, "fast-import", "--quiet", f"--export-marks={scratch}/marks", given=b"".join([*blobs, head, *places]))
+        with open(f"{scratch}/marks", "rb") as it:
             marks = dict(line.split() for line in it.read().splitlines())
         said = defaultdict(list)
-        for oid, reason in REFUSED_BY_FSCK.findall(git(room, environment, "fsck", "--no-dangling").stdout):
+        for oid, reason in REFUSED_BY_FSCK.findall(git(scratch, environment, "fsck", "--no-dangling").stdout):
             said[oid].append(reason.decode())
         return [({"call": "refusal::check", "config": text_of(listed(it))}, said[marks[b":%d" % (at + 1)]]) for at, it in enumerate(configurations)]
 
@@ -91,14 +91,14 @@ def paths_of(entries):
 def used(configurations):
     """The calls of the library for files, each with the values that `git submodule init` writes: the URL of each submodule with a path, and
     its way to update."""
-    with tempfile.TemporaryDirectory(prefix="rules-") as room:
-        os.makedirs(f"{room}/home")
-        folders = [f"{room}/{at}" for at in range(len(configurations))]
+    with tempfile.TemporaryDirectory(prefix="rules-") as scratch:
+        os.makedirs(f"{scratch}/home")
+        folders = [f"{scratch}/{at}" for at in range(len(configurations))]
         for folder, entries in zip(folders, configurations):
             os.makedirs(folder)
             put(f"{folder}/.gitmodules", file_of(entries))
-            put(f"{room}/links-{os.path.basename(folder)}", b"".join(b"160000 %s\t%s\n" % (b"1" * 40, path) for path in paths_of(entries)))
-        said = answers_of(ASK_SUBMODULES, room, alone(room), folders)
+            put(f"{scratch}/links-{os.path.basename(folder)}", b"".join(b"160000 %s\t%s\n" % (b"1" * 40, path) for path in paths_of(entries)))
+        said = answers_of(ASK_SUBMODULES, scratch, alone(scratch), folders)
     return [({"call": "submodules::submodules", "config": text_of(listed(it))}, settings(one)) for it, one in zip(configurations, said)]
 
 
@@ -155,10 +155,10 @@ def outcomes(folder, environment, count):
 def asked(pair):
     """The calls of the library for the URLs of one parent, each with Git's outcome."""
     parent, urls = pair
-    with tempfile.TemporaryDirectory(prefix="submodules-") as room:
-        environment = alone(room)
-        prepare(room, environment, parent, urls)
-        found = outcomes(room, environment, len(urls))
+    with tempfile.TemporaryDirectory(prefix="submodules-") as scratch:
+        environment = alone(scratch)
+        prepare(scratch, environment, parent, urls)
+        found = outcomes(scratch, environment, len(urls))
     return [({"call": "resolve::resolve", "parent": text_of(parent), "url": text_of(url)}, it) for url, it in zip(urls, found)]
 
 

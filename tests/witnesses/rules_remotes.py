@@ -5,7 +5,7 @@ with `--push`, the URLs of a remote. It answers for a remote that its repository
 """
 from collections import namedtuple
 
-from git_runs import Entry, answers_of, is_named, listed, rooms
+from git_runs import Entry, answers_of, is_named, listed, scratch_folders
 from row_text import text_of
 from texts import lacks_value
 
@@ -38,10 +38,10 @@ def of_texts(asked):
 
 
 def rewritten(configurations):
-    with rooms([[*entries, *of_texts(asked)] for entries, asked in configurations]) as (room, environment, folders):
+    with scratch_folders([[*entries, *of_texts(asked)] for entries, asked in configurations]) as (scratch, environment, folders):
         words = [word for folder, (_, asked) in zip(folders, configurations)
                  for at, (text, _) in enumerate(asked) for word in (folder, b"r%d" % at, text)]
-        said = [None if NO_VALUE in it else it.removesuffix(b"\n") for it in answers_of(ASK, room, environment, words, each=3, answers=2)]
+        said = [None if NO_VALUE in it else it.removesuffix(b"\n") for it in answers_of(ASK, scratch, environment, words, each=3, answers=2)]
     asked = [(entries, *it) for entries, texts in configurations for it in texts]
     return [Rewritten(*it, *both) for it, *both in zip(asked, said[::2], said[1::2])]
 
@@ -91,9 +91,9 @@ def outcome_of(entries, name, fetched, pushed):
 
 def remotes(configurations):
     """The calls of the library for remotes, each with Git's outcome."""
-    with rooms([entries for entries, _ in configurations]) as (room, environment, folders):
+    with scratch_folders([entries for entries, _ in configurations]) as (scratch, environment, folders):
         words = [word for folder, (_, names) in zip(folders, configurations) for name in names for word in (folder, name)]
-        said = [*map(urls, answers_of(ASK_REMOTES, room, environment, words, each=2, answers=2))]
+        said = [*map(urls, answers_of(ASK_REMOTES, scratch, environment, words, each=2, answers=2))]
     asked = [(entries, name) for entries, names in configurations for name in names]
     return [({"call": "Remote::of", "config": text_of(listed(it[0])), "name": text_of(it[1])}, outcome_of(*it, *both))
             for it, *both in zip(asked, said[::2], said[1::2])]

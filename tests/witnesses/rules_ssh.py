@@ -20,12 +20,13 @@ from collections import namedtuple
 import git_classes
 from git_classes import Case as Compared
 from git_classes import Reading
-from git_reads import user_cuts
-from git_runs import answers_of, is_named, listed, put, rooms
+from second_reading.git_reads import user_cuts
+from git_runs import answers_of, is_named, listed, put, scratch_folders
 from row_text import bytes_of, text_of
 from runs import answers
 from second_reading import git_class, grammar, writing
 from texts import Programs
+from transports import shown
 
 SHOW = r"""f() { { printf '\001'; printf '%s\001' "$@"; printf '%s\001\002' "$GIT_PROTOCOL"; } >&2; false; }; f"""
 ASK = r"""
@@ -64,10 +65,6 @@ Run = namedtuple("Run", "variant version service family program", defaults=(None
 Case = namedtuple("Case", "text run git own")
 REFUSALS = {b"strange hostname": "strange hostname", b"strange pathname": "strange pathname", b"no path specified": "no path",
             b"is not supported": "unknown protocol", b"git-over-rsync": "rsync", b"does not support setting port": "port-of-simple", b"does not support -": "family-of-simple"}
-# Texts that are always included: each is the only kind of its class, or nearly so.
-GIVEN = (b"ssh://ssh%3A%2F%2Fu@h/p", b"ssh://u@h/it's%21", b"u@h:a'b!c", b"[::1]:p", b"u@[::1]:p", b"ssh://[::1]:22/~/p", b"h:~u/p", b"h:/~u/p")
-# Texts that Git takes for Secure Shell, or for a remote helper of that name.
-FOR_SECURE_SHELL = re.compile(rb"(?!::|[0-9A-Za-z][0-9A-Za-z+.-]*:(:|//))[^/:]*:|(ssh|git\+ssh|ssh\+git)://|ssh::")
 # The reasons why a location has no command, which are classes of differences if Git runs one.
 REASONS = {
     "not-read": lambda it, run: it is None,
@@ -109,18 +106,16 @@ def runs_of(texts):
 # ---- Git and the library
 
 def answer(said):
-    found = re.search(rb"\x01(.*)\x01\x02", said, re.S)
-    if found:
-        *shown, version = found[1].split(b"\x01")
-        return [version, *shown]
+    if found := shown(said):
+        return [found[-1], *found[:-1]]
     return next((name for it, name in REFUSALS.items() if it in said), said.decode("latin-1"))
 
 
 def asked_of_git(asked):
     """The words that Git passes to Secure Shell for texts, each with its run."""
-    with rooms([[]], GIT_SSH_COMMAND=SHOW) as (room, environment, (folder,)):
+    with scratch_folders([[]], GIT_SSH_COMMAND=SHOW) as (scratch, environment, (folder,)):
         given = [word for text, run in asked for word in (*words_of(run), text)]
-        return map(answer, answers_of(ASK, room, {**environment, "GIT_DIR": folder.decode()}, given, each=6))
+        return map(answer, answers_of(ASK, scratch, {**environment, "GIT_DIR": folder.decode()}, given, each=6))
 
 
 def words_of(run):
@@ -132,8 +127,8 @@ def call_of(run):
 
 
 def order_of(call, text, run):
-    more = {**({} if run.family is None else {"family": run.family}), **({} if run.program is None else {"program": text_of(run.program)})}
-    return {"call": call, "url": text_of(text), "variant": run.variant, "version": run.version, "service": run.service, **more}
+    given = {**run._asdict(), "program": None if run.program is None else text_of(run.program)}
+    return {"call": call, "url": text_of(text), **{name: it for name, it in given.items() if it is not None}}
 
 
 def asked_of_library(asked):
@@ -212,8 +207,8 @@ def judged(cases):
 def misread(cases):
     """The commands in which a shell reads other words than the program's and the path."""
     ran = [it for it in cases if not isinstance(it.git, str) and PROGRAMS.get(program_of(it.run), [program_of(it.run)])]
-    with rooms([]) as (room, environment, _):
-        read = answers_of(READ, room, environment, [it.git[-1] for it in ran])
+    with scratch_folders([]) as (scratch, environment, _):
+        read = answers_of(READ, scratch, environment, [it.git[-1] for it in ran])
     for it, words in zip(ran, read):
         own = PROGRAMS.get(program_of(it.run), [program_of(it.run)])
         if words != b"".join(word + b"\x01" for word in (*own, path_of(it.git[-1], it.run))):
@@ -250,15 +245,6 @@ exit 1
 """
 # The input of Git: the entries, the variables, None if they aren't set, and the status that a program has for `-G`.
 Setting = namedtuple("Setting", "entries command path variant status")
-
-
-def placed(case, folder):
-    entries = [it._replace(value=it.value and it.value.replace(b"@", folder)) for it in case.entries]
-    return case._replace(entries=entries, command=case.command and case.command.replace(b"@", folder), path=case.path and case.path.replace(b"@", folder))
-
-
-def set_word(value):
-    return b"" if value is None else b"=" + value
 
 
 def events(said):
@@ -309,28 +295,28 @@ def outcome(case, said, more):
         return stop
     started = next(it for it in (*found, *events(more)) if it["event"] == "child_start")
     text = started["argv"][0].encode("utf-8", "surrogateescape")
-    shown = re.search(rb"\x01(.*)\x01\x02", said, re.S)
-    last = [it["argv"] for it in found if it["event"] == "child_start"][-1:]
-    if shown and not started["use_shell"] and shown[1].split(b"\x01") != [it.encode("utf-8", "surrogateescape") for it in last[0][1:]]:
+    words, last = shown(said), [it["argv"] for it in found if it["event"] == "child_start"][-1:]
+    if words and not started["use_shell"] and words != [it.encode("utf-8", "surrogateescape") for it in last[0][1:]]:
         raise ValueError(f"the program gets other words than Git says: {said!r}")
     return {"text": text_of(text), "is_command_line": started["use_shell"], "variant": variant_of(case, found)}
 
 
 def programs(configurations):
     """The calls of the library for settings, each with Git's outcome."""
-    with tempfile.TemporaryDirectory(prefix="programs-") as room:
-        folder = room.encode()
-        some = [placed(Setting(entries, *it), folder) for entries, settings in configurations for it in settings]
+    with tempfile.TemporaryDirectory(prefix="programs-") as scratch:
+        def placed(value):
+            return value and value.replace(b"@", scratch.encode())
+
         for name in Programs.NAMES:
-            put(f"{room}/{name}", FAKE, 0o700)
-        files = [placed(Setting(entries, None, None, None, "0"), folder).entries for entries, _ in configurations]
-        with rooms(files) as (place, environment, folders):
-            environment["PATH"] = f"{room}:{environment['PATH']}"
-            owners = [it for it, (_, settings) in zip(folders, configurations) for _ in settings]
-            words = [word for owner, it in zip(owners, some)
-                     for word in (owner, set_word(it.command), set_word(it.path), set_word(it.variant), it.status)]
+            put(f"{scratch}/{name.decode()}", FAKE, 0o700)
+        files = [[it._replace(value=placed(it.value)) for it in entries] for entries, _ in configurations]
+        with scratch_folders(files) as (place, environment, folders):
+            environment["PATH"] = f"{scratch}:{environment['PATH']}"
+            asked = [(folder, Setting(entries, *map(placed, some), status))
+                     for folder, entries, (_, settings) in zip(folders, files, configurations) for *some, status in settings]
+            words = [word for folder, it in asked for word in (folder, *(b"" if one is None else b"=" + one for one in it[1:4]), it.status)]
             said = answers_of(ASK_PROGRAM, place, environment, words, each=5, answers=2)
-    for it, *both in zip(some, said[::2], said[1::2]):
+    for (_, it), *both in zip(asked, said[::2], said[1::2]):
         given = {"git_ssh_command": it.command, "git_ssh": it.path, "git_ssh_variant": it.variant}
         values = {name: text_of(value) for name, value in given.items() if value is not None}
         yield {"call": "SshProgram::of", "config": text_of(listed(it.entries)), **values}, outcome(it, *both)

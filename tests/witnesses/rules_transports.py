@@ -5,11 +5,14 @@ whether it uses a transport. If one is allowed, nothing is connected to: Secure 
 repositories are commands that fail, and remote helpers aren't found. `git config --type=bool` returns Git's boolean values. What stops Git
 is asked of a command that reads the entry: `ls-remote` over HTTP, and for a text of the transport, `credential fill`, and `remote`.
 """
+import itertools
+import json
 import re
 
-from git_reads import git_reads
-from git_runs import Entry, answers_of, listed, rooms
+from second_reading.git_reads import git_reads
+from git_runs import Entry, answers_of, listed, scratch_folders
 from row_text import text_of
+from rt_api import read
 from second_reading import grammar
 from texts import Policies
 
@@ -50,12 +53,12 @@ REFUSALS = (b"no path specified", b"strange pathname", b"newline is forbidden")
 def ask(asked):
     """Git's results for configurations with their variables and texts."""
     configurations = [*dict.fromkeys(tuple(it[0]) for it in asked)]
-    room_for = rooms(configurations, GIT_SSH_COMMAND="false", GIT_SSH_VARIANT="simple", GIT_PROXY_COMMAND="false")
-    with room_for as (room, environment, folders):
+    scratch_for = scratch_folders(configurations, GIT_SSH_COMMAND="false", GIT_SSH_VARIANT="simple", GIT_PROXY_COMMAND="false")
+    with scratch_for as (scratch, environment, folders):
         folder_of = dict(zip(configurations, folders))
         words = [word for entries, *values, text in asked for word in
                  (folder_of[tuple(entries)], *(b"" if it is None else b"=" + it for it in values), text)]
-        return answers_of(ASK, room, environment, words, each=4)
+        return answers_of(ASK, scratch, environment, words, each=4)
 
 
 def decision(said, name):
@@ -111,8 +114,8 @@ def names(texts):
 def booleans(texts):
     """The calls of the library for texts, each with its value by Git, None if Git refuses it."""
     values = {b"true\n": True, b"false\n": False}
-    with rooms([]) as (room, environment, _):
-        said = answers_of(ASK_BOOLEAN, room, environment, texts)
+    with scratch_folders([]) as (scratch, environment, _):
+        said = answers_of(ASK_BOOLEAN, scratch, environment, texts)
     return [({"call": "boolean::read_boolean", "text": text_of(text)}, None if it.startswith(b"fatal: bad boolean config value") else values[it])
             for text, it in zip(texts, said)]
 
@@ -120,40 +123,22 @@ def booleans(texts):
 # Git's messages when it stops, and the library's reasons.
 SAID = {b"missing value for": "NoValue", b"bad boolean config value": "NoBoolean", b"bad numeric config value": "NoNumber",
         b"unknown value for config": "NoAllowance"}
-TEXTS = ("version sslcipherlist sslversion sslcert sslkey sslcapath sslcainfo proxy proxyauthmethod proxysslcert proxysslkey proxysslcainfo "
-         "cookiefile useragent delegation pinnedpubkey extraheader curloptresolve sslbackend none").split()
-BOOLEANS = ("sslverify sslcertpasswordprotected ssltry schannelcheckrevoke schannelusesslcainfo noepsv proxysslcertpasswordprotected savecookies "
-            "emptyauth followredirects").split()
-NUMBERS = "minsessions maxrequests lowspeedlimit lowspeedtime postbuffer".split()
-OF_REMOTES = ("url pushurl push fetch receivepack uploadpack proxy proxyauthmethod vcs mirror skipdefaultupdate skipfetchall prune prunetags "
-              "none").split()
-WORDS = (None, "", "true", "No", "maybe", "auto", "Auto", "initial", "INITIAL", "5", "-1", "0x10", "1k", " 1", "1 ", "2g", "x")
-SIZES = ("2147483647", "2147483648", "-2147483648", "8388607g", "9223372036854775807", "9223372036854775808", "8589934591g", "8589934592g", "1kk")
-ALLOWANCES = (None, "", "always", "USER", "Never", "never ", "maybe")
-
-
-def values():
-    for named, some in ((TEXTS, WORDS[:4]), (BOOLEANS, WORDS), (NUMBERS, WORDS + SIZES)):
-        yield from (("http", place, name, value) for name in named for value in some for place in (None, "http://127.0.0.1:1"))
-    yield from (("http", None, "POSTbuffer", value) for value in SIZES)
-    for place, name in ((None, "helper"), ("http://h", "username"), (None, "useHTTPpath"), ("http://h", "none")):
-        yield from (("credential", place, name, value) for value in WORDS[: None if name.startswith("use") else 2])
-    yield from (("url", place, name, value) for place in (None, "h") for name in ("insteadof", "pushInsteadOf", "none") for value in WORDS[:3])
-    yield from (("remote", place, name, value) for place in ("o", "/o") for name in OF_REMOTES for value in (None, "", "maybe"))
-    yield from (("remote", None, name, value) for name in ("pushdefault", "url") for value in WORDS[:2])
-    yield from (("protocol", place, "allow", value) for place in (None, "file") for value in ALLOWANCES)
 
 
 def entries():
-    return [Entry(*(it if it is None else it.encode() for it in one)) for one in values()]
+    """Those of `vectors/texts/stops.jsonl`, which has names, places and values."""
+    for line in map(json.loads, read("vectors/texts/stops.jsonl").splitlines()):
+        for some in itertools.product([line["section"]], line["names"], line["values"], line["places"]):
+            section, name, value, place = (it if it is None else it.encode() for it in some)
+            yield Entry(section, place, name, value)
 
 
 def stops(some):
     """The calls of the library for entries, each with the reason for which Git stops, None if it doesn't stop for it."""
     commands = {b"http": b"http://127.0.0.1:1/", b"protocol": b"/none"}
-    with rooms([[it] for it in some], GIT_EXEC_PATH="") as (room, environment, folders):
+    with scratch_folders([[it] for it in some], GIT_EXEC_PATH="") as (scratch, environment, folders):
         del environment["GIT_EXEC_PATH"]
         words = [word for folder, it in zip(folders, some) for word in (folder, commands.get(it.section, it.section))]
-        said = answers_of(ASK_STOPS, room, environment, words, each=2)
+        said = answers_of(ASK_STOPS, scratch, environment, words, each=2)
     return [({"call": "stops::stop_at", "config": text_of(listed([it]))}, next((name for words, name in SAID.items() if words in one), None))
             for it, one in zip(some, said)]

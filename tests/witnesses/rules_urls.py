@@ -7,12 +7,11 @@ configuration has names. It doesn't print the normal forms by which it compares 
 entry names a header of its own, and the user agent names the case.
 """
 import re
-import threading
-from http.server import BaseHTTPRequestHandler, ThreadingHTTPServer
 
-from git_runs import Entry, answers_of, listed, rooms
+from git_runs import Entry, answers_of, listed, scratch_folders
 from row_text import text_of
 from texts import pieces_of
+from web_asked import field, recording
 
 ASK = r"""
 while [ $# -gt 0 ]; do GIT_DIR="$1" git config --get-urlmatch http "$2" 2>&1; printf '\0'; shift 2; done
@@ -52,9 +51,9 @@ def used(said):
 
 def matches(configurations):
     """The calls of the library for sets of entries and URLs, each with Git's outcome."""
-    with rooms([[it for entries in sets for it in entries] for sets, _ in configurations]) as (room, environment, folders):
+    with scratch_folders([[it for entries in sets for it in entries] for sets, _ in configurations]) as (scratch, environment, folders):
         asked = asked_of(configurations, folders)
-        said = answers_of(ASK, room, environment, [word for folder, _, url in asked for word in (folder, url)], each=2)
+        said = answers_of(ASK, scratch, environment, [word for folder, _, url in asked for word in (folder, url)], each=2)
     for (_, sets, url), found in zip(asked, map(used, said)):
         for every in sets:
             # The entries of a name, and the value that Git uses as a text: None without one.
@@ -70,37 +69,23 @@ def matches(configurations):
 
 def without_normal_form(urls):
     """Those of the URLs that Git refuses to compare with others."""
-    with rooms([[]]) as (room, environment, (folder,)):
-        said = answers_of(ASK, room, environment, [word for it in urls for word in (folder, it)], each=2)
+    with scratch_folders([[]]) as (scratch, environment, (folder,)):
+        said = answers_of(ASK, scratch, environment, [word for it in urls for word in (folder, it)], each=2)
     return {url for url, it in zip(urls, said) if used(it) is None}
 
 
 # ---- headers
 
-class Recorder(BaseHTTPRequestHandler):
-    """Records the headers of requests, by the user agent, and refuses them."""
-
-    def do_GET(self):
-        found = [int(it[1]) for it in map(re.compile("X-([0-9]+)").fullmatch, self.headers) if it]
-        self.server.seen.setdefault(self.headers["User-Agent"], found)
-        self.send_error(404)
-
-    def log_message(self, *_):
-        pass
-
-
 def headers(configurations):
     """The calls of the library for URLs, each with the headers that arrive. Git compares a URL with a `/` at its end (`remote-curl.c`)."""
-    proxy = ThreadingHTTPServer(("127.0.0.1", 0), Recorder)
-    proxy.seen = {}
-    threading.Thread(target=proxy.serve_forever, daemon=True).start()
-    with rooms([entries for entries, _ in configurations], http_proxy=f"http://127.0.0.1:{proxy.server_port}") as (room, environment, folders):
+    with (recording() as proxy,
+          scratch_folders([it for it, _ in configurations], http_proxy=f"http://127.0.0.1:{proxy.server_address[1]}") as (scratch, environment, folders)):
         del environment["GIT_EXEC_PATH"]
         asked = asked_of(configurations, folders)
-        words = [word for at, (folder, _, url) in enumerate(asked) for word in (folder, url, str(at).encode())]
-        answers_of(ASK_HEADERS, room, environment, words, each=3)
-    proxy.shutdown()
-    sent = [(url.removesuffix(b"/") + b"/", entries, proxy.seen[str(at)]) for at, (_, entries, url) in enumerate(asked) if str(at) in proxy.seen]
+        words = [word for at, (folder, _, url) in enumerate(asked) for word in (folder, url, b"%d" % at)]
+        answers_of(ASK_HEADERS, scratch, environment, words, each=3)
+    seen = {int(field(it, b"user-agent")): [int(one[1]) for one in map(re.compile(rb"X-([0-9]+):").match, it) if one] for it in proxy.heads[::-1]}
+    sent = [(url.removesuffix(b"/") + b"/", entries, seen[at]) for at, (_, entries, url) in enumerate(asked) if at in seen]
     refused = without_normal_form([text for text, *_ in sent])
     for text, entries, found in sent:
         own = {"call": "settings::settings_without_place"} if text in refused else {"call": "settings::settings_for", "text": text_of(text)}
@@ -122,9 +107,9 @@ def credentials(configurations):
     protocol; so a case is left out that has such a setting, and a URL without a path or of another protocol. Only Git accepts a carriage
     return in a path that helpers don't get."""
     last = Entry(b"credential", None, b"helper", SHOW)
-    with rooms([[*entries, last] for entries, _ in configurations]) as (room, environment, folders):
+    with scratch_folders([[*entries, last] for entries, _ in configurations]) as (scratch, environment, folders):
         asked = asked_of(configurations, folders)
-        said = answers_of(ASK_CREDENTIALS, room, environment, [word for folder, _, url in asked for word in (folder, url)], each=2)
+        said = answers_of(ASK_CREDENTIALS, scratch, environment, [word for folder, _, url in asked for word in (folder, url)], each=2)
     for (_, entries, url), found in zip(asked, map(filled, said)):
         pieces = pieces_of(url)
         if found is None or b"\r" in b"".join(it or b"" for it in pieces):

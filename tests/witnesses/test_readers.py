@@ -6,47 +6,93 @@ made ones, most of them near the class; a whole run also changes some texts of t
 the location's own scheme, user, password, host, port and path, and the location must be settled, be written as the text, and agree with
 Git; and `Url::is_unambiguous` must say so of each text that is written for a location.
 
-Outside of the class a reader that reads another place, or refuses, must be listed for one of the conditions that the text
-breaks, in `vectors/readers/conditions.jsonl`; a whole run also fails if no reader needs a condition that isn't listed as such.
-The hosts that readers find in the texts of `vectors/readers/confusions.jsonl` must be those listed there. A reader whose
-version isn't that of `vectors/readers/readers.jsonl` is run, but only its differences inside the class fail. docs/READERS.md
-must have the tables of these files, which `--record` writes.
+Outside of the class a reader that reads another place, or refuses, must be listed for one of the conditions that the text breaks
+(`reader_facts.py`). A reader whose version isn't that of `vectors/readers/readers.jsonl` is run, but only its differences inside the class
+fail. `--record` writes the tables, and those of docs/READERS.md. A program that represents a group of readers must find the group's host in
+each text in which it or the group finds another host than Git, except in texts of its shapes (`reader_groups.py`). A whole run over the
+repository's remotes also fails if no text needs a condition or a shape, or if other texts are counted.
 
-A program that represents a group of readers (`tools/second_reading/groups.py`) must find the group's host in each text in which
-it or the group finds another host than Git, except in texts of the shapes that `reader_groups.py` lists for the program.
-A whole run over the repository's remotes also fails if no text needs a shape, or if the counts aren't those of `vectors/readers/groups.jsonl`.
-
-Places are compared in one form: the host in lower case without brackets, addresses in their shortest form, the scheme's default
-port filled in, user and password decoded if the reader leaves that to its caller, and the path as a program of Git would send
-it, over HTTP without trailing slashes. A program that converts the scp form to a URL may refuse one, and its path is compared
+Places are compared in one form (`reader_places.py`). A program that converts the scp form to a URL may refuse one, and its path is compared
 without its first slash. For texts other than URLs, a reader of URLs is only asked whether it finds a host in them.
 """
+import contextlib
 import functools
-from collections import defaultdict
+from collections import defaultdict, namedtuple
 from concurrent.futures import ThreadPoolExecutor
 
 import pytest
 import reader_facts as facts
 import reader_groups as groups
-from hypothesis import strategies
-from reader_own import own_readers
-from reader_places import git_place, is_same, said_place, with_decoded_path
+from hypothesis import HealthCheck, Phase, Verbosity, given, seed, settings, strategies
+from reader_places import git_place, is_same, own_readers, said_place, with_decoded_path
 from reader_programs import READERS, ask, build, version
 from row_text import text_of
 from runs import answers
 from second_reading import git_class, grammar, writing
 from second_reading.unambiguous import CONDITIONS, broken, pieces
 from tables import texts_of_rows
-from texts import LocationMaker, NearMaker, WebMaker, can_be_an_argument, changed_texts, compare, made, remotes
+from texts import LocationMaker, Made, NearMaker, WebMaker, can_be_an_argument, changed_texts, compare, remotes, table
 
 pytestmark = pytest.mark.needs("git")
-TEXTS = strategies.one_of([made(NearMaker)] * 4 + [made(WebMaker), made(LocationMaker)]).filter(can_be_an_argument)
 # The number of made texts, and of texts for a reader that is started for each of them.
 SCALES = {"sample": (30_000, 1_500), "whole": (50_000, 12_000)}
-# Longer texts of rows are left out.
-LONGEST = 4096
 # Of shapes and conditions for which texts are rarely made.
-GIVEN = (b"[h]]:a/b", b"git@[h]]:p", b"https://github.com/a%20b/c:d", b"https://github.com/a%C3%A9b/c:d")
+GIVEN = table("Given", "READERS")
+# Longer texts of rows are left out. So many texts are made with one seed: more take longer each.
+LONGEST, ROUND = 4096, 2_000
+HOW = settings(max_examples=10 * ROUND, database=None, deadline=None, phases=(Phase.generate,), suppress_health_check=[*HealthCheck],
+               verbosity=Verbosity.quiet, report_multiple_bugs=False)
+# Strategies are kept, since it takes time to make one.
+below, index = functools.cache(lambda count: strategies.integers(0, count - 1)), functools.cache(lambda count: strategies.sampled_from(range(count)))
+
+
+class Enough(Exception):
+    """As many texts are made as are asked for."""
+
+
+class Text(bytes):
+    """A text, with what makes it again."""
+
+    again: tuple = ()
+
+
+def made(maker):
+    def by_draws(draw):
+        it, numbers = maker(None), []
+
+        def number(strategy, count):
+            found = draw(strategy(count))
+            numbers.append(-(-found * 65536 // count))
+            return found
+
+        it.below, it.one_of = lambda count: number(below, count), lambda some: some[number(index, len(some))]
+        text = Text(it.text())
+        text.again = Made(maker, "text"), lambda: (lambda _, left=iter(numbers): next(left))
+        return text
+
+    # Of a function without a name hypothesis would read the source each time.
+    return strategies.composite(by_draws)()
+
+
+class Drawn:
+    """Texts by draws of hypothesis, since `groups.jsonl` counts those."""
+
+    TEXTS = strategies.one_of([made(NearMaker)] * 4 + [made(WebMaker), made(LocationMaker)]).filter(can_be_an_argument)
+
+    @functools.cache
+    def examples(self, count):
+        found = {}
+        while len(found) < count:
+            wanted = min(count, len(found) + ROUND)
+
+            def take(it):
+                found.setdefault(repr(it), (bytes(it), *it.again))
+                if len(found) >= wanted:
+                    raise Enough
+
+            with contextlib.suppress(Enough):
+                seed(len(found))(HOW(given(self.TEXTS)(take)))()
+        return found
 
 
 class Case:
@@ -60,13 +106,12 @@ class Case:
         self.misread = {it for it in self.hosts if groups.is_misread(self, it)}
 
 
-class Asked:
-    """A reader, and the cases in which it reads another place, each with its reading. `seen` is its behaviour in cases of its groups."""
+# A reader, and by texts the cases in which it reads another place, each with its reading. `seen` is its behaviour in cases of its groups.
+Asked = namedtuple("Asked", "name version seen differing")
 
-    def __init__(self, name, found, asked, places, same):
-        self.name, self.version = name, found
-        self.seen = [*groups.seen(name, asked, places)]
-        self.differing = {case.text: (case, it) for case, it in zip(asked, places) if not same(case, it)}
+
+def asked_of(name, found, cases, places, same):
+    return Asked(name, found, [*groups.seen(name, cases, places)], {case.text: (case, it) for case, it in zip(cases, places) if not same(case, it)})
 
 
 def some(cases, count):
@@ -78,7 +123,7 @@ def ask_program(reader, cases):
     if found is None or not build(reader):
         return None
     places = [said_place(reader, case.form, it) for case, it in zip(cases, ask(reader, [it.text for it in cases]))]
-    return Asked(reader.name, found, cases, places, lambda case, it: is_same(reader, case.form, case.wanted, it))
+    return asked_of(reader.name, found, cases, places, lambda case, it: is_same(reader, case.form, case.wanted, it))
 
 
 def ask_own(own, cases, count):
@@ -90,7 +135,7 @@ def ask_own(own, cases, count):
         outside = [it for it in fitting if it.broken and it.wanted is not None and not it.text.startswith(b"-")]
         fitting = [*dict.fromkeys([*(it for it in fitting if it.text in shown), *some(inside, count), *some(outside, count)])]
     seen = with_decoded_path if name == "Git credential" else lambda it: it
-    return Asked(name, found, fitting, places([it.text for it in fitting]), lambda case, it: case.wanted and seen(case.wanted) == it)
+    return asked_of(name, found, fitting, places([it.text for it in fitting]), lambda case, it: case.wanted and seen(case.wanted) == it)
 
 
 @functools.lru_cache(2)
@@ -108,11 +153,13 @@ def asked(texts, started):
 def faults(texts, started):
     """The faults of texts of the class, each with its text."""
     cases, readers = asked(tuple(texts), started)
-    for case in (it for it in cases if not it.broken):
+    own = []
+    for case in cases:
         found = grammar.spells(case.text)
-        if not (found and git_class.agrees_with_git(found) and writing.text(found) == case.text and case.wanted):
+        is_written = found is not None and writing.text(found) == case.text
+        own += [case] if is_written else []
+        if not (case.broken or is_written and git_class.agrees_with_git(found) and case.wanted):
             yield case.text, f"{case.text!r} is in the class, and is no location of which agrees_with_git is true, written so"
-    own = [case for case in cases if (it := grammar.spells(case.text)) and writing.text(it) == case.text]
     for case, found in zip(own, answers([{"call": "Url::is_unambiguous", "url": text_of(it.text)} for it in own])):
         if found is not (not case.broken):
             yield case.text, f"Url::is_unambiguous is {found} of {case.text!r}, which breaks {case.broken}"
@@ -124,21 +171,21 @@ def faults(texts, started):
 class Run:
     """All texts of a scale, and what the readers read in them."""
 
-    def __init__(self, name, given):
+    def __init__(self, name, files):
         count, self.started = SCALES[name]
-        self.is_whole, self.is_own = name == "whole", not given
-        given = [it for file in given for it in open(file, "rb").read().splitlines()] or remotes()
+        self.is_whole, self.is_own = name == "whole", not files
+        lines = [it for file in files for it in open(file, "rb").read().splitlines()] or remotes()
         more = changed_texts() if self.is_whole else []
-        others = filter(can_be_an_argument, [*facts.texts(), *GIVEN, *given, *texts_of_rows(LONGEST), *more])
-        self.texts = lambda: compare(TEXTS, count, lambda texts: faults(texts, self.started), others)
+        others = [*filter(can_be_an_argument, [*facts.texts(), *GIVEN, *lines, *texts_of_rows(LONGEST), *more])]
+        self.found = functools.cache(lambda: asked(tuple(compare(Drawn(), count, lambda texts: faults(texts, self.started), others)), self.started))
 
-    @functools.cached_property
+    @property
     def cases(self):
-        return asked(tuple(self.texts()), self.started)[0]
+        return self.found()[0]
 
-    @functools.cached_property
+    @property
     def readers(self):
-        return asked(tuple(it.text for it in self.cases), self.started)[1]
+        return self.found()[1]
 
     @property
     def known(self):

@@ -17,17 +17,15 @@ import rules_transports
 import rules_urls
 from differences import library_faults
 from git_runs import Entry, entry_of, listing_faults
-from hypothesis import strategies
 from row_text import bytes_of
 from rt_api import ROOT, read
 from rules_ssh import RUNS, USUAL
 from texts import (
     Booleans, Contexts, Files, Headers, LocationMaker, Modules, Pairs, Places, Policies, Programs, Remotes, Rules, SecureMaker, compare, examples,
-    made, remotes)
+    made, remotes, table)
 
 pytestmark = pytest.mark.needs("git")
 CONFIGURATION = "configuration"
-OF_TEXTS = strategies.one_of([made(LocationMaker)] * 10 + [made(LocationMaker, "addressed").map(str.encode)])
 # The number of configurations that each topic makes: of all, and of a sample.
 TOPICS = {
     "remotes": (made(Remotes, CONFIGURATION), 1_200, 150, rules_remotes.remotes),
@@ -76,12 +74,12 @@ def test_lists_of_entries(maker):
 
 @pytest.mark.parametrize("step", scales(1, 9))
 def test_values_at_which_git_stops(step):
-    assert not [*library_faults(rules_transports.stops(rules_transports.entries()[::step]))]
+    assert not [*library_faults(rules_transports.stops([*rules_transports.entries()][::step]))]
 
 
 @pytest.mark.parametrize("count", scales(4_400, 1_100))
 def test_names_of_transports(count):
-    compare(OF_TEXTS, count, lambda some: library_faults(rules_transports.names(some)), remotes() if count > 4_000 else ())
+    compare(made(LocationMaker, "or_addressed"), count, lambda some: library_faults(rules_transports.names(some)), remotes() if count > 4_000 else ())
 
 
 @pytest.mark.parametrize("count", scales(150, 12))
@@ -102,8 +100,8 @@ def test_words_for_secure_shell(count):
         yield from ((None, fault) for fault in rules_ssh.misread(cases))
 
     found = Counter()
-    strategy = strategies.one_of(OF_TEXTS.filter(rules_ssh.FOR_SECURE_SHELL.match), made(SecureMaker))
-    compare(strategy, count, judge, [*rules_ssh.GIVEN, *filter(rules_ssh.FOR_SECURE_SHELL.match, remotes() if count == 10_000 else [])])
+    others = filter(SecureMaker.FOR_SECURE_SHELL.match, remotes() if count == 10_000 else [])
+    compare(made(SecureMaker, "or_location"), count, judge, [*table("Given", "SSH"), *others])
     assert count < 10_000 or {*rules_ssh.CLASSES} <= found.keys()
 
 

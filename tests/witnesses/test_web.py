@@ -4,10 +4,9 @@ This library returns the host by which a caller picks credentials, Git's credent
 connects. The texts are the HTTP remotes of `crates/url_bench/remotes.txt`, those of the tables in `vectors/`, and made ones. The library's
 reading comes from the second reading (`tools/second_reading`), those of the others from rules by hand (`web_reads.py`), which must agree
 for each text with `git credential fill` and the libcurl of `git-remote-http` (`web_asked.py`). The requests of `git ls-remote` for some
-texts must be those of the rules (`web_wire.py`).
+texts must be those of the rules.
 
-`Url::agrees_with_git` must be true for exactly those locations that meet the conditions of `web_plain.py`, by the second
-reading and by the program `answers`. In the text of each of them all must read the same place, by the rules and by the
+`Url::agrees_with_git` must be true for exactly those locations that meet the conditions of `web_plain.py`. In the text of each of them all must read the same place, by the rules and by the
 definitions that `laws::law_git` uses (`web_defined.py`); each condition must be needed, or be listed as a stricter one. In any
 text the reading of Git's credential code must be that of its definition. For each text that is written for a location the
 program `explain` must report the readings of that definition and of the rule for libcurl.
@@ -23,16 +22,15 @@ from git_classes import class_of
 from row_text import text_of
 from rt_api import read
 from runs import answers, explained
-from second_reading import explain, git_class, hosts, writing
+from second_reading import explain, hosts, writing
 from second_reading.seen import seen
+from second_reading.web_defined import credential_readings, own_faults, uri_readings
+from second_reading.web_plain import CONDITIONS, STRICTER
 from tables import rows, texts_of_rows
-from texts import OTHER_WEB_BYTES, WebMaker, can_be_a_line, compare, examples, made, remotes
-from web_asked import Curl, ask_credential, library_of_git
+from texts import WebMaker, can_be_a_line, compare, examples, made, remotes, table
+from web_asked import Curl, ask_credential, library_of_git, wire_faults
 from web_classes import CLASSES, cases_of
-from web_defined import as_defined, credential_readings, for_transfer, own_faults, uri_readings
-from web_plain import CONDITIONS, STRICTER, broken, is_number
-from web_reads import credential_reads, curl_reads, literal
-from web_wire import wire_faults
+from web_reads import as_defined, credential_reads, curl_reads, for_transfer, is_number, literal
 
 pytestmark = pytest.mark.needs("git", library_of_git)
 COUNT, TEXTS = 26_000, made(WebMaker)
@@ -54,7 +52,7 @@ def some(texts, count):
 @functools.cache
 def given():
     """A text with byte 0 can't be an argument of a command."""
-    return [it for it in dict.fromkeys([*remotes(), *texts_of_rows(LONGEST), *OTHER_WEB_BYTES]) if HTTP.match(it) and 0 not in it]
+    return [it for it in dict.fromkeys([*remotes(), *texts_of_rows(LONGEST), *table("Given", "WEB")]) if HTTP.match(it) and 0 not in it]
 
 
 @functools.cache
@@ -79,7 +77,7 @@ def all_cases():
 @functools.cache
 def unmet():
     """The conditions that each text misses which is written for a location."""
-    return [(it, broken(it.location)) for it in all_cases() if it.is_written_so]
+    return [(it, it.broken) for it in all_cases() if it.is_written_so]
 
 
 # ---- faults, each with its text
@@ -106,9 +104,8 @@ def agreement_faults(case):
 
 
 def answer_faults(cases):
-    """The call, or the second reading of it, differs from the conditions."""
-    wanted, locations = {case.text: not broken(case.location) for case in cases}, {case.text: case.location for case in cases}
-    yield from unlike("by the second reading agrees_with_git is", wanted, lambda it: git_class.agrees_with_git(locations[it]), wanted.get)
+    """The call differs from the conditions."""
+    wanted = {case.text: not case.broken for case in cases}
     said = dict(zip(wanted, answers([{"call": "Url::agrees_with_git", "url": text_of(it)} for it in wanted])))
     yield from unlike("agrees_with_git is", wanted, said.get, wanted.get)
 
@@ -125,7 +122,7 @@ def explain_faults(cases):
 def faults(texts, count):
     cases, source = with_written(tuple(texts))
     found = [*rule_faults([*texts, *source], count), *((case.text, fault) for case, fault in lost(cases, CLASSES)), *answer_faults(cases)]
-    found += [(it.text, fault) for it in cases if it.is_written_so and not broken(it.location) for fault in agreement_faults(it)]
+    found += [(it.text, fault) for it in cases if it.is_written_so and not it.broken for fault in agreement_faults(it)]
     found += explain_faults(cases)
     return [(source.get(text, text), fault) for text, fault in found]
 
@@ -145,7 +142,7 @@ def test_requests(count, sent):
     shown = [it.encode() for it in SHOWN.findall(DOCUMENT)]
     chosen = dict.fromkeys([*shown, *(it.text for cases in groups for it in some(cases, sent // len(groups)))])
     more = some([it for it in (*given(), *examples(TEXTS, COUNT)) if it not in chosen], max(0, sent - len(chosen)))
-    careful = some([it.text for it, _ in unmet() if git_class.agrees_with_git(it.location)], sent)
+    careful = some([it.text for it, names in unmet() if not names], sent)
     assert not [*wire_faults([*chosen, *more, *careful], curl())]
 
 

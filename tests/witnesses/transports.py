@@ -5,6 +5,7 @@ Scripts that show their arguments and exit replace Secure Shell, the connection 
 to its end and connects to nothing. `ssh -G` reports how OpenSSH reads a word; it doesn't connect either. The repositories are
 made each time in a folder of their own, which also has the home folder.
 """
+import json
 import os
 import re
 import shutil
@@ -12,8 +13,9 @@ import subprocess
 import tempfile
 
 from git_classes import HOME, SECURE_URL, Reading
-from git_reads import git_port
+from second_reading.git_reads import git_port
 from git_runs import alone, ask_loop, git
+from rt_api import read
 
 OWN = ("ssh", "git", "file")
 # Git's reading, and the program to which it passes a text: only the transport `ssh` is allowed.
@@ -202,30 +204,18 @@ def secure_faults(readings, answers):
 REPOSITORIES = ("home/x", "here/x", "here/~/x", "here/~no-such-user/x", "here/a:b", "here/]/c", "here/a@[b]/c")
 # A text, with the folder's path for `{}`; the repository that `git ls-remote`, `git fetch` and `git push` open, and the one
 # that `git clone` opens: None if it is refused.
-OPENED = (
-    ("~/x", "home/x", "here/~/x"),
-    ("~no-such-user/x", None, "here/~no-such-user/x"),
-    ("./~/x", "here/~/x", "here/~/x"),
-    ("{}/here/~/x", "here/~/x", "here/~/x"),
-    ("file://{}/here/~/x", "here/~/x", "here/~/x"),
-    ("file://~{}/here/~/x", "here/~/x", "here/~/x"),
-    ("/~/x", None, None),
-    ("file:///~/x", None, None),
-    ("x", "here/x", "here/x"),
-    ("./a:b", "here/a:b", "here/a:b"),
-    ("a@[b]/c", "here/]/c", "here/]/c"),
-)
+OPENED = [json.loads(it) for it in read("vectors/texts/opened.jsonl").splitlines()]
 
 
-class Room:
+class Scratch:
     """Repositories in a folder, each identified by a commit of its own."""
 
-    def __init__(self, room):
-        self.room, self.here = room, f"{room}/here"
+    def __init__(self, scratch):
+        self.scratch, self.here = scratch, f"{scratch}/here"
         people = {f"GIT_{it}_{part}": "x" for it in ("AUTHOR", "COMMITTER") for part in ("NAME", "EMAIL")}
-        self.environment = alone(room, GIT_ALLOW_PROTOCOL="file", **people)
-        os.makedirs(f"{room}/home")
-        git(room, self.environment, "init", "--quiet", self.here)
+        self.environment = alone(scratch, GIT_ALLOW_PROTOCOL="file", **people)
+        os.makedirs(f"{scratch}/home")
+        git(scratch, self.environment, "init", "--quiet", self.here)
         self.tree = self.said("write-tree")
         self.known = {self.made(it): it for it in REPOSITORIES}
         self.commit = self.said("commit-tree", "-m", "pushed", self.tree)
@@ -235,11 +225,11 @@ class Room:
         return subprocess.run(["git", *words], cwd=self.here, env=self.environment, stdout=subprocess.PIPE, check=False, **quiet).stdout.decode().strip()
 
     def name(self, path):
-        found = os.path.relpath(os.path.realpath(os.path.join(self.here, path.decode())), self.room)
+        found = os.path.relpath(os.path.realpath(os.path.join(self.here, path.decode())), self.scratch)
         return found if found in REPOSITORIES else None
 
     def made(self, name):
-        path = f"{self.room}/{name}"
+        path = f"{self.scratch}/{name}"
         commit = self.said("commit-tree", "-m", name, self.tree)
         self.said("init", "--quiet", "--bare", "--initial-branch=main", path)
         self.said("push", "--quiet", f"file://{path}", f"{commit}:refs/heads/main")
@@ -248,7 +238,7 @@ class Room:
     def pushed(self, text):
         """The repository into which Git pushes: the branch is removed from it again, which Git reports."""
         self.said("push", "--quiet", text, f"{self.commit}:refs/heads/pushed")
-        found = [it for it in REPOSITORIES if self.said("--git-dir", f"{self.room}/{it}", "branch", "-D", "pushed")]
+        found = [it for it in REPOSITORIES if self.said("--git-dir", f"{self.scratch}/{it}", "branch", "-D", "pushed")]
         return found[0] if len(found) == 1 else None
 
     def opened(self, text):
@@ -257,7 +247,7 @@ class Room:
         self.said("update-ref", "-d", "FETCH_HEAD")
         self.said("fetch", "--quiet", text)
         fetched = self.said("rev-parse", "--quiet", "--verify", "FETCH_HEAD")
-        with tempfile.TemporaryDirectory(dir=self.room) as clone:
+        with tempfile.TemporaryDirectory(dir=self.scratch) as clone:
             self.said("clone", "--quiet", "--bare", text, f"{clone}/x")
             cloned = self.said("--git-dir", f"{clone}/x", "rev-parse", "--quiet", "--verify", "HEAD")
         known = self.known.get

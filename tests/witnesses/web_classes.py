@@ -9,7 +9,8 @@ from functools import cached_property
 
 from git_classes import of, told
 from second_reading import settled_class, writing
-from web_defined import trimmed_path
+from second_reading.web_defined import trimmed_path
+from second_reading.web_plain import broken
 from web_reads import (
     CONTROL, NO_HOST, Web, address, credential_reads, curl_reads, cut, decoded, for_credential, for_curl, literal, located, spelled_path)
 
@@ -42,6 +43,11 @@ class WebCase:
     @cached_property
     def is_settled(self):
         return settled_class.settled(self.location)
+
+    @cached_property
+    def broken(self):
+        """The conditions of `agrees_with_git` that the location misses."""
+        return broken(self.location)
 
     @cached_property
     def is_alike(self):

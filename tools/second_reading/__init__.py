@@ -9,10 +9,12 @@ Its modules, each of which uses only those above it:
   octets, hosts, grammar               bytes and escapes; addresses, hosts and ports; the location that a text spells
   writing, settled_class, git_class    the text of a location; whether it comes back; whether Git reads the same
   unambiguous                          the texts that no reader is known to read differently
+  git_reads, web_defined               the readings of Git, of its credential code and of a reader of URIs, by their definitions
+  web_plain                            the conditions on HTTP for which all read the same
   groups, dangers                      the hosts that groups of readers find; the dangers in a line
   records, fault_places                components and records; the place and the reason of an error in a text
   errors, line_answers                 the error of a refused text; the answers of `locations`
-  laws, worked_rows, short_inputs      laws that all this has to meet; rows in a file; the stored run of `locations`
+  laws, short_inputs                   laws that all this has to meet; the stored run of `locations`
   plain_paths                          paths of URLs and of home folders
   row_outcomes                         the outcomes of rows in `vectors/`
   shown_text                           how bytes are shown on a terminal

@@ -1,10 +1,10 @@
 """The dangers in a line and in the location that is read in it: a second reading of the definitions of `Danger`."""
 import re
 
-from git_reads import git_reads
 from second_reading import grammar
+from second_reading.git_reads import git_reads
 from second_reading.groups import is_own, other_hosts
-from web_defined import credential_readings
+from second_reading.web_defined import credential_readings
 
 FRONTS = rb"ghp_|gho_|ghu_|ghs_|ghr_|github_pat_|glpat-|gldt-|glrt-|glcbt-|glptt-|glft-|glimt-|glagent-|gloas-|glsoat-|ATBB|ATCTT3"
 # A user of HTTP without a password that is at least this long may be a token.

@@ -1,16 +1,15 @@
 """The report of the program `explain` on a location or a refused line, in the form of its JSON.
 
-Whether Git is known to read the same is the rule by hand of docs/GIT.md, in `git_classes.py` and for HTTP in `web_plain.py`.
-The readings are those of `git_reads.py` for Git, of `web_defined.py` for Git's credential code, and of `web_reads.py` for
-libcurl.
+The conditions on HTTP of docs/GIT.md are in `web_plain.py`. The readings are those of `git_reads.py` for Git, of `web_defined.py` for
+Git's credential code, and of `web_reads.py` for libcurl.
 """
-from git_classes import Case, Reading, is_careful
-from git_reads import git_reads, unread
 from second_reading import (
-    errors, fault_places, git_class, grammar, hidden, laws, octets, plain_paths, records, settled_class, writing)
+    errors, fault_places, grammar, hidden, laws, octets, plain_paths, records, settled_class, writing)
+from second_reading.git_class import agrees_with_git
+from second_reading.git_reads import Reading, git_reads, unread
 from second_reading.shown_text import quoted
-from web_defined import credential_readings
-from web_plain import broken
+from second_reading.web_defined import credential_readings
+from second_reading.web_plain import broken
 from web_reads import curl_reads
 
 # The reasons why not all readers of HTTP are known to read the same, in this order, and the conditions that a location then
@@ -18,7 +17,7 @@ from web_reads import curl_reads
 DOUBTS = {
     "NotSettled": {"the location is settled"},
     "Zone": {"host: no zone"},
-    "HostColon": {"host: no `:` behind it"},
+    "HostColon": {"host: no `:` after it"},
     "HostByte": {"host: lower case, digits, `-`, `.`, `_`, or in brackets"},
     "LastLabel": {"host: a number only as four decimal numbers", "host: no last label that is empty or begins with `-` or `_`"},
     "UserControl": {"user: no byte 0, line feed, carriage return", "user: no other control character"},
@@ -31,7 +30,7 @@ DOUBTS = {
                     "path: no other control character"},
     "Fragment": {"path: no `#`", "path: no `#` as an escape"},
     "DotSegment": {"path: no segment `.` or `..`", "path: no such segment as an escape, or in a query"},
-    "EmptyQuery": {"path: something behind a `?`", "path: no other `?` at its end, and no escape of one"},
+    "EmptyQuery": {"path: something after a `?`", "path: no other `?` at its end, and no escape of one"},
     "PathByte": {"path: the bytes of a URI"},
     "PathColon": {"path: no `:` beside an escape"},
 }
@@ -154,27 +153,13 @@ def reread(v):
     return {"difference": {"field": field, "here": here, "instead": instead}, "refusal": None, "words": words}
 
 
-def reading(v):
-    """The location in the form of the classes of Git's readings: for one that Git passes to another program there are no parts."""
-    if not is_of_files(v):
-        return Reading(f"helper {lossy(grammar.as_str(v.scheme))}", None, None, None, None, None)
-    return Reading(v.scheme[0].lower(), v.user, v.password, v.host or None, v.port, v.path)
-
-
-def agrees_with_git(v):
-    """The rules for the written text: the text of a settled location is read as it, and written again."""
-    is_web = v.scheme in grammar.HTTP_SCHEMES
-    answer = not broken(v) if is_web else is_careful(Case(writing.text(v), None, reading(v)), settled_class.settled(v))
-    assert answer == git_class.agrees_with_git(v), v
-    return answer
-
-
 def read_by_git(v):
     """Git's reading of the text of the location by the second reading of its definition, unless that is known to be the same.
 
     A reading with a password isn't reported. For HTTP the possible differences are reported.
     """
     text, is_web = writing.text(v), v.scheme in grammar.HTTP_SCHEMES
+    assert not is_web or agrees_with_git(v) == (not broken(v)), v
     if not (is_web or is_of_files(v)) or agrees_with_git(v) or isinstance(text, writing.Fault):
         return None
     if is_web:
@@ -182,7 +167,8 @@ def read_by_git(v):
         why = next(name for name, conditions in DOUBTS.items() if conditions & missed)
         return {**dict.fromkeys(["protocol", "user", "host", "port", "path"]), "same": False, "why": why}
     found = [*git_reads(text)]
-    same, why = found == [reading(v)], None if found else unread(text)
+    own = Reading(v.scheme[0].lower(), v.user, v.password, v.host or None, v.port, v.path)
+    same, why = found == [own], None if found else unread(text)
     if found and v.password is not None:
         found, why = [], "Password"
     nothing: tuple = (None,) * 6

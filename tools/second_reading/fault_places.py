@@ -14,7 +14,7 @@ Place = namedtuple("Place", "at len reason")
 SENTENCES = {
     "Empty": "the text is empty",
     "SchemeTooLong": "the scheme is longer than 1024 bytes",
-    "AuthorityTooLong": "more than 1024 bytes follow `://` before the path; slashes directly behind `://` do not start one",
+    "AuthorityTooLong": "more than 1024 bytes follow `://` before the path; slashes directly after `://` do not start one",
     "NotUtf8": "these bytes are not UTF-8",
     "WhiteSpace": "white space is not allowed in a URL: remove it, or write a space as `%20`",
     "BrokenEscape": "a `%` must be followed by two hexadecimal digits",
@@ -35,11 +35,11 @@ SENTENCES = {
     "HostCharacter": "this character is not allowed in the host of HTTP",
     "PortTooLarge": "a port must be at most 65535",
     "PortZero": "the port of HTTP must not be 0",
-    "HostBehindUser": "the host behind the `@` is missing",
+    "HostBehindUser": "the host after the `@` is missing",
     "HostMissing": "a host is required and there is none",
-    "PathMissing": "a path is required: write `/` and the path behind the host",
+    "PathMissing": "a path is required: write `/` and the path after the host",
     "FilePathMissing": "a file URL needs a path: write `file:///path`",
-    "ScpPathMissing": "the path behind the `:` is missing",
+    "ScpPathMissing": "the path after the `:` is missing",
 }
 
 
@@ -111,10 +111,10 @@ def bracket_fault(mode, piece, at):
     x, closing, back = piece[1:].partition(b"]")
     if not closing:
         return Place(at, 1, "UnclosedBracket")
-    behind, colon, digits = back.partition(b":")
+    suffix, colon, digits = back.partition(b":")
     begins = at + len(x) + 2
-    if behind:
-        return Place(begins, len(behind), "BehindBracket")
+    if suffix:
+        return Place(begins, len(suffix), "BehindBracket")
     begins += len(colon)
     return inner_fault(mode, x, at + 1) or digits_fault(digits, begins) or range_fault(mode, digits, begins)
 

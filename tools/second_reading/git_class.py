@@ -59,8 +59,8 @@ def is_unambiguous_host(host):
 
 def has_dot_segment(path):
     """A segment `.` or `..` after a `/`, which ends at a `/`, at a `?` or at the end."""
-    return any(behind[:len(dots)] == dots and (behind[len(dots):] == b"" or behind[len(dots)] in b"/?")
-               for _, behind in cuts(path, b"/") for dots in (b".", b".."))
+    return any(suffix[:len(dots)] == dots and (suffix[len(dots):] == b"" or suffix[len(dots)] in b"/?")
+               for _, suffix in cuts(path, b"/") for dots in (b".", b".."))
 
 
 def has_unambiguous_path(v):

@@ -51,10 +51,10 @@ def fits(scheme, rest):
     if len(scheme) > 1024:
         return False
     dense = bytes(b for b in rest if b not in ASCII_WHITE_SPACE)
-    for slashes, behind in halves(dense):
-        if any(b not in b"/\\" for b in slashes) or behind[:1] in (b"/", b"\\"):
+    for slashes, suffix in halves(dense):
+        if any(b not in b"/\\" for b in slashes) or suffix[:1] in (b"/", b"\\"):
             continue
-        for x, y in path_cuts(scheme, behind):
+        for x, y in path_cuts(scheme, suffix):
             if (len(rest) if y == b"" else len(x)) <= 1024:
                 return True
     return False

@@ -9,7 +9,7 @@ URL = re.compile(rb"(?:[A-Za-z][0-9A-Za-z+.-]*:)?//([^/?#]*)")
 WEB_URL = re.compile(rb"https?:[/\\]*([^/\\?#]*)")
 SCP = re.compile(rb"([^:]*):(?!:|//)")
 USER_FIRST = re.compile(rb"[^@]*@([^:]*):")
-PORT_BEHIND = re.compile(rb"([^:]*:[0-9]+)[/:]")
+PORT_AFTER = re.compile(rb"([^:]*:[0-9]+)[/:]")
 FOUR_NUMBERS = re.compile(rb"((?:[0-9]{1,3}\.){3}[0-9]{1,3})\.")
 
 
@@ -19,13 +19,13 @@ def front(pattern: re.Pattern[bytes], text: bytes) -> bytes:
     return found[1] if found else b""
 
 
-def behind_user(authority: bytes) -> bytes:
+def after_user(authority: bytes) -> bytes:
     return authority.rpartition(b"@")[2]
 
 
 def host_in(authority: bytes) -> bytes:
     """The host of an authority, without user information, port and brackets."""
-    named = behind_user(authority)
+    named = after_user(authority)
     if named.startswith(b"["):
         return named[1:].partition(b"]")[0]
     return named.rpartition(b":")[0] if b":" in named else named
@@ -51,7 +51,7 @@ def made_urls(text: bytes) -> bytes:
 
 def first_colon(text: bytes) -> bytes:
     """The first `:` ends the host of the scp form, with a `/` before it or not, and the last `@` before it ends a user."""
-    return behind_user(front(SCP, text))
+    return after_user(front(SCP, text))
 
 
 def first_at(text: bytes) -> bytes:
@@ -61,7 +61,7 @@ def first_at(text: bytes) -> bytes:
 
 def digits_are_port(text: bytes) -> bytes:
     """In the scp form digits after the first `:` are a port, if a `/` or `:` follows them."""
-    return behind_user(front(PORT_BEHIND, text))
+    return after_user(front(PORT_AFTER, text))
 
 
 def four_numbers(text: bytes) -> bytes:

@@ -65,8 +65,8 @@ def places(text):
 def redacted(text):
     """The text with the word instead of each secret."""
     shown, end = b"", 0
-    for begin, behind in places(text):
-        shown, end = shown + text[end:begin] + WORD, behind
+    for begin, after in places(text):
+        shown, end = shown + text[end:begin] + WORD, after
     return shown + text[end:]
 
 

@@ -65,7 +65,7 @@ def text_faults(b):
     before = spells_scp(b, before=True)
     if address_scp_shapes(b):
         if not plain_scp_shapes(b):
-            yield "an address in brackets behind a user, and no other scp shape"
+            yield "an address in brackets after a user, and no other scp shape"
         if before and before != spells_scp(b):
             yield "the shape with user and address changes a value"
     elif before != spells_scp(b):
@@ -95,7 +95,7 @@ def check_texts(length, prefix):
             for fault in text_faults(prefix + bytes(tail)):
                 bad += 1
                 print(prefix + bytes(tail), fault)
-    print(f"{count} texts behind {prefix!r}, {bad} faults")
+    print(f"{count} texts after {prefix!r}, {bad} faults")
     return bad == 0
 
 

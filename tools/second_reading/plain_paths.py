@@ -12,7 +12,7 @@ from second_reading import grammar, octets
 # The components of the path of a URL
 
 # The role of the bytes after a mark, by the role of the mark. In any other role it is an ordinary byte.
-BEHIND = {
+AFTER = {
     ("path", b"?"): "name", ("name", b"="): "value", ("name", b"&"): "name", ("value", b"&"): "name",
     ("path", b"#"): "fragment", ("name", b"#"): "fragment", ("value", b"#"): "fragment"}
 
@@ -23,8 +23,8 @@ def pieces(path):
     for number in path:
         place, piece = found[-1]
         byte = bytes([number])
-        if (place, byte) in BEHIND:
-            found.append((BEHIND[place, byte], b""))
+        if (place, byte) in AFTER:
+            found.append((AFTER[place, byte], b""))
         else:
             found[-1] = (place, piece + byte)
     return found
@@ -48,18 +48,18 @@ def decoded(piece):
 
 def components(path, is_spelled):
     """The components of a path; in an escaped path escapes represent bytes."""
-    meant = decoded if is_spelled else bytes
+    denoted = decoded if is_spelled else bytes
 
     def term(piece):
-        text = meant(piece.replace(b"+", b" "))
+        text = denoted(piece.replace(b"+", b" "))
         return {"owned": text} if b"+" in piece else text
 
     found = pieces(path)
-    outcome = {"path": meant(found[0][1]) or b"/"}
+    outcome = {"path": denoted(found[0][1]) or b"/"}
     if any(place == "name" for place, _ in found):
         outcome["query"] = [[term(name), term(value)] for name, value in fields(found)]
     if found[-1][0] == "fragment":
-        outcome["fragment"] = meant(found[-1][1])
+        outcome["fragment"] = denoted(found[-1][1])
     return outcome
 
 

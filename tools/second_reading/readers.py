@@ -4,9 +4,10 @@ alike that the location doesn't meet, by the conditions of `unambiguous`, and th
 import re
 from collections import namedtuple
 
-from git_reads import git_reads
 from second_reading import grammar, hidden, octets, unambiguous, writing
-from second_reading.explain import agrees_with_git, lossy
+from second_reading.explain import lossy
+from second_reading.git_class import agrees_with_git
+from second_reading.git_reads import git_reads
 from second_reading.groups import host_name, other_hosts
 from web_reads import curl_reads
 

@@ -66,7 +66,7 @@ def read_in(row):
     found = grammar.spells(given)
     if found is None:
         return {name: it for name, it in refused(given).items() if name not in ("kept", "total")}
-    return {"error": "NoRoom"} if row.get("room", len(given)) < len(given) else record(found)
+    return {"error": "NoRoom"} if row.get("buffer", len(given)) < len(given) else record(found)
 
 
 def refusal(given):

@@ -3,7 +3,8 @@
 It is written from the words of docs/EXPLAIN.md, not from the code.
 """
 from second_reading import grammar, hidden, settled_class
-from second_reading.explain import agrees_with_git, form
+from second_reading.explain import form
+from second_reading.git_class import agrees_with_git
 
 
 def verdicts(v):

@@ -7,11 +7,12 @@ curl's port follows its host, and that slashes at the end of a path make no row 
 """
 import re
 
-from git_reads import git_reads
 from second_reading import grammar, hidden
 from second_reading.dangers import WORDS, dangers
-from second_reading.explain import agrees_with_git, form, told
+from second_reading.explain import form, told
 from second_reading.explain_tables import NAMES
+from second_reading.git_class import agrees_with_git
+from second_reading.git_reads import git_reads
 from second_reading.groups import host_name, is_own, other_hosts
 from second_reading.hint_sentences import SENTENCES
 from second_reading.plain_paths import shell_path
@@ -19,8 +20,8 @@ from second_reading.readers import git_host
 from second_reading.seen import seen
 from second_reading.shown_text import cells, columns, for_shell, quoted, shown
 from second_reading.stored_run import object_of
+from second_reading.web_plain import broken
 from second_reading.writing import canonical_path, text
-from web_plain import broken
 
 GROUPS = {
     "urls": "readers of URLs (RFC 3986), as Go and Python", "url_standard": "readers of the URL Standard (WHATWG), as Node and Rust",
@@ -92,10 +93,10 @@ def named_below(line, v):
     found = [(name, *columns(line, begin, end)) for name, begin, end in pieces(line, v)]
     yield placed((begin, "-" * (end - begin)) for _, begin, end in found)
     while found:
-        row, left, behind = [], [], None
+        row, left, following = [], [], None
         for name, begin, end in reversed(found):
-            fits = behind is None or begin + len(name) < behind
-            row, behind = [(begin, name if fits else "|"), *row], begin
+            fits = following is None or begin + len(name) < following
+            row, following = [(begin, name if fits else "|"), *row], begin
             left = left if fits else [(name, begin, end), *left]
         yield placed(row)
         found = left
@@ -179,7 +180,7 @@ def read_over_web(v):
         yield "curl", "refuses its text"
         return
     if v.host.endswith(b"]:"):
-        raise KeyError("no line has words for brackets with a colon behind them")
+        raise KeyError("no line has words for brackets with a colon after them")
     if reads["host"].encode() != v.host:
         port = "" if v.port is None else f", port {reads['port']}"
         yield "curl", f"connects to the host {quoted(reads['host'].encode())}{port}"

@@ -229,12 +229,12 @@ class Url:
     def _ref(self) -> Any:
         """A pointer to the struct of this location, which keeps the bytes that it points to."""
         port = {"has_port": self.port is not None, "port": self.port or 0}
-        lent = Location(scheme=self.scheme, alternative=self.alternative, **port)
-        lent.kept = [it.encode() if isinstance(it, str) else it for it in (getattr(self, name) for name in _PARTS)]
-        for name, part in zip(_PARTS, lent.kept):
+        borrowed = Location(scheme=self.scheme, alternative=self.alternative, **port)
+        borrowed.kept = [it.encode() if isinstance(it, str) else it for it in (getattr(self, name) for name in _PARTS)]
+        for name, part in zip(_PARTS, borrowed.kept):
             if part is not None:
-                setattr(lent, name, text_of(part))
-        return ref(lent)
+                setattr(borrowed, name, text_of(part))
+        return ref(borrowed)
 
 
 # The types that the value of a field may have, and the fields that the library takes as bytes.

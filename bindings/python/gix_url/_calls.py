@@ -143,7 +143,7 @@ def fields_of(of: Any) -> Any:
     return of
 
 
-def lent(kind: Any, **fields: Any) -> Any:
+def borrowed(kind: Any, **fields: Any) -> Any:
     """A struct with these fields. Bytes become pointers to them, and the struct keeps the bytes. None leaves
     a field 0."""
     there = {name: it for name, it in fields.items() if it is not None}

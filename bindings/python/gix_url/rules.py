@@ -28,7 +28,7 @@ from typing import Any
 import gix_url
 
 from . import _calls, _results
-from ._calls import lent, make
+from ._calls import borrowed, make
 from ._library import Problem
 from ._results import (
     Abnormal, Credentials, Danger, Decider, Decision, Entry, Family, Flaw, GitPlace, NoTransport, Permission,
@@ -156,7 +156,7 @@ class Configuration:
         protocol.allow. The variables GIT_ALLOW_PROTOCOL, `allow_list`, and GIT_PROTOCOL_FROM_USER,
         `from_user`, are None if they aren't set. Raises Error, whose name is NoLocation, for a transport that
         is not UTF-8."""
-        policy = lent(_calls.Policy, **_optional(allow_list=allow_list, from_user=from_user))
+        policy = borrowed(_calls.Policy, **_optional(allow_list=allow_list, from_user=from_user))
         found = self._made("permission_of", policy, *_measured("transport", transport)).fields
         by = Decider(found["by"]) if found["by"] else None
         return Permission(Decision(found["decision"]), by, found["at"] if by == Decider.BY_ENTRY else None)
@@ -188,7 +188,7 @@ class Configuration:
         variables GIT_SSH_COMMAND, GIT_SSH and GIT_SSH_VARIANT are None if they aren't set. Raises NoValue at
         the last core.sshCommand or ssh.variant if that counts and has no value."""
         texts = _optional(git_ssh_command=git_ssh_command, git_ssh=git_ssh, git_ssh_variant=git_ssh_variant)
-        found = self._made("ssh_program_of", lent(_calls.SshVariables, **texts)).fields
+        found = self._made("ssh_program_of", borrowed(_calls.SshVariables, **texts)).fields
         return SshProgram(found["text"] or b"", found["is_command_line"], Variant(found["variant"]))
 
     def submodules(self) -> tuple[Submodule, ...]:
@@ -232,7 +232,7 @@ def _lent_entry(entry: Entry) -> Any:
     """An entry in the form that the library takes: none of its pointers is null."""
     fields = {it.name: getattr(entry, it.name) for it in dataclasses.fields(entry)}
     there = {f"has_{name}": fields[name] is not None for name in ("subsection", "value")}
-    return lent(_calls.Entry, **{name: b"" if it is None else it for name, it in fields.items()}, **there)
+    return borrowed(_calls.Entry, **{name: b"" if it is None else it for name, it in fields.items()}, **there)
 
 
 def transport_of(text: Text) -> str | NoTransport:
@@ -276,7 +276,7 @@ def ssh_words(
     if not 0 <= version <= 2:
         raise ValueError("gix_url: the version is out of range")
     numbers = {"service": service, "variant": variant, "version": version, "family": family}
-    made = _made("ssh_words", url._ref(), lent(_calls.SshRequest, **numbers, **_optional(program=program)))
+    made = _made("ssh_words", url._ref(), borrowed(_calls.SshRequest, **numbers, **_optional(program=program)))
     if made.fields["refusal"]:
         return SshRefusal(made.fields["refusal"])
     return SshCommand(tuple(made.items), made.fields["git_protocol"] or None)

@@ -24,8 +24,8 @@ fn push(bytes: &mut Vec<u8>, character: char) -> Result<(), Halt> {
     match u8::try_from(code.wrapping_sub(FIRST)) {
         Ok(byte) if !byte.is_ascii() => Ok(bytes.push(byte)?),
         _ => {
-            let mut room = [0u8; 4];
-            let text = character.encode_utf8(&mut room);
+            let mut buffer = [0u8; 4];
+            let text = character.encode_utf8(&mut buffer);
             Ok(bytes.extend_from_slice(text.as_bytes())?)
         }
     }

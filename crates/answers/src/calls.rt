@@ -14,7 +14,7 @@ mod url;
 
 use crate::halt::Halt;
 use crate::order::{Order, unknown};
-use crate::report::{Out, report_lent, report_owned};
+use crate::report::{Out, report_borrowed, report_owned};
 use crate::shown::show;
 use crate::{build, dangers, errors, misreadings, resolved, rule_words, rules, secrets};
 use git_audit::secret::law::law_secrets;
@@ -80,8 +80,8 @@ fn over_error(alloc: Global, order: Order<'_>, out: &mut Out) -> Result<(), Halt
         "WriteFault:fmt" => show(out, style, &errors::write_fault(order.needed("fault")?)?),
         "WriteError:fmt" => show(out, style, &errors::write_error(order)?),
         "RunError:fmt" => show(out, style, &errors::run_error(order)?),
-        "lines::fault_line" => report_lent(out, &fault_line(&errors::run_error(order)?)),
-        "lines::status" => report_lent(out, &status(&errors::outcome(order)?)),
+        "lines::fault_line" => report_borrowed(out, &fault_line(&errors::run_error(order)?)),
+        "lines::status" => report_borrowed(out, &status(&errors::outcome(order)?)),
         "Url::default_in" => report_owned(out, Url::default_in(alloc)),
         _ => over_nothing(order, out),
     }
@@ -91,8 +91,8 @@ fn over_error(alloc: Global, order: Order<'_>, out: &mut Out) -> Result<(), Halt
 fn look_at_error(alloc: Global, order: Order<'_>, out: &mut Out) -> Result<(), Halt> {
     let error = errors::error(alloc, order)?;
     let outcome = match order.call() {
-        "Error::is_memory" => report_lent(out, &error.is_memory()),
-        "Error::refusal" => report_lent(out, &error.refusal()),
+        "Error::is_memory" => report_borrowed(out, &error.is_memory()),
+        "Error::refusal" => report_borrowed(out, &error.refusal()),
         "Error:fmt" => show(out, order.style(), &error),
         call => unknown(call),
     };
@@ -103,14 +103,14 @@ fn look_at_error(alloc: Global, order: Order<'_>, out: &mut Out) -> Result<(), H
 /// Laws, which hold for all values, and whose calls do nothing.
 fn over_nothing(order: Order<'_>, out: &mut Out) -> Result<(), Halt> {
     match order.call() {
-        "laws::law_address_test" => report_lent(out, &laws::law_address_test()),
-        "laws::law_sets" => report_lent(out, &laws::law_sets()),
-        "laws::law_arguments" => report_lent(out, &laws::law_arguments()),
-        "laws::law_separation" => report_lent(out, &laws::law_separation()),
-        "laws::law_stored" => report_lent(out, &laws::law_stored()),
-        "laws::law_closed" => report_lent(out, &laws::law_closed()),
-        "laws::law_order" => report_lent(out, &laws::law_order()),
-        "laws::law_scheme_order" => report_lent(out, &laws::law_scheme_order()),
+        "laws::law_address_test" => report_borrowed(out, &laws::law_address_test()),
+        "laws::law_sets" => report_borrowed(out, &laws::law_sets()),
+        "laws::law_arguments" => report_borrowed(out, &laws::law_arguments()),
+        "laws::law_separation" => report_borrowed(out, &laws::law_separation()),
+        "laws::law_stored" => report_borrowed(out, &laws::law_stored()),
+        "laws::law_closed" => report_borrowed(out, &laws::law_closed()),
+        "laws::law_order" => report_borrowed(out, &laws::law_order()),
+        "laws::law_scheme_order" => report_borrowed(out, &laws::law_scheme_order()),
         _ => over_nothing_else(order, out),
     }
 }
@@ -118,18 +118,18 @@ fn over_nothing(order: Order<'_>, out: &mut Out) -> Result<(), Halt> {
 /// The other laws, and calls over judgements of parts.
 fn over_nothing_else(order: Order<'_>, out: &mut Out) -> Result<(), Halt> {
     match order.call() {
-        "laws::law_refusals" => report_lent(out, &laws::law_refusals()),
-        "laws::law_readers" => report_lent(out, &laws::law_readers()),
-        "laws::law_lines" => report_lent(out, &laws::law_lines()),
-        "laws::law_components" => report_lent(out, &laws::law_components()),
-        "laws::law_git" => report_lent(out, &laws::law_git()),
-        "laws::law_known_readers" => report_lent(out, &laws::law_known_readers()),
-        "laws::law_unambiguous" => report_lent(out, &laws::law_unambiguous()),
-        "laws::law_stripped" => report_lent(out, &laws::law_stripped()),
-        "laws::law_homes" => report_lent(out, &laws::law_homes()),
-        "laws::law_user_order" => report_lent(out, &laws::law_user_order()),
-        "laws::law_secrets" => report_lent(out, &law_secrets()),
-        "laws::law_hidden_password" => report_lent(out, &laws::law_hidden_password()),
+        "laws::law_refusals" => report_borrowed(out, &laws::law_refusals()),
+        "laws::law_readers" => report_borrowed(out, &laws::law_readers()),
+        "laws::law_lines" => report_borrowed(out, &laws::law_lines()),
+        "laws::law_components" => report_borrowed(out, &laws::law_components()),
+        "laws::law_git" => report_borrowed(out, &laws::law_git()),
+        "laws::law_known_readers" => report_borrowed(out, &laws::law_known_readers()),
+        "laws::law_unambiguous" => report_borrowed(out, &laws::law_unambiguous()),
+        "laws::law_stripped" => report_borrowed(out, &laws::law_stripped()),
+        "laws::law_homes" => report_borrowed(out, &laws::law_homes()),
+        "laws::law_user_order" => report_borrowed(out, &laws::law_user_order()),
+        "laws::law_secrets" => report_borrowed(out, &law_secrets()),
+        "laws::law_hidden_password" => report_borrowed(out, &laws::law_hidden_password()),
         "ArgumentSafety:Eq" => over_judgements(order, out),
         _ => rules::over_nothing(order, out),
     }
@@ -139,5 +139,5 @@ fn over_nothing_else(order: Order<'_>, out: &mut Out) -> Result<(), Halt> {
 fn over_judgements(order: Order<'_>, out: &mut Out) -> Result<(), Halt> {
     let one = build::judgement(order, "one");
     let copy = one;
-    report_lent(out, &(one == copy, one == build::judgement(order, "other")))
+    report_borrowed(out, &(one == copy, one == build::judgement(order, "other")))
 }

@@ -5,7 +5,7 @@
 
 use crate::halt::Halt;
 use crate::order::{Order, unknown};
-use crate::report::{Out, report_lent, report_owned};
+use crate::report::{Out, report_borrowed, report_owned};
 use bstr::BString;
 use git_rules::ssh::{
     AddressFamily, ProtocolVersion, Service, SshCommand, SshError, SshRefusal, SshRequest,
@@ -55,7 +55,7 @@ fn version(order: Order<'_>) -> Result<ProtocolVersion, Halt> {
 pub fn over_service(order: Order<'_>, out: &mut Out) -> Result<(), Halt> {
     let service = service(order)?;
     match order.call() {
-        "Service::as_str" => report_lent(out, &service.as_str()),
+        "Service::as_str" => report_borrowed(out, &service.as_str()),
         call => unknown(call),
     }
 }
@@ -120,7 +120,7 @@ fn over_made(
     out: &mut Out,
 ) -> Result<(), Halt> {
     match made {
-        Err(refusal) => report_lent(out, &refusal),
+        Err(refusal) => report_borrowed(out, &refusal),
         Ok(command) => over_command(alloc, order, command, out),
     }
 }
@@ -136,7 +136,7 @@ fn over_command(
         "ssh::ssh_command" | "ssh::ssh_command_for" | "SshCommand::to_words" => {
             report_owned(out, words_of(alloc, &command))
         }
-        "SshCommand::git_protocol" => report_lent(out, &command.git_protocol()),
+        "SshCommand::git_protocol" => report_borrowed(out, &command.git_protocol()),
         call => unknown(call),
     };
     drop(command);

@@ -2,7 +2,7 @@
 
 use crate::halt::Halt;
 use crate::order::{Order, unknown};
-use crate::report::{Out, Report, report_lent, report_member, report_owned};
+use crate::report::{Out, Report, report_borrowed, report_member, report_owned};
 use bstr::BStr;
 use git_rules::config::Entry;
 use git_rules::credentials::{Credentials, CredentialsError, credentials_for};
@@ -46,7 +46,7 @@ pub fn over_entries(
     let mut buffers = Buffers::new(alloc);
     let outcome = match reading(text.as_slice(), &mut buffers) {
         Ok(Some(request)) => over_request(alloc, order, entries, &request, out),
-        Ok(None) => report_lent(out, &()),
+        Ok(None) => report_borrowed(out, &()),
         Err(_) => report_owned(out, Error::Memory),
     };
     drop(buffers);

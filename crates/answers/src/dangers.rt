@@ -5,7 +5,7 @@
 use crate::build;
 use crate::halt::Halt;
 use crate::order::{Order, unknown};
-use crate::report::{Out, Report, report_lent, report_owned};
+use crate::report::{Out, Report, report_borrowed, report_owned};
 use git_audit::danger::{Danger, dangers};
 use std::alloc::Global;
 use std::io::{self, Write};
@@ -40,8 +40,8 @@ fn over_url(alloc: Global, order: Order<'_>, out: &mut Out) -> Result<(), Halt> 
 /// Reports the name of a danger, or its words.
 fn over_danger(order: Order<'_>, danger: Danger, out: &mut Out) -> Result<(), Halt> {
     match order.call() {
-        "Danger::name" => report_lent(out, &danger.name()),
-        "Danger::words" => report_lent(out, &danger.words()),
+        "Danger::name" => report_borrowed(out, &danger.name()),
+        "Danger::words" => report_borrowed(out, &danger.words()),
         call => unknown(call),
     }
 }

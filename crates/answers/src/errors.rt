@@ -265,7 +265,7 @@ fn stream_error(order: Order<'_>) -> io::Error {
     };
     match order.text("cause") {
         Some("nobody reads") => io::Error::new(kind, "nobody reads"),
-        Some("no room is left") => io::Error::new(kind, "no room is left"),
+        Some("no space is left") => io::Error::new(kind, "no space is left"),
         _ => io::Error::from(kind),
     }
 }

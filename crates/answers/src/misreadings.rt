@@ -5,7 +5,7 @@
 use crate::build;
 use crate::halt::Halt;
 use crate::order::{Order, unknown};
-use crate::report::{Out, report_lent};
+use crate::report::{Out, report_borrowed};
 use bstr::BStr;
 use git_audit::misreading::{Group, is_misread, other_host};
 use gix_url::UrlRef;
@@ -44,7 +44,7 @@ fn over_location(
     out: &mut Out,
 ) -> Result<(), Halt> {
     match order.call() {
-        "misreading::is_misread" => report_lent(out, &is_misread(text, url)),
+        "misreading::is_misread" => report_borrowed(out, &is_misread(text, url)),
         "misreading::other_host" => report_host(out, other_host(text, url, group_of(order)?)),
         call => unknown(call),
     }
@@ -53,8 +53,8 @@ fn over_location(
 /// Reports the name of a group, its words, or the host that it finds.
 fn over_group(order: Order<'_>, group: Group, text: &[u8], out: &mut Out) -> Result<(), Halt> {
     match order.call() {
-        "Group::name" => report_lent(out, &group.name()),
-        "Group::words" => report_lent(out, &group.words()),
+        "Group::name" => report_borrowed(out, &group.name()),
+        "Group::words" => report_borrowed(out, &group.words()),
         "Group::host_in" => report_host(out, group.host_in(text)),
         call => unknown(call),
     }
@@ -62,7 +62,7 @@ fn over_group(order: Order<'_>, group: Group, text: &[u8], out: &mut Out) -> Res
 
 /// Reports a host, if there is one.
 fn report_host(out: &mut Out, host: Option<&[u8]>) -> Result<(), Halt> {
-    report_lent(out, &host.map(|host| BStr::new(host)))
+    report_borrowed(out, &host.map(|host| BStr::new(host)))
 }
 
 /// The group of an order.

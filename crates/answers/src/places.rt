@@ -1,11 +1,11 @@
 //! Calls of `git_rules` over places: normal forms, patterns, and entries that apply to a place.
 //!
 //! Each normal form is written into a buffer, whose size is the one that the call needs, or that of the
-//! member `room`.
+//! member `buffer`.
 
 use crate::halt::Halt;
 use crate::order::{Order, unknown};
-use crate::report::{Out, report_lent, report_owned};
+use crate::report::{Out, report_borrowed, report_owned};
 use bstr::{BStr, ByteSlice};
 use git_rules::config::Entry;
 use git_rules::normal::{NormalError, NormalUrl, needed_buffer_len};
@@ -18,8 +18,8 @@ use std::alloc::Global;
 
 /// A buffer for a normal form: its size is the number in the order, or else the size that a text of this length needs.
 /// The buffer is filled with `#`: bytes that the library doesn't write aren't part of a place.
-fn room_of(alloc: Global, order: Order<'_>, len: usize) -> Result<Vec<u8>, Halt> {
-    let size = match order.number("room") {
+fn buffer_of(alloc: Global, order: Order<'_>, len: usize) -> Result<Vec<u8>, Halt> {
+    let size = match order.number("buffer") {
         Some(size) => usize::try_from(size).unwrap_or(0),
         None => needed_buffer_len(len),
     };
@@ -30,19 +30,19 @@ fn room_of(alloc: Global, order: Order<'_>, len: usize) -> Result<Vec<u8>, Halt>
 pub fn over_len(order: Order<'_>, len: u64, out: &mut Out) -> Result<(), Halt> {
     let len = usize::try_from(len).unwrap_or(0);
     match order.call() {
-        "normal::needed_buffer_len" => report_lent(out, &needed_buffer_len(len)),
+        "normal::needed_buffer_len" => report_borrowed(out, &needed_buffer_len(len)),
         call => unknown(call),
     }
 }
 
 /// Calls over a text, or over a text and a pattern.
 pub fn over_text(alloc: Global, order: Order<'_>, text: &[u8], out: &mut Out) -> Result<(), Halt> {
-    let mut room = room_of(alloc, order, text.len())?;
+    let mut buffer = buffer_of(alloc, order, text.len())?;
     let outcome = match order.name() {
-        "NormalUrl::parse_in" | "UrlPattern::parse_in" => read_apart(order, text, &mut room, out),
-        _ => over_place(alloc, order, NormalUrl::parse_in(text, &mut room), out),
+        "NormalUrl::parse_in" | "UrlPattern::parse_in" => read_apart(order, text, &mut buffer, out),
+        _ => over_place(alloc, order, NormalUrl::parse_in(text, &mut buffer), out),
     };
-    drop(room);
+    drop(buffer);
     outcome
 }
 
@@ -63,23 +63,23 @@ fn holds(bytes: &[u8], text: &str) -> bool {
 
 /// Reports the normal form of a text, or whether it is a pattern. If the text isn't a URL or the buffer is too short, the
 /// buffer has to be unchanged.
-fn read(order: Order<'_>, text: &[u8], room: &mut [u8], out: &mut Out) -> Result<(), Halt> {
+fn read(order: Order<'_>, text: &[u8], buffer: &mut [u8], out: &mut Out) -> Result<(), Halt> {
     let is_kept = match order.call() {
         "NormalUrl::parse_in" => {
-            let read = NormalUrl::parse_in(text, room);
+            let read = NormalUrl::parse_in(text, buffer);
             let is_kept = keeps_buffer(&read);
             report_owned(out, read)?;
             is_kept
         }
         "UrlPattern::parse_in" => {
-            let read = UrlPattern::parse_in(text, room).map(is_pattern);
+            let read = UrlPattern::parse_in(text, buffer).map(is_pattern);
             let is_kept = keeps_buffer(&read);
             report_owned(out, read)?;
             is_kept
         }
         call => return unknown(call),
     };
-    if is_kept && !room.iter().all(|&byte| byte == b'#') {
+    if is_kept && !buffer.iter().all(|&byte| byte == b'#') {
         return Err(Halt::Changed);
     }
     Ok(())
@@ -104,17 +104,17 @@ fn over_place(
     out: &mut Out,
 ) -> Result<(), Halt> {
     let text = order.bytes(alloc, "pattern")?;
-    let mut room = room_of(alloc, order, text.len())?;
+    let mut buffer = buffer_of(alloc, order, text.len())?;
     let outcome = match place {
         Err(error) => refused(order, error, out),
         Ok(place) => {
-            let pattern = UrlPattern::parse_in(text.as_slice(), &mut room);
+            let pattern = UrlPattern::parse_in(text.as_slice(), &mut buffer);
             let outcome = over_pattern(order, &place, pattern, out);
             drop(place);
             outcome
         }
     };
-    drop(room);
+    drop(buffer);
     drop(text);
     outcome
 }
@@ -123,7 +123,7 @@ fn over_place(
 fn refused(order: Order<'_>, error: NormalError, out: &mut Out) -> Result<(), Halt> {
     match order.call() {
         "" => Ok(()),
-        _ => report_lent(out, &error),
+        _ => report_borrowed(out, &error),
     }
 }
 
@@ -142,8 +142,8 @@ fn over_pattern(
         Err(_) => (false, None),
     };
     match order.call() {
-        "UrlPattern::matches" => report_lent(out, &is_match),
-        "pattern::best" => report_lent(out, &found),
+        "UrlPattern::matches" => report_borrowed(out, &is_match),
+        "pattern::best" => report_borrowed(out, &found),
         call => unknown(call),
     }
 }
@@ -157,17 +157,17 @@ pub fn over_entries(
     out: &mut Out,
 ) -> Result<(), Halt> {
     let text = order.bytes(alloc, "text")?;
-    let mut own = room_of(alloc, order, text.len())?;
-    let mut room = room_of(alloc, order, len)?;
+    let mut own = buffer_of(alloc, order, text.len())?;
+    let mut buffer = buffer_of(alloc, order, len)?;
     let outcome = match NormalUrl::parse_in(text.as_slice(), &mut own) {
         Err(error) => refused(order, error, out),
         Ok(place) => {
-            let outcome = over_place_of(alloc, order, entries, &place, &mut room, out);
+            let outcome = over_place_of(alloc, order, entries, &place, &mut buffer, out);
             drop(place);
             outcome
         }
     };
-    drop(room);
+    drop(buffer);
     drop(own);
     drop(text);
     outcome
@@ -179,12 +179,12 @@ fn over_place_of(
     order: Order<'_>,
     entries: &[Entry<'_>],
     place: &NormalUrl<'_>,
-    room: &mut [u8],
+    buffer: &mut [u8],
     out: &mut Out,
 ) -> Result<(), Halt> {
     match order.name() {
-        "settings::settings_for" => settle(alloc, order, entries, place, room, out),
-        _ => pick(order, entries, place, room, out),
+        "settings::settings_for" => settle(alloc, order, entries, place, buffer, out),
+        _ => pick(order, entries, place, buffer, out),
     }
 }
 
@@ -194,13 +194,13 @@ fn settle(
     order: Order<'_>,
     entries: &[Entry<'_>],
     place: &NormalUrl<'_>,
-    room: &mut [u8],
+    buffer: &mut [u8],
     out: &mut Out,
 ) -> Result<(), Halt> {
     let name = order.needed("name")?;
     match order.call() {
         "settings::settings_for" => {
-            report_owned(out, settings_for(alloc, entries, name, place, room))
+            report_owned(out, settings_for(alloc, entries, name, place, buffer))
         }
         call => unknown(call),
     }
@@ -227,7 +227,7 @@ fn pick(
     order: Order<'_>,
     entries: &[Entry<'_>],
     place: &NormalUrl<'_>,
-    room: &mut [u8],
+    buffer: &mut [u8],
     out: &mut Out,
 ) -> Result<(), Halt> {
     let (section, name) = (order.needed("section")?, order.needed("name")?);
@@ -235,12 +235,12 @@ fn pick(
         ("entries::best_entry", _) => {
             value_of(
                 entries,
-                best_entry(entries, section, name, place, room),
+                best_entry(entries, section, name, place, buffer),
                 out,
             )
         }
         ("entries::entry_rank", Some(entry)) => {
-            report_lent(out, &entry_rank(entry, section, name, place, room))
+            report_borrowed(out, &entry_rank(entry, section, name, place, buffer))
         }
         ("entries::entry_rank", None) => Err(Halt::Unprepared),
         (call, _) => unknown(call),
@@ -254,11 +254,11 @@ fn value_of(
     out: &mut Out,
 ) -> Result<(), Halt> {
     match found {
-        Err(error) => report_lent(out, &error),
+        Err(error) => report_borrowed(out, &error),
         Ok(at) => {
             let entry = at.and_then(|at| entries.get(at));
             let value = entry.and_then(|entry| entry.value);
-            report_lent(out, &value.map(|value| BStr::new(value)))
+            report_borrowed(out, &value.map(|value| BStr::new(value)))
         }
     }
 }
@@ -274,11 +274,11 @@ pub fn over_location(
         Ok(len) => usize::try_from(len).unwrap_or(0),
         Err(_) => 0,
     };
-    let mut room = room_of(alloc, order, len.saturating_mul(2))?;
+    let mut buffer = buffer_of(alloc, order, len.saturating_mul(2))?;
     let outcome = match order.call() {
-        "place::place_in" => report_owned(out, place_in(url, &mut room)),
+        "place::place_in" => report_owned(out, place_in(url, &mut buffer)),
         call => unknown(call),
     };
-    drop(room);
+    drop(buffer);
     outcome
 }

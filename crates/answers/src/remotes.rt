@@ -2,7 +2,7 @@
 
 use crate::halt::Halt;
 use crate::order::{Order, unknown};
-use crate::report::{Out, report_lent, report_member, report_name, report_owned};
+use crate::report::{Out, report_borrowed, report_member, report_name, report_owned};
 use bstr::{BStr, BString};
 use git_rules::config::Entry;
 use git_rules::remote::{Remote, RemoteError};
@@ -64,10 +64,10 @@ fn report_remote(
     out: &mut Out,
 ) -> Result<(), Halt> {
     match remote {
-        Err(error) => report_lent(out, &error),
+        Err(error) => report_borrowed(out, &error),
         Ok(remote) => {
             let outcome = match both_texts(alloc, &remote) {
-                Err(_) => report_lent(out, &RemoteError::Memory),
+                Err(_) => report_borrowed(out, &RemoteError::Memory),
                 Ok(texts) => report_parts(&remote, texts, out),
             };
             drop(remote);

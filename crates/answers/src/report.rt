@@ -24,7 +24,7 @@ pub fn report_owned<T: Report + Drop>(out: &mut Out, value: T) -> Result<(), Hal
 }
 
 /// Reports a borrowed value.
-pub fn report_lent<T: Report>(out: &mut Out, value: &T) -> Result<(), Halt> {
+pub fn report_borrowed<T: Report>(out: &mut Out, value: &T) -> Result<(), Halt> {
     Ok(value.report(out)?)
 }
 

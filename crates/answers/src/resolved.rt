@@ -2,7 +2,7 @@
 
 use crate::halt::Halt;
 use crate::order::{Order, unknown};
-use crate::report::{Out, Report, report_lent, report_owned};
+use crate::report::{Out, Report, report_borrowed, report_owned};
 use git_modules::resolve::outcome::Resolved;
 use git_modules::resolve::{ResolveError, climbs, is_relative, resolve};
 use std::alloc::Global;
@@ -38,10 +38,10 @@ fn over_urls(
     out: &mut Out,
 ) -> Result<(), Halt> {
     match order.call() {
-        "resolve::is_relative" => report_lent(out, &is_relative(url)),
-        "resolve::climbs" => report_lent(out, &climbs(parent, url)),
+        "resolve::is_relative" => report_borrowed(out, &is_relative(url)),
+        "resolve::climbs" => report_borrowed(out, &climbs(parent, url)),
         "resolve::resolve" | "Resolved::to_bstring" => match resolve(parent, url) {
-            Err(error) => report_lent(out, &error),
+            Err(error) => report_borrowed(out, &error),
             Ok(resolved) => report_text(alloc, &resolved, out),
         },
         call => unknown(call),

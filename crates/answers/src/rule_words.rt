@@ -3,7 +3,7 @@
 
 use crate::halt::Halt;
 use crate::order::{Order, unknown};
-use crate::report::{Out, report_lent};
+use crate::report::{Out, report_borrowed};
 use crate::shown::show_display;
 use git_modules::resolve::ResolveError;
 use git_modules::submodules::refusal::Refused;
@@ -51,7 +51,7 @@ pub fn show(order: Order<'_>, out: &mut Out) -> Result<(), Halt> {
         "PlaceError:fmt" => show_display(out, &place_error(name)?),
         "SshRefusal:fmt" => show_display(out, &ssh_refusal(name)?),
         "SshError:fmt" => show_display(out, &ssh_error(name)?),
-        "Refused::as_str" => report_lent(out, &refused(name)?.as_str()),
+        "Refused::as_str" => report_borrowed(out, &refused(name)?.as_str()),
         "Stop:fmt" => show_display(out, &stop(name)?),
         _ => show_placed(order, name, at, out),
     }

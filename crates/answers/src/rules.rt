@@ -5,7 +5,7 @@
 
 use crate::halt::Halt;
 use crate::order::{Order, unknown};
-use crate::report::{Out, report_lent, report_owned};
+use crate::report::{Out, report_borrowed, report_owned};
 use crate::rule_outcomes::report_items;
 use crate::shown::show_debug;
 use crate::{
@@ -121,7 +121,7 @@ fn over_config(alloc: Global, order: Order<'_>, out: &mut Out) -> Result<(), Hal
 fn over_reader(alloc: Global, order: Order<'_>, text: &[u8], out: &mut Out) -> Result<(), Halt> {
     match order.call() {
         "config::entries" => report_owned(out, config::entries(alloc, text)),
-        "config::is_listing" => report_lent(out, &is_listing(text)),
+        "config::is_listing" => report_borrowed(out, &is_listing(text)),
         "Reader::new" => Ok(report_items(out, Reader::new(text))?),
         call => unknown(call),
     }
@@ -183,14 +183,14 @@ fn over_entry(order: Order<'_>, entries: &[Entry<'_>], out: &mut Out) -> Result<
         return Err(Halt::Unprepared);
     };
     match order.call() {
-        "Entry::is_section" => report_lent(out, &entry.is_section(order.needed("section")?)),
-        "Entry::is_name" => report_lent(out, &entry.is_name(order.needed("name")?)),
-        "Entry::sets" => report_lent(
+        "Entry::is_section" => report_borrowed(out, &entry.is_section(order.needed("section")?)),
+        "Entry::is_name" => report_borrowed(out, &entry.is_name(order.needed("name")?)),
+        "Entry::sets" => report_borrowed(
             out,
             &entry.sets(order.needed("section")?, order.needed("name")?),
         ),
-        "stops::kind_of" => report_lent(out, &stops::kind_of(entry)),
-        "stops::stop_at" => report_lent(out, &stop_at(entry)),
+        "stops::kind_of" => report_borrowed(out, &stops::kind_of(entry)),
+        "stops::stop_at" => report_borrowed(out, &stop_at(entry)),
         call => unknown(call),
     }
 }
@@ -235,9 +235,12 @@ fn bytes_of(value: &Option<Vec<u8>>) -> Option<&[u8]> {
 fn permit(order: Order<'_>, protocols: &Protocols<'_>, out: &mut Out) -> Result<(), Halt> {
     let name = order.needed("name")?;
     match (order.call(), order.style()) {
-        ("Protocols::permission", "") => report_lent(out, &protocols.permission(name)),
+        ("Protocols::permission", "") => report_borrowed(out, &protocols.permission(name)),
         ("Protocols::permission", _) => show_debug(out, &protocols.permission(name)),
-        ("Permission::is_allowed", _) => report_lent(out, &protocols.permission(name).is_allowed()),
+        ("Permission::is_allowed", _) => report_borrowed(
+            out,
+            &protocols.permission(name).is_allowed(),
+        ),
         (call, _) => unknown(call),
     }
 }
@@ -258,7 +261,7 @@ fn over_url(alloc: Global, order: Order<'_>, out: &mut Out) -> Result<(), Halt> 
 /// Reports the transport of a location.
 fn over_transport(order: Order<'_>, url: &Url, out: &mut Out) -> Result<(), Halt> {
     match order.call() {
-        "protocols::transport" => report_lent(out, &transport(&url.as_ref())),
+        "protocols::transport" => report_borrowed(out, &transport(&url.as_ref())),
         call => unknown(call),
     }
 }
@@ -267,7 +270,7 @@ fn over_transport(order: Order<'_>, url: &Url, out: &mut Out) -> Result<(), Halt
 fn over_hosts(alloc: Global, order: Order<'_>, url: &Url, out: &mut Out) -> Result<(), Halt> {
     let other = build::url(alloc, order, "other")?;
     let outcome = match order.call() {
-        "host::names_same_host" => report_lent(
+        "host::names_same_host" => report_borrowed(
             out,
             &names_same_host(&url.as_ref(), &other.as_ref()),
         ),
@@ -300,7 +303,7 @@ fn over_text(alloc: Global, order: Order<'_>, out: &mut Out) -> Result<(), Halt>
 /// Reports the boolean value of a text.
 fn over_boolean(order: Order<'_>, text: &[u8], out: &mut Out) -> Result<(), Halt> {
     match order.call() {
-        "boolean::read_boolean" => report_lent(out, &read_boolean(text)),
+        "boolean::read_boolean" => report_borrowed(out, &read_boolean(text)),
         call => unknown(call),
     }
 }
@@ -311,7 +314,7 @@ fn over_number(order: Order<'_>, text: &[u8], out: &mut Out) -> Result<(), Halt>
         return Err(Halt::Unprepared);
     };
     match order.call() {
-        "number::read_number" => report_lent(out, &read_number(text, greatest).map(u128::from)),
+        "number::read_number" => report_borrowed(out, &read_number(text, greatest).map(u128::from)),
         call => unknown(call),
     }
 }
@@ -319,7 +322,7 @@ fn over_number(order: Order<'_>, text: &[u8], out: &mut Out) -> Result<(), Halt>
 /// Reports the kind of a name of `http.*`.
 fn over_name(order: Order<'_>, text: &[u8], out: &mut Out) -> Result<(), Halt> {
     match order.call() {
-        "settings::kind_of" => report_lent(out, &kind_of(text)),
+        "settings::kind_of" => report_borrowed(out, &kind_of(text)),
         call => unknown(call),
     }
 }
@@ -327,7 +330,7 @@ fn over_name(order: Order<'_>, text: &[u8], out: &mut Out) -> Result<(), Halt> {
 /// Reports the transport that Git uses for a text, by the form of the text.
 fn over_form(order: Order<'_>, text: &[u8], out: &mut Out) -> Result<(), Halt> {
     match order.call() {
-        "text::transport_of" => report_lent(out, &transport_of(text)),
+        "text::transport_of" => report_borrowed(out, &transport_of(text)),
         call => unknown(call),
     }
 }
@@ -342,7 +345,7 @@ fn over_two_texts(alloc: Global, order: Order<'_>, text: &[u8], out: &mut Out) -
             out,
             texts_name_same_host(text, &mut buffer, other.as_slice(), &mut other_buffer),
         ),
-        "host::is_same_host" => report_lent(out, &is_same_host(text, other.as_slice())),
+        "host::is_same_host" => report_borrowed(out, &is_same_host(text, other.as_slice())),
         call => unknown(call),
     };
     drop(buffer);
@@ -354,19 +357,19 @@ fn over_two_texts(alloc: Global, order: Order<'_>, text: &[u8], out: &mut Out) -
 /// Laws of `git_rules`, which hold for all values, and whose calls do nothing.
 pub fn over_nothing(order: Order<'_>, out: &mut Out) -> Result<(), Halt> {
     match order.call() {
-        "laws::law_credentials" => report_lent(out, &law_credentials()),
-        "laws::law_git_words" => report_lent(out, &law_git_words()),
-        "laws::law_normal_form" => report_lent(out, &law_normal_form()),
-        "laws::law_one_file_reading" => report_lent(out, &law_one_file_reading()),
-        "laws::law_one_outcome" => report_lent(out, &law_one_outcome()),
-        "laws::law_one_reading" => report_lent(out, &law_one_reading()),
-        "laws::law_one_remote" => report_lent(out, &law_one_remote()),
-        "laws::law_patterns" => report_lent(out, &law_patterns()),
-        "laws::law_permission" => report_lent(out, &law_permission()),
-        "laws::law_same_place" => report_lent(out, &law_same_place()),
-        "laws::law_section" => report_lent(out, &law_section()),
-        "laws::law_settings" => report_lent(out, &law_settings()),
-        "laws::law_text_transport" => report_lent(out, &law_text_transport()),
+        "laws::law_credentials" => report_borrowed(out, &law_credentials()),
+        "laws::law_git_words" => report_borrowed(out, &law_git_words()),
+        "laws::law_normal_form" => report_borrowed(out, &law_normal_form()),
+        "laws::law_one_file_reading" => report_borrowed(out, &law_one_file_reading()),
+        "laws::law_one_outcome" => report_borrowed(out, &law_one_outcome()),
+        "laws::law_one_reading" => report_borrowed(out, &law_one_reading()),
+        "laws::law_one_remote" => report_borrowed(out, &law_one_remote()),
+        "laws::law_patterns" => report_borrowed(out, &law_patterns()),
+        "laws::law_permission" => report_borrowed(out, &law_permission()),
+        "laws::law_same_place" => report_borrowed(out, &law_same_place()),
+        "laws::law_section" => report_borrowed(out, &law_section()),
+        "laws::law_settings" => report_borrowed(out, &law_settings()),
+        "laws::law_text_transport" => report_borrowed(out, &law_text_transport()),
         call => unknown(call),
     }
 }

@@ -4,7 +4,7 @@
 
 use crate::halt::Halt;
 use crate::order::{Order, unknown};
-use crate::report::{Out, Report, report_lent, report_name};
+use crate::report::{Out, Report, report_borrowed, report_name};
 use bstr::BStr;
 use git_rules::config::Entry;
 use git_rules::ssh::program::{ProgramVariant, SshProgram, SshProgramError, SshSettings};
@@ -60,14 +60,14 @@ fn report_program(
     program: Result<SshProgram<'_>, SshProgramError>,
 ) -> Result<(), Halt> {
     match program {
-        Err(error) => report_lent(out, &error),
+        Err(error) => report_borrowed(out, &error),
         Ok(program) => {
             report_name(out, "{", "text")?;
-            report_lent(out, &BStr::new(program.text))?;
+            report_borrowed(out, &BStr::new(program.text))?;
             report_name(out, ",", "is_command_line")?;
-            report_lent(out, &program.is_command_line)?;
+            report_borrowed(out, &program.is_command_line)?;
             report_name(out, ",", "variant")?;
-            report_lent(out, &program.variant)?;
+            report_borrowed(out, &program.variant)?;
             Ok(out.write_all(b"}")?)
         }
     }

@@ -2,7 +2,7 @@
 
 use crate::halt::Halt;
 use crate::order::{Order, unknown};
-use crate::report::{Out, Report, report_lent, report_member, report_owned};
+use crate::report::{Out, Report, report_borrowed, report_member, report_owned};
 use bstr::BStr;
 use git_modules::submodules::defect::{Defects, defects_of};
 use git_modules::submodules::refusal::check;
@@ -47,7 +47,7 @@ pub fn over_submodules(
 fn report_risk(order: Order<'_>, entries: &[Entry<'_>], out: &mut Out) -> Result<(), Halt> {
     let risk = risk_named(order.needed("risk")?)?;
     match entries.first() {
-        Some(entry) => report_lent(out, &has_risk(entry, risk)),
+        Some(entry) => report_borrowed(out, &has_risk(entry, risk)),
         None => Err(Halt::Unprepared),
     }
 }

@@ -48,7 +48,7 @@ fn service<'a>(scheme: &'a Scheme, host: &'a str) -> UrlRef<'a> {
     }
 }
 
-/// The protocol of a location, for as long as what lends it.
+/// The protocol of a location, for as long as the location is borrowed.
 fn scheme_of<'a>(url: &UrlRef<'a>) -> &'a str {
     url.scheme.as_str() // `ssh` of `git@host:repo`
 }
@@ -74,8 +74,8 @@ fn log_line(alloc: Global, url: &UrlRef<'_>) -> Result<String, AllocError> {
     format!(in alloc; "fetching {url}") // `fetching ssh://u:redacted@h/p`
 }
 
-/// The text of a location in room that is at hand, if it fits.
-fn in_room<'a>(url: &UrlRef<'_>, buffer: &'a mut [u8]) -> Result<Option<&'a [u8]>, WriteFault> {
+/// The text of a location in a buffer, if it fits.
+fn in_buffer<'a>(url: &UrlRef<'_>, buffer: &'a mut [u8]) -> Result<Option<&'a [u8]>, WriteFault> {
     let length = url.write_into(buffer)?;
     Ok(
         usize::try_from(length)

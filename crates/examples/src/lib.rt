@@ -11,7 +11,7 @@ mod differences;
 mod first_hour;
 mod git_credentials;
 mod git_readings;
-mod in_room;
+mod in_buffer;
 mod misreadings;
 mod parts;
 mod paths;

@@ -1,6 +1,6 @@
 //! Examples of hosts that other programs find in a text.
 
-use git_audit::misreading::{GROUPS, is_misread, other_host};
+use git_audit::misreading::{GROUPS, Group, is_misread, other_host};
 use gix_url::UrlRef;
 use std::alloc::{AllocError, Global};
 
@@ -22,4 +22,13 @@ fn may_be_passed_on(text: &[u8], buffer: &mut [u8]) -> bool {
         Ok(url) => !is_misread(text, &url), // not `ssh://github.com?@evil.com/a/b`
         Err(_) => false,
     }
+}
+
+fn is_named(group: Group, name: &str) -> bool {
+    group.name() == name // `first_at` is one
+}
+
+/// The host that readers of URLs by RFC 3986 find in a text.
+fn url_host(text: &[u8]) -> Option<&[u8]> {
+    Group::Urls.host_in(text) // `github.com` of `ssh://github.com?@evil.com/a/b`
 }

@@ -7,11 +7,11 @@ use git_rules::pattern::place::place_in;
 use git_rules::pattern::settings::{
     Kind, SettingsError, kind_of, settings_for, settings_without_place,
 };
-use git_rules::pattern::{UrlPattern, best};
+use git_rules::pattern::{Rank, UrlPattern, best};
 use gix_url::UrlRef;
 use std::alloc::Global;
 
-/// Whether a pattern stands for a place, each in a room of its own.
+/// Whether a pattern stands for a place, each in a buffer of its own.
 fn stands_for(pattern: &[u8], buffer: &mut [u8], place: &NormalUrl<'_>) -> bool {
     match UrlPattern::parse_in(pattern, buffer) {
         Ok(pattern) => pattern.matches(place), // `https://*.example.com` for `https://git.example.com/a`
@@ -48,6 +48,11 @@ fn helper<'a>(
         None => Ok(None),
         Some(_) => Ok(entry.value),
     }
+}
+
+/// Whether an entry is set for a URL, and not for all places.
+fn is_for_url(rank: Rank) -> bool {
+    rank.path > 0 // 0 of `http.proxy`, 1 of `http.https://example.com.proxy`
 }
 
 /// The proxy that Git uses for a place.

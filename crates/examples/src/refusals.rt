@@ -1,6 +1,6 @@
 //! Examples of the reasons and positions of parse errors, and of the positions of a text's parts.
 
-use gix_url::{Error, Parts, Reason, Refusal, RefusalKind, UrlFault, parts_of};
+use gix_url::{Error, PartForm, Parts, Reason, Refusal, RefusalKind, UrlFault, parts_of};
 
 /// How many bytes of a text are before what is wrong with it.
 fn place_of(error: &Error) -> Option<usize> {
@@ -35,6 +35,10 @@ fn is_listed(reason: Reason, name: &str) -> bool {
 
 fn are_long(reason: Reason) -> bool {
     reason.words().len() > 80
+}
+
+fn is_scp(parts: &Parts) -> bool {
+    parts.form == PartForm::Scp // of `git@host:repo`
 }
 
 /// The port's digits in a text, leading zeros among them.

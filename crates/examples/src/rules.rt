@@ -92,7 +92,7 @@ fn refusal_place(protocols: &Protocols<'_>, name: &str) -> Option<usize> {
     }
 }
 
-/// The host whose settings apply to a text, in a room that is made for it.
+/// The host whose settings apply to a text, in a buffer that is made for it.
 fn host_text(alloc: Global, text: &[u8]) -> Result<Option<BString>, AllocError> {
     let mut buffer = vec![in alloc; 0u8; needed_buffer_len(text.len())]?;
     match NormalUrl::parse_in(text, &mut buffer) {

@@ -89,9 +89,9 @@ impl Page {
     ) -> Result<(), RunError> {
         match slot {
             Slot::Rows => {
-                put_rows(output, &self.dangerous)?;
-                put_rows(output, &self.found)?;
-                put_rows(output, &self.plain)
+                write_rows(output, &self.dangerous)?;
+                write_rows(output, &self.found)?;
+                write_rows(output, &self.plain)
             }
             Slot::Data => put(output, self.objects.as_bytes()),
             _ => {
@@ -139,7 +139,7 @@ fn group(out: &mut Markup, before: usize) -> Result<(), AllocError> {
 }
 
 /// Writes rows, if there are any.
-fn put_rows<W: Write>(output: &mut W, rows: &Markup) -> Result<(), RunError> {
+fn write_rows<W: Write>(output: &mut W, rows: &Markup) -> Result<(), RunError> {
     if rows.as_bytes().is_empty() {
         return Ok(());
     }

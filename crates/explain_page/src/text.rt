@@ -51,7 +51,7 @@ pub fn push_refused(
     for piece in seen.cut.pieces() {
         if 0 < piece.len() {
             push_marked(out, piece, left)?;
-            left = left.and_then(|region| behind(region, piece.len()));
+            left = left.and_then(|region| suffix(region, piece.len()));
         }
     }
     if left.is_some() {
@@ -61,7 +61,7 @@ pub fn push_refused(
 }
 
 /// The rest of a region after a piece of this length, if there is one. The rest of an empty region is its place.
-fn behind(region: Region, len: usize) -> Option<Region> {
+fn suffix(region: Region, len: usize) -> Option<Region> {
     let inside = len.saturating_sub(region.at).min(region.len);
     if region.at < len && inside == region.len {
         return None;

@@ -39,8 +39,8 @@ abbrev pub before : List ℕ → List ℕ → List ℕ
 before mark text = unwrap_or (option_map (λ p. p.0) (halves mark text)) text
 
 -- the text after the last such mark, or the whole text if there is none
-abbrev pub behind : List ℕ → List ℕ → List ℕ
-behind mark text = unwrap_or (option_map (λ p. p.1) (last_halves mark text)) text
+abbrev pub suffix : List ℕ → List ℕ → List ℕ
+suffix mark text = unwrap_or (option_map (λ p. p.1) (last_halves mark text)) text
 
 -- the text ends with this
 abbrev pub has_end : List ℕ → List ℕ → Bool

@@ -6,7 +6,7 @@ use Rattle.std.specs.Char.{is_ascii, is_ascii_alphabetic, is_ascii_alphanumeric,
 use Rattle.git_syntax.specs.Bytes.{backslash, begins_by, begins_with, colon, left_bracket, right_bracket, slash, tilde}
 use Rattle.git_audit.specs.Dangers.{has_front}
 use Rattle.explain_report.specs.Hints.{is_user}
-use Rattle.explain_report.specs.Marks.{before, begins_with_some, behind, halves, has_end, holds, is_among, is_among_in_any_case, is_empty, is_word, last_halves, passes, some_passes}
+use Rattle.explain_report.specs.Marks.{before, begins_with_some, suffix, halves, has_end, holds, is_among, is_among_in_any_case, is_empty, is_word, last_halves, passes, some_passes}
 
 -- the names of transports that Git has or had
 abbrev pub transports : List (List ℕ)
@@ -126,7 +126,7 @@ is_host_and_word bytes = passes (λ host word. begins_by begins_word word
 
 -- the text of a URL in the place of its host and port: before the first `/` and after the last `@`
 abbrev pub place_of : List ℕ → List ℕ
-place_of rest = behind (codes "@") (before (codes "/") rest)
+place_of rest = suffix (codes "@") (before (codes "/") rest)
 
 -- a URL with a host has a word in place of its port
 abbrev pub has_colon_for_slash : List ℕ → Bool
@@ -146,12 +146,12 @@ abbrev pub has_host : List ℕ → Bool
 has_host place = passes (λ host path. not (is_empty host)) (halves (codes "/") place)
 
 -- at least one byte and then a `/` follow the last `@`
-abbrev pub has_place_behind_user : List ℕ → Bool
-has_place_behind_user bytes = passes (λ user place. has_host place) (last_halves (codes "@") bytes)
+abbrev pub has_place_after_user : List ℕ → Bool
+has_place_after_user bytes = passes (λ user place. has_host place) (last_halves (codes "@") bytes)
 
 -- the text has a `:` and no `@` before its first `/`, and after it an `@`, which a byte and a `/` follow
 abbrev pub is_cut_in_password : List ℕ → Bool
-is_cut_in_password rest = passes (λ front below. holds (codes ":") front && (not (holds (codes "@") front) && has_place_behind_user below))
+is_cut_in_password rest = passes (λ front below. holds (codes ":") front && (not (holds (codes "@") front) && has_place_after_user below))
     (halves (codes "/") rest)
 
 -- a `/` cuts the password of a URL with a host

@@ -74,7 +74,7 @@ fn cut(text: &[u8]) -> Option<Pieces<'_>> {
         Some(at) => rest.split_at(at),
         None => (rest, b"".as_slice()),
     };
-    let (host, port) = host_and_port(behind_user(authority)?)?;
+    let (host, port) = host_and_port(after_user(authority)?)?;
     let (path, query) = path_and_query(rest)?;
     Some(Pieces {
         host,
@@ -86,7 +86,7 @@ fn cut(text: &[u8]) -> Option<Pieces<'_>> {
 
 /// The text after the user information, which the first `@` ends. A user without a password must not contain an escaped
 /// byte 0.
-fn behind_user(authority: &[u8]) -> Option<&[u8]> {
+fn after_user(authority: &[u8]) -> Option<&[u8]> {
     let Some((information, named)) = authority.split_once_str(b"@") else {
         return Some(authority);
     };
@@ -99,14 +99,14 @@ fn behind_user(authority: &[u8]) -> Option<&[u8]> {
 
 /// The host, which ends at a colon or after its brackets, and the port.
 fn host_and_port(named: &[u8]) -> Option<(&[u8], Option<u16>)> {
-    let (host, behind) = match named {
+    let (host, suffix) = match named {
         [b'[', ..] => named.split_at(named.find_byte(b']')? + 1),
         _ => match named.find_byte(b':') {
             Some(at) => named.split_at(at),
             None => (named, b"".as_slice()),
         },
     };
-    match behind {
+    match suffix {
         [] | [b':'] => Some((host, None)),
         [b':', digits @ ..] => Some((host, Some(digits_port(digits)?))),
         _ => None,
@@ -189,13 +189,13 @@ fn is_in_names(byte: u8) -> bool {
 fn ipv4(host: &[u8]) -> Option<Ipv4Addr> {
     let (mut fronts, mut limit, mut rest) = (0u64, 0x1_0000_0000u64, host);
     for _number in 0..3 {
-        let Some((front, behind)) = rest.split_once_str(b".") else {
+        let Some((front, suffix)) = rest.split_once_str(b".") else {
             break;
         };
         limit /= 256;
         let byte = u8::try_from(number(front)?).ok()?;
         fronts = fronts.saturating_add(u64::from(byte).saturating_mul(limit));
-        rest = behind;
+        rest = suffix;
     }
     let last = number(rest)?;
     if limit <= last {

@@ -113,7 +113,7 @@ impl<'a> Report<'a> {
     {
         let facts = Facts::of(alloc, url)?;
         match Found::of(alloc, url, &facts) {
-            Ok(found) => Ok(Report::put_together(url, facts, found)),
+            Ok(found) => Ok(Report::of_facts(url, facts, found)),
             Err(error) => {
                 drop(facts);
                 Err(error)
@@ -122,7 +122,7 @@ impl<'a> Report<'a> {
     }
 
     /// The report of this location, of its facts and its findings.
-    fn put_together(url: &'a Url, facts: Facts, found: Found<'a>) -> Report<'a>
+    fn of_facts(url: &'a Url, facts: Facts, found: Found<'a>) -> Report<'a>
         ensures hidden { option_map (λ word. word.now) result.password
             ≡ option_map (λ _. codes "redacted") url.now.password }
         ensures settled { result.settled ≡ facts.is_settled }

@@ -156,12 +156,12 @@ abbrev pub moved : ℕ → Secret → Secret
 moved n s = record { at = n + s.at; len = s.len }
 
 -- a possible password with a `/` in it, after this many bytes
-abbrev pub wide_behind : Bool → List ℕ → ℕ → Option Secret
-wide_behind web text n = option_map (moved n) (wide_in (before_path web (drop n text)) (drop n text))
+abbrev pub wide_after : Bool → List ℕ → ℕ → Option Secret
+wide_after web text n = option_map (moved n) (wide_in (before_path web (drop n text)) (drop n text))
 
 -- a possible password with a `/` in it, after the first `://`
 abbrev pub wide_password : Bool → List ℕ → Option Secret
-wide_password web text = option_and_then (λ n. wide_behind web text (mark_end mark.Authority text n)) (first_mark mark.Authority text)
+wide_password web text = option_and_then (λ n. wide_after web text (mark_end mark.Authority text n)) (first_mark mark.Authority text)
 
 -- a run of a password with a `/` in it: a byte at which a path may start is shown
 abbrev pub wide_part : Bool → List ℕ → Part

@@ -24,7 +24,7 @@ stands_for v piece = if matches v.spelling v.path then percent_decode piece else
 -- a text is cut at its first c: the text before it, and the text after it, if there is one
 abbrev pub CutsText : ℕ → List ℕ → List ℕ → Option (List ℕ) → Type 0
 CutsText c text front None = FreeOf c text × (front ≡ text)
-CutsText c text front (Some behind) = FreeOf c front × (text ≡ front ++ c ∷ behind)
+CutsText c text front (Some suffix) = FreeOf c front × (text ≡ front ++ c ∷ suffix)
 
 -- the fragment follows the first `#`, and the query the first `?` before that
 abbrev pub CutsPath : List ℕ → List ℕ → Option (List ℕ) → Option (List ℕ) → Type 0
@@ -76,9 +76,9 @@ pub record WebComponents (v : Location) (components : Components) : Type 0 where
   pub query : Option (List ℕ)
   pub fragment : Option (List ℕ)
   pub cut : CutsPath (original_path v) front query fragment
-  pub path_meant : components.path ≡ or_root (stands_for v front)
-  pub query_meant : QueryOf v query components.query
-  pub fragment_meant : components.fragment ≡ option_map (stands_for v) fragment
+  pub path_denoted : components.path ≡ or_root (stands_for v front)
+  pub query_denoted : QueryOf v query components.query
+  pub fragment_denoted : components.fragment ≡ option_map (stands_for v) fragment
 
 -- the components of any other path: the path only
 abbrev pub whole_path : List ℕ → Components

@@ -37,18 +37,18 @@ pub data UriAuthority (authority : List ℕ) (information : Option (List ℕ))
       → UriAuthority authority information named
 
 -- the empty text, or a colon and the digits of a port
-pub data UriPort (behind : List ℕ) (port : Option (List ℕ)) : Type 0 where
-  absent : behind ≡ [] → port ≡ None → UriPort behind port
-  there : (digits : List ℕ) → behind ≡ colon ∷ digits → list_all is_ascii_digit digits ≡ true
-      → port ≡ Some digits → UriPort behind port
+pub data UriPort (suffix : List ℕ) (port : Option (List ℕ)) : Type 0 where
+  absent : suffix ≡ [] → port ≡ None → UriPort suffix port
+  there : (digits : List ℕ) → suffix ≡ colon ∷ digits → list_all is_ascii_digit digits ≡ true
+      → port ≡ Some digits → UriPort suffix port
 
 -- a host and the text after it: an IPv6 address in brackets, or a name or an IPv4 address
-pub data UriHost (named host behind : List ℕ) : Type 0 where
+pub data UriHost (named host suffix : List ℕ) : Type 0 where
   bracketed : (inside : List ℕ) → IsIpv6Text inside
       → host ≡ left_bracket ∷ (inside ++ right_bracket ∷ [])
-      → named ≡ host ++ behind → UriHost named host behind
-  unbracketed : FreeOf colon host → begins_with left_bracket host ≡ false → named ≡ host ++ behind
-      → UriHost named host behind
+      → named ≡ host ++ suffix → UriHost named host suffix
+  unbracketed : FreeOf colon host → begins_with left_bracket host ≡ false → named ≡ host ++ suffix
+      → UriHost named host suffix
 
 -- a letter, a digit, a mark that is not a delimiter of a URI, or the `%` of an escape
 abbrev pub is_host_byte : ℕ → Bool
@@ -70,16 +70,16 @@ pub record HasUriBytes (r : UriReading) : Type 0 where
 -- the text is a URI with an authority, and has these components
 pub record UriReads (t : List ℕ) (r : UriReading) : Type 0 where
   pub authority : List ℕ
-  pub behind : List ℕ
+  pub suffix : List ℕ
   pub named : List ℕ
   pub after_host : List ℕ
-  pub joined : t ≡ r.scheme ++ (codes "://" ++ (authority ++ behind))
+  pub joined : t ≡ r.scheme ++ (codes "://" ++ (authority ++ suffix))
   pub before_path : Lacks (is_path_start true) authority
-  pub path_start : StartsPath true behind
+  pub path_start : StartsPath true suffix
   pub cut : UriAuthority authority r.information named
   pub host : UriHost named r.host after_host
   pub port : UriPort after_host r.port
-  pub path : CutsPath behind r.path r.query r.fragment
+  pub path : CutsPath suffix r.path r.query r.fragment
   pub bytes : HasUriBytes r
 
 -- a text has at most one reading as a URI

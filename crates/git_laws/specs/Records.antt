@@ -14,7 +14,7 @@ written_in_path b = if is_path_escaped b || nat_lt 127 b then percent_encode_byt
 
 -- the byte is a `%`, and two hexadecimal digits follow it
 abbrev pub begins_escape : ℕ → List ℕ → Bool
-begins_escape b behind = b == percent_sign && begins_with_digits behind
+begins_escape b suffix = b == percent_sign && begins_with_digits suffix
 
 -- the path consists of escapes and other bytes, and the spelling has the same escapes, and those bytes as they
 -- are written in a path
@@ -54,9 +54,9 @@ migrated v = migrated_by v.spelling v
 -- ---- writing the new spelling, byte by byte
 
 -- the front of the new spelling of a path, and the rest of the path, which the rest of the spelling spells
-pub record SpellsFront (path front behind : List ℕ) : Type 0 where
-  pub spelled : new_spelling path ≡ front ++ new_spelling behind
-  pub shorter : length behind + 1 ≡ length path
+pub record SpellsFront (path front suffix : List ℕ) : Type 0 where
+  pub spelled : new_spelling path ≡ front ++ new_spelling suffix
+  pub shorter : length suffix + 1 ≡ length path
   pub short : length front ≤ 3
 
 -- ---- laws

@@ -38,8 +38,8 @@ pub record SplitsLines (b : List ℕ) (lines : List (List ℕ)) : Type 0 where
 
 -- no line of the text is longer than this: no part of it without a line end is
 abbrev pub HasLinesWithin : ℕ → List ℕ → Type 0
-HasLinesWithin most b = (before line behind : List ℕ) → FreeOf newline line
-    → b ≡ before ++ (line ++ behind) → length line ≤ most
+HasLinesWithin most b = (before line suffix : List ℕ) → FreeOf newline line
+    → b ≡ before ++ (line ++ suffix) → length line ≤ most
 
 -- the name of a fault of a URL
 abbrev pub fault_name : UrlFault → List ℕ

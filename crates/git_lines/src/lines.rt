@@ -177,9 +177,9 @@ fn longest_line(text: &[u8]) -> usize
 {
     let mut longest: usize = 0;
     let mut rest = text;
-    while let Some((line, behind)) = bytes::cut(rest, b'\n') {
+    while let Some((line, suffix)) = bytes::cut(rest, b'\n') {
         longest = longest.max(line.len());
-        rest = behind;
+        rest = suffix;
     }
     longest.max(rest.len())
 }
@@ -197,10 +197,10 @@ fn answers_in(
     let mut out = Vec::new(alloc);
     let mut all = true;
     let mut rest = text;
-    while let Some((line, behind)) = bytes::cut(rest, b'\n') {
+    while let Some((line, suffix)) = bytes::cut(rest, b'\n') {
         let settled = answer(line, line_buffer, &mut out)?;
         all &= settled;
-        rest = behind;
+        rest = suffix;
     }
     if rest.is_empty() {
         return Ok((out, all));
@@ -216,7 +216,7 @@ fn answer(line: &[u8], line_buffer: &mut [u8], out: &mut Vec<u8>) -> Result<bool
     ensures { AppendsAnswer line.now out.old.items out.new.items result }
 {
     if is_simple_text(line) {
-        put_settled(out, line)?;
+        append_settled(out, line)?;
         return Ok(true);
     }
     match read_any_in(line, line_buffer) {
@@ -234,7 +234,7 @@ fn report(url: UrlRef<'_>, out: &mut Vec<u8>) -> Result<bool, RunError>
     match url.own_pieces(&mut digits) {
         Ok(pieces) => report_written(&url, &pieces, out),
         Err(_) => {
-            put_scheme(out, "unwritable", &url)?;
+            append_scheme(out, "unwritable", &url)?;
             Ok(false)
         }
     }
@@ -250,10 +250,10 @@ fn report_written(
     ensures { AppendsReport url.now out.old.items out.new.items result }
 {
     if url.is_settled_as(Some(pieces)) {
-        put_text(out, pieces)?;
+        append_text(out, pieces)?;
         return Ok(true);
     }
-    put_scheme(out, "unsettled", url)?;
+    append_scheme(out, "unsettled", url)?;
     Ok(false)
 }
 
@@ -261,7 +261,7 @@ fn report_written(
 fn refuse(refusal: &Refusal, out: &mut Vec<u8>) -> Result<bool, RunError>
     ensures { AppendsRefusal refusal.now out.old.items out.new.items result }
 {
-    put_line(out, "refused", refusal_name(refusal).as_bytes())?;
+    append_line(out, "refused", refusal_name(refusal).as_bytes())?;
     Ok(false)
 }
 
@@ -291,15 +291,15 @@ fn bad_url_name(fault: UrlFault) -> &'static str
 }
 
 /// Appends the line of a location that isn't settled: a word and the scheme.
-fn put_scheme(out: &mut Vec<u8>, word: &str, url: &UrlRef<'_>) -> Result<(), RunError>
+fn append_scheme(out: &mut Vec<u8>, word: &str, url: &UrlRef<'_>) -> Result<(), RunError>
     ensures { AppendsBytes (reported_line word.now (scheme_text url.now.scheme)) out.old.items out.new.items
         result }
 {
-    put_line(out, word, url.scheme.as_str().as_bytes())
+    append_line(out, word, url.scheme.as_str().as_bytes())
 }
 
 /// Appends a line: a word, a tab and a text.
-fn put_line(out: &mut Vec<u8>, word: &str, of_what: &[u8]) -> Result<(), RunError>
+fn append_line(out: &mut Vec<u8>, word: &str, of_what: &[u8]) -> Result<(), RunError>
     ensures { AppendsBytes (reported_line word.now of_what.now) out.old.items out.new.items result }
 {
     out.extend_from_slice(word.as_bytes())?;
@@ -310,7 +310,7 @@ fn put_line(out: &mut Vec<u8>, word: &str, of_what: &[u8]) -> Result<(), RunErro
 }
 
 /// Appends the line of a settled location with this text.
-fn put_settled(out: &mut Vec<u8>, text: &[u8]) -> Result<(), RunError>
+fn append_settled(out: &mut Vec<u8>, text: &[u8]) -> Result<(), RunError>
     ensures { AppendsBytes (reported_line (codes "settled") text.now) out.old.items out.new.items result }
 {
     out.extend_from_slice(b"settled\t")?;
@@ -320,7 +320,7 @@ fn put_settled(out: &mut Vec<u8>, text: &[u8]) -> Result<(), RunError>
 }
 
 /// Appends the line of a settled location: the text that its pieces make up.
-fn put_text(out: &mut Vec<u8>, pieces: &Pieces<'_>) -> Result<(), RunError>
+fn append_text(out: &mut Vec<u8>, pieces: &Pieces<'_>) -> Result<(), RunError>
     ensures { AppendsBytes (reported_line (codes "settled") (pieces_text pieces.now)) out.old.items
         out.new.items result }
 {

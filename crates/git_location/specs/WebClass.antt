@@ -72,10 +72,10 @@ is_segment_end b = b == slash || b == question_mark
 pub record HasDotSegment (path : List ℕ) : Type 0 where
   pub front : List ℕ
   pub dots : List ℕ
-  pub behind : List ℕ
-  pub joined : path ≡ front ++ slash ∷ (dots ++ behind)
+  pub suffix : List ℕ
+  pub joined : path ≡ front ++ slash ∷ (dots ++ suffix)
   pub segment : (dots ≡ codes ".") ⊎ (dots ≡ codes "..")
-  pub end : (behind ≡ []) ⊎ (begins_by is_segment_end behind ≡ true)
+  pub end : (suffix ≡ []) ⊎ (begins_by is_segment_end suffix ≡ true)
 
 -- a path that all readers cut and decode alike: it begins with one `/`, no reader drops a part of it, and it is
 -- written in the bytes of a URI

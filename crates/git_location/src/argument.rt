@@ -78,7 +78,7 @@ impl<'a> UrlRef<'a> {
     /// }
     /// ```
     pub fn user_argument_safe(&self) -> Option<&'a str>
-        ensures handed { option_map (λ t. t.now) result ≡ usable_text (judgement_of self.now.user) }
+        ensures usable { option_map (λ t. t.now) result ≡ usable_text (judgement_of self.now.user) }
         ensures own { IfSome result (λ t. self.now.user ≡ Some t.now) }
         ensures safe { IfSome result (λ t. is_option_like t.now ≡ false) }
     {
@@ -93,7 +93,7 @@ impl<'a> UrlRef<'a> {
     /// }
     /// ```
     pub fn host_argument_safe(&self) -> Option<&'a str>
-        ensures handed { option_map (λ t. t.now) result ≡ usable_text (judgement_of self.now.host) }
+        ensures usable { option_map (λ t. t.now) result ≡ usable_text (judgement_of self.now.host) }
         ensures own { IfSome result (λ t. self.now.host ≡ Some t.now) }
         ensures safe { IfSome result (λ t. is_option_like t.now ≡ false) }
     {
@@ -108,12 +108,12 @@ impl<'a> UrlRef<'a> {
     /// }
     /// ```
     pub fn path_argument_safe(&self) -> Option<BStr<'a>>
-        ensures handed { option_map bstr_bytes result ≡ path_argument self.now.path }
+        ensures usable { option_map bstr_bytes result ≡ path_argument self.now.path }
         ensures own { IfSome result (λ p. bstr_bytes p ≡ self.now.path) }
         ensures safe { IfSome result (λ p. is_option_like (bstr_bytes p) ≡ false) }
     {
-        let behind = after(self.path, b'/')?;
-        if starts_with_byte(behind, b'-') {
+        let suffix = after(self.path, b'/')?;
+        if starts_with_byte(suffix, b'-') {
             return None;
         }
         Some(BStr::new(self.path))

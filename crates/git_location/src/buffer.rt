@@ -82,7 +82,7 @@ fn named_in<'a>(host: HostPort<'a>, buffer: &'a mut [u8]) -> (&'a [u8], &'a mut 
     if let Some(text) = own_slice(host) {
         return (text, buffer);
     }
-    let size = host.put_into(buffer);
+    let size = host.write_into(buffer);
     let (text, left) = buffer.split_at_mut(size);
     (text, left)
 }

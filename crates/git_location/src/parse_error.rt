@@ -6,15 +6,15 @@ use thiserror::Error;
 /// Why a text was not read into a buffer.
 ///
 /// ```
-/// /// Whether the same text is read where there is room for as many bytes as it has.
-/// fn wants_room(error: &ParseError) -> bool {
+/// /// Whether the same text is read if the buffer is as long as the text.
+/// fn wants_longer(error: &ParseError) -> bool {
 ///     matches!(error, ParseError::NoRoom)
 /// }
 /// ```
 #[derive(Clone, Copy, Debug, Error)]
 pub enum ParseError {
     /// The buffer is shorter than the text, which spells a location.
-    #[error("the room is shorter than the text")]
+    #[error("the buffer is shorter than the text")]
     NoRoom,
     /// The text spells no location.
     #[error("{0}")]

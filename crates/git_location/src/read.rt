@@ -9,7 +9,7 @@ use crate::to_url_ref::to_url_ref;
 use crate::url_ref::UrlRef;
 use git_refusals::read::refusal;
 use git_syntax::find::find;
-use git_syntax::simple::{SimplePieces, simple_pieces};
+use git_syntax::simple::{SimplePieces, simple_remote};
 
 impl<'a> UrlRef<'a> {
     /// Reads the one location that the bytes spell, like [`parse`], without an allocation. The fields of the
@@ -27,7 +27,7 @@ impl<'a> UrlRef<'a> {
     /// - [`ParseError::NoRoom`] if they spell one and the buffer is shorter than they are.
     ///
     /// ```
-    /// /// The host that a line names, in a room that is used for line after line.
+    /// /// The host that a line names, in a buffer that is used for line after line.
     /// fn host_in<'a>(line: &'a [u8], buffer: &'a mut [u8]) -> Option<&'a str> {
     ///     match UrlRef::parse_in(line, buffer) {
     ///         Ok(url) => url.host, // `example.com` of `ssh://git@Example.com/repo`
@@ -38,15 +38,13 @@ impl<'a> UrlRef<'a> {
     pub fn parse_in(text: &'a [u8], buffer: &'a mut [u8]) -> Result<UrlRef<'a>, ParseError>
         ensures { ReadsIn text.now (length buffer.old) result }
     {
-        match simple_pieces(text) {
-            Some(pieces) => {
-                if buffer.len() < text.len() {
-                    return Err(ParseError::NoRoom);
-                }
-                Ok(simple_url_ref(pieces))
+        if let Some(pieces) = simple_remote(text) {
+            if buffer.len() < text.len() {
+                return Err(ParseError::NoRoom);
             }
-            None => read_any_in(text, buffer),
+            return Ok(simple_url_ref(pieces));
         }
+        read_any_in(text, buffer)
     }
 }
 

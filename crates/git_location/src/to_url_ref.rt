@@ -33,7 +33,7 @@ pub fn to_url_ref<'a>(found: Found<'a>, buffer: &'a mut [u8]) -> UrlRef<'a>
     ensures { result ≡ denoted found.entry }
 {
     match found {
-        Found::Helper { name, address } => path_alone(helper_scheme(name), true, address),
+        Found::Helper { name, address } => path_alone(helper_scheme(as_text(name)), true, address),
         Found::Local { path } => path_alone(SchemeRef::File, true, path),
         Found::File { host, path } => file_location(host, path),
         Found::Ext { text } => path_alone(SchemeRef::Ext, true, text),

@@ -83,8 +83,8 @@ impl<'a> UrlRef<'a> {
     /// or the location has none, the whole buffer is unchanged.
     ///
     /// ```
-    /// /// The text of a location in room that is at hand, if it fits.
-    /// fn in_room<'a>(url: &UrlRef<'_>, buffer: &'a mut [u8]) -> Result<Option<&'a [u8]>, WriteFault> {
+    /// /// The text of a location in a buffer, if it fits.
+    /// fn in_buffer<'a>(url: &UrlRef<'_>, buffer: &'a mut [u8]) -> Result<Option<&'a [u8]>, WriteFault> {
     ///     let length = url.write_into(buffer)?;
     ///     Ok(usize::try_from(length).ok().and_then(|length| buffer.get(..length)))
     /// }

@@ -21,6 +21,6 @@ abbrev pub Read : Type 0
 Read = Result (List ℕ × List ℕ) Refusal
 
 -- the bytes with others before them
-abbrev pub behind : List ℕ → Read → Read
-behind front (Ok p) = Ok (front ++ p.0, p.1)
-behind front (Err e) = Err e
+abbrev pub prefixed : List ℕ → Read → Read
+prefixed front (Ok p) = Ok (front ++ p.0, p.1)
+prefixed front (Err e) = Err e

@@ -29,16 +29,16 @@ as_setting key (Ok p) = Ok (setting key (Some p.0), p.1)
 as_setting key (Err e) = Err e
 
 -- the part of a setting after its name: the end of the line, or `=` and its value
-abbrev pub behind_name : List ℕ → List ℕ → ItemRead
-behind_name key [] = Ok (setting key None, [])
-behind_name key (c ∷ rest) =
+abbrev pub after_name : List ℕ → List ℕ → ItemRead
+after_name key [] = Ok (setting key None, [])
+after_name key (c ∷ rest) =
     if c == newline then Ok (setting key None, rest)
     else if c == equals_sign then as_setting key (value_of rest)
     else refused NoEquals (c ∷ rest)
 
 -- a setting: its name in lower case, and its value if it has one
 abbrev pub setting_of : List ℕ → ItemRead
-setting_of text = behind_name (lowercase (word is_key_byte text))
+setting_of text = after_name (lowercase (word is_key_byte text))
     (past_word is_gap (past_word is_key_byte text))
 
 -- the item at the front of a text

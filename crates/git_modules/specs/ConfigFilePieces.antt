@@ -5,7 +5,7 @@ use Rattle.git_modules.specs.declared.config_file.place.Wrong.{Wrong}
 use Rattle.git_modules.specs.declared.config_file.word.Class.{Class}
 use Rattle.git_modules.specs.declared.config_file.word.Class.TheVariants.{Name, Section, AfterName, AfterSection}
 use Rattle.git_modules.specs.ConfigFileBytes.{left_at, is_gap, is_blank, is_key_byte, is_section_byte, quote_mark}
-use Rattle.git_modules.specs.ConfigFileFlaws.{Read, Refusal, behind}
+use Rattle.git_modules.specs.ConfigFileFlaws.{Read, Refusal, prefixed}
 use Rattle.git_modules.specs.ConfigFileHeaders.{header_end, quoted_text}
 
 -- the first byte at an offset, and the offset after it
@@ -56,4 +56,5 @@ ReadsEnd text at len (Err w) = (w.at ≡ at)
 abbrev pub PutsQuoted : ℕ → Bool → ℕ → List ℕ → List ℕ → ℕ × Bool → Type 0
 PutsQuoted c escaped len old new r = (left : List ℕ) → (c == newline) ≡ false → (c == 0) ≡ false
     → (not escaped && (c == quote_mark)) ≡ false
-    → behind (take len old) (quoted_text escaped (c ∷ left)) ≡ behind (take r.0 new) (quoted_text r.1 left)
+    → prefixed (take len old) (quoted_text escaped (c ∷ left))
+    ≡ prefixed (take r.0 new) (quoted_text r.1 left)

@@ -6,7 +6,7 @@ use Rattle.git_modules.specs.declared.config_file.value.Written.{Written}
 use Rattle.git_modules.specs.declared.config_file.value.Ending.{Ending}
 use Rattle.git_modules.specs.declared.config_file.value.Ending.TheVariants as ending
 use Rattle.git_modules.specs.declared.config_file.place.Wrong.{Wrong}
-use Rattle.git_modules.specs.ConfigFileFlaws.{Read, behind}
+use Rattle.git_modules.specs.ConfigFileFlaws.{Read, prefixed}
 use Rattle.git_modules.specs.ConfigFileValues.{part_of, value_text, value_end, spaces}
 
 -- the written bytes end in spaces that only count if another byte follows them
@@ -15,7 +15,7 @@ HasTail buffer w = (w.kept ≤ w.end) × (take w.end buffer ≡ take w.kept buff
 
 -- the value of the written bytes and of the rest of the text
 abbrev pub value_on : List ℕ → Written → List ℕ → Read
-value_on buffer w left = behind (take w.kept buffer) (value_text w.mode (nat_lt 0 w.end) (w.end - w.kept) left)
+value_on buffer w left = prefixed (take w.kept buffer) (value_text w.mode (nat_lt 0 w.end) (w.end - w.kept) left)
 
 -- the part of the next byte is written: the value stays the same, and at most one more byte is written
 abbrev pub Goes : Part → List ℕ → Written → List ℕ → Written → Type 0

@@ -8,7 +8,7 @@ use Rattle.git_modules.specs.declared.config_file.value.Mode.TheVariants.{Plain,
 use Rattle.git_modules.specs.declared.config_file.value.Part.{Part}
 use Rattle.git_modules.specs.declared.config_file.value.Part.TheVariants as part
 use Rattle.git_modules.specs.ConfigFileBytes.{backspace, quote_mark, semicolon, is_blank}
-use Rattle.git_modules.specs.ConfigFileFlaws.{Read, refused, refused_late, behind}
+use Rattle.git_modules.specs.ConfigFileFlaws.{Read, refused, refused_late, prefixed}
 
 -- a byte outside quotes: white space, a comment, a quote or an escape, or any other byte, which is literal
 abbrev pub plain_part : ℕ → Part
@@ -70,8 +70,8 @@ value_text mode has_byte blanks (c ∷ rest) = elim (part_of mode c) as (λ _. R
   | part.Flaw flaw ↦ refused flaw (c ∷ rest)
   | part.Blank ↦ value_text mode has_byte (if has_byte then blanks + 1 else 0) rest
   | part.Nothing ↦ value_text Comment has_byte blanks rest
-  | part.Mark next ↦ behind (spaces blanks) (value_text next has_byte 0 rest)
-  | part.Byte b next ↦ behind (spaces blanks ++ b ∷ []) (value_text next true 0 rest)
+  | part.Mark next ↦ prefixed (spaces blanks) (value_text next has_byte 0 rest)
+  | part.Byte b next ↦ prefixed (spaces blanks ++ b ∷ []) (value_text next true 0 rest)
 ]
 
 -- the value after an `=`, and the text after its last line

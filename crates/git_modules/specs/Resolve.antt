@@ -4,7 +4,7 @@ use Rattle.git_syntax.specs.Bytes.{colon, dot, slash}
 use Rattle.git_rules.specs.Patterns.{without_last_slash}
 use Rattle.git_modules.specs.declared.resolve.ResolveError.{ResolveError}
 use Rattle.git_modules.specs.declared.resolve.ResolveError.TheVariants.{EmptyParent, NothingLeft}
-use Rattle.git_modules.specs.ResolveSteps.{behind_steps, is_relative, ups}
+use Rattle.git_modules.specs.ResolveSteps.{after_steps, is_relative, ups}
 use Rattle.git_modules.specs.ResolveParents.{LeftOver, left_of}
 
 -- a resolved URL, in three parts
@@ -33,7 +33,7 @@ joined (Some left) rest = Ok (join left.text left.by_colon (without_last_slash r
 -- a relative URL against a parent, which may not be empty
 abbrev pub against : List ℕ → List ℕ → Result Resolution ResolveError
 against [] url = Err EmptyParent
-against (b ∷ bs) url = joined (left_of (b ∷ bs) (ups url)) (behind_steps url)
+against (b ∷ bs) url = joined (left_of (b ∷ bs) (ups url)) (after_steps url)
 
 -- the URL that Git stores for a submodule with this parent and this URL, or why it stores none; a URL that isn't
 -- relative is unchanged

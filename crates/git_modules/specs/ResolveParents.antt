@@ -5,7 +5,7 @@ use Rattle.git_syntax.specs.Bytes.{colon, dot, slash, begins_with}
 use Rattle.git_rules.specs.Patterns.{without_last_slash}
 use Rattle.git_modules.specs.declared.resolve.left.ParentForm.{ParentForm}
 use Rattle.git_modules.specs.declared.resolve.left.ParentForm.TheVariants.{Rooted, Upward, Downward}
-use Rattle.git_modules.specs.ResolveSteps.{behind_here, behind_up}
+use Rattle.git_modules.specs.ResolveSteps.{after_here, after_up}
 
 -- the rest of a parent: its text, or none if all of it is removed; and whether a `:` was removed
 pub record LeftOver : Type 0 where
@@ -20,11 +20,11 @@ is_remote (b ∷ bs) = if b == colon then true else (if b == slash then false el
 -- a URL, a remote in the scp form or an absolute path; otherwise a relative path, which may begin with `../`
 abbrev pub form_of : List ℕ → ParentForm
 form_of parent = if is_remote parent || begins_with slash parent then Rooted
-    else (if is_some (behind_up parent) then Upward else Downward)
+    else (if is_some (after_up parent) then Upward else Downward)
 
 -- the whole parent, without one trailing `/` and without a leading `./`
 abbrev pub whole_of : List ℕ → LeftOver
-whole_of trimmed = record { text = Some (unwrap_or (behind_here trimmed) trimmed); by_colon = false }
+whole_of trimmed = record { text = Some (unwrap_or (after_here trimmed) trimmed); by_colon = false }
 
 -- the front before the last `c` of the rest, if there is one; otherwise the front before the byte, if that is `c`
 abbrev pub or_before : ℕ → ℕ → Option (List ℕ) → Option (List ℕ)

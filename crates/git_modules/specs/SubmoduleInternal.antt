@@ -14,52 +14,52 @@ use Rattle.git_modules.specs.SubmoduleDefects.{path_count}
 use Rattle.git_modules.specs.SubmoduleUrls.{IsForCurl, has_feed, part_has_feed, parts_have_feed, is_step, is_step_up}
 
 -- `feed` is whether the piece decodes to a text with a line feed
-abbrev pub TellsFeed : List ℕ → Bool → Type 0
-TellsFeed piece feed = (decoded : List ℕ) × CredentialDecodes piece decoded × (feed ≡ has_feed decoded)
+abbrev pub TestsFeed : List ℕ → Bool → Type 0
+TestsFeed piece feed = (decoded : List ℕ) × CredentialDecodes piece decoded × (feed ≡ has_feed decoded)
 
 -- the text before the `@` is a user, or a user and a password; `feed` is whether one of them decodes to a text with
 -- a line feed
-pub data TellsInformation (information : List ℕ) (feed : Bool) : Type 0 where
-  user_alone : FreeOf colon information → TellsFeed information feed → TellsInformation information feed
+pub data TestsInformation (information : List ℕ) (feed : Bool) : Type 0 where
+  user_alone : FreeOf colon information → TestsFeed information feed → TestsInformation information feed
   with_password : (u w : List ℕ) (first second : Bool) → FreeOf colon u → information ≡ u ++ colon ∷ w
-      → TellsFeed u first → TellsFeed w second → feed ≡ (first || second)
-      → TellsInformation information feed
+      → TestsFeed u first → TestsFeed w second → feed ≡ (first || second)
+      → TestsInformation information feed
 
 -- `taken` is whether the decoded host isn't empty and has no line feed
-abbrev pub TellsHost : List ℕ → Bool → Type 0
-TellsHost named taken = (host : List ℕ) × CredentialDecodes named host
+abbrev pub TestsHost : List ℕ → Bool → Type 0
+TestsHost named taken = (host : List ℕ) × CredentialDecodes named host
     × (taken ≡ (not (length host == 0) && not (has_feed host)))
 
 -- `taken` is whether the decoded host of the authority isn't empty, and no part has a line feed
-pub record TellsAuthority (authority : List ℕ) (taken : Bool) : Type 0 where
+pub record TestsAuthority (authority : List ℕ) (taken : Bool) : Type 0 where
   pub user : Option (List ℕ)
   pub password : Option (List ℕ)
   pub named : List ℕ
   pub host : List ℕ
   pub cut : CredentialCut authority user password named
   pub decodes : CredentialDecodes named host
-  pub tells : taken ≡ (not (length host == 0) && not (has_feed host)
+  pub tests : taken ≡ (not (length host == 0) && not (has_feed host)
       && not (part_has_feed user || part_has_feed password))
 
 -- `taken` is whether the parts of the pieces of a text have a host that isn't empty, and no line feed
-pub record TellsPieces (protocol authority behind : List ℕ) (taken : Bool) : Type 0 where
+pub record TestsPieces (protocol authority suffix : List ℕ) (taken : Bool) : Type 0 where
   pub parts : CredentialReading
   pub same : parts.protocol ≡ protocol
-  pub reads : ReadsPieces authority behind parts
-  pub tells : taken ≡ (not (parts_have_feed parts) && not (length parts.host == 0))
+  pub reads : ReadsPieces authority suffix parts
+  pub tests : taken ≡ (not (parts_have_feed parts) && not (length parts.host == 0))
 
 -- the text that curl would get, or none if the URL isn't for curl
-abbrev pub TellsCurl : List ℕ → Option (Bor (List ℕ)) → Type 0
-TellsCurl t r = MatchOption r ((text : List ℕ) → ¬ IsForCurl t text) (λ it. IsForCurl t it.now)
+abbrev pub FindsCurl : List ℕ → Option (Bor (List ℕ)) → Type 0
+FindsCurl t r = MatchOption r ((text : List ℕ) → ¬ IsForCurl t text) (λ it. IsForCurl t it.now)
 
 -- the step that the text begins with, and the text after it, or none if it begins with none
-abbrev pub TellsStep : List ℕ → Option (Bool × Bor (List ℕ)) → Type 0
-TellsStep t r = MatchOption r ((step rest : List ℕ) → is_step step ≡ true → ¬ (t ≡ step ++ rest))
+abbrev pub FindsStep : List ℕ → Option (Bool × Bor (List ℕ)) → Type 0
+FindsStep t r = MatchOption r ((step rest : List ℕ) → is_step step ≡ true → ¬ (t ≡ step ++ rest))
     (λ it. (step : List ℕ) × (is_step step ≡ true) × (it.0 ≡ is_step_up step) × (t ≡ step ++ it.1.now))
 
 -- the text after a leading separator, or none if it has none
-abbrev pub TellsSeparator : List ℕ → Option (Bor (List ℕ)) → Type 0
-TellsSeparator t r = MatchOption r (begins_by is_separator t ≡ false)
+abbrev pub FindsSeparator : List ℕ → Option (Bor (List ℕ)) → Type 0
+FindsSeparator t r = MatchOption r (begins_by is_separator t ≡ false)
     (λ rest. (x : ℕ) × (is_separator x ≡ true) × (t ≡ x ∷ rest.now))
 
 -- ---- values

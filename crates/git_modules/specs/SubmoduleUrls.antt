@@ -70,14 +70,14 @@ pub data IsForCurl (t text : List ℕ) : Type 0 where
 -- end of a line
 pub record FindsParts (t : List ℕ) (r : CredentialReading) : Type 0 where
   pub authority : List ℕ
-  pub behind : List ℕ
+  pub suffix : List ℕ
   pub whole : FreeOf 0 t
   pub protocol : 0 < length r.protocol
   pub no_mark : ¬ Holds (codes "://") r.protocol
-  pub joined : t ≡ r.protocol ++ (codes "://" ++ (authority ++ behind))
+  pub joined : t ≡ r.protocol ++ (codes "://" ++ (authority ++ suffix))
   pub before_path : Lacks (is_path_start true) authority
-  pub path_start : StartsPath true behind
-  pub pieces : ReadsPieces authority behind r
+  pub path_start : StartsPath true suffix
+  pub pieces : ReadsPieces authority suffix r
 
 -- one of the parts contains a line feed
 abbrev pub parts_have_feed : CredentialReading → Bool

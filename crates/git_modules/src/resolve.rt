@@ -20,7 +20,7 @@ mod step;
 use crate::resolve::left::{Left, left_of};
 use crate::resolve::outcome::Resolved;
 use crate::resolve::root::root_of;
-use crate::resolve::step::{behind_here, behind_up};
+use crate::resolve::step::{after_here, after_up};
 use git_syntax::bytes::before;
 use thiserror::Error;
 
@@ -52,7 +52,7 @@ pub enum ResolveError {
 pub fn is_relative(url: &[u8]) -> bool
     ensures { result ≡ steps.is_relative url.now }
 {
-    behind_here(url).is_some() || behind_up(url).is_some()
+    after_here(url).is_some() || after_up(url).is_some()
 }
 
 /// Returns the URL that `git submodule init` stores for a submodule, in `submodule.<name>.url`.

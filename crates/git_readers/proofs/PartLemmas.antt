@@ -31,19 +31,19 @@ label_alone t free (AreLabels.more x l r plain others e) = absurd (not_free dot 
 -- ---- numbers
 
 -- digits before a byte that is none are the text before the first such byte
-pub number_same : (c : ℕ) (digits rest front behind : List ℕ) → is_ascii_digit c ≡ false → list_all is_ascii_digit digits ≡ true → FreeOf c front → digits ++ c ∷ rest ≡ front ++ c ∷ behind → digits ≡ front
-number_same c digits rest front behind other all free joined =
-    (cut_unique c digits front rest behind (free_of_all is_ascii_digit c digits all other) free joined).0
+pub number_same : (c : ℕ) (digits rest front suffix : List ℕ) → is_ascii_digit c ≡ false → list_all is_ascii_digit digits ≡ true → FreeOf c front → digits ++ c ∷ rest ≡ front ++ c ∷ suffix → digits ≡ front
+number_same c digits rest front suffix other all free joined =
+    (cut_unique c digits front rest suffix (free_of_all is_ascii_digit c digits all other) free joined).0
 
 -- so that is of digits
-pub number_first : (c : ℕ) (digits rest front behind : List ℕ) → is_ascii_digit c ≡ false → list_all is_ascii_digit digits ≡ true → FreeOf c front → digits ++ c ∷ rest ≡ front ++ c ∷ behind → list_all is_ascii_digit front ≡ true
-number_first c digits rest front behind other all free joined =
-    subst (λ x. list_all is_ascii_digit x ≡ true) (number_same c digits rest front behind other all free joined) all
+pub number_first : (c : ℕ) (digits rest front suffix : List ℕ) → is_ascii_digit c ≡ false → list_all is_ascii_digit digits ≡ true → FreeOf c front → digits ++ c ∷ rest ≡ front ++ c ∷ suffix → list_all is_ascii_digit front ≡ true
+number_first c digits rest front suffix other all free joined =
+    subst (λ x. list_all is_ascii_digit x ≡ true) (number_same c digits rest front suffix other all free joined) all
 
 -- and the rest is the rest
-pub number_rest : (c : ℕ) (digits rest front behind : List ℕ) → is_ascii_digit c ≡ false → list_all is_ascii_digit digits ≡ true → FreeOf c front → digits ++ c ∷ rest ≡ front ++ c ∷ behind → rest ≡ behind
-number_rest c digits rest front behind other all free joined =
-    (cut_unique c digits front rest behind (free_of_all is_ascii_digit c digits all other) free joined).1
+pub number_rest : (c : ℕ) (digits rest front suffix : List ℕ) → is_ascii_digit c ≡ false → list_all is_ascii_digit digits ≡ true → FreeOf c front → digits ++ c ∷ rest ≡ front ++ c ∷ suffix → rest ≡ suffix
+number_rest c digits rest front suffix other all free joined =
+    (cut_unique c digits front rest suffix (free_of_all is_ascii_digit c digits all other) free joined).1
 
 -- ---- segments
 
@@ -108,34 +108,34 @@ dots_end path (HasDots.first _ segment rest (inr two) e) = ap holds_end_dot (e �
 dots_end path (HasDots.later _ front rest has e) = ap holds_end_dot e ∙ end_dot_later front rest (dots_end rest has)
 
 -- a text without a dot has none before the text after it
-end_dot_behind : (t rest : List ℕ) → FreeOf dot t → holds_end_dot (t ++ rest) ≡ holds_end_dot rest
-end_dot_behind [] rest free = refl
-end_dot_behind (b ∷ bs) rest free =
+end_dot_after : (t rest : List ℕ) → FreeOf dot t → holds_end_dot (t ++ rest) ≡ holds_end_dot rest
+end_dot_after [] rest free = refl
+end_dot_after (b ∷ bs) rest free =
     let apart = free_head_tail dot b bs free in
-    ap (λ x. (x && stops (bs ++ rest)) || holds_end_dot (bs ++ rest)) apart.0 ∙ end_dot_behind bs rest apart.1
+    ap (λ x. (x && stops (bs ++ rest)) || holds_end_dot (bs ++ rest)) apart.0 ∙ end_dot_after bs rest apart.1
 
 -- a path that has no dot but that of `.git` at its end has no segment of dots
 pub no_dots_git : (path t : List ℕ) → path ≡ t ++ codes ".git" → FreeOf dot t → ¬ HasDots path
-no_dots_git path t e free has = both_ways _ (ap holds_end_dot e ∙ end_dot_behind t (codes ".git") free) (dots_end path has)
+no_dots_git path t e free has = both_ways _ (ap holds_end_dot e ∙ end_dot_after t (codes ".git") free) (dots_end path has)
 
 -- nor has one without a dot
 pub no_dots_free : (path : List ℕ) → FreeOf dot path → ¬ HasDots path
-no_dots_free path free has = both_ways _ (ap holds_end_dot (sym (append-nil path)) ∙ end_dot_behind path [] free) (dots_end path has)
+no_dots_free path free has = both_ways _ (ap holds_end_dot (sym (append-nil path)) ∙ end_dot_after path [] free) (dots_end path has)
 
 -- ---- two slashes
 
 -- `//` begins at the first `/`, or is after it
-pub slashes_cut : (t front behind : List ℕ) → FreeOf slash front → t ≡ front ++ slash ∷ behind → Holds slashes t → (begins_with slash behind ≡ true) ⊎ Holds slashes behind
-slashes_cut t front behind free joined (x, y, e) = elim (free_or_cut slash x) [
-  | inl none ↦ inl (ap (λ z. begins_with slash z) (cut_unique slash front x behind (slash ∷ y) free none (sym joined ∙ e)).1)
+pub slashes_cut : (t front suffix : List ℕ) → FreeOf slash front → t ≡ front ++ slash ∷ suffix → Holds slashes t → (begins_with slash suffix ≡ true) ⊎ Holds slashes suffix
+slashes_cut t front suffix free joined (x, y, e) = elim (free_or_cut slash x) [
+  | inl none ↦ inl (ap (λ z. begins_with slash z) (cut_unique slash front x suffix (slash ∷ y) free none (sym joined ∙ e)).1)
   | inr (p, q, none, cut) ↦
       let whole = sym joined ∙ e ∙ ap (λ z. z ++ (slashes ++ y)) cut ∙ append_assoc p (slash ∷ q) (slashes ++ y) in
-      inr (q, y, (cut_unique slash front p behind (q ++ (slashes ++ y)) free none whole).1)
+      inr (q, y, (cut_unique slash front p suffix (q ++ (slashes ++ y)) free none whole).1)
 ]
 
 -- `//` after a `/` is in the whole
-pub slashes_later : (t front behind : List ℕ) → t ≡ front ++ slash ∷ behind → Holds slashes behind → Holds slashes t
-slashes_later t front behind joined (x, y, e) =
+pub slashes_later : (t front suffix : List ℕ) → t ≡ front ++ slash ∷ suffix → Holds slashes suffix → Holds slashes t
+slashes_later t front suffix joined (x, y, e) =
     (front ++ slash ∷ x, y, joined ∙ ap (λ z. front ++ slash ∷ z) e ∙ sym (append_assoc front (slash ∷ x) (slashes ++ y)))
 
 -- ---- a byte after a `/`
@@ -146,12 +146,12 @@ some_length [] c x = omega arith
 some_length (d ∷ q) c x = omega arith
 
 -- the first `/` has a byte after it if one does
-pub before_cut : (t front behind : List ℕ) → FreeOf slash front → t ≡ front ++ slash ∷ behind → HasSlashBefore t → 0 < length behind
-before_cut t front behind free joined has = elim (free_or_cut slash has.front) [
-  | inl none ↦ subst (λ x. 0 < length x) (sym (cut_unique slash front has.front behind has.behind free none (sym joined ∙ has.joined)).1) has.nonempty
+pub before_cut : (t front suffix : List ℕ) → FreeOf slash front → t ≡ front ++ slash ∷ suffix → HasSlashBefore t → 0 < length suffix
+before_cut t front suffix free joined has = elim (free_or_cut slash has.front) [
+  | inl none ↦ subst (λ x. 0 < length x) (sym (cut_unique slash front has.front suffix has.suffix free none (sym joined ∙ has.joined)).1) has.nonempty
   | inr (p, q, none, cut) ↦
-      let whole = sym joined ∙ has.joined ∙ ap (λ z. z ++ slash ∷ has.behind) cut ∙ append_assoc p (slash ∷ q) (slash ∷ has.behind) in
-      subst (λ x. 0 < length x) (sym (cut_unique slash front p behind (q ++ slash ∷ has.behind) free none whole).1) (some_length q slash has.behind)
+      let whole = sym joined ∙ has.joined ∙ ap (λ z. z ++ slash ∷ has.suffix) cut ∙ append_assoc p (slash ∷ q) (slash ∷ has.suffix) in
+      subst (λ x. 0 < length x) (sym (cut_unique slash front p suffix (q ++ slash ∷ has.suffix) free none whole).1) (some_length q slash has.suffix)
 ]
 
 -- a length that isn't 0

@@ -83,9 +83,9 @@ all_step test false t i within = refl
 -- ---- texts
 
 -- a text with a byte in it isn't empty
-some_behind : (a : List ℕ) (b : ℕ) (x : List ℕ) → ¬ (a ++ b ∷ x ≡ [])
-some_behind [] b x e = no_cons e
-some_behind (d ∷ a) b x e = no_cons e
+some_after : (a : List ℕ) (b : ℕ) (x : List ℕ) → ¬ (a ++ b ∷ x ≡ [])
+some_after [] b x e = no_cons e
+some_after (d ∷ a) b x e = no_cons e
 
 -- two texts of such bytes are one together
 pub all-append : (test : ℕ → Bool) (x y : List ℕ) → list_all test x ≡ true → list_all test y ≡ true → list_all test (x ++ y) ≡ true
@@ -94,7 +94,7 @@ all-append test x y front back = list_all-append test x y ∙ and_from _ _ front
 -- labels aren't empty
 no_empty_labels : ¬ AreLabels []
 no_empty_labels (AreLabels.last _ plain letter) = false≢true letter
-no_empty_labels (AreLabels.more _ label rest plain others joined) = some_behind label dot rest (sym joined)
+no_empty_labels (AreLabels.more _ label rest plain others joined) = some_after label dot rest (sym joined)
 
 -- a test that the bytes of labels and dots pass
 pub record PassesHosts (test : ℕ → Bool) : Type 0 where
@@ -128,7 +128,7 @@ host_plain host plain = host_pass is_unreserved record { label = label_unreserve
 -- it isn't empty: a label begins with a byte, and a dot follows an octet
 pub no_empty_host : ¬ IsCommonHost []
 no_empty_host (inl name) = no_empty_labels name.labels
-no_empty_host (inr a) = some_behind a.first dot _ (sym a.joined)
+no_empty_host (inr a) = some_after a.first dot _ (sym a.joined)
 
 -- the digits of a port are unreserved bytes, too
 pub port_plain : (n : ℕ) → n < 65536 → list_all is_unreserved (decimal n) ≡ true

@@ -78,8 +78,8 @@ cut_last_at c [] b free = ap (λ x. later_or c c b x) (cut_last_none c b free) �
 cut_last_at c (d ∷ a) b free = ap (λ x. later_or c d (a ++ c ∷ b) x) (cut_last_at c a b free)
 
 pub cut_at : (w : Which) (c : ℕ) (a b : List ℕ) → FreeOf c a → FreeOf c b → cut w c (a ++ c ∷ b) ≡ Some (a, b)
-cut_at first c a b before behind = cut_first_at c a b before
-cut_at last c a b before behind = cut_last_at c a b behind
+cut_at first c a b before suffix = cut_first_at c a b before
+cut_at last c a b before suffix = cut_last_at c a b suffix
 
 -- a text without c isn't cut
 pub cut_none : (w : Which) (c : ℕ) (t : List ℕ) → FreeOf c t → cut w c t ≡ None
@@ -106,10 +106,10 @@ no_mark (b ∷ bs) free =
 
 -- nor does one whose only colon isn't followed by two slashes
 pub no_mark_at : (a p : List ℕ) → FreeOf colon a → FreeOf colon p → begins_mark (colon ∷ p) ≡ false → holds_mark (a ++ colon ∷ p) ≡ false
-no_mark_at [] p free behind none = rw none (no_mark p behind)
-no_mark_at (b ∷ a) p free behind none =
+no_mark_at [] p free suffix none = rw none (no_mark p suffix)
+no_mark_at (b ∷ a) p free suffix none =
     let parts = free_head_tail colon b a free in
-    rw (other_begins b (a ++ colon ∷ p) parts.0) (no_mark_at a p parts.1 behind none)
+    rw (other_begins b (a ++ colon ∷ p) parts.0) (no_mark_at a p parts.1 suffix none)
 
 -- a path that doesn't begin with two slashes doesn't make a mark of the colon before it
 pub slashes_mark : (p : List ℕ) → begins_with_slashes p ≡ false → begins_mark (colon ∷ p) ≡ false

@@ -20,8 +20,8 @@ use Rattle.git_laws.proofs.Writing.WrittenScpLemmas.{scp_value_of, scp_written}
 use Rattle.git_readers.specs.declared.unambiguous.Condition.TheVariants as condition
 use Rattle.git_readers.specs.Conditions.{HasScpSlash, IsUnambiguous, form_of}
 use Rattle.git_readers.specs.Readers.{LeavesPlain, Parts, Reader, ScpTest, UrlReader, UrlTest, at_colon, at_user, begins_mark, begins_port, cut, cut_first, ends_authority, from, front_of, front_or, has_port, has_slash, is_colon, is_no_digit, is_scp_cut, is_url, local_parts, own_parts, parts_of, path_in_text, reads, reads_prepared, reads_scp, reads_url, rest_or, scp_front, scp_host, scp_rest, scp_user, until}
-use Rattle.git_readers.specs.Readers.UrlTest.{anywhere, behind_scheme}
-use Rattle.git_readers.specs.Readers.ScpTest.{any_colon, before_slash, slash_behind}
+use Rattle.git_readers.specs.Readers.UrlTest.{anywhere, past_scheme}
+use Rattle.git_readers.specs.Readers.ScpTest.{any_colon, before_slash, slash_after}
 use Rattle.git_readers.specs.Unambiguous.{BeginsWithPort, HasDots, HasInnerSlash, IsCommonHost, IsPlainWord, is_odd_local, is_path_byte, is_scp_byte, is_unreserved}
 use Rattle.git_readers.proofs.PlainBytes.{all-append, host_plain, plain_path, port_plain, scp_path}
 use Rattle.git_readers.proofs.ReaderCuts.{cut_at, cut_first_at, cut_first_none, cut_none, from_cut, from_whole, mark_held, no_mark, no_mark_at, slashes_mark, until_cut, until_from}
@@ -81,9 +81,9 @@ url_all v u =
 -- the parts that a reader cuts out are the parts that were joined
 url_cut : (r : UrlReader) → LeavesPlain r → (scheme authority path rest : List ℕ) → FreeOf colon scheme → list_all is_path_byte authority ≡ true → FreeOf slash authority → path ≡ slash ∷ rest → reads_prepared r (scheme ++ (codes "://" ++ (authority ++ path))) ≡ parts_of r scheme authority path
 url_cut r leaves scheme authority path rest free plain no_slash rooted =
-    let behind = authority ++ path in
-    let before = until_cut is_colon scheme colon (slash ∷ (slash ∷ behind)) free refl in
-    let after = ap (λ t. drop 3 t) (from_cut is_colon scheme colon (slash ∷ (slash ∷ behind)) free refl) in
+    let suffix = authority ++ path in
+    let before = until_cut is_colon scheme colon (slash ∷ (slash ∷ suffix)) free refl in
+    let after = ap (λ t. drop 3 t) (from_cut is_colon scheme colon (slash ∷ (slash ∷ suffix)) free refl) in
     let lacked = ends_lacked r leaves authority plain no_slash in
     let joined = ap (λ p. authority ++ p) rooted in
     let front = ap (λ t. until (ends_authority r) t) (after ∙ joined) ∙ until_cut (ends_authority r) authority slash rest lacked refl in
@@ -102,12 +102,12 @@ url_found v unflagged u r leaves =
     prepared ∙ cuts ∙ parts_found r leaves (scheme_text v.scheme) v.user v.password v.host v.port (url_path v) u.parts u.path ∙ url_own v unflagged
 
 -- both tests take it for a URL
-url_told : (test : UrlTest) (v : Location) → IsPlainUrl v → is_url test (url_of v) ≡ true
-url_told anywhere v u = mark_held (scheme_text v.scheme) (authority_of v.user v.password v.host v.port ++ url_path v)
-url_told behind_scheme v u =
-    let behind = authority_of v.user v.password v.host v.port ++ url_path v in
+url_tested : (test : UrlTest) (v : Location) → IsPlainUrl v → is_url test (url_of v) ≡ true
+url_tested anywhere v u = mark_held (scheme_text v.scheme) (authority_of v.user v.password v.host v.port ++ url_path v)
+url_tested past_scheme v u =
+    let suffix = authority_of v.user v.password v.host v.port ++ url_path v in
     let free = scheme_text_free (scheme_text v.scheme) colon u.scheme refl in
-    and_from _ _ (ap (λ t. is_scheme_text t) (until_cut is_colon (scheme_text v.scheme) colon (slash ∷ (slash ∷ behind)) free refl) ∙ u.scheme) (ap (λ t. begins_mark t) (from_cut is_colon (scheme_text v.scheme) colon (slash ∷ (slash ∷ behind)) free refl))
+    and_from _ _ (ap (λ t. is_scheme_text t) (until_cut is_colon (scheme_text v.scheme) colon (slash ∷ (slash ∷ suffix)) free refl) ∙ u.scheme) (ap (λ t. begins_mark t) (from_cut is_colon (scheme_text v.scheme) colon (slash ∷ (slash ∷ suffix)) free refl))
 
 pub urls_read : (v : Location) → IsValue v → IsUnambiguous v → v.flag ≡ false → (r : UrlReader) → LeavesPlain r → (t : List ℕ) → text v ≡ Ok t → reads_url r t ≡ own_parts v
 urls_read v is clear unflagged r leaves t written =
@@ -117,7 +117,7 @@ urls_read v is clear unflagged r leaves t written =
 pub url_by_all : (v : Location) → IsValue v → IsUnambiguous v → v.flag ≡ false → (r : Reader) → LeavesPlain r.url → (t : List ℕ) → text v ≡ Ok t → reads r t ≡ own_parts v
 url_by_all v is clear unflagged r leaves t written =
     let u = url_text v is clear unflagged in
-    ap (λ x. reads r x) (one_text written u.written) ∙ cond-true _ _ _ (url_told r.url_test v u) ∙ url_found v unflagged u r.url leaves
+    ap (λ x. reads r x) (one_text written u.written) ∙ cond-true _ _ _ (url_tested r.url_test v u) ∙ url_found v unflagged u r.url leaves
 
 -- ---- digits after a colon
 
@@ -198,10 +198,10 @@ whole_user r None host path t =
     let none = cut_none r.url.user_cut at_sign (host ++ colon ∷ path) (free-append at_sign host (colon ∷ path) (host_lacks at_sign refl host t.place) (free-cons at_sign colon path refl (path_lacks at_sign refl path t.bytes))) in
     (ap (λ x. front_of x) none, ap (λ x. rest_or (host ++ colon ∷ path) x) none)
 whole_user r (Some u) host path t =
-    let behind = host ++ colon ∷ path in
-    let joined = append_assoc (u ++ at_sign ∷ []) host (colon ∷ path) ∙ append_assoc u (at_sign ∷ []) behind in
+    let suffix = host ++ colon ∷ path in
+    let joined = append_assoc (u ++ at_sign ∷ []) host (colon ∷ path) ∙ append_assoc u (at_sign ∷ []) suffix in
     let free = free-append at_sign host (colon ∷ path) (host_lacks at_sign refl host t.place) (free-cons at_sign colon path refl (path_lacks at_sign refl path t.bytes)) in
-    let at = ap (λ x. at_user r x) joined ∙ cut_at r.url.user_cut at_sign u behind (free_of_all is_unreserved at_sign u t.named.bytes refl) free in
+    let at = ap (λ x. at_user r x) joined ∙ cut_at r.url.user_cut at_sign u suffix (free_of_all is_unreserved at_sign u t.named.bytes refl) free in
     (ap (λ x. front_of x) at, ap (λ x. rest_or (scp_of (Some u) host path) x) at)
 
 -- so is the text before the colon
@@ -234,18 +234,18 @@ host_read : (r : Reader) (user : Option (List ℕ)) (host path : List ℕ) → I
 host_read r user host path t =
     let text = scp_of user host path in
     let cut_front = ap (λ x. front_or text x) (whole_colon r user host path t) in
-    let behind = (whole_user r user host path t).1 in
+    let suffix = (whole_user r user host path t).1 in
     elim (cases_Bool r.user_first) [
-      | inl first ↦ cond-true _ _ _ first ∙ ap (λ x. scp_front r x) behind ∙ ap (λ x. front_or (host ++ colon ∷ path) x) (rest_colon r user host path t)
+      | inl first ↦ cond-true _ _ _ first ∙ ap (λ x. scp_front r x) suffix ∙ ap (λ x. front_or (host ++ colon ∷ path) x) (rest_colon r user host path t)
       | inr later ↦ cond-false _ _ _ later ∙ ap (λ x. rest_or x (at_user r x)) cut_front ∙ (front_user r user host path t).1
     ]
 
 rest_read : (r : Reader) (user : Option (List ℕ)) (host path : List ℕ) → IsScpText user host path → scp_rest r (scp_of user host path) ≡ path
 rest_read r user host path t =
     let text = scp_of user host path in
-    let behind = (whole_user r user host path t).1 in
+    let suffix = (whole_user r user host path t).1 in
     elim (cases_Bool r.user_first) [
-      | inl first ↦ cond-true _ _ _ first ∙ ap (λ x. rest_or x (at_colon r x)) behind ∙ ap (λ x. rest_or (host ++ colon ∷ path) x) (rest_colon r user host path t)
+      | inl first ↦ cond-true _ _ _ first ∙ ap (λ x. rest_or x (at_colon r x)) suffix ∙ ap (λ x. rest_or (host ++ colon ∷ path) x) (rest_colon r user host path t)
       | inr later ↦ cond-false _ _ _ later ∙ ap (λ x. rest_or text x) (whole_colon r user host path t)
     ]
 
@@ -264,32 +264,32 @@ all_plain path bytes = all_weaker is_scp_byte is_path_byte scp_path path bytes
 
 -- the parts of the scp form
 abbrev scp_parts : Option (List ℕ) → List ℕ → List ℕ → Parts
-scp_parts name place behind = record {
+scp_parts name place suffix = record {
   scheme = codes "ssh";
   user = name;
   password = None;
   host = Some place;
   port = None;
-  path = behind;
+  path = suffix;
 }
 
-scp_found : (r : Reader) → LeavesPlain r.url → (name : Option (List ℕ)) (place behind : List ℕ) → IsScpText name place behind → reads_scp r (scp_of name place behind) ≡ scp_parts name place behind
-scp_found r leaves name place behind t =
-    let text = scp_of name place behind in
-    let rest = rest_read r name place behind t in
-    let none : has_port r (scp_rest r text) ≡ false = ap (λ x. has_port r x) rest ∙ port_read r name place behind t in
-    let user_part = ap (λ x. option_map r.url.word x) (user_read r name place behind t) ∙ word_read r.url leaves name t.named in
-    let host_part = ap (λ x. Some (r.url.host x)) (host_read r name place behind t) ∙ ap Some (leaves.host place t.place) in
+scp_found : (r : Reader) → LeavesPlain r.url → (name : Option (List ℕ)) (place suffix : List ℕ) → IsScpText name place suffix → reads_scp r (scp_of name place suffix) ≡ scp_parts name place suffix
+scp_found r leaves name place suffix t =
+    let text = scp_of name place suffix in
+    let rest = rest_read r name place suffix t in
+    let none : has_port r (scp_rest r text) ≡ false = ap (λ x. has_port r x) rest ∙ port_read r name place suffix t in
+    let user_part = ap (λ x. option_map r.url.word x) (user_read r name place suffix t) ∙ word_read r.url leaves name t.named in
+    let host_part = ap (λ x. Some (r.url.host x)) (host_read r name place suffix t) ∙ ap Some (leaves.host place t.place) in
     let port_part = cond-false _ (Some (until is_no_digit (scp_rest r text))) None none in
-    let plain = leaves.path behind (all_plain behind t.bytes) t.no_dots in
+    let plain = leaves.path suffix (all_plain suffix t.bytes) t.no_dots in
     let path_part = ap (λ x. r.url.path x) (cond-false _ (drop 1 (from is_no_digit (scp_rest r text))) (scp_rest r text) none ∙ rest) ∙ plain in
     λ i. record { scheme = codes "ssh"; user = user_part i; password = None; host = host_part i; port = port_part i; path = path_part i }
 
 -- no test takes it for a URL
-scp_untold : (test : UrlTest) (user : Option (List ℕ)) (host path : List ℕ) → IsScpText user host path → is_url test (scp_of user host path) ≡ false
-scp_untold anywhere user host path t =
+scp_untested : (test : UrlTest) (user : Option (List ℕ)) (host path : List ℕ) → IsScpText user host path → is_url test (scp_of user host path) ≡ false
+scp_untested anywhere user host path t =
     no_mark_at (word_of user host) path (front_lacks colon refl refl user host t.named t.place) (path_lacks colon refl path t.bytes) (slashes_mark path t.no_slashes)
-scp_untold behind_scheme user host path t =
+scp_untested past_scheme user host path t =
     and_right (is_scheme_text (until is_colon (scp_of user host path))) _ (ap (λ x. begins_mark x) (from_cut is_colon (word_of user host) colon path (front_lacks colon refl refl user host t.named t.place) refl) ∙ slashes_mark path t.no_slashes)
 
 -- a path with an inner slash has one
@@ -297,22 +297,22 @@ inner_slash : (path : List ℕ) → HasInnerSlash path → has_slash path ≡ tr
 inner_slash [] inner = absurd inner
 inner_slash (b ∷ rest) inner = elim (cases_Bool (has_slash rest)) [
   | inl there ↦ or_right (b == slash) _ there
-  | inr none ↦ absurd (not_free slash inner.front inner.behind (subst (λ x. FreeOf slash x) inner.joined none))
+  | inr none ↦ absurd (not_free slash inner.front inner.suffix (subst (λ x. FreeOf slash x) inner.joined none))
 ]
 
-told_by : (test : ScpTest) (user : Option (List ℕ)) (host path : List ℕ) → IsScpText user host path → is_scp_cut test (Some (word_of user host, path)) ≡ true
-told_by any_colon user host path t = refl
-told_by before_slash user host path t = ap not (front_lacks slash refl refl user host t.named t.place)
-told_by slash_behind user host path t = inner_slash path t.inner
+tested_by : (test : ScpTest) (user : Option (List ℕ)) (host path : List ℕ) → IsScpText user host path → is_scp_cut test (Some (word_of user host, path)) ≡ true
+tested_by any_colon user host path t = refl
+tested_by before_slash user host path t = ap not (front_lacks slash refl refl user host t.named t.place)
+tested_by slash_after user host path t = inner_slash path t.inner
 
 -- each test takes it for the scp form
-scp_told : (test : ScpTest) (user : Option (List ℕ)) (host path : List ℕ) → IsScpText user host path → is_scp_cut test (cut_first colon (scp_of user host path)) ≡ true
-scp_told test user host path t =
-    ap (λ x. is_scp_cut test x) (cut_first_at colon (word_of user host) path (front_lacks colon refl refl user host t.named t.place)) ∙ told_by test user host path t
+scp_tested : (test : ScpTest) (user : Option (List ℕ)) (host path : List ℕ) → IsScpText user host path → is_scp_cut test (cut_first colon (scp_of user host path)) ≡ true
+scp_tested test user host path t =
+    ap (λ x. is_scp_cut test x) (cut_first_at colon (word_of user host) path (front_lacks colon refl refl user host t.named t.place)) ∙ tested_by test user host path t
 
 pub scp_read : (r : Reader) → LeavesPlain r.url → (user : Option (List ℕ)) (host path : List ℕ) → IsScpText user host path → reads r (scp_of user host path) ≡ scp_parts user host path
 scp_read r leaves user host path t =
-    cond-false _ _ _ (scp_untold r.url_test user host path t) ∙ cond-true _ _ _ (scp_told r.scp_test user host path t) ∙ scp_found r leaves user host path t
+    cond-false _ _ _ (scp_untested r.url_test user host path t) ∙ cond-true _ _ _ (scp_tested r.scp_test user host path t) ∙ scp_found r leaves user host path t
 
 -- ---- a location in the scp form
 
@@ -349,9 +349,9 @@ scp_by_all v e flagged clear s r leaves t written =
 -- ---- a local path
 
 -- no test takes a text without a colon for a URL
-local_untold : (test : UrlTest) (t : List ℕ) → FreeOf colon t → is_url test t ≡ false
-local_untold anywhere t free = no_mark t free
-local_untold behind_scheme t free = and_right (is_scheme_text (until is_colon t)) _ (ap (λ x. begins_mark x) (from_whole is_colon t free))
+local_untested : (test : UrlTest) (t : List ℕ) → FreeOf colon t → is_url test t ≡ false
+local_untested anywhere t free = no_mark t free
+local_untested past_scheme t free = and_right (is_scheme_text (until is_colon t)) _ (ap (λ x. begins_mark x) (from_whole is_colon t free))
 
 local_own : (v : Location) → v.scheme ≡ file → IsSettledLocal v → local_parts v.path ≡ own_parts v
 local_own v e h =
@@ -362,7 +362,7 @@ local_by_all v e flagged clear h r t written =
     let path = path_meets v clear file true e flagged in
     let free = free_of_lacked is_odd_local colon v.path path.bytes.1 refl in
     let no_cut : is_scp_cut r.scp_test (cut_first colon v.path) ≡ false = ap (λ x. is_scp_cut r.scp_test x) (cut_first_none colon v.path free) in
-    ap (λ x. reads r x) (one_text written (flagged_text v e h)) ∙ cond-false _ _ _ (local_untold r.url_test v.path free) ∙ cond-false _ _ _ no_cut ∙ local_own v e h
+    ap (λ x. reads r x) (one_text written (flagged_text v e h)) ∙ cond-false _ _ _ (local_untested r.url_test v.path free) ∙ cond-false _ _ _ no_cut ∙ local_own v e h
 
 -- ---- every location of the class
 

@@ -101,8 +101,8 @@ rooted_written v none plain no_dots rooted =
     }
 
 -- no segment is `.` or `..` if a `/` is before the path
-no_dots_behind : (path : List ℕ) → ¬ HasDots path → ¬ HasDots (slash ∷ path)
-no_dots_behind path none has = ⊎_elim (λ dots. no_empty_dots dots) none (dots_cut (slash ∷ path) [] path refl refl has)
+no_dots_after : (path : List ℕ) → ¬ HasDots path → ¬ HasDots (slash ∷ path)
+no_dots_after path none has = ⊎_elim (λ dots. no_empty_dots dots) none (dots_cut (slash ∷ path) [] path refl refl has)
 
 -- a path below a home folder is written with a `/` before it
 home_written : (v : Location) → matches v.spelling v.path ≡ false → list_all is_path_byte v.path ≡ true → ¬ HasDots v.path → begins_with tilde v.path ≡ true → requires_path v.scheme ≡ true → IsWrittenPath v
@@ -110,7 +110,7 @@ home_written v none plain no_dots home needed =
     let same : url_path v ≡ slash ∷ v.path = cond-true _ _ _ home in record {
       written = path_written v none plain ∙ ap (λ x. x ++ v.path) (a_root (requires_path v.scheme) v.path needed (other_begins tilde slash v.path refl home)) ∙ sym same;
       rooted = ap (λ x. begins_with slash x) same;
-      plain = subst IsPlainPath (sym same) record { bytes = plain; no_dots = no_dots_behind v.path no_dots };
+      plain = subst IsPlainPath (sym same) record { bytes = plain; no_dots = no_dots_after v.path no_dots };
     }
 
 -- a path of Git's transports is either

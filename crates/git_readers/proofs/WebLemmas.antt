@@ -34,13 +34,13 @@ agrees_over_web : (v : Location) → form v ≡ form.Web → AgreesWithGit v →
 agrees_over_web v e agrees = agrees_by v.scheme v.flag v (ap is_web e) agrees
 
 -- a segment of dots after a `/` is one that readers take out
-dots_behind : (front path : List ℕ) → HasDots path → HasDotSegment (front ++ slash ∷ path)
-dots_behind front path (HasDots.whole _ dots) =
-    record { front = front; dots = path; behind = []; joined = ap (λ x. front ++ slash ∷ x) (sym (append-nil path)); segment = dots; end = inl refl }
-dots_behind front path (HasDots.first _ segment rest dots e) =
-    record { front = front; dots = segment; behind = slash ∷ rest; joined = ap (λ x. front ++ slash ∷ x) e; segment = dots; end = inr refl }
-dots_behind front path (HasDots.later _ f rest has e) =
-    subst HasDotSegment (append_assoc front (slash ∷ f) (slash ∷ rest) ∙ ap (λ x. front ++ slash ∷ x) (sym e)) (dots_behind (front ++ slash ∷ f) rest has)
+dots_after : (front path : List ℕ) → HasDots path → HasDotSegment (front ++ slash ∷ path)
+dots_after front path (HasDots.whole _ dots) =
+    record { front = front; dots = path; suffix = []; joined = ap (λ x. front ++ slash ∷ x) (sym (append-nil path)); segment = dots; end = inl refl }
+dots_after front path (HasDots.first _ segment rest dots e) =
+    record { front = front; dots = segment; suffix = slash ∷ rest; joined = ap (λ x. front ++ slash ∷ x) e; segment = dots; end = inr refl }
+dots_after front path (HasDots.later _ f rest has e) =
+    subst HasDotSegment (append_assoc front (slash ∷ f) (slash ∷ rest) ∙ ap (λ x. front ++ slash ∷ x) (sym e)) (dots_after (front ++ slash ∷ f) rest has)
 
 -- a path that begins with `/` has none of another kind
 rooted_dots : (path : List ℕ) → begins_with slash path ≡ true → HasDots path → HasDotSegment path
@@ -50,7 +50,7 @@ rooted_dots path rooted (HasDots.first _ segment rest (inl one) e) =
     absurd (false≢true (subst (λ x. begins_with slash x ≡ true) (e ∙ ap (λ x. x ++ slash ∷ rest) one) rooted))
 rooted_dots path rooted (HasDots.first _ segment rest (inr two) e) =
     absurd (false≢true (subst (λ x. begins_with slash x ≡ true) (e ∙ ap (λ x. x ++ slash ∷ rest) two) rooted))
-rooted_dots path rooted (HasDots.later _ front rest has e) = subst HasDotSegment (sym e) (dots_behind front rest has)
+rooted_dots path rooted (HasDots.later _ front rest has e) = subst HasDotSegment (sym e) (dots_after front rest has)
 
 -- if Git agrees, a path of HTTP has no segment of dots
 pub web_lacks_dots : (v : Location) → form v ≡ form.Web → AgreesWithGit v → LacksDots (form v) v.path

@@ -137,8 +137,8 @@ abbrev pub is_colon : ℕ → Bool
 is_colon b = b == colon
 
 -- the text after `://`, which the first colon begins
-abbrev pub behind_mark : List ℕ → List ℕ
-behind_mark t = drop 3 (from is_colon t)
+abbrev pub after_mark : List ℕ → List ℕ
+after_mark t = drop 3 (from is_colon t)
 
 -- the byte ends an authority
 abbrev pub ends_authority : UrlReader → ℕ → Bool
@@ -174,8 +174,8 @@ parts_of r scheme authority path = record {
 
 -- the fields that the reader finds in a prepared text
 abbrev pub reads_prepared : UrlReader → List ℕ → Parts
-reads_prepared r t = parts_of r (until is_colon t) (until (ends_authority r) (behind_mark t))
-    (from (ends_authority r) (behind_mark t))
+reads_prepared r t = parts_of r (until is_colon t) (until (ends_authority r) (after_mark t))
+    (from (ends_authority r) (after_mark t))
 
 -- the fields that the reader finds in a URL
 abbrev pub reads_url : UrlReader → List ℕ → Parts
@@ -195,12 +195,12 @@ holds_mark (b ∷ bs) = begins_mark (b ∷ bs) || holds_mark bs
 -- the texts that a reader regards as URLs: those with `://` anywhere, or after a scheme
 pub data UrlTest : Type 0 where
   anywhere : UrlTest
-  behind_scheme : UrlTest
+  past_scheme : UrlTest
 
 -- the text is a URL to a reader with this test
 abbrev pub is_url : UrlTest → List ℕ → Bool
 is_url anywhere t = holds_mark t
-is_url behind_scheme t = is_scheme_text (until is_colon t) && begins_mark (from is_colon t)
+is_url past_scheme t = is_scheme_text (until is_colon t) && begins_mark (from is_colon t)
 
 -- the text has a slash
 abbrev pub has_slash : List ℕ → Bool
@@ -211,14 +211,14 @@ has_slash t = list_any (λ b. b == slash) t
 pub data ScpTest : Type 0 where
   any_colon : ScpTest
   before_slash : ScpTest
-  slash_behind : ScpTest
+  slash_after : ScpTest
 
 -- the cut is one of the scp form to a reader with this test
 abbrev pub is_scp_cut : ScpTest → Option (List ℕ × List ℕ) → Bool
 is_scp_cut test None = false
 is_scp_cut any_colon (Some (front, rest)) = true
 is_scp_cut before_slash (Some (front, rest)) = not (has_slash front)
-is_scp_cut slash_behind (Some (front, rest)) = has_slash rest
+is_scp_cut slash_after (Some (front, rest)) = has_slash rest
 
 -- the choices of a reader of remotes
 pub record Reader : Type 0 where

@@ -87,9 +87,9 @@ abbrev pub is_odd_local : ℕ → Bool
 is_odd_local b = is_control b || (b == colon || b == backslash)
 
 -- the path without a `/` at its front
-abbrev pub behind_slash : List ℕ → List ℕ
-behind_slash [] = []
-behind_slash (b ∷ rest) = if b == slash then rest else b ∷ rest
+abbrev pub after_slash : List ℕ → List ℕ
+after_slash [] = []
+after_slash (b ∷ rest) = if b == slash then rest else b ∷ rest
 
 -- `-`, or a byte and `:`, which readers of Secure Shell, of `git://` and of files read as an option or a drive
 abbrev pub is_odd_start : List ℕ → Bool
@@ -117,9 +117,9 @@ pub record BeginsWithPort (path : List ℕ) : Type 0 where
 -- the text has a `/` that a byte follows
 pub record HasSlashBefore (text : List ℕ) : Type 0 where
   pub front : List ℕ
-  pub behind : List ℕ
-  pub joined : text ≡ front ++ slash ∷ behind
-  pub nonempty : 0 < length behind
+  pub suffix : List ℕ
+  pub joined : text ≡ front ++ slash ∷ suffix
+  pub nonempty : 0 < length suffix
 
 -- the path has a `/` between two bytes
 abbrev pub HasInnerSlash : List ℕ → Type 0

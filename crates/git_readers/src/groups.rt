@@ -43,6 +43,12 @@ pub enum Group {
 
 impl Group {
     /// The name of the group, in lower case, for programs.
+    ///
+    /// ```
+    /// fn is_named(group: Group, name: &str) -> bool {
+    ///     group.name() == name // `first_at` is one
+    /// }
+    /// ```
     pub fn name(self) -> &'static str
         ensures { result.now ≡ group_name self }
     {
@@ -57,7 +63,8 @@ impl Group {
         }
     }
 
-    /// The readers of the group in a few words, which begin in lower case and have no full stop.
+    /// The readers of the group in a few words, which begin in lower case and have no full stop. `other_host`
+    /// of `git_audit` has an example.
     pub fn words(self) -> &'static str
         ensures { result.now ≡ group_words self }
     {
@@ -76,6 +83,13 @@ impl Group {
     /// The host that the group finds in a text, undecoded and without brackets, if it finds one. For
     /// [`Group::DigitsArePort`] the result includes the colon and the port, and the host before them may be
     /// empty.
+    ///
+    /// ```
+    /// /// The host that readers of URLs by RFC 3986 find in a text.
+    /// fn url_host(text: &[u8]) -> Option<&[u8]> {
+    ///     Group::Urls.host_in(text) // `github.com` of `ssh://github.com?@evil.com/a/b`
+    /// }
+    /// ```
     pub fn host_in(self, text: &[u8]) -> Option<&[u8]>
         ensures { option_map (λ t. t.now) result ≡ host_by self text.now }
     {
@@ -245,8 +259,8 @@ fn from_no_slash(text: &[u8]) -> &[u8]
     ensures { result.now ≡ from spec.is_no_slash text.now }
 {
     let mut rest = text;
-    while let [b'/' | b'\\', behind @ ..] = rest {
-        rest = behind;
+    while let [b'/' | b'\\', suffix @ ..] = rest {
+        rest = suffix;
     }
     rest
 }
@@ -385,8 +399,8 @@ fn host_with_port<'a>(text: &'a [u8], front: &'a [u8], rest: &'a [u8]) -> Option
     ensures { option_map (λ t. t.now) result ≡ spec.port_host (Some (front.now, rest.now)) }
 {
     if begins_port(rest) {
-        let behind = from_no_digit(rest);
-        Some(named_in(text.split_at(text.len() - behind.len()).0))
+        let suffix = from_no_digit(rest);
+        Some(named_in(text.split_at(text.len() - suffix.len()).0))
     } else {
         None
     }
@@ -414,8 +428,8 @@ fn from_no_digit(text: &[u8]) -> &[u8]
     ensures { result.now ≡ from is_no_digit text.now }
 {
     let mut rest = text;
-    while let [b'0'..=b'9', behind @ ..] = rest {
-        rest = behind;
+    while let [b'0'..=b'9', suffix @ ..] = rest {
+        rest = suffix;
     }
     rest
 }

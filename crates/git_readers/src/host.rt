@@ -70,11 +70,11 @@ fn are_labels(host: &[u8]) -> bool
     ensures { IsTrue result ↔ AreLabels host.now }
 {
     let mut rest = host;
-    while let Some((label, behind)) = cut(rest, b'.') {
+    while let Some((label, suffix)) = cut(rest, b'.') {
         if !is_plain_label(label) {
             return false;
         }
-        rest = behind;
+        rest = suffix;
     }
     is_plain_label(rest) && begins_with_letter(rest)
 }

@@ -68,7 +68,7 @@ pub(crate) fn begins_plainly(url: &UrlRef<'_>) -> bool
 fn begins_as_transport(path: &[u8]) -> bool
     ensures { IsTrue result ↔ BeginsPlainly form.Transport path.now }
 {
-    !begins_with_slashes(path) && !is_tilde_second(path) && !is_odd_start(behind_slash(path))
+    !begins_with_slashes(path) && !is_tilde_second(path) && !is_odd_start(after_slash(path))
 }
 
 /// Whether the text begins with `//`.
@@ -92,8 +92,8 @@ fn is_tilde_second(text: &[u8]) -> bool
 }
 
 /// The path without a `/` at its front.
-fn behind_slash(path: &[u8]) -> &[u8]
-    ensures { result.now ≡ byte.behind_slash path.now }
+fn after_slash(path: &[u8]) -> &[u8]
+    ensures { result.now ≡ byte.after_slash path.now }
 {
     match path {
         [b'/', rest @ ..] => rest,
@@ -156,11 +156,11 @@ fn has_dots(path: &[u8]) -> bool
     ensures { IsTrue result ↔ HasDots path.now }
 {
     let mut rest = path;
-    while let Some((segment, behind)) = cut(rest, b'/') {
+    while let Some((segment, suffix)) = cut(rest, b'/') {
         if is_dots(segment) {
             return true;
         }
-        rest = behind;
+        rest = suffix;
     }
     is_dots(rest)
 }
@@ -201,7 +201,7 @@ fn has_slash_before(text: &[u8]) -> bool
 {
     match cut(text, b'/') {
         None => false,
-        Some((_, behind)) => !behind.is_empty(),
+        Some((_, suffix)) => !suffix.is_empty(),
     }
 }
 
@@ -224,11 +224,11 @@ fn has_slashes(path: &[u8]) -> bool
     ensures { IsTrue result ↔ Holds slashes path.now }
 {
     let mut rest = path;
-    while let Some((_, behind)) = cut(rest, b'/') {
-        if starts_with_byte(behind, b'/') {
+    while let Some((_, suffix)) = cut(rest, b'/') {
+        if starts_with_byte(suffix, b'/') {
             return true;
         }
-        rest = behind;
+        rest = suffix;
     }
     false
 }

@@ -45,7 +45,7 @@ pub enum Condition {
     ScpPath,
 }
 
-/// The forms of texts. Some conditions depend on the form.
+/// The forms of texts. Some conditions depend on the form. Definitions name it, and no call returns it.
 #[derive(Clone, Copy, PartialEq, Eq, Debug)]
 pub enum Form {
     /// A URL of HTTP.

@@ -16,7 +16,7 @@ pub record CredentialReading : Type 0 where
 -- a piece and its decoding: the text before the first colon is read as a scheme and is not decoded
 pub data CredentialDecodes (piece decoded : List ℕ) : Type 0 where
   whole : FreeOf colon piece → decoded ≡ git_decode piece → CredentialDecodes piece decoded
-  behind : (front rest : List ℕ) → FreeOf colon front → piece ≡ front ++ colon ∷ rest
+  suffix : (front rest : List ℕ) → FreeOf colon front → piece ≡ front ++ colon ∷ rest
       → decoded ≡ front ++ colon ∷ git_decode rest → CredentialDecodes piece decoded
 
 -- an authority is cut at its first `@`, and the text before that at its first colon
@@ -48,22 +48,22 @@ trimmed_path (b ∷ bs) = Some (b ∷ without_last_slashes bs)
 
 -- the path in the text after an authority: without the slashes at its front, decoded, then without those at its
 -- end
-pub record CredentialPath (behind : List ℕ) (path : Option (List ℕ)) : Type 0 where
+pub record CredentialPath (suffix : List ℕ) (path : Option (List ℕ)) : Type 0 where
   pub slashes : List ℕ
   pub rest : List ℕ
   pub decoded : List ℕ
-  pub joined : behind ≡ slashes ++ rest
+  pub joined : suffix ≡ slashes ++ rest
   pub front : are_slashes slashes ≡ true
   pub begins : begins_with slash rest ≡ false
   pub decodes : CredentialDecodes rest decoded
   pub value : path ≡ trimmed_path decoded
 
 -- the decoded reading of an authority and the text after it, even if a field has several lines
-pub record ReadsPieces (authority behind : List ℕ) (r : CredentialReading) : Type 0 where
+pub record ReadsPieces (authority suffix : List ℕ) (r : CredentialReading) : Type 0 where
   pub named : List ℕ
   pub cut : CredentialCut authority r.user r.password named
   pub host : CredentialDecodes named r.host
-  pub path : CredentialPath behind r.path
+  pub path : CredentialPath suffix r.path
 
 -- a field of one line, without a line feed and a carriage return; Git refuses any other
 abbrev pub IsOneLine : List ℕ → Type 0
@@ -80,17 +80,17 @@ pub record AreOneLine (r : CredentialReading) : Type 0 where
 -- Git's credential code reads this request in the text
 pub record CredentialReads (t : List ℕ) (r : CredentialReading) : Type 0 where
   pub authority : List ℕ
-  pub behind : List ℕ
+  pub suffix : List ℕ
   pub named : List ℕ
   pub whole : FreeOf 0 t
   pub protocol : 0 < length r.protocol
   pub no_mark : ¬ Holds (codes "://") r.protocol
-  pub joined : t ≡ r.protocol ++ (codes "://" ++ (authority ++ behind))
+  pub joined : t ≡ r.protocol ++ (codes "://" ++ (authority ++ suffix))
   pub before_path : Lacks (is_path_start true) authority
-  pub path_start : StartsPath true behind
+  pub path_start : StartsPath true suffix
   pub cut : CredentialCut authority r.user r.password named
   pub host : CredentialDecodes named r.host
-  pub path : CredentialPath behind r.path
+  pub path : CredentialPath suffix r.path
   pub lines : AreOneLine r
 
 -- a text has at most one reading by Git's credential code

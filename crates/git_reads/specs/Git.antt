@@ -59,13 +59,13 @@ host_mark = codes "@["
 
 -- a bracket opens a host: the first one that follows an `@`, or else one at the front
 pub data OpensHost (t front rest : List ℕ) : Type 0 where
-  behind_at : (user : List ℕ) → ¬ Holds host_mark user → front ≡ user ++ at_sign ∷ []
+  after_at : (user : List ℕ) → ¬ Holds host_mark user → front ≡ user ++ at_sign ∷ []
       → t ≡ user ++ (host_mark ++ rest) → OpensHost t front rest
   at_front : ¬ Holds host_mark t → front ≡ [] → t ≡ left_bracket ∷ rest → OpensHost t front rest
 
 -- a bracket opens a host, and the next `]` closes it
-pub record BracketCut (t front inside behind : List ℕ) : Type 0 where
-  pub opened : OpensHost t front (inside ++ right_bracket ∷ behind)
+pub record BracketCut (t front inside suffix : List ℕ) : Type 0 where
+  pub opened : OpensHost t front (inside ++ right_bracket ∷ suffix)
   pub next : FreeOf right_bracket inside
 
 -- no bracket opens a host, or none closes it
@@ -76,8 +76,8 @@ pub data LacksHostBrackets (t : List ℕ) : Type 0 where
 
 -- `passed` is the text before the closing `]`, which Git skips to find the host's end
 pub data HostEnd (t passed rest : List ℕ) : Type 0 where
-  brackets : (front inside behind : List ℕ) → BracketCut t front inside behind
-      → passed ≡ front ++ left_bracket ∷ inside → rest ≡ right_bracket ∷ behind
+  brackets : (front inside suffix : List ℕ) → BracketCut t front inside suffix
+      → passed ≡ front ++ left_bracket ∷ inside → rest ≡ right_bracket ∷ suffix
       → HostEnd t passed rest
   none : LacksHostBrackets t → passed ≡ [] → rest ≡ t → HostEnd t passed rest
 
@@ -131,8 +131,8 @@ pub data BeforePort (t front : List ℕ) (port : Option ℕ) : Type 0 where
 
 -- the place's host without its brackets, and the port after it; any other text after a `]` is dropped
 pub data HostAndPort (place host : List ℕ) (port : Option ℕ) : Type 0 where
-  brackets : (front inside behind dropped : List ℕ) → BracketCut place front inside behind
-      → host ≡ front ++ inside → BeforePort behind dropped port → HostAndPort place host port
+  brackets : (front inside suffix dropped : List ℕ) → BracketCut place front inside suffix
+      → host ≡ front ++ inside → BeforePort suffix dropped port → HostAndPort place host port
   none : LacksHostBrackets place → BeforePort place host port → HostAndPort place host port
 
 -- ---- transports
@@ -146,7 +146,7 @@ from_tilde (a ∷ b ∷ rest) = if b == tilde then b ∷ rest else a ∷ b ∷ r
 -- if no port follows the host, one may be in the text in its brackets
 pub data SecurePort (named : List ℕ) (found : Option ℕ) (word : List ℕ)
     (port : Option ℕ) : Type 0 where
-  behind : (number : ℕ) → found ≡ Some number → word ≡ named → port ≡ found
+  outside : (number : ℕ) → found ≡ Some number → word ≡ named → port ≡ found
       → SecurePort named found word port
   inside : (digits : List ℕ) (number : ℕ) → found ≡ None → FreeOf colon word
       → named ≡ word ++ colon ∷ digits

@@ -10,10 +10,10 @@ abbrev pub LacksEscape : List ℕ → Type 0
 LacksEscape t = (b high low : ℕ) (rest : List ℕ) → t ≡ b ∷ high ∷ low ∷ rest
     → is_git_escape b high low ≡ false
 
--- the text begins with an escape of `byte`, which isn't byte 0, and `behind` follows it
+-- the text begins with an escape of `byte`, which isn't byte 0, and `suffix` follows it
 abbrev pub HasEscape : List ℕ → ℕ → List ℕ → Type 0
-HasEscape t byte behind = (b : ℕ) × (high : ℕ) × (low : ℕ) × (is_git_escape b high low ≡ true)
-    × (byte ≡ escaped_byte high low) × (t ≡ b ∷ high ∷ low ∷ behind)
+HasEscape t byte suffix = (b : ℕ) × (high : ℕ) × (low : ℕ) × (is_git_escape b high low ≡ true)
+    × (byte ≡ escaped_byte high low) × (t ≡ b ∷ high ∷ low ∷ suffix)
 
 -- the byte of the escape that begins the text, and the text after it; `None` if no such escape does
 abbrev pub ReadsEscape : List ℕ → Option (ℕ × Bor (List ℕ)) → Type 0
@@ -21,7 +21,7 @@ ReadsEscape t r = MatchOption r (LacksEscape t) (λ it. HasEscape t it.0 it.1.no
 
 -- the text is cut at the first c that isn't skipped, and the rest begins with that c
 abbrev pub CutsPlaceAt : ℕ → List ℕ → List ℕ → List ℕ → Type 0
-CutsPlaceAt c t place rest = (behind : List ℕ) × (rest ≡ c ∷ behind) × CutsPlace c t place behind
+CutsPlaceAt c t place rest = (suffix : List ℕ) × (rest ≡ c ∷ suffix) × CutsPlace c t place suffix
 
 -- no bracket opens a host
 abbrev pub LacksOpened : List ℕ → Type 0
@@ -30,17 +30,17 @@ LacksOpened t = (¬ Holds host_mark t) × (begins_with left_bracket t ≡ false)
 -- ---- credentials
 
 -- a text is cut into its protocol, its authority and the text after that
-pub record CutsText (t protocol authority behind : List ℕ) : Type 0 where
+pub record CutsText (t protocol authority suffix : List ℕ) : Type 0 where
   pub whole : FreeOf 0 t
   pub some : 0 < length protocol
   pub no_mark : ¬ Holds (codes "://") protocol
-  pub joined : t ≡ protocol ++ (codes "://" ++ (authority ++ behind))
+  pub joined : t ≡ protocol ++ (codes "://" ++ (authority ++ suffix))
   pub before_path : Lacks (is_path_start true) authority
-  pub path_start : StartsPath true behind
+  pub path_start : StartsPath true suffix
 
 -- the text has no such cut
 abbrev pub LacksTextCut : List ℕ → Type 0
-LacksTextCut t = (protocol authority behind : List ℕ) → ¬ CutsText t protocol authority behind
+LacksTextCut t = (protocol authority suffix : List ℕ) → ¬ CutsText t protocol authority suffix
 
 -- an authority is cut into a user, a password and the host with its port, none of them decoded
 pub data CutsInformation (authority : List ℕ) (user password : Option (List ℕ))

@@ -38,19 +38,19 @@ pub record IsOfTwoPlaces (t : List ℕ) : Type 0 where
 
 -- the text is for Secure Shell, with this place and this path
 pub data IsForSecureShell (t place path : List ℕ) : Type 0 where
-  url : (rest behind : List ℕ) → OwnUrl ssh t rest → CutsPlace slash rest place behind
-      → path ≡ from_tilde (slash ∷ behind) → IsForSecureShell t place path
-  scp_form : (behind : List ℕ) → IsNoUrl t → IsRemote t → CutsPlace colon t place behind
-      → path ≡ from_tilde behind → IsForSecureShell t place path
+  url : (rest suffix : List ℕ) → OwnUrl ssh t rest → CutsPlace slash rest place suffix
+      → path ≡ from_tilde (slash ∷ suffix) → IsForSecureShell t place path
+  scp_form : (suffix : List ℕ) → IsNoUrl t → IsRemote t → CutsPlace colon t place suffix
+      → path ≡ from_tilde suffix → IsForSecureShell t place path
 
 -- Secure Shell receives a word that begins with `ssh://`, which OpenSSH reads as a URL
 pub record GetsUrl (place path : List ℕ) : Type 0 where
   pub named : List ℕ
   pub found : Option ℕ
   pub port : Option ℕ
-  pub behind : List ℕ
+  pub suffix : List ℕ
   pub cut : HostAndPort place named found
-  pub word : SecurePort named found (codes "ssh://" ++ behind) port
+  pub word : SecurePort named found (codes "ssh://" ++ suffix) port
   pub path_safe : is_option_like path ≡ false
 
 -- Git passes Secure Shell a word that begins with `ssh://`
@@ -62,7 +62,7 @@ pub record GivesUrl (t : List ℕ) : Type 0 where
 
 -- brackets are around the host of the place
 abbrev pub HasHostBrackets : List ℕ → Type 0
-HasHostBrackets place = (front : List ℕ) × (inside : List ℕ) × (behind : List ℕ) × BracketCut place front inside behind
+HasHostBrackets place = (front : List ℕ) × (inside : List ℕ) × (suffix : List ℕ) × BracketCut place front inside suffix
 
 -- a reading of the text is written to a buffer
 pub data IsRewritten (t : List ℕ) : Type 0 where

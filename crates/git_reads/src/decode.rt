@@ -16,9 +16,9 @@ pub fn append_decoded(out: &mut Vec<u8>, text: &[u8]) -> Result<(), AllocError>
     let mut rest = text;
     while let Some((first, tail)) = rest.split_first() {
         match read_escape(rest) {
-            Some((byte, behind)) => {
+            Some((byte, suffix)) => {
                 out.push(byte)?;
-                rest = behind;
+                rest = suffix;
             }
             None => {
                 out.push(*first)?;
@@ -33,7 +33,7 @@ pub fn append_decoded(out: &mut Vec<u8>, text: &[u8]) -> Result<(), AllocError>
 fn read_escape(text: &[u8]) -> Option<(u8, &[u8])>
     ensures { ReadsEscape text.now result }
 {
-    let [high, low, behind @ ..] = after(text, b'%')? else {
+    let [high, low, suffix @ ..] = after(text, b'%')? else {
         return None;
     };
     let high = hexadecimal(*high)?;
@@ -42,7 +42,7 @@ fn read_escape(text: &[u8]) -> Option<(u8, &[u8])>
     if byte == 0 {
         None
     } else {
-        Some((byte, behind))
+        Some((byte, suffix))
     }
 }
 

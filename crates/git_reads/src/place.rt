@@ -16,7 +16,7 @@ use std::alloc::AllocError;
 struct Bracketed<'a> {
     front: &'a [u8],
     inside: &'a [u8],
-    behind: &'a [u8],
+    suffix: &'a [u8],
 }
 
 /// The host of a place without its brackets, and the port after it. `named` is the buffer for a host that has
@@ -34,7 +34,7 @@ pub(crate) fn host_and_port<'a>(
     named.clear();
     named.extend_from_slice(found.front)?;
     named.extend_from_slice(found.inside)?;
-    Ok((named.as_slice(), before_port(found.behind).1))
+    Ok((named.as_slice(), before_port(found.suffix).1))
 }
 
 /// The text before the first `mark` that follows a host in brackets, and the text from that mark on.
@@ -61,14 +61,14 @@ pub(crate) fn past_brackets(text: &[u8]) -> (&[u8], &[u8])
 /// The host in brackets, which the next `]` closes.
 fn in_brackets(text: &[u8]) -> Option<Bracketed<'_>>
     ensures { MatchOption result (LacksHostBrackets text.now)
-        (λ it. BracketCut text.now it.front.now it.inside.now it.behind.now) }
+        (λ it. BracketCut text.now it.front.now it.inside.now it.suffix.now) }
 {
     let (front, rest) = opened_host(text)?;
-    let (inside, behind) = cut(rest, b']')?;
+    let (inside, suffix) = cut(rest, b']')?;
     Some(Bracketed {
         front,
         inside,
-        behind,
+        suffix,
     })
 }
 

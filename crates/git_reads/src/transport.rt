@@ -86,6 +86,14 @@ pub struct Buffers {
 
 impl Buffers {
     /// Returns two empty buffers. Allocates nothing.
+    ///
+    /// ```
+    /// /// Whether one of Git's transports reads a place in a text.
+    /// fn is_read(alloc: Global, text: &[u8]) -> bool {
+    ///     let mut buffers = Buffers::new(alloc);
+    ///     reading(text, &mut buffers).is_ok() // of `ssh://h/p`, but not of `ext::sh -c x`
+    /// }
+    /// ```
     pub fn new(alloc: Global) -> Buffers {
         Buffers {
             decoded: Vec::new(alloc),

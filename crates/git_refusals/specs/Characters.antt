@@ -9,30 +9,30 @@ use Rattle.git_syntax.specs.Escapes.{is_sound, begins_with_digits}
 use Rattle.git_syntax.specs.Hosts.{is_http_host_byte}
 
 -- the first c of the text is at index `at`
-pub record StandsFirst (c : ℕ) (text : List ℕ) (at : ℕ) : Type 0 where
+pub record IsFirstAt (c : ℕ) (text : List ℕ) (at : ℕ) : Type 0 where
   pub before : List ℕ
-  pub behind : List ℕ
+  pub suffix : List ℕ
   pub first : FreeOf c before
-  pub joined : text ≡ before ++ c ∷ behind
+  pub joined : text ≡ before ++ c ∷ suffix
   pub offset : at ≡ length before
 
 -- the first `%` that two hexadecimal digits don't follow is at index `at`
-pub record StandsBroken (text : List ℕ) (at : ℕ) : Type 0 where
+pub record IsBrokenAt (text : List ℕ) (at : ℕ) : Type 0 where
   pub before : List ℕ
-  pub behind : List ℕ
+  pub suffix : List ℕ
   pub first : is_sound before ≡ true
-  pub joined : text ≡ before ++ percent_sign ∷ behind
-  pub broken : begins_with_digits behind ≡ false
+  pub joined : text ≡ before ++ percent_sign ∷ suffix
+  pub broken : begins_with_digits suffix ≡ false
   pub offset : at ≡ length before
 
 -- the first character of the text that passes the test is `len` bytes long and at index `at`
-pub record StandsCharacter (wrong : ℕ → Bool) (text : List ℕ) (at len : ℕ) : Type 0 where
+pub record IsCharacterAt (wrong : ℕ → Bool) (text : List ℕ) (at len : ℕ) : Type 0 where
   pub before : List ℕ
   pub character : ℕ
-  pub behind : List ℕ
+  pub suffix : List ℕ
   pub first : list_any wrong before ≡ false
   pub found : wrong character ≡ true
-  pub joined : chars text ≡ before ++ character ∷ behind
+  pub joined : chars text ≡ before ++ character ∷ suffix
   pub offset : at ≡ length (encode_utf8_all before)
   pub size : len ≡ length (encode_utf8 character)
 

@@ -20,21 +20,21 @@ use Rattle.git_refusals.specs.declared.reason.Reason.{Reason}
 use Rattle.git_refusals.specs.declared.reason.Reason.TheVariants as reason
 use Rattle.git_refusals.specs.declared.refusal.Refusal.{Refusal}
 use Rattle.git_refusals.specs.Kinds.{refusal_of}
-use Rattle.git_refusals.specs.Characters.{StandsFirst, StandsBroken, StandsCharacter, is_no_scheme_character, is_no_host_character, undecodable_at, undecodable_len}
+use Rattle.git_refusals.specs.Characters.{IsFirstAt, IsBrokenAt, IsCharacterAt, is_no_scheme_character, is_no_host_character, undecodable_at, undecodable_len}
 
 -- ---- places, and the order of checks
 
 -- the reason is this one, at this place
-pub record Stands (why : Reason) (at len : ℕ) (p : Place) : Type 0 where
+pub record IsAt (why : Reason) (at len : ℕ) (p : Place) : Type 0 where
   pub named : p.reason ≡ why
   pub start : p.at ≡ at
   pub size : p.len ≡ len
 
 -- the place that a check finds in a piece, which starts at index `before`
-pub record Behind (before : ℕ) (check : Place → Type 0) (p : Place) : Type 0 where
+pub record Shifted (before : ℕ) (check : Place → Type 0) (p : Place) : Type 0 where
   pub inside : Place
   pub found : check inside
-  pub stands : Stands inside.reason (before + inside.at) inside.len p
+  pub stands : IsAt inside.reason (before + inside.at) inside.len p
 
 -- a check finds nothing
 abbrev pub Passes : (Place → Type 0) → Type 0
@@ -50,27 +50,27 @@ pub data Then (first second : Place → Type 0) (p : Place) : Type 0 where
 -- the first bytes or escapes of a piece that don't decode to UTF-8
 pub record Undecodable (text : List ℕ) (p : Place) : Type 0 where
   pub undecodable : ¬ IsUtf8 (percent_decode text)
-  pub stands : Stands reason.EscapesNotUtf8 (undecodable_at text) (undecodable_len (drop (undecodable_at text) text)) p
+  pub stands : IsAt reason.EscapesNotUtf8 (undecodable_at text) (undecodable_len (drop (undecodable_at text) text)) p
 
 -- the first bytes that are not UTF-8
 pub record NotText (text : List ℕ) (p : Place) : Type 0 where
   pub no_text : ¬ IsUtf8 text
-  pub stands : Stands reason.NotUtf8 (utf8_valid_len text) (utf8_invalid_len (drop (utf8_valid_len text) text)) p
+  pub stands : IsAt reason.NotUtf8 (utf8_valid_len text) (utf8_invalid_len (drop (utf8_valid_len text) text)) p
 
 -- the first character of a text that passes the test
 pub record HasCharacter (why : Reason) (wrong : ℕ → Bool) (text : List ℕ) (p : Place) : Type 0 where
   pub named : p.reason ≡ why
-  pub stands : StandsCharacter wrong text p.at p.len
+  pub stands : IsCharacterAt wrong text p.at p.len
 
 -- the first backslash
 pub record HasBackslash (why : Reason) (text : List ℕ) (p : Place) : Type 0 where
-  pub first : StandsFirst backslash text p.at
-  pub stands : Stands why p.at 1 p
+  pub first : IsFirstAt backslash text p.at
+  pub stands : IsAt why p.at 1 p
 
 -- the first `%` that doesn't begin an escape
 pub record HasBrokenEscape (text : List ℕ) (p : Place) : Type 0 where
-  pub first : StandsBroken text p.at
-  pub stands : Stands reason.BrokenEscape p.at 1 p
+  pub first : IsBrokenAt text p.at
+  pub stands : IsAt reason.BrokenEscape p.at 1 p
 
 -- ---- hosts and ports
 
@@ -82,7 +82,7 @@ NoHostText other_hosts text = Undecodable text
 
 -- a text in brackets that isn't a literal and denotes no host
 abbrev pub NoOther : HostSyntax → List ℕ → Place → Type 0
-NoOther http_hosts text = Stands reason.NotAnAddress 0 (length text)
+NoOther http_hosts text = IsAt reason.NotAnAddress 0 (length text)
 NoOther git_hosts text = Undecodable text
 NoOther other_hosts text = Undecodable text
 
@@ -94,25 +94,25 @@ pub record NoInner (syntax : HostSyntax) (text : List ℕ) (p : Place) : Type 0 
 -- the text after the colon of a port isn't a decimal number
 pub record NoDigits (text : List ℕ) (p : Place) : Type 0 where
   pub other : list_all is_ascii_digit text ≡ false
-  pub stands : Stands reason.PortNotANumber 0 (length text) p
+  pub stands : IsAt reason.PortNotANumber 0 (length text) p
 
 -- decimal digits that are not a port
 pub data PortOutside (syntax : HostSyntax) (digits : List ℕ) (p : Place) : Type 0 where
   too_large : IsDigits digits → 65535 < digits_value 10 digits
-      → Stands reason.PortTooLarge 0 (length digits) p → PortOutside syntax digits p
+      → IsAt reason.PortTooLarge 0 (length digits) p → PortOutside syntax digits p
   is_zero : syntax ≡ http_hosts → IsDigits digits → digits_value 10 digits ≡ 0
-      → Stands reason.PortZero 0 (length digits) p → PortOutside syntax digits p
+      → IsAt reason.PortZero 0 (length digits) p → PortOutside syntax digits p
 
 -- a piece of HTTP whose colons don't begin a port
 pub data WebColons (piece : List ℕ) (p : Place) : Type 0 where
-  bare : IsIpv6Text piece → Stands reason.AddressWithoutBrackets 0 (length piece) p → WebColons piece p
+  bare : IsIpv6Text piece → IsAt reason.AddressWithoutBrackets 0 (length piece) p → WebColons piece p
   bare_colon : (address : List ℕ) → ¬ IsIpv6Text piece → IsIpv6Text address → piece ≡ address ++ colon ∷ []
-      → Stands reason.AddressWithoutBrackets 0 (length address) p → WebColons piece p
+      → IsAt reason.AddressWithoutBrackets 0 (length address) p → WebColons piece p
   no_host : (digits : List ℕ) → ¬ IsAddressPiece piece → FreeOf colon digits → piece ≡ colon ∷ digits
-      → Stands reason.HostBeforePort 0 0 p → WebColons piece p
+      → IsAt reason.HostBeforePort 0 0 p → WebColons piece p
   second_colon : (x y z : List ℕ) → ¬ IsAddressPiece piece → FreeOf colon x → FreeOf colon y
       → piece ≡ x ++ colon ∷ (y ++ colon ∷ z)
-      → Stands reason.SecondColon (length x + 1 + length y) 1 p → WebColons piece p
+      → IsAt reason.SecondColon (length x + 1 + length y) 1 p → WebColons piece p
 
 -- a piece whose colons don't begin a port, and that denotes no host
 abbrev pub BadColons : HostSyntax → List ℕ → Place → Type 0
@@ -123,20 +123,20 @@ BadColons other_hosts piece = Undecodable piece
 -- the flaw of a host and a port, by the marks in the piece
 pub data BadHost (syntax : HostSyntax) (piece : List ℕ) (p : Place) : Type 0 where
   -- a bracket is not closed
-  unclosed : (behind : List ℕ) → FreeOf right_bracket behind → piece ≡ left_bracket ∷ behind
-      → Stands reason.UnclosedBracket 0 1 p → BadHost syntax piece p
+  unclosed : (suffix : List ℕ) → FreeOf right_bracket suffix → piece ≡ left_bracket ∷ suffix
+      → IsAt reason.UnclosedBracket 0 1 p → BadHost syntax piece p
   -- the text after a closed bracket, up to a colon or the end
-  behind_bracket : (x wrong rest : List ℕ) → FreeOf right_bracket x → FreeOf colon wrong → 0 < length wrong
+  after_bracket : (x wrong rest : List ℕ) → FreeOf right_bracket x → FreeOf colon wrong → 0 < length wrong
       → (rest ≡ []) ⊎ (begins_with colon rest ≡ true)
       → piece ≡ left_bracket ∷ (x ++ right_bracket ∷ (wrong ++ rest))
-      → Stands reason.BehindBracket (length x + 2) (length wrong) p → BadHost syntax piece p
+      → IsAt reason.BehindBracket (length x + 2) (length wrong) p → BadHost syntax piece p
   -- the text between brackets
-  between : (x rest : List ℕ) → BracketsAround piece x rest → Behind 1 (NoInner syntax x) p
+  between : (x rest : List ℕ) → BracketsAround piece x rest → Shifted 1 (NoInner syntax x) p
       → BadHost syntax piece p
   -- the text after brackets and a colon: not a number, or not one that a port may have
-  port_behind : (x digits : List ℕ) → FreeOf right_bracket x → Passes (NoInner syntax x)
+  port_after : (x digits : List ℕ) → FreeOf right_bracket x → Passes (NoInner syntax x)
       → piece ≡ left_bracket ∷ (x ++ right_bracket ∷ (colon ∷ digits))
-      → Behind (length x + 3) (Then (NoDigits digits) (PortOutside syntax digits)) p
+      → Shifted (length x + 3) (Then (NoDigits digits) (PortOutside syntax digits)) p
       → BadHost syntax piece p
   -- colons that don't begin a port
   colons : begins_with left_bracket piece ≡ false → IsManyColoned piece → ¬ ReadsAddress syntax piece
@@ -146,8 +146,8 @@ pub data BadHost (syntax : HostSyntax) (piece : List ℕ) (p : Place) : Type 0 w
   -- `host:port`: the port isn't a number, then the host, then a number that a port may not have
   with_port : (text digits : List ℕ) → IsPlainHost text → FreeOf colon digits
       → piece ≡ text ++ colon ∷ digits
-      → Then (Behind (length text + 1) (NoDigits digits))
-      (Then (NoHostText syntax text) (Behind (length text + 1) (PortOutside syntax digits))) p
+      → Then (Shifted (length text + 1) (NoDigits digits))
+      (Then (NoHostText syntax text) (Shifted (length text + 1) (PortOutside syntax digits))) p
       → BadHost syntax piece p
 
 -- ---- authorities
@@ -156,18 +156,18 @@ pub data BadHost (syntax : HostSyntax) (piece : List ℕ) (p : Place) : Type 0 w
 pub data BadUser (information : List ℕ) (p : Place) : Type 0 where
   alone : FreeOf colon information → Undecodable information p → BadUser information p
   with_password : (u w : List ℕ) → FreeOf colon u → information ≡ u ++ colon ∷ w
-      → Then (Behind (length u + 1) (Undecodable w)) (Undecodable u) p → BadUser information p
+      → Then (Shifted (length u + 1) (Undecodable w)) (Undecodable u) p → BadUser information p
 
 -- nothing follows the user information
-pub record NoHostBehind (authority piece : List ℕ) (p : Place) : Type 0 where
+pub record NoHostAfter (authority piece : List ℕ) (p : Place) : Type 0 where
   pub empty : piece ≡ []
-  pub stands : Stands reason.HostBehindUser (length authority) 0 p
+  pub stands : IsAt reason.HostBehindUser (length authority) 0 p
 
 -- a host is needed, and the authority is empty
 pub record NoHostAtAll (needed : Bool) (authority : List ℕ) (p : Place) : Type 0 where
   pub wanted : needed ≡ true
   pub empty : authority ≡ []
-  pub stands : Stands reason.HostMissing 0 0 p
+  pub stands : IsAt reason.HostMissing 0 0 p
 
 -- the flaw of an authority without a backslash, for a scheme that needs a host or doesn't
 pub data BadParts (syntax : HostSyntax) (needed : Bool) (authority : List ℕ) (p : Place) : Type 0 where
@@ -175,7 +175,7 @@ pub data BadParts (syntax : HostSyntax) (needed : Bool) (authority : List ℕ) (
       → BadParts syntax needed authority p
   with_user : (information piece : List ℕ) → FreeOf at_sign piece → authority ≡ information ++ at_sign ∷ piece
       → Then (BadUser information)
-      (Then (Behind (length information + 1) (BadHost syntax piece)) (NoHostBehind authority piece)) p
+      (Then (Shifted (length information + 1) (BadHost syntax piece)) (NoHostAfter authority piece)) p
       → BadParts syntax needed authority p
 
 -- the flaw of an authority
@@ -187,16 +187,16 @@ BadAuthority syntax needed authority = Then (HasBackslash reason.Backslash autho
 
 -- the scheme is too long, or the text after `://`; the first 1,024 bytes of that text are reported
 pub data TooLong (scheme rest : List ℕ) (p : Place) : Type 0 where
-  long_scheme : 1024 < length scheme → Stands reason.SchemeTooLong 0 (length scheme) p → TooLong scheme rest p
+  long_scheme : 1024 < length scheme → IsAt reason.SchemeTooLong 0 (length scheme) p → TooLong scheme rest p
   long_rest : length scheme ≤ 1024 → ¬ Fits scheme rest
-      → Stands reason.AuthorityTooLong (length scheme + 3) (length (take 1024 rest)) p → TooLong scheme rest p
+      → IsAt reason.AuthorityTooLong (length scheme + 3) (length (take 1024 rest)) p → TooLong scheme rest p
 
 -- the text before `://` is not a scheme
 pub data BadScheme (scheme : List ℕ) (p : Place) : Type 0 where
-  missing : scheme ≡ [] → Stands reason.SchemeMissing 0 0 p → BadScheme scheme p
+  missing : scheme ≡ [] → IsAt reason.SchemeMissing 0 0 p → BadScheme scheme p
   -- the character at its front, if it isn't a letter
   bad_start : (c : ℕ) (rest : List ℕ) (size : ℕ) → scheme ≡ c ∷ rest → is_ascii_alphabetic c ≡ false
-      → StandsCharacter (λ _. true) scheme 0 size → Stands reason.SchemeStart 0 size p → BadScheme scheme p
+      → IsCharacterAt (λ _. true) scheme 0 size → IsAt reason.SchemeStart 0 size p → BadScheme scheme p
   bad_character : (c : ℕ) (rest : List ℕ) → scheme ≡ c ∷ rest → is_ascii_alphabetic c ≡ true
       → HasCharacter reason.SchemeCharacter is_no_scheme_character scheme p → BadScheme scheme p
 
@@ -204,7 +204,7 @@ pub data BadScheme (scheme : List ℕ) (p : Place) : Type 0 where
 pub record NoPath (scheme b path : List ℕ) (p : Place) : Type 0 where
   pub wanted : requires_path (scheme_of scheme) ≡ true
   pub empty : path ≡ []
-  pub stands : Stands reason.PathMissing (length b) 0 p
+  pub stands : IsAt reason.PathMissing (length b) 0 p
 
 -- the flaw after a scheme: of the path, then of the authority, then the missing path
 pub record BadRest (b scheme rest : List ℕ) (p : Place) : Type 0 where
@@ -213,8 +213,8 @@ pub record BadRest (b scheme rest : List ℕ) (p : Place) : Type 0 where
   pub joined : rest ≡ authority ++ path
   pub before_path : Lacks (is_path_start (is_web_scheme scheme)) authority
   pub path_starts : StartsPath (is_web_scheme scheme) path
-  pub found : Then (Behind (length scheme + 3 + length authority) (Undecodable path))
-      (Then (Behind (length scheme + 3)
+  pub found : Then (Shifted (length scheme + 3 + length authority) (Undecodable path))
+      (Then (Shifted (length scheme + 3)
       (BadAuthority (host_syntax_of scheme) (requires_host scheme) authority)) (NoPath scheme b path)) p
 
 -- the flaw of a URL that is not a file URL
@@ -226,7 +226,7 @@ BadUrl b scheme rest = Then (TooLong scheme rest) (Then (NotText b)
 -- no `/` follows the mark of a file URL
 pub record NoFilePath (b rest : List ℕ) (p : Place) : Type 0 where
   pub no_slash : FreeOf slash rest
-  pub stands : Stands reason.FilePathMissing (length b) 0 p
+  pub stands : IsAt reason.FilePathMissing (length b) 0 p
 
 -- the flaw of a file URL
 abbrev pub BadFile : List ℕ → List ℕ → Place → Type 0
@@ -237,22 +237,22 @@ BadFile b rest = Then (NotText b) (NoFilePath b rest)
 -- nothing follows its colon
 pub record NoScpPath (b path : List ℕ) (p : Place) : Type 0 where
   pub empty : path ≡ []
-  pub stands : Stands reason.ScpPathMissing (length b) 0 p
+  pub stands : IsAt reason.ScpPathMissing (length b) 0 p
 
 -- a host that is empty
 pub record NoScpHost (host : List ℕ) (p : Place) : Type 0 where
   pub empty : host ≡ []
-  pub stands : Stands reason.HostMissing 0 0 p
+  pub stands : IsAt reason.HostMissing 0 0 p
 
 -- the brackets of a host, or the text in a port's place
 pub data BadScpName (host : List ℕ) (p : Place) : Type 0 where
-  unclosed : (behind : List ℕ) → FreeOf right_bracket behind → host ≡ left_bracket ∷ behind
-      → Stands reason.UnclosedBracket 0 1 p → BadScpName host p
-  behind_bracket : (x rest : List ℕ) → FreeOf right_bracket x → 0 < length rest
+  unclosed : (suffix : List ℕ) → FreeOf right_bracket suffix → host ≡ left_bracket ∷ suffix
+      → IsAt reason.UnclosedBracket 0 1 p → BadScpName host p
+  after_bracket : (x rest : List ℕ) → FreeOf right_bracket x → 0 < length rest
       → host ≡ left_bracket ∷ (x ++ right_bracket ∷ rest)
-      → Stands reason.BehindBracket (length x + 2) (length rest) p → BadScpName host p
+      → IsAt reason.BehindBracket (length x + 2) (length rest) p → BadScpName host p
   port_place : (text digits : List ℕ) → IsPlainHost text → FreeOf colon digits → host ≡ text ++ colon ∷ digits
-      → Stands reason.PortNotANumber (length text + 1) (length digits) p → BadScpName host p
+      → IsAt reason.PortNotANumber (length text + 1) (length digits) p → BadScpName host p
 
 -- the flaw of the host of the scp form
 abbrev pub BadScpHost : List ℕ → Place → Type 0
@@ -263,7 +263,7 @@ BadScpHost host = Then (HasCharacter reason.WhiteSpaceInHost is_whitespace host)
 pub data BadFront (front : List ℕ) (p : Place) : Type 0 where
   alone : FreeOf at_sign front → BadScpHost front p → BadFront front p
   with_user : (user host : List ℕ) → FreeOf at_sign host → front ≡ user ++ at_sign ∷ host
-      → Behind (length user + 1) (BadScpHost host) p → BadFront front p
+      → Shifted (length user + 1) (BadScpHost host) p → BadFront front p
 
 -- the flaw of the scp form
 abbrev pub BadScp : List ℕ → List ℕ → List ℕ → Place → Type 0
@@ -277,7 +277,7 @@ BadAddressed b path = Then (NotText b) (NoScpPath b path)
 
 -- the text has this form, and this refusal is its first flaw in the order of checks
 pub data Refused (b : List ℕ) (r : Refusal) : Type 0 where
-  empty : (p : Place) → b ≡ [] → Stands reason.Empty 0 0 p → r ≡ refusal_of Local p → Refused b r
+  empty : (p : Place) → b ≡ [] → IsAt reason.Empty 0 0 p → r ≡ refusal_of Local p → Refused b r
   file : (rest : List ℕ) (p : Place) → UrlForm b (codes "file") rest → BadFile b rest p
       → r ≡ refusal_of Url p → Refused b r
   url : (scheme rest : List ℕ) (p : Place) → OtherUrlForm b scheme rest → BadUrl b scheme rest p

@@ -7,7 +7,7 @@ use Rattle.git_refusals.specs.declared.reason.Reason.TheVariants as reason
 abbrev pub reason_words : Reason → List ℕ
 reason_words reason.Empty = codes "the text is empty"
 reason_words reason.SchemeTooLong = codes "the scheme is longer than 1024 bytes"
-reason_words reason.AuthorityTooLong = codes "more than 1024 bytes follow `://` before the path; slashes directly behind `://` do not start one"
+reason_words reason.AuthorityTooLong = codes "more than 1024 bytes follow `://` before the path; slashes directly after `://` do not start one"
 reason_words reason.NotUtf8 = codes "these bytes are not UTF-8"
 reason_words reason.WhiteSpace = codes "white space is not allowed in a URL: remove it, or write a space as `%20`"
 reason_words reason.BrokenEscape = codes "a `%` must be followed by two hexadecimal digits"
@@ -28,11 +28,11 @@ reason_words reason.PortNotANumber = codes "a port must be a decimal number"
 reason_words reason.HostCharacter = codes "this character is not allowed in the host of HTTP"
 reason_words reason.PortTooLarge = codes "a port must be at most 65535"
 reason_words reason.PortZero = codes "the port of HTTP must not be 0"
-reason_words reason.HostBehindUser = codes "the host behind the `@` is missing"
+reason_words reason.HostBehindUser = codes "the host after the `@` is missing"
 reason_words reason.HostMissing = codes "a host is required and there is none"
-reason_words reason.PathMissing = codes "a path is required: write `/` and the path behind the host"
+reason_words reason.PathMissing = codes "a path is required: write `/` and the path after the host"
 reason_words reason.FilePathMissing = codes "a file URL needs a path: write `file:///path`"
-reason_words reason.ScpPathMissing = codes "the path behind the `:` is missing"
+reason_words reason.ScpPathMissing = codes "the path after the `:` is missing"
 
 -- the name of a reason
 abbrev pub reason_name : Reason → List ℕ

@@ -2,7 +2,7 @@
 
 ghost use Rattle.std.specs.Prelude.{◌≡◌, ◌+◌, ◌≤◌, IfSome, MatchOption, chars, false, length};
 ghost use Rattle.std.specs.List.{list_any};
-ghost use Rattle.git_refusals.specs.Characters.{StandsCharacter};
+ghost use Rattle.git_refusals.specs.Characters.{IsCharacterAt};
 ghost use Rattle.git_syntax.specs.Bytes.{is_scheme_mark};
 ghost use Rattle.git_refusals.specs.Internal.Wrong.{is_host_mark, wrong_test};
 
@@ -55,7 +55,7 @@ fn is_host_mark(character: char) -> bool
 /// The index and the length of the first such character, in bytes.
 pub(crate) fn first_wrong(text: &str, wrong: Wrong) -> Option<(usize, usize)>
     ensures found { MatchOption result (list_any (wrong_test wrong) (chars text.now) ≡ false)
-        (λ place. StandsCharacter (wrong_test wrong) text.now place.0 place.1) }
+        (λ place. IsCharacterAt (wrong_test wrong) text.now place.0 place.1) }
     ensures within { IfSome result (λ place. place.0 + place.1 ≤ length text.now) }
 {
     for (at, character) in text.char_indices() {

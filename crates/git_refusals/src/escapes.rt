@@ -4,7 +4,7 @@ ghost use Rattle.std.specs.Prelude.{◌≡◌, IsUtf8, drop, false};
 ghost use Rattle.percent_encoding.specs.Percent.{percent_decode};
 ghost use Rattle.git_syntax.specs.Escapes as escape;
 ghost use Rattle.git_refusals.specs.Characters as spec;
-ghost use Rattle.git_refusals.specs.Characters.{StandsBroken, spelled_len, undecodable_at};
+ghost use Rattle.git_refusals.specs.Characters.{IsBrokenAt, spelled_len, undecodable_at};
 ghost use Rattle.git_refusals.specs.Internal.Readable.{Checks};
 ghost use Rattle.git_refusals.specs.Reasons.{NotText, Undecodable};
 
@@ -17,14 +17,14 @@ use git_syntax::escape::{begins_with_digits, decodes_to_utf8, front, split_decod
 /// The number of bytes before the first `%` that two hexadecimal digits don't follow.
 pub(crate) fn broken_escape(bytes: &[u8]) -> usize
     requires { escape.is_sound bytes.now ≡ false }
-    ensures { StandsBroken bytes.now result }
+    ensures { IsBrokenAt bytes.now result }
 {
     let mut rest = bytes;
-    while let Some((_, behind)) = cut(rest, b'%') {
-        if !begins_with_digits(behind) {
-            return bytes.len() - behind.len() - 1;
+    while let Some((_, suffix)) = cut(rest, b'%') {
+        if !begins_with_digits(suffix) {
+            return bytes.len() - suffix.len() - 1;
         }
-        rest = behind;
+        rest = suffix;
     }
     0
 }
@@ -63,7 +63,7 @@ pub(crate) fn undecodable(piece: &[u8]) -> Option<Place>
     Some(Place {
         reason: Reason::EscapesNotUtf8,
         at: piece.len() - left.len(),
-        len: left.len() - behind(left, size).len(),
+        len: left.len() - suffix(left, size).len(),
     })
 }
 
@@ -75,21 +75,21 @@ fn undecodable_end(piece: &[u8]) -> &[u8]
     let mut rest = piece;
     while let Some((first, _)) = split_decoded(rest) {
         if first < 128 {
-            rest = behind(rest, 1);
+            rest = suffix(rest, 1);
         } else {
             let (window, count) = front(rest);
             let (found, size) = decode_utf8(&window[..count]);
             if found.is_none() {
                 return rest;
             }
-            rest = behind(rest, size);
+            rest = suffix(rest, size);
         }
     }
     rest
 }
 
 /// The rest of a text after the bytes that spell the next `count` bytes of its decoding.
-fn behind(text: &[u8], count: usize) -> &[u8]
+fn suffix(text: &[u8], count: usize) -> &[u8]
     ensures { result.now ≡ drop (spelled_len count text.now) text.now }
 {
     let mut rest = text;
@@ -103,13 +103,13 @@ fn behind(text: &[u8], count: usize) -> &[u8]
 fn unit_len(text: &[u8]) -> usize
     ensures { result ≡ spec.unit_len text.now }
 {
-    let Some((first, behind)) = text.split_first() else {
+    let Some((first, suffix)) = text.split_first() else {
         return 0;
     };
     if *first != b'%' {
         return 1;
     }
-    if begins_with_digits(behind) {
+    if begins_with_digits(suffix) {
         return 3;
     }
     1

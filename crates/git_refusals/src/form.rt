@@ -2,7 +2,7 @@
 
 ghost use Rattle.std.specs.Prelude.{◌+◌, ◌≤◌, IfSome, MatchOption, length};
 ghost use Rattle.git_refusals.specs.Internal.Readable.{IsSpelled};
-ghost use Rattle.git_refusals.specs.Reasons.{Refused, Stands};
+ghost use Rattle.git_refusals.specs.Reasons.{Refused, IsAt};
 
 use crate::place::Place;
 use crate::reason::Reason;
@@ -46,7 +46,7 @@ pub fn refusal_of(text: &[u8]) -> Option<Refusal>
 
 /// The place of the refusal of the empty text.
 fn empty() -> Place
-    ensures { Stands Reason.Empty 0 0 result }
+    ensures { IsAt Reason.Empty 0 0 result }
 {
     Place {
         reason: Reason::Empty,

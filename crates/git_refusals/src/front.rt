@@ -21,8 +21,8 @@ pub fn shown_front<'a>(text: &'a [u8], refusal: &Refusal) -> &'a [u8]
         Reason::SchemeTooLong => refusal.len,
         _ => refusal.at.saturating_sub(3),
     };
-    let (_, behind) = text.split_at(scheme);
-    if behind.len() <= 1027 {
+    let (_, suffix) = text.split_at(scheme);
+    if suffix.len() <= 1027 {
         return text;
     }
     text.split_at(scheme + 1027).0

@@ -6,7 +6,7 @@ ghost use Rattle.std.specs.Char.{is_ascii_digit};
 ghost use Rattle.git_syntax.specs.Bytes.{FreeOf, begins_with, colon, left_bracket, right_bracket};
 ghost use Rattle.git_syntax.specs.Hosts.{IsManyColoned, IsPlainHost};
 ghost use Rattle.git_syntax.specs.Internal.HostPieces.{host_syntax};
-ghost use Rattle.git_refusals.specs.Internal.Hosts.{IsBeforeColon, IsPortText, StandsForHost, StandsForInner};
+ghost use Rattle.git_refusals.specs.Internal.Hosts.{IsBeforeColon, IsPortText, DenotesHost, DenotesInner};
 ghost use Rattle.git_refusals.specs.Internal.Readable.{Checks, NamesHost};
 ghost use Rattle.git_refusals.specs.Reasons.{BadHost, NoDigits, NoHostText, NoInner, PortOutside, Then, WebColons};
 
@@ -30,17 +30,17 @@ pub(crate) fn bad_host(syntax: HostSyntax, piece: &[u8]) -> Option<Place>
         return None;
     }
     match after(piece, b'[') {
-        Some(behind) => bad_bracketed(syntax, behind),
+        Some(suffix) => bad_bracketed(syntax, suffix),
         None => bad_unbracketed(syntax, piece),
     }
 }
 
 /// The flaw of a piece that begins with a bracket, from the text after it.
-fn bad_bracketed(syntax: HostSyntax, behind: &[u8]) -> Option<Place>
-    ensures { Checks (left_bracket ∷ behind.now) (BadHost (host_syntax syntax) (left_bracket ∷ behind.now))
-        (NamesHost (host_syntax syntax) (left_bracket ∷ behind.now)) result }
+fn bad_bracketed(syntax: HostSyntax, suffix: &[u8]) -> Option<Place>
+    ensures { Checks (left_bracket ∷ suffix.now) (BadHost (host_syntax syntax) (left_bracket ∷ suffix.now))
+        (NamesHost (host_syntax syntax) (left_bracket ∷ suffix.now)) result }
 {
-    match cut(behind, b']') {
+    match cut(suffix, b']') {
         Some((inner, rest)) => bad_brackets(syntax, inner, rest),
         None => Some(Place {
             reason: Reason::UnclosedBracket,
@@ -93,7 +93,7 @@ fn before_colon(text: &[u8]) -> &[u8]
 
 /// The flaw of the text between brackets.
 fn bad_inner(syntax: HostSyntax, text: &[u8]) -> Option<Place>
-    ensures { Checks text.now (NoInner (host_syntax syntax) text.now) (StandsForInner (host_syntax syntax) text.now) result }
+    ensures { Checks text.now (NoInner (host_syntax syntax) text.now) (DenotesInner (host_syntax syntax) text.now) result }
 {
     if is_literal(text) {
         return None;
@@ -186,8 +186,8 @@ fn web_colons(piece: &[u8]) -> Option<Place>
             });
         }
     }
-    let (front, behind) = cut(piece, b':')?;
-    match cut(behind, b':') {
+    let (front, suffix) = cut(piece, b':')?;
+    match cut(suffix, b':') {
         None => Some(Place {
             reason: Reason::HostBeforePort,
             at: 0,
@@ -204,7 +204,7 @@ fn web_colons(piece: &[u8]) -> Option<Place>
 /// The flaw of a text outside brackets as a host.
 fn bad_name(syntax: HostSyntax, text: &[u8]) -> Option<Place>
     requires { IsUtf8 text.now }
-    ensures { Checks text.now (NoHostText (host_syntax syntax) text.now) (StandsForHost (host_syntax syntax) text.now) result }
+    ensures { Checks text.now (NoHostText (host_syntax syntax) text.now) (DenotesHost (host_syntax syntax) text.now) result }
 {
     match syntax {
         HostSyntax::Http => {

@@ -27,6 +27,12 @@ pub struct Span {
 }
 
 /// The form of a text that spells a location.
+///
+/// ```
+/// fn is_scp(parts: &Parts) -> bool {
+///     parts.form == PartForm::Scp // of `git@host:repo`
+/// }
+/// ```
 #[derive(Clone, Copy, Debug, PartialEq, Eq)]
 pub enum PartForm {
     /// A remote helper, `name::address`, or a URL of the helper `ext`.

@@ -5,8 +5,8 @@ ghost use Rattle.git_syntax.specs.Bytes.{FreeOf, at_sign, begins_with, left_brac
 ghost use Rattle.git_syntax.specs.Grammar.{AddressedForm};
 ghost use Rattle.git_syntax.specs.Internal.Forms.{PlainScp};
 ghost use Rattle.git_syntax.specs.Internal.ScpPieces.{ColonsInside};
-ghost use Rattle.git_refusals.specs.Internal.Readable.{Checks, IsAddressedScp, IsScp, IsScpFront, NamesScpHost, StandsForScpHost};
-ghost use Rattle.git_refusals.specs.Reasons.{BadAddressed, BadFront, BadScp, BadScpHost, BadScpName, Stands};
+ghost use Rattle.git_refusals.specs.Internal.Readable.{Checks, IsAddressedScp, IsScp, IsScpFront, NamesScpHost, DenotesScpHost};
+ghost use Rattle.git_refusals.specs.Reasons.{BadAddressed, BadFront, BadScp, BadScpHost, BadScpName, IsAt};
 
 use crate::authority::backslash;
 use crate::escapes::not_text;
@@ -32,7 +32,7 @@ pub(crate) fn bad_scp(text: &[u8], front: &[u8], path: &[u8]) -> Option<Place>
 
 /// The end of the text, which lacks a path.
 fn no_path(text: &[u8]) -> Place
-    ensures { Stands Reason.ScpPathMissing (length text.now) 0 result }
+    ensures { IsAt Reason.ScpPathMissing (length text.now) 0 result }
 {
     Place {
         reason: Reason::ScpPathMissing,
@@ -77,7 +77,7 @@ fn bad_host(host: &[u8]) -> Option<Place>
     requires text { IsUtf8 host.now }
     requires no_at { FreeOf at_sign host.now }
     requires colons { ColonsInside host.now }
-    ensures { Checks host.now (BadScpHost host.now) (StandsForScpHost host.now) result }
+    ensures { Checks host.now (BadScpHost host.now) (DenotesScpHost host.now) result }
 {
     if let Some(place) = white_space(Reason::WhiteSpaceInHost, as_text(host)) {
         return Some(place);
@@ -102,8 +102,8 @@ fn bad_name(host: &[u8]) -> Option<Place>
     requires colons { ColonsInside host.now }
     ensures { Checks host.now (BadScpName host.now) (NamesScpHost host.now) result }
 {
-    if let Some(behind) = after(host, b'[') {
-        let Some((inner, rest)) = cut(behind, b']') else {
+    if let Some(suffix) = after(host, b'[') {
+        let Some((inner, rest)) = cut(suffix, b']') else {
             return Some(Place {
                 reason: Reason::UnclosedBracket,
                 at: 0,
@@ -130,13 +130,13 @@ fn bad_port(host: &[u8]) -> Option<Place>
     requires colons { ColonsInside host.now }
     ensures { Checks host.now (BadScpName host.now) (NamesScpHost host.now) result }
 {
-    let (front, behind) = cut(host, b':')?;
-    if front.is_empty() || !is_free_of(behind, b':') {
+    let (front, suffix) = cut(host, b':')?;
+    if front.is_empty() || !is_free_of(suffix, b':') {
         return None;
     }
     Some(Place {
         reason: Reason::PortNotANumber,
         at: front.len() + 1,
-        len: behind.len(),
+        len: suffix.len(),
     })
 }

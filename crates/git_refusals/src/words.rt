@@ -63,7 +63,7 @@ impl Reason {
             Reason::Empty => "the text is empty",
             Reason::SchemeTooLong => "the scheme is longer than 1024 bytes",
             Reason::AuthorityTooLong => {
-                "more than 1024 bytes follow `://` before the path; slashes directly behind `://` do not start one"
+                "more than 1024 bytes follow `://` before the path; slashes directly after `://` do not start one"
             }
             Reason::NotUtf8 => "these bytes are not UTF-8",
             Reason::WhiteSpace =>
@@ -92,11 +92,11 @@ impl Reason {
             Reason::HostCharacter => "this character is not allowed in the host of HTTP",
             Reason::PortTooLarge => "a port must be at most 65535",
             Reason::PortZero => "the port of HTTP must not be 0",
-            Reason::HostBehindUser => "the host behind the `@` is missing",
+            Reason::HostBehindUser => "the host after the `@` is missing",
             Reason::HostMissing => "a host is required and there is none",
-            Reason::PathMissing => "a path is required: write `/` and the path behind the host",
+            Reason::PathMissing => "a path is required: write `/` and the path after the host",
             Reason::FilePathMissing => "a file URL needs a path: write `file:///path`",
-            Reason::ScpPathMissing => "the path behind the `:` is missing",
+            Reason::ScpPathMissing => "the path after the `:` is missing",
         }
     }
 }

@@ -25,7 +25,7 @@ CutsValue line p = FreeOf newline p.0.now × (line ≡ p.0.now ++ value_text (op
 
 -- the subsection and the name after the first dot of a key
 abbrev pub CutsName : List ℕ → Option (Bor (List ℕ)) × Bor (List ℕ) → Type 0
-CutsName behind p = FreeOf dot p.1.now × (behind ≡ name_text (option_map (λ t. t.now) p.0) p.1.now)
+CutsName suffix p = FreeOf dot p.1.now × (suffix ≡ name_text (option_map (λ t. t.now) p.0) p.1.now)
 
 -- the parts of a key, or none if nothing spells it
 abbrev pub CutsKey : List ℕ → Option (Bor (List ℕ) × Option (Bor (List ℕ)) × Bor (List ℕ)) → Type 0

@@ -138,15 +138,15 @@ without_top [] = None
 without_top (top ∷ below) = Some below
 
 -- the stack after a segment: `.` leaves it unchanged, `..` pops it, any other segment is pushed
-abbrev pub put_segment : List (List ℕ) → List ℕ → Option (List (List ℕ))
-put_segment stack segment = if bytes_eq segment (codes ".") then Some stack
+abbrev pub write_segment : List (List ℕ) → List ℕ → Option (List (List ℕ))
+write_segment stack segment = if bytes_eq segment (codes ".") then Some stack
     else if bytes_eq segment (codes "..") then without_top stack
     else Some (segment ∷ stack)
 
 -- the stack after several segments, in their order; none if a `..` has no segment before it
-abbrev pub put_segments : List (List ℕ) → List (List ℕ) → Option (List (List ℕ))
-put_segments [] stack = Some stack
-put_segments (segment ∷ rest) stack = option_and_then (λ left. put_segments rest left) (put_segment stack segment)
+abbrev pub write_segments : List (List ℕ) → List (List ℕ) → Option (List (List ℕ))
+write_segments [] stack = Some stack
+write_segments (segment ∷ rest) stack = option_and_then (λ left. write_segments rest left) (write_segment stack segment)
 
 -- the byte begins a query or a fragment
 abbrev pub is_rest_start : ℕ → Bool
@@ -163,32 +163,32 @@ normal_segments text = map normal_text (slice_split (λ b. b == slash) text)
 
 -- the path for the text after the authority: its segments without `.` and `..`, each after a `/`, then the query
 -- and the fragment
-pub record NormalPath (behind path : List ℕ) : Type 0 where
+pub record NormalPath (suffix path : List ℕ) : Type 0 where
   pub segments : List ℕ
   pub rest : List ℕ
   pub stack : List (List ℕ)
-  pub joined : unrooted behind ≡ segments ++ rest
+  pub joined : unrooted suffix ≡ segments ++ rest
   pub before_rest : Lacks is_rest_start segments
   pub rest_starts : (rest ≡ []) ⊎ (begins_by is_rest_start rest ≡ true)
-  pub sound : is_sound behind ≡ true
-  pub put : put_segments (normal_segments segments) [] ≡ Some stack
+  pub sound : is_sound suffix ≡ true
+  pub put : write_segments (normal_segments segments) [] ≡ Some stack
   pub form : path ≡ or_root (stacked_path stack) ++ normal_text rest
 
 -- ---- URLs
 
 -- the text is a URL: a scheme, `://`, an authority, and the text from the first `/`, `?` or `#` on
-pub record UrlCut (text scheme authority behind : List ℕ) : Type 0 where
-  pub joined : text ≡ scheme ++ (codes "://" ++ (authority ++ behind))
+pub record UrlCut (text scheme authority suffix : List ℕ) : Type 0 where
+  pub joined : text ≡ scheme ++ (codes "://" ++ (authority ++ suffix))
   pub scheme_text : is_scheme_text scheme ≡ true
   pub before_path : Lacks (is_path_start true) authority
-  pub path_starts : StartsPath true behind
+  pub path_starts : StartsPath true suffix
 
 -- the text has the normal form; `globs` allows `*` in the host, as in a pattern
 pub record IsNormalOf (globs : Bool) (text : List ℕ) (n : NormalPlace) : Type 0 where
   pub scheme : List ℕ
   pub authority : List ℕ
-  pub behind : List ℕ
-  pub cut : UrlCut text scheme authority behind
+  pub suffix : List ℕ
+  pub cut : UrlCut text scheme authority suffix
   pub scheme_form : n.scheme ≡ lowercase scheme
   pub authority_form : NormalAuthority globs (lowercase scheme) authority n.user n.host n.port
-  pub path_form : NormalPath behind n.path
+  pub path_form : NormalPath suffix n.path

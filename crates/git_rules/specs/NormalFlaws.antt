@@ -7,7 +7,7 @@ use Rattle.git_syntax.specs.Hosts.{Number}
 use Rattle.git_syntax.specs.Hosts.HostSyntax.{http_hosts}
 use Rattle.git_rules.specs.declared.normal.NormalError.{NormalError}
 use Rattle.git_rules.specs.declared.normal.NormalError.TheVariants.{NoRoom, NoUrl, BrokenEscape, NoHost, BadHost, BadPort, AboveRoot}
-use Rattle.git_rules.specs.Normal.{CutsPort, lacks_host, is_host_byte, is_rest_start, normal_segments, put_segments, unrooted, NormalAuthority, NormalPlace, UrlCut, IsNormalOf}
+use Rattle.git_rules.specs.Normal.{CutsPort, lacks_host, is_host_byte, is_rest_start, normal_segments, write_segments, unrooted, NormalAuthority, NormalPlace, UrlCut, IsNormalOf}
 use Rattle.git_rules.specs.NormalPieces.{CutsBefore}
 
 -- the text is neither empty nor a number from 1 to 65,535
@@ -55,23 +55,23 @@ IsSoundAuthority globs scheme text = (user : Option (List ℕ)) × (host : List 
 -- the error in the text after the authority: a malformed escape; if there is none, a segment `..` without one
 -- before it
 abbrev pub PathFlaw : List ℕ → NormalError → Type 0
-PathFlaw behind BrokenEscape = is_sound behind ≡ false
-PathFlaw behind AboveRoot = (segments : List ℕ) × (rest : List ℕ) × CutsBefore is_rest_start (unrooted behind) segments rest
-    × (put_segments (normal_segments segments) [] ≡ None) × (is_sound behind ≡ true)
-PathFlaw behind _ = ⊥
+PathFlaw suffix BrokenEscape = is_sound suffix ≡ false
+PathFlaw suffix AboveRoot = (segments : List ℕ) × (rest : List ℕ) × CutsBefore is_rest_start (unrooted suffix) segments rest
+    × (write_segments (normal_segments segments) [] ≡ None) × (is_sound suffix ≡ true)
+PathFlaw suffix _ = ⊥
 
 -- the error in an authority; if that has none, the error in the text after it
 abbrev pub PartFlaw : Bool → List ℕ → List ℕ → List ℕ → NormalError → Type 0
-PartFlaw globs scheme authority behind flaw = AuthorityFlaw globs scheme authority flaw
-    ⊎ (IsSoundAuthority globs scheme authority × PathFlaw behind flaw)
+PartFlaw globs scheme authority suffix flaw = AuthorityFlaw globs scheme authority flaw
+    ⊎ (IsSoundAuthority globs scheme authority × PathFlaw suffix flaw)
 
 -- the error in a text: it isn't a URL; if it is one, the error in its authority or in the text after that. The text
 -- determines the error
 abbrev pub HasFlaw : Bool → List ℕ → NormalError → Type 0
 HasFlaw globs text NoRoom = ⊥
-HasFlaw globs text NoUrl = (scheme authority behind : List ℕ) → ¬ UrlCut text scheme authority behind
-HasFlaw globs text flaw = (scheme : List ℕ) × (authority : List ℕ) × (behind : List ℕ) × UrlCut text scheme authority behind
-    × PartFlaw globs (lowercase scheme) authority behind flaw
+HasFlaw globs text NoUrl = (scheme authority suffix : List ℕ) → ¬ UrlCut text scheme authority suffix
+HasFlaw globs text flaw = (scheme : List ℕ) × (authority : List ℕ) × (suffix : List ℕ) × UrlCut text scheme authority suffix
+    × PartFlaw globs (lowercase scheme) authority suffix flaw
 
 -- the result for a text and a buffer of this length: the normal form, or the buffer is too short, or an error and
 -- no normal form

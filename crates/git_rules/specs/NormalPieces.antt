@@ -57,10 +57,10 @@ ShowsFront outcome buffer at = ShowsOutcome outcome (option_map (λ n. take n bu
 
 -- the value has the normal form of these slices: a scheme in lower case, a user, a host, a port, and the text after
 -- them
-pub record HoldsParts (scheme : List ℕ) (user : Option (List ℕ)) (host : List ℕ) (port : Option ℕ) (behind : List ℕ)
+pub record HoldsParts (scheme : List ℕ) (user : Option (List ℕ)) (host : List ℕ) (port : Option ℕ) (suffix : List ℕ)
     (n : NormalPlace) : Type 0 where
   pub scheme_is : n.scheme ≡ scheme
   pub user_is : n.user ≡ option_map normal_text user
   pub host_is : n.host ≡ lowercase host
   pub port_is : n.port ≡ port
-  pub path_is : NormalPath behind n.path
+  pub path_is : NormalPath suffix n.path

@@ -9,18 +9,18 @@ CutsProtocol t protocol rest = ((¬ Holds (codes "://") t) × (protocol ≡ []) 
     ⊎ ((¬ Holds (codes "://") protocol) × (t ≡ protocol ++ (codes "://" ++ rest)))
 
 -- the text is split into its protocol, its authority and the text after that
-pub record CutsPartly (t protocol authority behind : List ℕ) : Type 0 where
-  pub protocol_cut : CutsProtocol t protocol (authority ++ behind)
+pub record CutsPartly (t protocol authority suffix : List ℕ) : Type 0 where
+  pub protocol_cut : CutsProtocol t protocol (authority ++ suffix)
   pub before_path : Lacks (is_path_start true) authority
-  pub path_start : StartsPath true behind
+  pub path_start : StartsPath true suffix
 
 -- Git's reading of a text with missing parts: an empty protocol or host is missing
 pub record ReadsPartly (t : List ℕ) (r : CredentialReading) : Type 0 where
   pub authority : List ℕ
-  pub behind : List ℕ
+  pub suffix : List ℕ
   pub whole : FreeOf 0 t
-  pub cut : CutsPartly t r.protocol authority behind
-  pub pieces : ReadsPieces authority behind r
+  pub cut : CutsPartly t r.protocol authority suffix
+  pub pieces : ReadsPieces authority suffix r
 
 -- no part contains a line feed; Git ignores a text with one
 pub record LackNewlines (r : CredentialReading) : Type 0 where

@@ -47,7 +47,7 @@ IsBestIn section name place buffer_len entries (Err error) = (error ≡ NoRoom)
     × ¬ All (BufferSuffices section name place buffer_len) entries
 
 -- the buffer is too short for an entry, and suffices for those before it
-pub record LacksRoomFirst (section name : List ℕ) (place : Option NormalPlace) (buffer_len : ℕ) (entries : List ConfigEntry) : Type 0 where
+pub record LacksBufferFirst (section name : List ℕ) (place : Option NormalPlace) (buffer_len : ℕ) (entries : List ConfigEntry) : Type 0 where
   pub before : List ConfigEntry
   pub entry : ConfigEntry
   pub others : List ConfigEntry

@@ -100,13 +100,13 @@ RanksLower Ranks rank t = (k : Rank) → Ranks t k → IsLower k rank
 pub record IsBestAt {T : Type 0} (Ranks : T → Rank → Type 0) (items : List T) (i : ℕ) : Type 0 where
   pub before : List T
   pub best : T
-  pub behind : List T
+  pub suffix : List T
   pub rank : Rank
-  pub joined : items ≡ before ++ best ∷ behind
+  pub joined : items ≡ before ++ best ∷ suffix
   pub index : length before ≡ i
   pub ranks : HasRank Ranks best (Some rank)
   pub not_higher : All (RanksNoHigher Ranks rank) before
-  pub lower : All (RanksLower Ranks rank) behind
+  pub lower : All (RanksLower Ranks rank) suffix
 
 -- the result is the index of the best item, or `None` if no item has a rank
 abbrev pub IsBest : {T : Type 0} → (T → Rank → Type 0) → List T → Option ℕ → Type 0

@@ -25,15 +25,15 @@ abbrev pub is_shell_special : ℕ → Bool
 is_shell_special b = b == 0 || (b == tab || (b == newline || is_one_of (codes "|&;<>()$`\"*?[#~=%!{}") b))
 
 -- the words, with the byte before the first
-abbrev pub put_before : ℕ → Option (List (List ℕ)) → Option (List (List ℕ))
-put_before b None = None
-put_before b (Some []) = None
-put_before b (Some (word ∷ words)) = Some ((b ∷ word) ∷ words)
+abbrev pub prepended : ℕ → Option (List (List ℕ)) → Option (List (List ℕ))
+prepended b None = None
+prepended b (Some []) = None
+prepended b (Some (word ∷ words)) = Some ((b ∷ word) ∷ words)
 
 -- the words, after one that ends here
-abbrev pub behind_end : Option (List (List ℕ)) → Option (List (List ℕ))
-behind_end None = None
-behind_end (Some words) = Some ([] ∷ words)
+abbrev pub past_end : Option (List (List ℕ)) → Option (List (List ℕ))
+past_end None = None
+past_end (Some words) = Some ([] ∷ words)
 
 -- a byte in a word, outside of quotes: `'` opens quotes, `\` escapes the next byte, and any other byte that isn't
 -- special is literal
@@ -41,7 +41,7 @@ abbrev pub in_word : ℕ → (Place → Option (List (List ℕ))) → Option (Li
 in_word b rest =
     if b == single_quote then rest quoted
     else (if b == backslash then rest escaped
-    else (if is_shell_special b then None else put_before b (rest bare)))
+    else (if is_shell_special b then None else prepended b (rest bare)))
 
 -- the words of the rest of a text, read from this state; in a word, the first of them is the rest of that word.
 -- None if a quote isn't closed, a `\` is the last byte or precedes the end of a line, or a byte is special
@@ -53,10 +53,10 @@ words_from escaped [] = None
 words_from between (b ∷ bs) =
     if b == space then words_from between bs else in_word b (λ place. words_from place bs)
 words_from bare (b ∷ bs) =
-    if b == space then behind_end (words_from between bs) else in_word b (λ place. words_from place bs)
+    if b == space then past_end (words_from between bs) else in_word b (λ place. words_from place bs)
 words_from quoted (b ∷ bs) =
-    if b == single_quote then words_from bare bs else put_before b (words_from quoted bs)
-words_from escaped (b ∷ bs) = if b == newline then None else put_before b (words_from bare bs)
+    if b == single_quote then words_from bare bs else prepended b (words_from quoted bs)
+words_from escaped (b ∷ bs) = if b == newline then None else prepended b (words_from bare bs)
 
 -- the words of a text, as a shell reads them
 abbrev pub shell_words : List ℕ → Option (List (List ℕ))

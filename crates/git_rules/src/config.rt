@@ -168,8 +168,8 @@ impl<'a> Iterator for Reader<'a> {
         }
         let at = self.text.len() - self.rest.len();
         match cut(self.rest, 0) {
-            Some((line, behind)) => {
-                self.rest = behind;
+            Some((line, suffix)) => {
+                self.rest = suffix;
                 Some(read_line(line, at))
             }
             None => {
@@ -211,8 +211,8 @@ fn cut_value(line: &[u8]) -> (&[u8], Option<&[u8]>)
 fn read_key(key: &[u8]) -> Option<(&[u8], Option<&[u8]>, &[u8])>
     ensures { CutsKey key.now result }
 {
-    let (section, behind) = cut(key, b'.')?;
-    let (subsection, name) = cut_name(behind);
+    let (section, suffix) = cut(key, b'.')?;
+    let (subsection, name) = cut_name(suffix);
     if section.is_empty() {
         return None;
     }
@@ -223,12 +223,12 @@ fn read_key(key: &[u8]) -> Option<(&[u8], Option<&[u8]>, &[u8])>
 }
 
 /// Returns the subsection, if any, and the name in the part of a key after its first dot.
-fn cut_name(behind: &[u8]) -> (Option<&[u8]>, &[u8])
-    ensures { CutsName behind.now result }
+fn cut_name(suffix: &[u8]) -> (Option<&[u8]>, &[u8])
+    ensures { CutsName suffix.now result }
 {
-    match last_cut(behind, b'.') {
+    match last_cut(suffix, b'.') {
         Some((subsection, name)) => (Some(subsection), name),
-        None => (None, behind),
+        None => (None, suffix),
     }
 }
 

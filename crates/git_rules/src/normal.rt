@@ -23,7 +23,7 @@ use thiserror::Error;
 #[derive(Clone, Copy, Debug, Error)]
 pub enum NormalError {
     /// The buffer is shorter than three times the text plus one byte.
-    #[error("the room is too short")]
+    #[error("the buffer is too short")]
     NoRoom,
     /// The text doesn't begin with a scheme and `://`.
     #[error("no scheme and `://` begin the text")]
@@ -120,12 +120,12 @@ impl<'a> NormalUrl<'a> {
         if !is_enough(text.len(), buffer.len()) {
             return Err(NormalError::NoRoom);
         }
-        let Some((scheme, authority, behind)) = cut_url(text) else {
+        let Some((scheme, authority, suffix)) = cut_url(text) else {
             return Err(NormalError::NoUrl);
         };
         let (scheme, buffer) = lowered_in(scheme, buffer);
         let authority = read_authority(globs, scheme, authority)?;
-        write_parts(scheme, authority, behind, buffer)
+        write_parts(scheme, authority, suffix, buffer)
     }
 }
 
@@ -135,7 +135,7 @@ impl<'a> NormalUrl<'a> {
 /// greatest `usize` if that overflows.
 ///
 /// ```
-/// /// The host whose settings apply to a text, in a room that is made for it.
+/// /// The host whose settings apply to a text, in a buffer that is made for it.
 /// fn host_text(alloc: Global, text: &[u8]) -> Result<Option<BString>, AllocError> {
 ///     let mut buffer = vec![in alloc; 0u8; needed_buffer_len(text.len())]?;
 ///     match NormalUrl::parse_in(text, &mut buffer) {

@@ -58,7 +58,7 @@ impl<'a> UrlPattern<'a> {
     /// normal form; Git then uses no entry of `http.*` with this text.
     ///
     /// ```
-    /// /// Whether a pattern stands for a place, each in a room of its own.
+    /// /// Whether a pattern stands for a place, each in a buffer of its own.
     /// fn stands_for(pattern: &[u8], buffer: &mut [u8], place: &NormalUrl<'_>) -> bool {
     ///     match UrlPattern::parse_in(pattern, buffer) {
     ///         Ok(pattern) => pattern.matches(place), // `https://*.example.com` for `https://git.example.com/a`
@@ -123,6 +123,13 @@ impl UrlPattern<'_> {
 
 /// The precedence of a match. The first number that differs decides, and the higher one is better (git-config(1):
 /// the host first, then the path, then the user).
+///
+/// ```
+/// /// Whether an entry is set for a URL, and not for all places.
+/// fn is_for_url(rank: Rank) -> bool {
+///     rank.path > 0 // 0 of `http.proxy`, 1 of `http.https://example.com.proxy`
+/// }
+/// ```
 #[derive(Clone, Copy)]
 pub struct Rank {
     /// The length of the host, in bytes.
@@ -195,9 +202,9 @@ fn matches_host(pattern: &[u8], host: &[u8]) -> bool
     let mut rest = host;
     while let Some((label, more)) = first_label(wanted) {
         match first_label(rest) {
-            Some((own, behind)) if matches_label(label, own) => {
+            Some((own, suffix)) if matches_label(label, own) => {
                 wanted = more;
-                rest = behind;
+                rest = suffix;
             }
             _ => return false,
         }
@@ -270,14 +277,14 @@ fn matches_path(pattern: &[u8], path: &[u8]) -> bool
 fn is_below(front: &[u8], path: &[u8]) -> bool
     ensures { IsTrue result ↔ IsBelow front.now path.now }
 {
-    match behind(front, path) {
+    match suffix(front, path) {
         None => false,
         Some(rest) => rest.is_empty() || starts_with_byte(rest, b'/'),
     }
 }
 
 /// The text after `front`, if the text begins with it.
-fn behind<'a>(front: &[u8], text: &'a [u8]) -> Option<&'a [u8]>
+fn suffix<'a>(front: &[u8], text: &'a [u8]) -> Option<&'a [u8]>
     ensures { MatchOption result ((rest : List ℕ) → ¬ (text.now ≡ front.now ++ rest))
         (λ rest. text.now ≡ front.now ++ rest.now) }
 {

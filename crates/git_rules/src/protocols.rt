@@ -178,11 +178,11 @@ fn is_listed(list: &[u8], name: &[u8]) -> bool
     ensures { result ≡ is_listed list.now name.now }
 {
     let mut rest = list;
-    while let Some((piece, behind)) = cut(rest, b':') {
+    while let Some((piece, suffix)) = cut(rest, b':') {
         if piece == name {
             return true;
         }
-        rest = behind;
+        rest = suffix;
     }
     rest == name
 }

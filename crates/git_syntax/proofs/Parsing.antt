@@ -9,5 +9,5 @@ pub mod UrlLemmas
 pub mod UrlLocationLemmas
 pub mod ScpFrontLemmas
 pub mod FoundLemmas
-pub mod RoomLemmas
+pub mod BufferLemmas
 pub mod ScpLemmas

@@ -9,17 +9,17 @@ use Rattle.git_syntax.specs.Bytes.{dot, digit_zero, colon, begins_with, is_hexad
 -- whether the byte occurs in the text, and the texts before and after it pass the two tests; each `let` defers
 -- an operand that may not be needed
 abbrev pub any_cut : ℕ → (List ℕ → Bool) → (List ℕ → Bool) → List ℕ → Bool
-any_cut c before behind [] = false
-any_cut c before behind (b ∷ bs) =
-    let rest = behind bs in
+any_cut c before suffix [] = false
+any_cut c before suffix (b ∷ bs) =
+    let rest = suffix bs in
     let here = before [] && rest in
-    let later = any_cut c (λ x. before (b ∷ x)) behind bs in
+    let later = any_cut c (λ x. before (b ∷ x)) suffix bs in
     (b == c && here) || later
 
 -- whether the text is the byte and a text that passes the test
 abbrev pub follows_byte : ℕ → (List ℕ → Bool) → List ℕ → Bool
-follows_byte c behind [] = false
-follows_byte c behind (b ∷ bs) = let rest = behind bs in b == c && rest
+follows_byte c suffix [] = false
+follows_byte c suffix (b ∷ bs) = let rest = suffix bs in b == c && rest
 
 -- whether some number up to the last one passes the test
 abbrev pub any_up_to : (ℕ → Bool) → ℕ → Bool

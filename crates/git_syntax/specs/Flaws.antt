@@ -61,10 +61,10 @@ pub data HasBadHost (syntax : HostSyntax) (piece : List ℕ) : Type 0 where
   colons : ¬ (syntax ≡ http_hosts) → ¬ ReadsAddress syntax piece → begins_with left_bracket piece ≡ false
       → IsManyColoned piece → IsNoHost syntax piece → HasBadHost syntax piece
   -- a bracket is not closed
-  open_bracket : (behind : List ℕ) → FreeOf right_bracket behind → piece ≡ left_bracket ∷ behind
+  open_bracket : (suffix : List ℕ) → FreeOf right_bracket suffix → piece ≡ left_bracket ∷ suffix
       → HasBadHost syntax piece
   -- the text after a closed bracket begins with another byte than a colon
-  behind_bracket : (x rest : List ℕ) → FreeOf right_bracket x
+  after_bracket : (x rest : List ℕ) → FreeOf right_bracket x
       → piece ≡ left_bracket ∷ (x ++ right_bracket ∷ rest) → 0 < length rest
       → begins_with colon rest ≡ false → HasBadHost syntax piece
   -- the text in brackets denotes no host
@@ -82,7 +82,7 @@ HostPortFlaw syntax piece fault.HostRequired = ⊥
 -- the text of an authority after the user information
 pub data PieceOf (authority piece : List ℕ) : Type 0 where
   whole : FreeOf at_sign authority → piece ≡ authority → PieceOf authority piece
-  behind : (information : List ℕ) → FreeOf at_sign piece → authority ≡ information ++ at_sign ∷ piece
+  suffix : (information : List ℕ) → FreeOf at_sign piece → authority ≡ information ++ at_sign ∷ piece
       → PieceOf authority piece
 
 -- a user or a password that doesn't decode to text
@@ -194,7 +194,7 @@ pub data MissesPath (b : List ℕ) : UrlKind → Type 0 where
   -- nothing follows the colon of the scp form
   in_scp : (front : List ℕ) → ScpForm b front [] → MissesPath b kind.Scp
   -- nothing follows an address in brackets
-  behind_address : (user address : List ℕ) → AddressedForm b user address []
+  after_address : (user address : List ℕ) → AddressedForm b user address []
       → MissesPath b kind.Scp
 
 -- the bytes have the form of this kind

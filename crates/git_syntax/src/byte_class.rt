@@ -79,8 +79,8 @@ fn escape_class_of(text: &[u8]) -> ByteClass
 {
     let mut ascii = true;
     let mut rest = text;
-    while let Some((_, behind)) = cut(rest, b'%') {
-        let Some((low, left)) = past_run(behind) else {
+    while let Some((_, suffix)) = cut(rest, b'%') {
+        let Some((low, left)) = past_run(suffix) else {
             return ByteClass::Other;
         };
         ascii &= low;

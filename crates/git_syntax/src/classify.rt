@@ -116,7 +116,7 @@ fn cut_url<'a>(bytes: &'a [u8], front: &'a [u8], rest: &'a [u8]) -> Option<(&'a 
     ensures { CutsAtMark bytes.now result }
 {
     match after_slashes(rest) {
-        Some(behind) => Some((front, behind)),
+        Some(suffix) => Some((front, suffix)),
         None => {
             if is_free_of(rest, b':') {
                 None
@@ -129,8 +129,8 @@ fn cut_url<'a>(bytes: &'a [u8], front: &'a [u8], rest: &'a [u8]) -> Option<(&'a 
 
 /// The bytes after two slashes at the front.
 pub(crate) fn after_slashes(text: &[u8]) -> Option<&[u8]>
-    ensures { MatchOption result ((behind : List ℕ) → ¬ (text.now ≡ slash ∷ (slash ∷ behind)))
-        (λ behind. text.now ≡ slash ∷ (slash ∷ behind.now)) }
+    ensures { MatchOption result ((suffix : List ℕ) → ¬ (text.now ≡ slash ∷ (slash ∷ suffix)))
+        (λ suffix. text.now ≡ slash ∷ (slash ∷ suffix.now)) }
 {
     match after(text, b'/') {
         Some(rest) => after(rest, b'/'),
@@ -182,7 +182,7 @@ fn cut_addressed<'a>(bytes: &'a [u8], front: &'a [u8]) -> Option<AddressedPieces
         (λ cut. AddressedCut bytes.now cut.user.now cut.address.now cut.path.now) }
 {
     match cut_addressed_user(bytes, front) {
-        Some(found) => cut_address(found.user, found.behind),
+        Some(found) => cut_address(found.user, found.suffix),
         None => None,
     }
 }
@@ -191,7 +191,7 @@ fn cut_addressed<'a>(bytes: &'a [u8], front: &'a [u8]) -> Option<AddressedPieces
 #[derive(Clone, Copy)]
 struct UserCut<'a> {
     user: &'a [u8],
-    behind: &'a [u8],
+    suffix: &'a [u8],
 }
 
 /// That user. The first colon is one of the address, which has no `@`, so the user ends at the last `@` before
@@ -199,7 +199,7 @@ struct UserCut<'a> {
 fn cut_addressed_user<'a>(bytes: &'a [u8], front: &'a [u8]) -> Option<UserCut<'a>>
     requires { IsColonFront bytes.now front.now }
     ensures { MatchOption result (¬ HasAddressedCut bytes.now)
-        (λ cut. AddressedFront bytes.now cut.user.now cut.behind.now) }
+        (λ cut. AddressedFront bytes.now cut.user.now cut.suffix.now) }
 {
     match last_cut(front, b'@') {
         None => None,
@@ -207,7 +207,7 @@ fn cut_addressed_user<'a>(bytes: &'a [u8], front: &'a [u8]) -> Option<UserCut<'a
             if starts_with_byte(host, b'[') {
                 Some(UserCut {
                     user,
-                    behind: bytes.split_at(user.len() + 2).1,
+                    suffix: bytes.split_at(user.len() + 2).1,
                 })
             } else {
                 None
@@ -217,13 +217,13 @@ fn cut_addressed_user<'a>(bytes: &'a [u8], front: &'a [u8]) -> Option<UserCut<'a
 }
 
 /// The address and the path, which follow this user and its `@[`.
-fn cut_address<'a>(user: &'a [u8], behind: &'a [u8]) -> Option<AddressedPieces<'a>>
-    requires { AddressedFront (addressed_text user.now behind.now) user.now behind.now }
-    ensures { MatchOption result (¬ HasAddressedCut (addressed_text user.now behind.now))
-        (λ cut. AddressedCut (addressed_text user.now behind.now)
+fn cut_address<'a>(user: &'a [u8], suffix: &'a [u8]) -> Option<AddressedPieces<'a>>
+    requires { AddressedFront (addressed_text user.now suffix.now) user.now suffix.now }
+    ensures { MatchOption result (¬ HasAddressedCut (addressed_text user.now suffix.now))
+        (λ cut. AddressedCut (addressed_text user.now suffix.now)
         cut.user.now cut.address.now cut.path.now) }
 {
-    match cut(behind, b']') {
+    match cut(suffix, b']') {
         None => None,
         Some((address, rest)) => match after(rest, b':') {
             None => None,
@@ -267,23 +267,23 @@ fn cut_front<'a>(bytes: &'a [u8], front: &'a [u8], rest: &'a [u8]) -> Option<(&'
         (λ p. FrontCut bytes.now p.0.now p.1.now) }
 {
     match cut_brackets(bytes) {
-        Some((inside, behind)) => cut_behind(bytes, inside, behind),
+        Some((inside, suffix)) => cut_after(bytes, inside, suffix),
         None => Some((front, rest)),
     }
 }
 
 /// The bytes before and after the first colon that follows brackets at the front.
-fn cut_behind<'a>(
+fn cut_after<'a>(
     bytes: &'a [u8],
     inside: &'a [u8],
-    behind: &'a [u8],
+    suffix: &'a [u8],
 ) -> Option<(&'a [u8], &'a [u8])>
     requires closed { FreeOf right_bracket inside.now }
-    requires joined { bytes.now ≡ left_bracket ∷ (inside.now ++ right_bracket ∷ behind.now) }
+    requires joined { bytes.now ≡ left_bracket ∷ (inside.now ++ right_bracket ∷ suffix.now) }
     ensures { MatchOption result (¬ HasFrontCut bytes.now)
         (λ p. FrontCut bytes.now p.0.now p.1.now) }
 {
-    match cut(behind, b':') {
+    match cut(suffix, b':') {
         Some((rest, path)) => Some((bytes.split_at(inside.len() + rest.len() + 2).0, path)),
         None => None,
     }
@@ -296,7 +296,7 @@ fn cut_brackets(bytes: &[u8]) -> Option<(&[u8], &[u8])>
         × (bytes.now ≡ left_bracket ∷ (p.0.now ++ right_bracket ∷ p.1.now))) }
 {
     match after(bytes, b'[') {
-        Some(behind) => cut(behind, b']'),
+        Some(suffix) => cut(suffix, b']'),
         None => None,
     }
 }

@@ -70,8 +70,8 @@ pub fn is_sound(text: &[u8]) -> bool
     ensures { result ≡ spec.is_sound text.now }
 {
     let mut rest = text;
-    while let Some((_, behind)) = cut(rest, b'%') {
-        let Some((_, left)) = past_run(behind) else {
+    while let Some((_, suffix)) = cut(rest, b'%') {
+        let Some((_, left)) = past_run(suffix) else {
             return false;
         };
         rest = left;
@@ -124,9 +124,9 @@ pub(crate) fn decoding_is_utf8(text: &[u8]) -> bool
     let mut checker = Checker::new();
     let mut rest = text;
     while !rest.is_empty() {
-        let (block, behind) = decoded_block(rest);
+        let (block, suffix) = decoded_block(rest);
         checker = checker.step(u8x64::from_array(block));
-        rest = behind;
+        rest = suffix;
     }
     checker.finish()
 }
@@ -140,11 +140,11 @@ fn decoded_block(text: &[u8]) -> ([u8; 64], &[u8])
     let mut block = [0; 64];
     let mut rest = text;
     for at in 0..64 {
-        let Some((byte, behind)) = split_decoded(rest) else {
+        let Some((byte, suffix)) = split_decoded(rest) else {
             return (block, rest);
         };
         block[at] = byte;
-        rest = behind;
+        rest = suffix;
     }
     (block, rest)
 }
@@ -158,13 +158,13 @@ pub fn front(text: &[u8]) -> ([u8; 4], usize)
     let mut window = [0; 4];
     let mut count = 0;
     let mut rest = text;
-    while let Some((byte, behind)) = split_decoded(rest) {
+    while let Some((byte, suffix)) = split_decoded(rest) {
         if count == 4 {
             return (window, count);
         }
         window[count] = byte;
         count += 1;
-        rest = behind;
+        rest = suffix;
     }
     (window, count)
 }
@@ -174,27 +174,27 @@ pub fn front(text: &[u8]) -> ([u8; 4], usize)
 pub fn split_decoded(text: &[u8]) -> Option<(u8, &[u8])>
     ensures { SplitsDecoded text.now result }
 {
-    let (first, behind) = text.split_first()?;
+    let (first, suffix) = text.split_first()?;
     if *first == b'%' {
-        return Some(split_escape(behind));
+        return Some(split_escape(suffix));
     }
-    Some((*first, behind))
+    Some((*first, suffix))
 }
 
 /// The first byte of the decoding of `%` and this text, and the rest of the text after it.
 #[inline(always)]
-fn split_escape(behind: &[u8]) -> (u8, &[u8])
-    ensures { percent.percent_decode (percent_sign ∷ behind.now)
+fn split_escape(suffix: &[u8]) -> (u8, &[u8])
+    ensures { percent.percent_decode (percent_sign ∷ suffix.now)
         ≡ result.0 ∷ percent.percent_decode result.1.now }
 {
-    let [high, low, rest @ ..] = behind else {
-        return (b'%', behind);
+    let [high, low, rest @ ..] = suffix else {
+        return (b'%', suffix);
     };
     let Some(high) = digit(*high) else {
-        return (b'%', behind);
+        return (b'%', suffix);
     };
     let Some(low) = digit(*low) else {
-        return (b'%', behind);
+        return (b'%', suffix);
     };
     (high * 16 + low, rest)
 }
@@ -244,10 +244,10 @@ pub fn decode_into(buffer: &mut [u8], text: &[u8]) -> usize
 {
     let mut size = 0;
     let mut rest = text;
-    while let Some((byte, behind)) = split_decoded(rest) {
+    while let Some((byte, suffix)) = split_decoded(rest) {
         buffer[size] = byte;
         size += 1;
-        rest = behind;
+        rest = suffix;
     }
     size
 }

@@ -119,16 +119,16 @@ fn read_some(syntax: HostSyntax, piece: &[u8]) -> Result<HostPort<'_>, UrlFault>
     ensures { ReadsHostPort (host_syntax syntax) piece.now result }
 {
     match after(piece, b'[') {
-        Some(behind) => read_bracketed(syntax, behind),
+        Some(suffix) => read_bracketed(syntax, suffix),
         None => read_unbracketed(syntax, piece),
     }
 }
 
 /// Reads the text after an opening bracket.
-fn read_bracketed(syntax: HostSyntax, behind: &[u8]) -> Result<HostPort<'_>, UrlFault>
-    ensures { ReadsHostPort (host_syntax syntax) (left_bracket ∷ behind.now) result }
+fn read_bracketed(syntax: HostSyntax, suffix: &[u8]) -> Result<HostPort<'_>, UrlFault>
+    ensures { ReadsHostPort (host_syntax syntax) (left_bracket ∷ suffix.now) result }
 {
-    match cut(behind, b']') {
+    match cut(suffix, b']') {
         Some((inner, rest)) => read_brackets(syntax, inner, rest),
         None => Err(UrlFault::BadCharacter),
     }

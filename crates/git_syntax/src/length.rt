@@ -33,8 +33,8 @@ enum Stage {
 impl Stage {
     /// The stage after these bytes.
     fn advance(self, web: bool, bytes: &[u8]) -> Stage
-        ensures { (behind : List ℕ)
-            → is_in_time web result behind ≡ is_in_time web self (bytes.now ++ behind) }
+        ensures { (suffix : List ℕ)
+            → is_in_time web result suffix ≡ is_in_time web self (bytes.now ++ suffix) }
     {
         match self {
             Stage::Slashes => advance_slashes(web, bytes),
@@ -53,28 +53,28 @@ impl Stage {
 
 /// The stage after these bytes, if only skipped bytes came before them.
 fn advance_slashes(web: bool, bytes: &[u8]) -> Stage
-    ensures { (behind : List ℕ)
-        → is_in_time web result behind ≡ is_in_time web Stage.Slashes (bytes.now ++ behind) }
+    ensures { (suffix : List ℕ)
+        → is_in_time web result suffix ≡ is_in_time web Stage.Slashes (bytes.now ++ suffix) }
 {
     let mut rest = bytes;
-    while let [first, behind @ ..] = rest {
+    while let [first, suffix @ ..] = rest {
         if !is_skipped(*first) {
             return advance_front(web, LIMIT + 1, rest);
         }
-        rest = behind;
+        rest = suffix;
     }
     Stage::Slashes
 }
 
 /// The stage after these bytes of the front. They are read in windows, as few as fix the outcome.
 fn advance_front(web: bool, within: usize, bytes: &[u8]) -> Stage
-    ensures { (behind : List ℕ)
-        → is_in_time web result behind ≡ is_in_time web (Stage.Front within) (bytes.now ++ behind) }
+    ensures { (suffix : List ℕ)
+        → is_in_time web result suffix ≡ is_in_time web (Stage.Front within) (bytes.now ++ suffix) }
 {
     let mut left = within;
     let mut rest = bytes;
     while !rest.is_empty() {
-        let (window, behind) = rest.split_at(rest.len().min(LIMIT + 1));
+        let (window, suffix) = rest.split_at(rest.len().min(LIMIT + 1));
         let (front, path) = cut_before_path(window, web);
         left = left.saturating_sub(count_visible(front));
         if left == 0 {
@@ -83,7 +83,7 @@ fn advance_front(web: bool, within: usize, bytes: &[u8]) -> Stage
         if !path.is_empty() {
             return Stage::Fixed(true);
         }
-        rest = behind;
+        rest = suffix;
     }
     Stage::Front(left)
 }
@@ -138,8 +138,8 @@ impl LengthCheck {
 
     /// The check after these bytes.
     pub fn advance(self, bytes: &[u8]) -> LengthCheck
-        ensures { (behind : List ℕ)
-            → is_text_in_time result behind ≡ is_text_in_time self (bytes.now ++ behind) }
+        ensures { (suffix : List ℕ)
+            → is_text_in_time result suffix ≡ is_text_in_time self (bytes.now ++ suffix) }
     {
         if bytes.len() <= self.left {
             return LengthCheck {

@@ -17,12 +17,12 @@ fn is_high(digit: u8) -> bool
 pub(crate) fn past_run(text: &[u8]) -> Option<(bool, &[u8])>
     ensures { PassesDigits text.now result }
 {
-    let (high, behind) = after_digits(text)?;
+    let (high, suffix) = after_digits(text)?;
     let mut low = !is_high(high);
-    let mut rest = behind;
-    while let Some((high, behind)) = after_escape(rest) {
+    let mut rest = suffix;
+    while let Some((high, suffix)) = after_escape(rest) {
         low &= !is_high(high);
-        rest = behind;
+        rest = suffix;
     }
     Some((low, rest))
 }
@@ -33,8 +33,8 @@ fn after_digits(text: &[u8]) -> Option<(u8, &[u8])>
     ensures { StripsDigits text.now result }
 {
     match text {
-        [high, low, behind @ ..] if is_hexadecimal(*high) && is_hexadecimal(*low) => {
-            Some((*high, behind))
+        [high, low, suffix @ ..] if is_hexadecimal(*high) && is_hexadecimal(*low) => {
+            Some((*high, suffix))
         }
         _ => None,
     }
@@ -46,7 +46,7 @@ fn after_escape(text: &[u8]) -> Option<(u8, &[u8])>
     ensures { StripsEscape text.now result }
 {
     match text {
-        [sign, behind @ ..] if *sign == b'%' => after_digits(behind),
+        [sign, suffix @ ..] if *sign == b'%' => after_digits(suffix),
         _ => None,
     }
 }

@@ -1,13 +1,11 @@
 //! Schemes: the known ones, and all others by name. Names are compared exactly.
 
-ghost use Rattle.std.specs.Prelude.{◌≡◌, IsUtf8, bytes_eq};
+ghost use Rattle.std.specs.Prelude.{◌≡◌, bytes_eq};
 ghost use Rattle.git_syntax.specs.Grammar.{helper_scheme};
 ghost use Rattle.git_syntax.specs.Internal.SchemeRules.{scheme_named};
 ghost use Rattle.git_syntax.specs.Schemes.{scheme_of, scheme_text, default_port_of, is_known_scheme, is_ssh_scheme, is_web_scheme};
 ghost use Rattle.git_syntax.specs.Schemes.{is_ftp};
 ghost use Rattle.git_syntax.specs.Views.{borrowed_scheme};
-
-use crate::text::as_text;
 
 /// The scheme of a borrowed location: a [`Scheme`] whose name is a slice.
 ///
@@ -55,7 +53,7 @@ impl<'a> SchemeRef<'a> {
     /// The text that the scheme is written with, like [`Scheme::as_str`].
     ///
     /// ```
-    /// /// The protocol of a location, for as long as what lends it.
+    /// /// The protocol of a location, for as long as the location is borrowed.
     /// fn scheme_of<'a>(url: &UrlRef<'a>) -> &'a str {
     ///     url.scheme.as_str() // `ssh` of `git@host:repo`
     /// }
@@ -98,14 +96,13 @@ impl<'a> SchemeRef<'a> {
 }
 
 /// Returns the scheme of a remote helper with this name.
-pub fn helper_scheme(name: &[u8]) -> SchemeRef<'_>
-    requires { IsUtf8 name.now }
+pub fn helper_scheme(name: &str) -> SchemeRef<'_>
     ensures { borrowed_scheme result ≡ helper_scheme name.now }
 {
-    if name == b"ext".as_slice() {
+    if name == "ext" {
         return SchemeRef::Ext;
     }
-    SchemeRef::Helper(as_text(name))
+    SchemeRef::Helper(name)
 }
 
 /// The known schemes, and one variant for all others. Names are compared byte for byte.
@@ -131,6 +128,10 @@ pub enum KnownScheme {
 pub fn scheme_of(text: &[u8]) -> KnownScheme
     ensures { scheme_named result text.now ≡ scheme_of text.now }
 {
+    // Most URLs are of HTTPS.
+    if is_named(text, "https") {
+        return KnownScheme::Https;
+    }
     if is_ssh_scheme(text) {
         return KnownScheme::Ssh;
     }
@@ -142,9 +143,6 @@ pub fn scheme_of(text: &[u8]) -> KnownScheme
     }
     if is_named(text, "http") {
         return KnownScheme::Http;
-    }
-    if is_named(text, "https") {
-        return KnownScheme::Https;
     }
     if is_named(text, "ext") {
         return KnownScheme::Ext;

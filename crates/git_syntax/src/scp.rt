@@ -116,7 +116,7 @@ fn find_host(plain: bool, host: &[u8]) -> Result<ScpHost<'_>, UrlFault>
         return Err(UrlFault::HostRequired);
     }
     match after(host, b'[') {
-        Some(behind) => find_in_brackets(behind),
+        Some(suffix) => find_in_brackets(suffix),
         None => find_name(host),
     }
 }
@@ -140,10 +140,10 @@ fn find_name(host: &[u8]) -> Result<ScpHost<'_>, UrlFault>
     ensures read { ReadsScpPiece host.now result }
     ensures within { IfOk result (λ found. length (scp_slice found) ≤ length host.now) }
 {
-    let Some((front, behind)) = cut(host, b':') else {
+    let Some((front, suffix)) = cut(host, b':') else {
         return Ok(ScpHost::Name(host));
     };
-    if front.is_empty() || !is_free_of(behind, b':') {
+    if front.is_empty() || !is_free_of(suffix, b':') {
         return Ok(ScpHost::Name(host));
     }
     Err(UrlFault::BadPort)
@@ -151,13 +151,13 @@ fn find_name(host: &[u8]) -> Result<ScpHost<'_>, UrlFault>
 
 /// Finds a host that begins with a bracket, from the text after it. The last byte is the bracket that closes
 /// it.
-fn find_in_brackets(behind: &[u8]) -> Result<ScpHost<'_>, UrlFault>
-    requires text { IsUtf8 (left_bracket ∷ behind.now) }
-    requires colons { ColonsInside (left_bracket ∷ behind.now) }
-    ensures read { ReadsScpPiece (left_bracket ∷ behind.now) result }
-    ensures within { IfOk result (λ found. length (scp_slice found) ≤ length behind.now) }
+fn find_in_brackets(suffix: &[u8]) -> Result<ScpHost<'_>, UrlFault>
+    requires text { IsUtf8 (left_bracket ∷ suffix.now) }
+    requires colons { ColonsInside (left_bracket ∷ suffix.now) }
+    ensures read { ReadsScpPiece (left_bracket ∷ suffix.now) result }
+    ensures within { IfOk result (λ found. length (scp_slice found) ≤ length suffix.now) }
 {
-    let Some((inner, rest)) = cut(behind, b']') else {
+    let Some((inner, rest)) = cut(suffix, b']') else {
         return Err(UrlFault::BadCharacter);
     };
     if !rest.is_empty() {

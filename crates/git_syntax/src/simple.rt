@@ -57,6 +57,18 @@ pub fn simple_pieces(bytes: &[u8]) -> Option<SimplePieces<'_>>
     cut_simple(mark_common(bytes)?)
 }
 
+/// Returns the fields of the location that the text spells, like [`simple_pieces`], but `None` for a text with `f` in
+/// front, as a `file` URL has: the general reader takes fewer instructions for these.
+#[inline(always)]
+pub fn simple_remote(bytes: &[u8]) -> Option<SimplePieces<'_>>
+    ensures { IfSome result (λ pieces. IsSimpleText bytes.now (simple_location pieces)) }
+{
+    if starts_with_byte(bytes, b'f') {
+        return None;
+    }
+    simple_pieces(bytes)
+}
+
 /// The fields of the location that such a text spells.
 #[inline(always)]
 fn cut_simple(text: Marked<'_>) -> Option<SimplePieces<'_>>
@@ -69,7 +81,7 @@ fn cut_simple(text: Marked<'_>) -> Option<SimplePieces<'_>>
         return Some(path_pieces(SchemeRef::File, true, text.text));
     };
     match rest.after_slashes() {
-        Some(behind) => url_pieces(text.text, front.text, behind),
+        Some(suffix) => url_pieces(text.text, front.text, suffix),
         None => other_pieces(text.text, front, rest),
     }
 }
@@ -209,7 +221,7 @@ fn other_pieces<'a>(
     rest: Marked<'a>,
 ) -> Option<SimplePieces<'a>>
     requires cut { ColonCut input.now front.text.now rest.text.now }
-    requires no_mark { (behind : List ℕ) → ¬ (rest.text.now ≡ slash ∷ (slash ∷ behind)) }
+    requires no_mark { (suffix : List ℕ) → ¬ (rest.text.now ≡ slash ∷ (slash ∷ suffix)) }
     requires front { IsMarked front }
     requires rest { IsMarked rest }
     requires common { is_common input.now ≡ true }
@@ -247,7 +259,7 @@ fn helper_pieces<'a>(name: &'a [u8], address: &'a [u8]) -> Option<SimplePieces<'
         × (simple_location pieces ≡ path_alone (helper_scheme name.now) true address.now)) }
 {
     if is_helper_name(name) {
-        Some(path_pieces(helper_scheme(name), true, address))
+        Some(path_pieces(helper_scheme(as_text(name)), true, address))
     } else {
         None
     }

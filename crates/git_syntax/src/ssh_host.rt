@@ -79,8 +79,8 @@ fn in_brackets(host: &[u8]) -> Option<&[u8]>
     ensures { MatchOption result ((inside : List ℕ) → ¬ InBrackets host.now inside)
         (λ inside. InBrackets host.now inside.now) }
 {
-    let behind = after(host, b'[')?;
-    before(without_last(behind, b':'), b']')
+    let suffix = after(host, b'[')?;
+    before(without_last(suffix, b':'), b']')
 }
 
 /// The text without a last byte `c`, if it has one.

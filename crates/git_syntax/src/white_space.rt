@@ -55,11 +55,11 @@ fn holds_space(text: &[u8]) -> bool
     ensures { result ≡ spec.holds_space text.now }
 {
     let mut rest = text;
-    while let [first, behind @ ..] = rest {
-        if may_begin_space(*first) && are_space(*first, byte_at(behind, 0), byte_at(behind, 1)) {
+    while let [first, suffix @ ..] = rest {
+        if may_begin_space(*first) && are_space(*first, byte_at(suffix, 0), byte_at(suffix, 1)) {
             return true;
         }
-        rest = behind;
+        rest = suffix;
     }
     false
 }

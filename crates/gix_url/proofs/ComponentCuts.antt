@@ -1,5 +1,5 @@
 -- Components of a path: cut, borrowed, returned, compared.
 pub mod SameLemmas
 pub mod MeaningLemmas
-pub mod LentLemmas
-pub mod HandedLemmas
+pub mod FieldLemmas
+pub mod BorrowLemmas

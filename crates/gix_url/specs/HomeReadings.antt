@@ -32,9 +32,9 @@ CutsHome path r = MatchOption r (begins_at_home path ≡ false)
 
 -- the first segment of a text, and the text after the `/` that ends it, if one does
 abbrev pub CutsSegment : List ℕ → Bor (List ℕ) → Option (Bor (List ℕ)) → Type 0
-CutsSegment text segment behind =
+CutsSegment text segment suffix =
     FreeOf slash segment.now
-    × MatchOption behind (text ≡ segment.now) (λ more. text ≡ segment.now ++ slash ∷ more.now)
+    × MatchOption suffix (text ≡ segment.now) (λ more. text ≡ segment.now ++ slash ∷ more.now)
 
 -- the front of a text that ends with its last piece; it is empty if there is no piece
 pub record UpToLast (text front : List ℕ) : Type 0 where

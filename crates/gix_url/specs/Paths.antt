@@ -16,13 +16,13 @@ abbrev pub IsPiece : List ℕ → Type 0
 IsPiece piece = FreeOf slash piece × (counts piece ≡ true)
 
 -- segments, each after a `/`
-abbrev pub behind_slashes : List (List ℕ) → List ℕ
-behind_slashes segments = flat_map (λ segment. slash ∷ segment) segments
+abbrev pub with_slashes : List (List ℕ) → List ℕ
+with_slashes segments = flat_map (λ segment. slash ∷ segment) segments
 
 -- segments that don't count, each after a `/`: the text between two pieces, and after the last
 abbrev pub IsIdle : List ℕ → Type 0
 IsIdle text = (segments : List (List ℕ)) × (list_any counts segments ≡ false)
-    × (text ≡ behind_slashes segments)
+    × (text ≡ with_slashes segments)
 
 -- the text consists of these pieces in order, each after a `/`, and of segments that don't count
 abbrev pub HoldsPieces : List (List ℕ) → List ℕ → Type 0
@@ -33,10 +33,10 @@ HoldsPieces (piece ∷ others) text =
 
 -- a text is its first segment, which is empty if the text begins with `/`, and the pieces after it
 pub record HasPieces (text first : List ℕ) (pieces : List (List ℕ)) : Type 0 where
-  pub behind : List ℕ
+  pub suffix : List ℕ
   pub no_slash : FreeOf slash first
-  pub each : HoldsPieces pieces behind
-  pub whole : text ≡ first ++ behind
+  pub each : HoldsPieces pieces suffix
+  pub whole : text ≡ first ++ suffix
 
 -- a text without its first component, which is the root or the first segment: the pieces after it, with a `/`
 -- between each two
@@ -49,9 +49,9 @@ WithoutFirst text rest = (first : List ℕ) × (pieces : List (List ℕ)) × Has
 -- a folder, and the text to which its contents are appended: with a `/` at its end, unless it is empty
 pub data Opens (folder ready : List ℕ) : Type 0 where
   empty_folder : folder ≡ [] → ready ≡ [] → Opens folder ready
-  behind_slash : (front : List ℕ) → folder ≡ front ++ slash ∷ [] → ready ≡ folder
+  after_slash : (front : List ℕ) → folder ≡ front ++ slash ∷ [] → ready ≡ folder
       → Opens folder ready
-  behind_name : (front : List ℕ) (last : ℕ) → (last == slash) ≡ false → folder ≡ front ++ last ∷ []
+  after_name : (front : List ℕ) (last : ℕ) → (last == slash) ≡ false → folder ≡ front ++ last ∷ []
       → ready ≡ folder ++ slash ∷ [] → Opens folder ready
 
 -- a path joined to a folder

@@ -177,12 +177,12 @@ fn web_components<'a>(alloc: Global, whole: EscapedText<'a>) -> Result<PathCompo
     Ok(PathComponents {
         path: BStr::new(or_root(path.denoted)),
         query,
-        fragment: meant_option(fragment),
+        fragment: denoted_option(fragment),
     })
 }
 
 /// The decoding of the piece, if there is one.
-fn meant_option(piece: Option<EscapedText<'_>>) -> Option<BStr<'_>>
+fn denoted_option(piece: Option<EscapedText<'_>>) -> Option<BStr<'_>>
     ensures { option_map bstr_bytes result ≡ option_map (λ p. p.denoted.now) piece.entry }
 {
     match piece {

@@ -191,9 +191,9 @@ fn respell(alloc: Global, path: &[u8]) -> Result<Vec<u8>, AllocError>
     };
     let mut spelling = Vec::with_capacity(alloc, len)?;
     let mut rest = path;
-    while let Some((front, behind)) = spelled_front(rest) {
+    while let Some((front, suffix)) = spelled_front(rest) {
         append_within(&mut spelling, front);
-        rest = behind;
+        rest = suffix;
     }
     Ok(spelling)
 }
@@ -204,9 +204,9 @@ fn respelled_len(path: &[u8]) -> u128
 {
     let mut total = 0;
     let mut rest = path;
-    while let Some((front, behind)) = spelled_front(rest) {
+    while let Some((front, suffix)) = spelled_front(rest) {
         total += front.len() as u128;
-        rest = behind;
+        rest = suffix;
     }
     total
 }
@@ -215,19 +215,19 @@ fn respelled_len(path: &[u8]) -> u128
 fn spelled_front(path: &[u8]) -> Option<(&[u8], &[u8])>
     ensures { MatchOption result (path.now ≡ []) (λ p. SpellsFront path.now p.0.now p.1.now) }
 {
-    let (first, behind) = path.split_first()?;
-    if begins_escape(*first, behind) {
+    let (first, suffix) = path.split_first()?;
+    if begins_escape(*first, suffix) {
         return Some(path.split_at(1));
     }
     if PATH.should_percent_encode(*first) {
-        return Some((percent_encode_byte(*first).as_bytes(), behind));
+        return Some((percent_encode_byte(*first).as_bytes(), suffix));
     }
     Some(path.split_at(1))
 }
 
 /// Whether the byte is a `%` that two hexadecimal digits follow.
-fn begins_escape(byte: u8, behind: &[u8]) -> bool
-    ensures { result ≡ begins_escape byte behind.now }
+fn begins_escape(byte: u8, suffix: &[u8]) -> bool
+    ensures { result ≡ begins_escape byte suffix.now }
 {
-    byte == b'%' && begins_with_digits(behind)
+    byte == b'%' && begins_with_digits(suffix)
 }

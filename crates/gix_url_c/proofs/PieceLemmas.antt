@@ -40,10 +40,10 @@ numbers_of_all : (all : List Part) (done : List Piece) (piece : Piece) (next : L
     + (length (part_numbers (piece_part piece)) + length (flat_map part_numbers next))
 numbers_of_all all done piece next h =
     let before = flat_map part_numbers (map piece_part done) in
-    let behind = part_numbers (piece_part piece) ++ flat_map part_numbers next in
+    let suffix = part_numbers (piece_part piece) ++ flat_map part_numbers next in
     ap (λ parts. length (flat_map part_numbers parts)) h
     ∙ ap length (flat_map-append part_numbers (map piece_part done) (piece_part piece ∷ next))
-    ∙ length-append before behind
+    ∙ length-append before suffix
     ∙ ap (λ n. length before + n) (length-append (part_numbers (piece_part piece)) (flat_map part_numbers next))
 
 -- so there is buffer for the next one

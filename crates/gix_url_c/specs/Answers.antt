@@ -15,13 +15,13 @@ use Rattle.gix_url.specs.Text.{text}
 use Rattle.gix_url.specs.Display.{display}
 use Rattle.gix_url_c.specs.declared.codes.Problem.{Problem}
 use Rattle.gix_url_c.specs.declared.output.PartLengths.{PartLengths}
-use Rattle.gix_url_c.specs.Codes.{ok, unwritable, condition_number, error_code, Tells, refusal_code, problem_of_refusal, no_problem, write_problem}
+use Rattle.gix_url_c.specs.Codes.{ok, unwritable, condition_number, error_code, Reports, refusal_code, problem_of_refusal, no_problem, write_problem}
 use Rattle.gix_url_c.specs.Output.{Returns, Puts}
 
 -- a result is reported: a location is returned, or an error by its number and its problem
 abbrev pub ReportsResult : Result Location Error → PartLengths → List ℕ → List ℕ → Problem → ℕ → Type 0
 ReportsResult (Ok v) built old new problem code = Returns v built old new code
-ReportsResult (Err e) built old new problem code = (code ≡ error_code e) × Tells e problem
+ReportsResult (Err e) built old new problem code = (code ≡ error_code e) × Reports e problem
 
 -- a reading of the bytes with a buffer that is long enough is reported: a location is returned, or the refusal
 abbrev pub ReportsAnswer : List ℕ → Result Location ParseError → PartLengths → List ℕ → List ℕ → Problem → ℕ → Type 0

@@ -42,14 +42,22 @@ no_location = 101
 abbrev pub no_room : ℕ
 no_room = 102
 
+-- the number of a kind of refusal
+abbrev pub kind_code : RefusalKind → ℕ
+kind_code refusal.EmptyLocal = 2
+kind_code refusal.MissingPath = 3
+kind_code refusal.NotUtf8 = 4
+kind_code refusal.TooLong = 5
+kind_code (refusal.BadUrl fault) = 6
+
 -- the number of an error
 abbrev pub error_code : Error → ℕ
 error_code error.Memory = memory
-error_code error.EmptyLocal = 2
-error_code (error.MissingPath kind input) = 3
-error_code (error.NotUtf8 kind input) = 4
-error_code (error.TooLong shown total) = 5
-error_code (error.BadUrl kind fault input) = 6
+error_code error.EmptyLocal = kind_code refusal.EmptyLocal
+error_code (error.MissingPath kind input) = kind_code refusal.MissingPath
+error_code (error.NotUtf8 kind input) = kind_code refusal.NotUtf8
+error_code (error.TooLong shown total) = kind_code refusal.TooLong
+error_code (error.BadUrl kind fault input) = kind_code (refusal.BadUrl fault)
 error_code (error.HelperName name) = 7
 error_code (error.Unwritable fault) = unwritable
 error_code (error.NoHome user) = 9
@@ -107,9 +115,9 @@ reason_number reason.PathMissing = 26
 reason_number reason.FilePathMissing = 27
 reason_number reason.ScpPathMissing = 28
 
--- a reason has this number
-abbrev pub IsReason : ℕ → Type 0
-IsReason n = (r : Reason) × (reason_number r ≡ n)
+-- something has this number, by these numbers
+abbrev pub HasNumber : {A : Type 0} → (A → ℕ) → ℕ → Type 0
+HasNumber {A} number n = (a : A) × (number a ≡ n)
 
 -- the number of a condition: its place in the order in which the conditions are tested, from 1
 abbrev pub condition_number : Condition → ℕ
@@ -121,37 +129,30 @@ condition_reported None = 0
 condition_reported (Some condition) = condition_number condition
 
 -- the number of a refusal, which is that of its error
-abbrev pub kind_code : RefusalKind → ℕ
-kind_code refusal.EmptyLocal = 2
-kind_code refusal.MissingPath = 3
-kind_code refusal.NotUtf8 = 4
-kind_code refusal.TooLong = 5
-kind_code (refusal.BadUrl fault) = 6
-
 abbrev pub refusal_code : Refusal → ℕ
 refusal_code r = kind_code (kind_of r.reason)
 
 -- the number of the form in which a text is refused, or 0
-abbrev pub kind_told : UrlKind → RefusalKind → ℕ
-kind_told form refusal.EmptyLocal = 0
-kind_told form refusal.MissingPath = kind_number form
-kind_told form refusal.NotUtf8 = kind_number form
-kind_told form refusal.TooLong = 0
-kind_told form (refusal.BadUrl fault) = kind_number form
+abbrev pub kind_reported : UrlKind → RefusalKind → ℕ
+kind_reported form refusal.EmptyLocal = 0
+kind_reported form refusal.MissingPath = kind_number form
+kind_reported form refusal.NotUtf8 = kind_number form
+kind_reported form refusal.TooLong = 0
+kind_reported form (refusal.BadUrl fault) = kind_number form
 
 -- the number of the fault for which a URL is refused, or 0
-abbrev pub fault_told : RefusalKind → ℕ
-fault_told (refusal.BadUrl fault) = fault_number fault
-fault_told refusal.EmptyLocal = 0
-fault_told refusal.MissingPath = 0
-fault_told refusal.NotUtf8 = 0
-fault_told refusal.TooLong = 0
+abbrev pub fault_reported : RefusalKind → ℕ
+fault_reported (refusal.BadUrl fault) = fault_number fault
+fault_reported refusal.EmptyLocal = 0
+fault_reported refusal.MissingPath = 0
+fault_reported refusal.NotUtf8 = 0
+fault_reported refusal.TooLong = 0
 
 -- the problem of a refusal, with these lengths of the front and the text
 abbrev pub refusal_problem : Refusal → ℕ → ℕ → Problem
 refusal_problem r shown total = record {
-  kind = kind_told r.form (kind_of r.reason);
-  fault = fault_told (kind_of r.reason);
+  kind = kind_reported r.form (kind_of r.reason);
+  fault = fault_reported (kind_of r.reason);
   reason = reason_number r.reason;
   shown = shown;
   total = total;
@@ -195,7 +196,7 @@ error_total (error.TooLong shown total) = total
 error_total _ = 0
 
 -- this is the problem of an error
-pub record Tells (e : Error) (problem : Problem) : Type 0 where
+pub record Reports (e : Error) (problem : Problem) : Type 0 where
   -- for an error of reading, whatever its text is, the report about the refusal of that text
   pub refused : (b : List ℕ) (r : Refusal) → Refused b r → IsErrorOf b r e → problem ≡ problem_of_refusal b r
   -- for any other error, its fields

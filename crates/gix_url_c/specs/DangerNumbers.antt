@@ -1,11 +1,10 @@
 -- Dangers as C gets them: by their numbers.
-use Rattle.std.specs.Prelude.{◌≡◌, ◌⊎◌, ℕ, List, map}
+use Rattle.std.specs.Prelude.{ℕ, List, map}
 use Rattle.git_audit.specs.declared.danger.Danger.{Danger}
 use Rattle.git_audit.specs.declared.danger.Danger.TheVariants as danger
 use Rattle.git_audit.specs.Dangers.{AreDangers}
 use Rattle.gix_url.specs.Location.{Location}
 use Rattle.gix_url_c.specs.Answers.{PutsText}
-use Rattle.gix_url_c.specs.Codes.{no_location}
 
 -- the number of a danger: its place in the order of the header
 abbrev pub danger_number : Danger → ℕ
@@ -20,16 +19,7 @@ danger_number danger.LineEnd = 8
 danger_number danger.OtherHost = 9
 danger_number danger.MisreadHost = 10
 
--- a danger has this number
-abbrev pub IsDanger : ℕ → Type 0
-IsDanger n = (d : Danger) × (danger_number d ≡ n)
-
 -- the numbers of the dangers of a text and its location are copied
 abbrev pub ReportsDangers : List ℕ → Location → List ℕ → List ℕ → ℕ → ℕ → Type 0
 ReportsDangers t v old new count code =
     (found : List Danger) × AreDangers t v found × PutsText (map danger_number found) old new count code
-
--- the text in the table for the danger with this number is copied; or no danger has the number, and the length is 0
-abbrev pub PutsDanger : (Danger → List ℕ) → ℕ → List ℕ → List ℕ → ℕ → ℕ → Type 0
-PutsDanger table n old new len code = ((d : Danger) × (danger_number d ≡ n) × PutsText (table d) old new len code)
-    ⊎ ((¬ IsDanger n) × (code ≡ no_location) × (len ≡ 0))

@@ -5,7 +5,7 @@ pub mod Output
 pub mod Answers
 pub mod Borrowed
 pub mod SeenLocations
-pub mod ReasonTexts
+pub mod NumberedTexts
 pub mod ComponentNumbers
 pub mod Stops
 pub mod Entries

@@ -46,7 +46,7 @@ reason_place reason.Default = 0
 abbrev pub permission_numbers : Permission → PermissionNumbers
 permission_numbers (permission.Allowed by) = record { decision = 1; by = decider_number by; at = reason_place by }
 permission_numbers (permission.Refused by) = record { decision = 2; by = decider_number by; at = reason_place by }
-permission_numbers (permission.UnknownAllowance at) = record { decision = 3; by = 2; at = at }
+permission_numbers (permission.UnknownAllowance at) = record { decision = 3; by = decider_number (reason.Entry at); at = at }
 permission_numbers permission.UnknownFromUser = record { decision = 4; by = 0; at = 0 }
 
 -- the entries and the variables

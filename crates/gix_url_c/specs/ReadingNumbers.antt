@@ -69,14 +69,14 @@ unread_numbers reason = record {
 }
 
 -- the reason is reported, which isn't memory
-abbrev pub TellsUnread : Unread → PlaceNumbers → ℕ → Type 0
-TellsUnread reason built code =
+abbrev pub ReportsUnread : Unread → PlaceNumbers → ℕ → Type 0
+ReportsUnread reason built code =
     (¬ (reason ≡ why.Memory)) × (built ≡ unread_numbers (unread_number reason)) × (code ≡ ok)
 
 -- the place that Git reads in the text is reported, or why there is none
 abbrev pub ReportsPlace : List ℕ → PlaceNumbers → List ℕ → List ℕ → ℕ → Type 0
 ReportsPlace text built old new code =
-    ((reason : Unread) × LacksReading text × Unreads text reason × (new ≡ old) × TellsUnread reason built code)
+    ((reason : Unread) × LacksReading text × Unreads text reason × (new ≡ old) × ReportsUnread reason built code)
     ⊎ ((r : GitReading) × GitReads text r × PutsPlace r built old new code)
 
 -- ---- credentials

@@ -23,7 +23,7 @@ pub(crate) fn put<T: Copy>(bytes: &[T], buffer: &mut [T]) -> u32
 }
 
 /// Copies the bytes to the front of the buffer, if they fit, and reports how many they are.
-pub(crate) fn put_text(bytes: &[u8], buffer: &mut [u8], len: &mut usize) -> u32
+pub(crate) fn write_text(bytes: &[u8], buffer: &mut [u8], len: &mut usize) -> u32
     ensures put { PutsText bytes.now buffer.old buffer.new len.new result }
     ensures buffer { LeavesBuffer result buffer.old buffer.new }
     ensures length { LeavesLengths result len.old len.new }
@@ -33,7 +33,7 @@ pub(crate) fn put_text(bytes: &[u8], buffer: &mut [u8], len: &mut usize) -> u32
 }
 
 /// Copies bytes and lengths to the fronts of their buffers, if both fit.
-pub(crate) fn put_both(
+pub(crate) fn write_both(
     bytes: &[u8],
     measured: &[usize],
     buffer: &mut [u8],
@@ -55,7 +55,7 @@ pub(crate) fn put_both(
 }
 
 /// Copies the bytes to a place in the buffer, and returns the place after them.
-pub(crate) fn put_at<T: Copy>(buffer: &mut [T], at: usize, bytes: &[T]) -> usize
+pub(crate) fn write_at<T: Copy>(buffer: &mut [T], at: usize, bytes: &[T]) -> usize
     requires { at + length bytes.now ≤ length buffer.old }
     ensures put { buffer.new ≡ take at buffer.old ++ (bytes.now ++ drop (length bytes.now) (drop at buffer.old)) }
     ensures size { length buffer.new ≡ length buffer.old }

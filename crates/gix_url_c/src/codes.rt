@@ -1,11 +1,12 @@
 //! The numbers that C gets for results, errors and refusals. The header repeats them.
 
-ghost use Rattle.std.specs.Prelude.{◌≡◌};
+ghost use Rattle.std.specs.Prelude.{◌≡◌, IfSome, None};
 ghost use Rattle.git_refusals.specs.Kinds.{kind_of};
 ghost use Rattle.git_refusals.specs.Reasons.{Refused};
 ghost use Rattle.gix_url.specs.Flaws.{IsNotOfReading};
-ghost use Rattle.gix_url_c.specs.Codes.{Tells, condition_number, condition_reported, error_code, error_shown, error_total, fault_number, fault_told, kind_number, kind_told, no_problem, problem_of_other, problem_of_refusal, reason_number, refusal_code, refusal_problem, write_fault_number, write_problem};
+ghost use Rattle.gix_url_c.specs.Codes.{HasNumber, Reports, condition_number, condition_reported, error_code, error_shown, error_total, fault_number, fault_reported, kind_code, kind_number, kind_reported, no_problem, problem_of_other, problem_of_refusal, reason_number, refusal_code, refusal_problem, write_fault_number, write_problem};
 
+use crate::tables::{number_of, numbered};
 use git_refusals::front::shown_front;
 use gix_url::parse::UrlKind;
 use gix_url::unambiguous::Condition;
@@ -22,7 +23,44 @@ pub const NO_LOCATION: u32 = 101;
 /// The result doesn't fit in the buffer.
 pub const NO_ROOM: u32 = 102;
 
-/// The report about an error, apart from its number.
+/// The numbers of reasons.
+macro_rules! reason_numbers {
+    ($direction:ident, $it:expr) => {
+        $direction! {
+            $it;
+            1 => Reason::Empty,
+            2 => Reason::SchemeTooLong,
+            3 => Reason::AuthorityTooLong,
+            4 => Reason::NotUtf8,
+            5 => Reason::WhiteSpace,
+            6 => Reason::BrokenEscape,
+            7 => Reason::SchemeMissing,
+            8 => Reason::SchemeStart,
+            9 => Reason::SchemeCharacter,
+            10 => Reason::WhiteSpaceInHost,
+            11 => Reason::Backslash,
+            12 => Reason::BackslashInHost,
+            13 => Reason::EscapesNotUtf8,
+            14 => Reason::UnclosedBracket,
+            15 => Reason::BehindBracket,
+            16 => Reason::NotAnAddress,
+            17 => Reason::AddressWithoutBrackets,
+            18 => Reason::SecondColon,
+            19 => Reason::HostBeforePort,
+            20 => Reason::PortNotANumber,
+            21 => Reason::HostCharacter,
+            22 => Reason::PortTooLarge,
+            23 => Reason::PortZero,
+            24 => Reason::HostBehindUser,
+            25 => Reason::HostMissing,
+            26 => Reason::PathMissing,
+            27 => Reason::FilePathMissing,
+            28 => Reason::ScpPathMissing,
+        }
+    };
+}
+
+/// The report about an error, apart from its number. All of it is 0 unless the export returns 2 to 8.
 #[repr(C)]
 #[derive(Drop)]
 pub struct Problem {
@@ -49,11 +87,11 @@ pub(crate) fn error_code(error: &Error) -> u32
 {
     match error {
         Error::Memory => MEMORY,
-        Error::EmptyLocal => 2,
-        Error::MissingPath { .. } => 3,
-        Error::NotUtf8 { .. } => 4,
-        Error::TooLong { .. } => 5,
-        Error::BadUrl { .. } => 6,
+        Error::EmptyLocal => kind_code(RefusalKind::EmptyLocal),
+        Error::MissingPath { .. } => kind_code(RefusalKind::MissingPath),
+        Error::NotUtf8 { .. } => kind_code(RefusalKind::NotUtf8),
+        Error::TooLong { .. } => kind_code(RefusalKind::TooLong),
+        Error::BadUrl { fault, .. } => kind_code(RefusalKind::BadUrl(*fault)),
         Error::HelperName { .. } => 7,
         Error::Unwritable(_) => UNWRITABLE,
         Error::NoHome(_) => 9,
@@ -64,10 +102,10 @@ pub(crate) fn error_code(error: &Error) -> u32
 
 /// The report about an error. An error about reading has the reason and the place of the flaw.
 pub(crate) fn problem_of(error: &Error) -> Problem
-    ensures { Tells error.now result }
+    ensures { Reports error.now result }
 {
     match error.refusal() {
-        Some(refusal) => told(&refusal, shown_of(error), total_of(error)),
+        Some(refusal) => problem_with(&refusal, shown_of(error), total_of(error)),
         None => problem_of_other(error),
     }
 }
@@ -106,7 +144,14 @@ fn total_of(error: &Error) -> usize
 pub(crate) fn refusal_code(refusal: &Refusal) -> u32
     ensures { result ≡ refusal_code refusal.now }
 {
-    match refusal.reason.kind() {
+    kind_code(refusal.reason.kind())
+}
+
+/// The number of a kind of refusal.
+fn kind_code(kind: RefusalKind) -> u32
+    ensures { result ≡ kind_code kind }
+{
+    match kind {
         RefusalKind::EmptyLocal => 2,
         RefusalKind::MissingPath => 3,
         RefusalKind::NotUtf8 => 4,
@@ -121,18 +166,18 @@ pub(crate) fn problem_of_refusal(text: &[u8], refusal: &Refusal) -> Problem
     ensures { result ≡ problem_of_refusal text.now refusal.now }
 {
     match refusal.reason.kind() {
-        RefusalKind::TooLong => told(refusal, shown_front(text, refusal).len(), text.len()),
-        _ => told(refusal, 0, 0),
+        RefusalKind::TooLong => problem_with(refusal, shown_front(text, refusal).len(), text.len()),
+        _ => problem_with(refusal, 0, 0),
     }
 }
 
 /// The report about a refusal, with these lengths of the front and the text.
-fn told(refusal: &Refusal, shown: usize, total: usize) -> Problem
+fn problem_with(refusal: &Refusal, shown: usize, total: usize) -> Problem
     ensures { result ≡ refusal_problem refusal.now shown total }
 {
     Problem {
-        kind: kind_told(refusal),
-        fault: fault_told(refusal),
+        kind: kind_reported(refusal),
+        fault: fault_reported(refusal),
         reason: reason_number(refusal.reason),
         shown,
         total,
@@ -167,8 +212,8 @@ pub(crate) fn unwritable(fault: WriteFault) -> Problem
 }
 
 /// The number of the form in which a text is refused, or 0.
-fn kind_told(refusal: &Refusal) -> u8
-    ensures { result ≡ kind_told refusal.now.form (kind_of refusal.now.reason) }
+fn kind_reported(refusal: &Refusal) -> u8
+    ensures { result ≡ kind_reported refusal.now.form (kind_of refusal.now.reason) }
 {
     match refusal.reason.kind() {
         RefusalKind::EmptyLocal | RefusalKind::TooLong => 0,
@@ -179,8 +224,8 @@ fn kind_told(refusal: &Refusal) -> u8
 }
 
 /// The number of the fault for which a URL is refused, or 0.
-fn fault_told(refusal: &Refusal) -> u8
-    ensures { result ≡ fault_told (kind_of refusal.now.reason) }
+fn fault_reported(refusal: &Refusal) -> u8
+    ensures { result ≡ fault_reported (kind_of refusal.now.reason) }
 {
     match refusal.reason.kind() {
         RefusalKind::BadUrl(fault) => fault_number(fault),
@@ -189,39 +234,18 @@ fn fault_told(refusal: &Refusal) -> u8
 }
 
 /// The number of a reason.
-pub(crate) fn reason_number(reason: Reason) -> u8
+fn reason_number(reason: Reason) -> u8
     ensures { result ≡ reason_number reason }
 {
-    match reason {
-        Reason::Empty => 1,
-        Reason::SchemeTooLong => 2,
-        Reason::AuthorityTooLong => 3,
-        Reason::NotUtf8 => 4,
-        Reason::WhiteSpace => 5,
-        Reason::BrokenEscape => 6,
-        Reason::SchemeMissing => 7,
-        Reason::SchemeStart => 8,
-        Reason::SchemeCharacter => 9,
-        Reason::WhiteSpaceInHost => 10,
-        Reason::Backslash => 11,
-        Reason::BackslashInHost => 12,
-        Reason::EscapesNotUtf8 => 13,
-        Reason::UnclosedBracket => 14,
-        Reason::BehindBracket => 15,
-        Reason::NotAnAddress => 16,
-        Reason::AddressWithoutBrackets => 17,
-        Reason::SecondColon => 18,
-        Reason::HostBeforePort => 19,
-        Reason::PortNotANumber => 20,
-        Reason::HostCharacter => 21,
-        Reason::PortTooLarge => 22,
-        Reason::PortZero => 23,
-        Reason::HostBehindUser => 24,
-        Reason::HostMissing => 25,
-        Reason::PathMissing => 26,
-        Reason::FilePathMissing => 27,
-        Reason::ScpPathMissing => 28,
-    }
+    reason_numbers!(number_of, reason)
+}
+
+/// The reason with this number.
+pub(crate) fn reason_numbered(number: u8) -> Option<Reason>
+    ensures found { IfSome result (λ reason. reason_number reason ≡ number) }
+    ensures none { result ≡ None → ¬ HasNumber reason_number number }
+{
+    reason_numbers!(numbered, number)
 }
 
 /// The number of the first condition that a location doesn't meet, or 0 if it meets all.

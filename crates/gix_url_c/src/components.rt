@@ -9,13 +9,13 @@ ghost use Rattle.gix_url_c.specs.Output.{is_there, or_nothing};
 ghost use Rattle.gix_url_c.specs.Left.{LeavesLengths, LeavesBuffer};
 ghost use Rattle.gix_url_c.specs.ComponentNumbers.{ReportsComponents, component_bytes, joined_pair, joined_pairs, lengths_of_pair, pair_lengths, pairs_of, component_numbers};
 
-use crate::buffer::put_both;
+use crate::buffer::write_both;
 use crate::codes::{MEMORY, NO_LOCATION};
 use crate::input::{PartBytes, location_of};
 use gix_url::{PathComponents, QueryText, UrlRef};
 use std::alloc::{AllocError, Global};
 
-/// The components of a path: numbers, and lengths in bytes.
+/// The components of a path: numbers, and lengths in bytes. [`gix_url_c_components`] reports them.
 #[repr(C)]
 #[derive(Clone, Copy)]
 pub struct ComponentNumbers {
@@ -82,7 +82,7 @@ fn part(
         return MEMORY;
     };
     *reported = sizes_of(&parts, bytes.len());
-    put_both(bytes.as_slice(), measured.as_slice(), buffer, lengths)
+    write_both(bytes.as_slice(), measured.as_slice(), buffer, lengths)
 }
 
 /// The names and values of the query; empty without a query.

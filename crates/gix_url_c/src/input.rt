@@ -29,7 +29,8 @@ pub struct LocationNumbers {
     pub port: u16,
 }
 
-/// A location in C's form: numbers, and the bytes of each part.
+/// A location in C's form: numbers, and the bytes of each part. Exports over a location take it, and
+/// [`gix_url_c_read_in`](crate::borrowing::gix_url_c_read_in) reports it, where a missing part is empty.
 #[repr(C)]
 #[derive(Clone, Copy)]
 pub struct PartBytes<'a> {
@@ -71,7 +72,7 @@ pub(crate) fn location_of<'a>(passed: &PartBytes<'a>) -> Option<UrlRef<'a>>
 
 /// The scheme with this number, and with this name if it has one.
 #[inline(always)]
-fn scheme(number: u8, name: &[u8]) -> Option<SchemeRef<'_>>
+pub(crate) fn scheme(number: u8, name: &[u8]) -> Option<SchemeRef<'_>>
     ensures built { IfSome result (λ scheme. borrowed_scheme scheme ≡ scheme_numbered number name.now) }
     ensures known { IfSome result (λ _. ¬ IsNoScheme number name.now) }
     ensures refused { result ≡ None → IsNoScheme number name.now }

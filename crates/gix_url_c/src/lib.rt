@@ -8,6 +8,7 @@
 //!
 //! A slice is a pointer and a length in C, and a `Global` is nothing. Pointers aren't null: the C file that is linked
 //! with this library (`bindings/c/gix_url.c`) checks them, and has the types of `bindings/c/include/gix_url.h`.
+//! A program in C calls the functions of that header; `docs/BINDINGS.md` has an example.
 #![tactic(auto)]
 
 pub mod borrowing;
@@ -21,4 +22,5 @@ pub mod part;
 pub mod reading;
 pub mod reasons;
 pub mod rules;
+mod tables;
 pub mod writing;

@@ -13,7 +13,8 @@ use crate::codes::{NO_LOCATION, OK};
 use crate::input::{PartBytes, location_of};
 use gix_url::{ArgumentSafety, UrlRef};
 
-/// The facts about a location that a command line needs, its original path and its port.
+/// The facts about a location that a command line needs, its original path and its port. [`gix_url_c_look`]
+/// reports them.
 #[repr(C)]
 #[derive(Clone, Copy)]
 pub struct Seen {

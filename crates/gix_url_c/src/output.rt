@@ -9,12 +9,14 @@ ghost use Rattle.gix_url_c.specs.Codes.{no_room, ok};
 ghost use Rattle.gix_url_c.specs.Output.{Returns, bytes_of, location_numbers, is_there, part_lengths, or_nothing, or_zero, scheme_name, scheme_number};
 ghost use Rattle.gix_url_c.specs.Left.{LeavesLengths, LeavesBuffer};
 
-use crate::buffer::put_at;
+use crate::buffer::write_at;
 use crate::codes::{NO_ROOM, OK};
 use crate::input::LocationNumbers;
 use gix_url::{SchemeRef, UrlRef};
 
-/// A location: its numbers, and the lengths of its parts in bytes. The caller's buffer has the parts in this order.
+/// A location: its numbers, and the lengths of its parts in bytes. The caller's buffer has the parts in this
+/// order. [`gix_url_c_read`](crate::reading::gix_url_c_read) and
+/// [`gix_url_c_from_parts`](crate::reading::gix_url_c_from_parts) report it.
 #[repr(C)]
 #[derive(Clone, Copy)]
 pub struct PartLengths {
@@ -35,7 +37,7 @@ pub struct PartLengths {
 }
 
 /// Reports the location, and copies its parts to the buffer if they fit.
-pub(crate) fn put_location(url: &UrlRef<'_>, built: &mut PartLengths, buffer: &mut [u8]) -> u32
+pub(crate) fn write_location(url: &UrlRef<'_>, built: &mut PartLengths, buffer: &mut [u8]) -> u32
     ensures reported { Returns url.now built.new buffer.old buffer.new result }
     ensures buffer { LeavesBuffer result buffer.old buffer.new }
     ensures code { (result ≡ ok) ⊎ (result ≡ no_room) }
@@ -44,7 +46,7 @@ pub(crate) fn put_location(url: &UrlRef<'_>, built: &mut PartLengths, buffer: &m
     if (buffer.len() as u128) < size(url) {
         return NO_ROOM;
     }
-    put_parts(url, buffer);
+    write_parts(url, buffer);
     OK
 }
 
@@ -61,16 +63,16 @@ fn size(url: &UrlRef<'_>) -> u128
 }
 
 /// Copies all parts, one after the other, to the front of the buffer, which is long enough.
-fn put_parts(url: &UrlRef<'_>, buffer: &mut [u8])
+fn write_parts(url: &UrlRef<'_>, buffer: &mut [u8])
     requires { length (bytes_of url.now) ≤ length buffer.old }
     ensures { buffer.new ≡ bytes_of url.now ++ drop (length (bytes_of url.now)) buffer.old }
 {
-    let at = put_at(buffer, 0, name(url.scheme));
-    let at = put_at(buffer, at, text(url.user));
-    let at = put_at(buffer, at, text(url.password));
-    let at = put_at(buffer, at, text(url.host));
-    let at = put_at(buffer, at, url.path);
-    let _ = put_at(buffer, at, part(url.spelling));
+    let at = write_at(buffer, 0, name(url.scheme));
+    let at = write_at(buffer, at, text(url.user));
+    let at = write_at(buffer, at, text(url.password));
+    let at = write_at(buffer, at, text(url.host));
+    let at = write_at(buffer, at, url.path);
+    let _ = write_at(buffer, at, part(url.spelling));
 }
 
 /// The numbers, and the lengths of the parts.

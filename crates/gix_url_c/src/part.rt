@@ -12,6 +12,7 @@ ghost use Rattle.gix_url.specs.Text.{matching_or};
 ghost use Rattle.gix_url_c.specs.Input.{present, scheme_numbered};
 ghost use Rattle.gix_url_c.specs.SeenLocations.{judgement_number, port_number, truth};
 
+use crate::input::scheme;
 use gix_url::{SchemeRef, UrlRef};
 
 /// No port.
@@ -76,16 +77,10 @@ pub extern "C" fn gix_url_c_port_or_default(scheme: u8, has_port: bool, port: u1
 }
 
 /// The default port of the scheme with this number. A scheme that has a name has none.
-fn default_port(scheme: u8) -> Option<u16>
-    ensures { result ≡ default_port_of (scheme_numbered scheme []) }
+fn default_port(number: u8) -> Option<u16>
+    ensures { result ≡ default_port_of (scheme_numbered number []) }
 {
-    match scheme {
-        1 => SchemeRef::Git.default_port(),
-        2 => SchemeRef::Ssh.default_port(),
-        3 => SchemeRef::Http.default_port(),
-        4 => SchemeRef::Https.default_port(),
-        _ => None,
-    }
+    scheme(number, b"")?.default_port()
 }
 
 /// A location with this path and spelling, and no other part.

@@ -16,7 +16,7 @@ use crate::codes::{
     refusal_code,
 };
 use crate::input::{PartBytes, location_of};
-use crate::output::{PartLengths, put_location};
+use crate::output::{PartLengths, write_location};
 use bstr::BString;
 use gix_url::{Error, ParseError, Scheme, SchemeRef, Url, UrlRef};
 use std::alloc::{AllocError, Global};
@@ -72,7 +72,7 @@ fn read_in(
 {
     *reported = no_problem();
     match UrlRef::parse_in(input, scratch) {
-        Ok(url) => put_location(&url, built, buffer),
+        Ok(url) => write_location(&url, built, buffer),
         // The scratch buffer is long enough.
         Err(ParseError::NoRoom) => NO_ROOM,
         Err(ParseError::Refused(refusal)) => {
@@ -169,7 +169,7 @@ fn report(
     match answer {
         Ok(url) => {
             *reported = no_problem();
-            put_location(&url.as_ref(), built, buffer)
+            write_location(&url.as_ref(), built, buffer)
         }
         Err(error) => {
             *reported = problem_of(&error);

@@ -10,7 +10,7 @@ ghost use Rattle.gix_url_c.specs.Codes.{UnlessMemory, UnlessNone, memory, no_pro
 ghost use Rattle.gix_url_c.specs.Input.{IsNone, location_of};
 ghost use Rattle.gix_url_c.specs.Left.{LeavesLengths, LeavesProblem, LeavesBuffer};
 
-use crate::buffer::put_text;
+use crate::buffer::write_text;
 use crate::codes::{
     MEMORY, NO_LOCATION, NO_ROOM, OK, Problem, UNWRITABLE, condition_reported, no_problem,
     unwritable,
@@ -177,7 +177,7 @@ fn show(
         return UNWRITABLE;
     }
     match url.to_string(alloc) {
-        Ok(shown) => put_text(shown.as_bytes(), buffer, len),
+        Ok(shown) => write_text(shown.as_bytes(), buffer, len),
         Err(_) => MEMORY,
     }
 }

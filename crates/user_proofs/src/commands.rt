@@ -15,7 +15,7 @@ use git_rules::ssh::{ProtocolVersion, Service, SshError, SshVariant, ssh_words};
 use gix_url::Url;
 use std::alloc::Global;
 
-/// The words behind `ssh` with which Git fetches from a location, or why there are none.
+/// The words after `ssh` with which Git fetches from a location, or why there are none.
 pub fn words_to_fetch(alloc: Global, url: &Url) -> Result<Vec<BString>, SshError>
     ensures words { IfOk result (λ words. FetchesFrom url.now (map bstring_bytes words.items)) }
     ensures refused { IfErr result (IsNotBuilt (service_alone UploadPack Ssh V2) url.now) }

@@ -3,7 +3,7 @@
 
 struct git_net_url {
   char *scheme, *host, *port, *path, *query, *username, *password;
-  void *room[8];
+  void *buffer[8];
 };
 extern "C" {
 int git_libgit2_init(void);

@@ -31,10 +31,10 @@ fn components(parts: PathComponents<'_>) -> Vec<u8> {
     if let Some(query) = parts.query {
         told.extend_from_slice(b" ?");
         for (name, value) in query {
-            for (front, part, behind) in [(" <", name, ">="), ("<", value, ">")] {
+            for (front, part, suffix) in [(" <", name, ">="), ("<", value, ">")] {
                 told.extend_from_slice(front.as_bytes());
                 told.extend_from_slice(&part);
-                told.extend_from_slice(behind.as_bytes());
+                told.extend_from_slice(suffix.as_bytes());
             }
         }
     }

@@ -13,8 +13,8 @@ pub(crate) fn chunks(mut bytes: &[u8]) -> impl Iterator<Item = (&str, &[u8])> {
             }
             Err(fault) => fault,
         };
-        let (text, behind) = bytes.split_at(fault.valid_up_to());
-        let (invalid, rest) = behind.split_at(fault.error_len().unwrap_or(behind.len()));
+        let (text, suffix) = bytes.split_at(fault.valid_up_to());
+        let (invalid, rest) = suffix.split_at(fault.error_len().unwrap_or(suffix.len()));
         bytes = rest;
         Some((str::from_utf8(text).unwrap_or_default(), invalid))
     })

@@ -8,8 +8,8 @@
 //! buffer. Buffers are on the stack if that is large enough, so queries allocate nothing. The calls over a
 //! configuration, and over texts that Git reads, allocate their buffers, which grow.
 
+use crate::borrowed::borrowed;
 use crate::bstr::BString;
-use crate::lent::lent;
 use crate::parse::{Error, UrlFault, UrlKind, WriteFault};
 use crate::unambiguous::Condition;
 use crate::{ArgumentSafety, PathComponents, Reason, Refusal, Scheme, Url};
@@ -89,12 +89,12 @@ pub(crate) struct Parted {
 struct Bytes<'a> {
     at: *const u8,
     len: usize,
-    lent: PhantomData<&'a [u8]>,
+    borrowed: PhantomData<&'a [u8]>,
 }
 
 impl<'a> Bytes<'a> {
     fn of(bytes: &'a [u8]) -> Bytes<'a> {
-        Bytes { at: bytes.as_ptr(), len: bytes.len(), lent: PhantomData }
+        Bytes { at: bytes.as_ptr(), len: bytes.len(), borrowed: PhantomData }
     }
 
     /// The bytes, or none if they are missing.
@@ -124,7 +124,7 @@ struct Given<'a> {
 
 #[rustfmt::skip]
 extern "C" {
-    fn gix_url_c_read_in(input: *const u8, len: usize, buffer: *mut u8, buffer_len: usize, lent: &mut Given, told: &mut Problem) -> u32;
+    fn gix_url_c_read_in(input: *const u8, len: usize, buffer: *mut u8, buffer_len: usize, borrowed: &mut Given, told: &mut Problem) -> u32;
     fn gix_url_c_from_parts(given: &Given, made: &mut Made, buffer: *mut u8, buffer_len: usize, told: &mut Problem) -> u32;
     fn gix_url_c_is_settled(given: &Given, settled: &mut bool) -> u32;
     fn gix_url_c_agrees_with_git(given: &Given, agrees: &mut bool) -> u32;
@@ -400,7 +400,7 @@ fn error(code: u32, told: &Problem, input: impl FnOnce() -> BString, name: &[u8]
 
 /// Parses the bytes. The library returns the parts as slices of the bytes or of a buffer, and they are copied.
 pub(crate) fn read(input: &[u8]) -> Result<Url, Error> {
-    let (mut lent, mut told) = (Given::none(), Problem::default());
+    let (mut borrowed, mut told) = (Given::none(), Problem::default());
     let (mut near, mut far) = ([MaybeUninit::<u8>::uninit(); NEAR], Vec::<u8>::new());
     let buffer = if input.len() <= NEAR {
         &mut near[..input.len()]
@@ -409,10 +409,10 @@ pub(crate) fn read(input: &[u8]) -> Result<Url, Error> {
         &mut far.spare_capacity_mut()[..input.len()]
     };
     let (code, _) = fill(buffer, &mut |buffer, len| {
-        (call!(gix_url_c_read_in, input.as_ptr(), input.len(), buffer, len, &mut lent, &mut told), 0)
+        (call!(gix_url_c_read_in, input.as_ptr(), input.len(), buffer, len, &mut borrowed, &mut told), 0)
     });
     match code {
-        OK => Ok(located(&lent)),
+        OK => Ok(located(&borrowed)),
         code => Err(error(code, &told, || input.into(), &[])),
     }
 }
@@ -420,8 +420,8 @@ pub(crate) fn read(input: &[u8]) -> Result<Url, Error> {
 /// The reason and the position of the parse error; `None` if the bytes are a location. They are parsed without a
 /// buffer, so nothing is allocated.
 pub(crate) fn refusal(input: &[u8]) -> Option<Refusal> {
-    let (mut lent, mut told) = (Given::none(), Problem::default());
-    let code = call!(gix_url_c_read_in, input.as_ptr(), input.len(), [].as_mut_ptr(), 0, &mut lent, &mut told);
+    let (mut borrowed, mut told) = (Given::none(), Problem::default());
+    let code = call!(gix_url_c_read_in, input.as_ptr(), input.len(), [].as_mut_ptr(), 0, &mut borrowed, &mut told);
     // No form is reported for a text that is too long, since only a URL can be.
     let form = if code == TOO_LONG { UrlKind::Url } else { kind(told.kind) };
     let fault = (code == BAD_URL).then(|| url_fault(told.fault));
@@ -598,7 +598,7 @@ pub(crate) fn components(url: &Url) -> Result<PathComponents<'_>, Error> {
         (code, told.bytes)
     });
     match code {
-        OK => Ok(lent(&url.path, &told, bytes, if far.is_empty() { &near } else { &far })),
+        OK => Ok(borrowed(&url.path, &told, bytes, if far.is_empty() { &near } else { &far })),
         _ => Err(error(code, &Problem::default(), BString::default, &[])),
     }
 }

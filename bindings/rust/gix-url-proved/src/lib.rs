@@ -32,6 +32,7 @@ pub use ::bstr;
 pub mod bstr;
 
 pub mod audit;
+mod borrowed;
 mod chunks;
 mod convert;
 mod debug;
@@ -39,7 +40,6 @@ mod disk;
 pub mod expand_path;
 mod ffi;
 pub mod ipv6;
-mod lent;
 pub mod parse;
 mod refusal;
 pub mod rules;

@@ -77,7 +77,7 @@ fn migrated(path: Vec<u8>, spelling: Option<Vec<u8>>) -> (Vec<u8>, Option<Vec<u8
     }
     let (mut decoded, mut escaped) = (Vec::new(), Vec::new());
     let mut rest = path.as_slice();
-    while let [first, behind @ ..] = rest {
+    while let [first, suffix @ ..] = rest {
         match escape(rest) {
             Some(byte) => {
                 decoded.push(byte);
@@ -87,7 +87,7 @@ fn migrated(path: Vec<u8>, spelling: Option<Vec<u8>>) -> (Vec<u8>, Option<Vec<u8
             None => {
                 decoded.push(*first);
                 push_escaped(&mut escaped, *first);
-                rest = behind;
+                rest = suffix;
             }
         }
     }

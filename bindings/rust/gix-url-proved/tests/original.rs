@@ -216,7 +216,7 @@ fn a_token_is_put_in() -> Result {
 // ---- writing
 
 #[test]
-fn written_to_what_is_behind_a_trait() -> Result {
+fn written_to_what_is_in_a_trait_object() -> Result {
     fn send(out: &mut dyn io::Write, url: &Url) -> io::Result<()> {
         url.write_to(out)?;
         out.write_all(b"\0")
@@ -284,7 +284,7 @@ fn a_name_for_the_folder_of_a_clone() -> Result {
 }
 
 #[test]
-fn a_suffix_is_put_behind_the_path() -> Result {
+fn a_suffix_is_appended_to_the_path() -> Result {
     let mut url = gix_url::parse("https://host.xz/path/to/repo")?;
     if !url.path.ends_with_str(".git") {
         url.path.push_str(".git");

@@ -119,7 +119,7 @@ fn reasons_have_the_names_of_their_variants_and_words() {
     assert_eq!(reasons.iter().map(|it| it.name()).collect::<BTreeSet<_>>().len(), 28);
     assert_eq!(reasons.iter().map(|it| it.words()).collect::<BTreeSet<_>>().len(), 28);
     assert_eq!(Reason::Empty.words(), "the text is empty");
-    assert_eq!(Reason::ScpPathMissing.words(), "the path behind the `:` is missing");
+    assert_eq!(Reason::ScpPathMissing.words(), "the path after the `:` is missing");
 }
 
 #[test]

@@ -2,7 +2,7 @@
 
 use crate::halt::Halt;
 use crate::order::{Order, unknown};
-use crate::report::{Out, report_lent};
+use crate::report::{Out, report_borrowed};
 use std::hash::{DefaultHasher, Hash, Hasher};
 
 /// The hash of a value.
@@ -22,7 +22,7 @@ pub fn compare<T: Ord + Hash>(
     match order.call() {
         "Url:Ord" | "Scheme:Ord" | "ForUser:Ord" => {
             let orders = (one.cmp(other), one.partial_cmp(other));
-            report_lent(out, &(orders, alike(one, other)))
+            report_borrowed(out, &(orders, alike(one, other)))
         }
         call => unknown(call),
     }

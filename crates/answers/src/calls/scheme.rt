@@ -4,7 +4,7 @@ use crate::build;
 use crate::calls::compare::compare;
 use crate::halt::Halt;
 use crate::order::{Order, unknown};
-use crate::report::{Out, report_lent, report_owned};
+use crate::report::{Out, report_borrowed, report_owned};
 use crate::shown::show;
 use gix_url::Scheme;
 use std::alloc::Global;
@@ -26,11 +26,11 @@ fn look_at_scheme(
 ) -> Result<(), Halt> {
     match order.call() {
         "Scheme::clone" => report_owned(out, scheme.clone(alloc)),
-        "Scheme::as_str" => report_lent(out, &scheme.as_str()),
-        "Scheme::as_ref" => report_lent(out, &scheme.as_ref()),
-        "SchemeRef::as_str" => report_lent(out, &scheme.as_ref().as_str()),
-        "Scheme::default_port" => report_lent(out, &scheme.default_port()),
-        "SchemeRef::default_port" => report_lent(out, &scheme.as_ref().default_port()),
+        "Scheme::as_str" => report_borrowed(out, &scheme.as_str()),
+        "Scheme::as_ref" => report_borrowed(out, &scheme.as_ref()),
+        "SchemeRef::as_str" => report_borrowed(out, &scheme.as_ref().as_str()),
+        "Scheme::default_port" => report_borrowed(out, &scheme.default_port()),
+        "SchemeRef::default_port" => report_borrowed(out, &scheme.as_ref().default_port()),
         "Scheme:fmt" => show(out, order.style(), scheme),
         _ => over_two_schemes(alloc, order, scheme, out),
     }

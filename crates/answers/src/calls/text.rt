@@ -2,7 +2,7 @@
 
 use crate::halt::Halt;
 use crate::order::{Order, unknown};
-use crate::report::{Out, report_lent, report_member, report_name, report_owned};
+use crate::report::{Out, report_borrowed, report_member, report_name, report_owned};
 use crate::shown::show;
 use bstr::BStr;
 use gix_url::credential::{TextPieces, decode_pieces};
@@ -18,8 +18,8 @@ use std::io::Write;
 /// Calls that parse a text, or judge it.
 pub fn over_text(alloc: Global, order: Order<'_>, out: &mut Out) -> Result<(), Halt> {
     let bytes = order.bytes(alloc, "text")?;
-    let outcome = if is_in_room(order.name()) {
-        over_room(alloc, order, bytes.as_slice(), out)
+    let outcome = if is_in_buffer(order.name()) {
+        over_buffer(alloc, order, bytes.as_slice(), out)
     } else if is_of_git(order.name()) {
         read_as_git(alloc, order, bytes.as_slice(), out)
     } else if order.name() == "credential::decode_pieces" {
@@ -32,7 +32,7 @@ pub fn over_text(alloc: Global, order: Order<'_>, out: &mut Out) -> Result<(), H
 }
 
 /// Whether a call parses into a buffer, or shows the refusal of such a call.
-fn is_in_room(name: &str) -> bool {
+fn is_in_buffer(name: &str) -> bool {
     name == "UrlRef::parse_in"
         || name == "crate::parts_of"
         || name == "ParseError:fmt"
@@ -52,7 +52,7 @@ fn read_as_git(alloc: Global, order: Order<'_>, text: &[u8], out: &mut Out) -> R
         "Buffers::new" => report_owned(out, make_buffers(alloc)),
         _ => {
             let mut buffers = transport::Buffers::new(alloc);
-            let reported = report_lent(out, &transport::reading(text, &mut buffers));
+            let reported = report_borrowed(out, &transport::reading(text, &mut buffers));
             drop(buffers);
             reported
         }
@@ -69,7 +69,7 @@ fn make_buffers(alloc: Global) {
 fn ask_for_credential(alloc: Global, text: &[u8], out: &mut Out) -> Result<(), Halt> {
     let mut buffers = credential::Buffers::new(alloc);
     let reported = match credential::reading(text, &mut buffers) {
-        Ok(request) => report_lent(out, &request),
+        Ok(request) => report_borrowed(out, &request),
         Err(_) => report_owned(out, Error::Memory),
     };
     drop(buffers);
@@ -83,17 +83,17 @@ fn over_pieces(
     authority: &[u8],
     out: &mut Out,
 ) -> Result<(), Halt> {
-    let behind = order.bytes(alloc, "behind")?;
+    let suffix = order.bytes(alloc, "suffix")?;
     let pieces = TextPieces {
         protocol: b"",
         authority,
-        behind: behind.as_slice(),
+        suffix: suffix.as_slice(),
     };
     let outcome = match order.call() {
         "credential::decode_pieces" => read_pieces(alloc, pieces, out),
         call => unknown(call),
     };
-    drop(behind);
+    drop(suffix);
     outcome
 }
 
@@ -101,7 +101,7 @@ fn over_pieces(
 fn read_pieces(alloc: Global, pieces: TextPieces<'_>, out: &mut Out) -> Result<(), Halt> {
     let mut buffers = credential::Buffers::new(alloc);
     let reported = match decode_pieces(pieces, &mut buffers) {
-        Ok(parts) => report_lent(out, &parts),
+        Ok(parts) => report_borrowed(out, &parts),
         Err(_) => report_owned(out, Error::Memory),
     };
     drop(buffers);
@@ -115,28 +115,28 @@ fn is_over_refusal(name: &str) -> bool {
 
 /// Calls over a text and a buffer: its size is the number in the order, or else the length of the text. The buffer is
 /// filled with `#`: bytes that the library doesn't write aren't part of a location.
-fn over_room(alloc: Global, order: Order<'_>, text: &[u8], out: &mut Out) -> Result<(), Halt> {
-    let size = match order.number("room") {
+fn over_buffer(alloc: Global, order: Order<'_>, text: &[u8], out: &mut Out) -> Result<(), Halt> {
+    let size = match order.number("buffer") {
         Some(size) => usize::try_from(size).unwrap_or(0),
         None => text.len(),
     };
-    let mut room = vec![in alloc; b'#'; size]?;
-    let outcome = read_in(order, text, &mut room, out);
-    drop(room);
+    let mut buffer = vec![in alloc; b'#'; size]?;
+    let outcome = read_in(order, text, &mut buffer, out);
+    drop(buffer);
     outcome
 }
 
 /// Parses a text into a buffer, and reports the location or the error, or inspects the refusal.
-fn read_in(order: Order<'_>, text: &[u8], room: &mut [u8], out: &mut Out) -> Result<(), Halt> {
+fn read_in(order: Order<'_>, text: &[u8], buffer: &mut [u8], out: &mut Out) -> Result<(), Halt> {
     match order.call() {
         "" => Ok(()),
-        "UrlRef::parse_in" => read_url_in(text, room, out),
+        "UrlRef::parse_in" => read_url_in(text, buffer, out),
         "crate::parts_of" => match parts_of(text) {
-            Ok(parts) => report_lent(out, &parts),
-            Err(refusal) => report_lent(out, &ParseError::Refused(refusal)),
+            Ok(parts) => report_borrowed(out, &parts),
+            Err(refusal) => report_borrowed(out, &ParseError::Refused(refusal)),
         },
-        "ParseError:fmt" => show_unread(order, UrlRef::parse_in(text, room), out),
-        _ => match UrlRef::parse_in(text, room) {
+        "ParseError:fmt" => show_unread(order, UrlRef::parse_in(text, buffer), out),
+        _ => match UrlRef::parse_in(text, buffer) {
             Err(ParseError::Refused(refusal)) => look_at_refusal(order, refusal, out),
             _ => Err(Halt::Unprepared),
         },
@@ -171,11 +171,11 @@ fn show_unread(
 fn look_at_refusal(order: Order<'_>, refusal: Refusal, out: &mut Out) -> Result<(), Halt> {
     let reason = refusal.reason;
     match order.call() {
-        "Refusal::fault" => report_lent(out, &refusal.fault()),
+        "Refusal::fault" => report_borrowed(out, &refusal.fault()),
         "Refusal:fmt" => show(out, order.style(), &refusal),
-        "Reason::kind" => report_lent(out, &reason.kind()),
-        "Reason::name" => report_lent(out, &reason.name()),
-        "Reason::words" => report_lent(out, &reason.words()),
+        "Reason::kind" => report_borrowed(out, &reason.kind()),
+        "Reason::name" => report_borrowed(out, &reason.name()),
+        "Reason::words" => report_borrowed(out, &reason.words()),
         "Reason:fmt" => show(out, order.style(), &reason),
         call => unknown(call),
     }
@@ -189,7 +189,7 @@ fn read(alloc: Global, order: Order<'_>, bytes: BStr<'_>, out: &mut Out) -> Resu
         "Url::from_bytes" => report_owned(out, Url::from_bytes(alloc, bytes)),
         "Url::from_text" => report_owned(out, Url::from_text(alloc, text)),
         "Scheme::from_text" => report_owned(out, Scheme::from_text(alloc, text)),
-        "ipv6::is_ipv6" => report_lent(out, &ipv6::is_ipv6(text)),
+        "ipv6::is_ipv6" => report_borrowed(out, &ipv6::is_ipv6(text)),
         "expand_path::parse" => report_owned(out, expand_path::parse(alloc, bytes)),
         call => unknown(call),
     }
@@ -207,12 +207,12 @@ pub fn over_lines(alloc: Global, order: Order<'_>, out: &mut Out) -> Result<(), 
     let outcome = run(alloc, &mut left, &mut answers);
     let is_cut_short = outcome.is_ok() && !left.is_empty();
     report_name(out, "{", "outcome")?;
-    report_lent(out, &outcome)?;
+    report_borrowed(out, &outcome)?;
     report_name(out, ",", "status")?;
-    report_lent(out, &status(&outcome))?;
+    report_borrowed(out, &status(&outcome))?;
     drop(outcome);
     report_name(out, ",", "out")?;
-    report_lent(out, &BStr::new(answers.as_slice()))?;
+    report_borrowed(out, &BStr::new(answers.as_slice()))?;
     if is_cut_short {
         report_member(out, "left", &Some(BStr::new(left)))?;
     }

@@ -6,7 +6,7 @@ use crate::calls::compare::{alike, compare, hash_of};
 use crate::halt::Halt;
 use crate::order::{Order, unknown};
 use crate::parts::first_name;
-use crate::report::{Out, Taking, report_lent, report_member, report_name, report_owned};
+use crate::report::{Out, Taking, report_borrowed, report_member, report_name, report_owned};
 use crate::shown::{show, show_display};
 use bstr::{BStr, BString};
 use gix_url::unambiguous::{is_unambiguous, unmet_condition};
@@ -46,7 +46,7 @@ fn look_or_copy(alloc: Global, order: Order<'_>, url: &Url, out: &mut Out) -> Re
         "Url::to_stored" => report_owned(out, url.to_stored(alloc)),
         "Url::path_query_fragment" => report_owned(out, url.path_query_fragment(alloc)),
         "Url:fmt" => show(out, order.style(), url),
-        "laws::law_value" => report_lent(out, &laws::law_value(url)),
+        "laws::law_value" => report_borrowed(out, &laws::law_value(url)),
         _ => look(alloc, order, url, out),
     }
 }
@@ -60,27 +60,27 @@ fn copy_apart(alloc: Global, url: &Url) -> Result<((bool, bool), (bool, bool)), 
     let mut copy = copied?;
     let before = alike(&copy, url);
     copy.path = BString::new(Vec::new(alloc));
-    let behind = alike(&copy, url);
+    let after = alike(&copy, url);
     drop(copy);
-    Ok((before, behind))
+    Ok((before, after))
 }
 
 /// Calls that inspect a location.
 fn look(alloc: Global, order: Order<'_>, url: &Url, out: &mut Out) -> Result<(), Halt> {
     match order.call() {
-        "Url::is_settled" => report_lent(out, &url.is_settled()),
-        "Url::agrees_with_git" => report_lent(out, &url.agrees_with_git()),
-        "Url::unmet_web_condition" => report_lent(out, &url.unmet_web_condition()),
-        "Url::is_unambiguous" => report_lent(out, &url.is_unambiguous()),
-        "Url::unmet_condition" => report_lent(out, &url.unmet_condition()),
-        "Url::user" => report_lent(out, &url.user()),
-        "Url::password" => report_lent(out, &url.password()),
-        "Url::host" => report_lent(out, &url.host()),
-        "Url::port_or_default" => report_lent(out, &url.port_or_default()),
-        "Url::path_is_root" => report_lent(out, &url.path_is_root()),
-        "Url::original_path" => report_lent(out, &url.original_path()),
-        "Url::has_spelling" => report_lent(out, &url.has_spelling()),
-        "Url::text_len" => report_lent(out, &url.text_len()),
+        "Url::is_settled" => report_borrowed(out, &url.is_settled()),
+        "Url::agrees_with_git" => report_borrowed(out, &url.agrees_with_git()),
+        "Url::unmet_web_condition" => report_borrowed(out, &url.unmet_web_condition()),
+        "Url::is_unambiguous" => report_borrowed(out, &url.is_unambiguous()),
+        "Url::unmet_condition" => report_borrowed(out, &url.unmet_condition()),
+        "Url::user" => report_borrowed(out, &url.user()),
+        "Url::password" => report_borrowed(out, &url.password()),
+        "Url::host" => report_borrowed(out, &url.host()),
+        "Url::port_or_default" => report_borrowed(out, &url.port_or_default()),
+        "Url::path_is_root" => report_borrowed(out, &url.path_is_root()),
+        "Url::original_path" => report_borrowed(out, &url.original_path()),
+        "Url::has_spelling" => report_borrowed(out, &url.has_spelling()),
+        "Url::text_len" => report_borrowed(out, &url.text_len()),
         _ => hand_out(alloc, order, url, out),
     }
 }
@@ -88,11 +88,11 @@ fn look(alloc: Global, order: Order<'_>, url: &Url, out: &mut Out) -> Result<(),
 /// Calls that judge a part of a location as an argument, or write the location.
 fn hand_out(alloc: Global, order: Order<'_>, url: &Url, out: &mut Out) -> Result<(), Halt> {
     match order.call() {
-        "Url::user_as_argument" => report_lent(out, &url.user_as_argument()),
-        "Url::host_as_argument" => report_lent(out, &url.host_as_argument()),
-        "Url::user_argument_safe" => report_lent(out, &url.user_argument_safe()),
-        "Url::host_argument_safe" => report_lent(out, &url.host_argument_safe()),
-        "Url::path_argument_safe" => report_lent(out, &url.path_argument_safe()),
+        "Url::user_as_argument" => report_borrowed(out, &url.user_as_argument()),
+        "Url::host_as_argument" => report_borrowed(out, &url.host_as_argument()),
+        "Url::user_argument_safe" => report_borrowed(out, &url.user_argument_safe()),
+        "Url::host_argument_safe" => report_borrowed(out, &url.host_argument_safe()),
+        "Url::path_argument_safe" => report_borrowed(out, &url.path_argument_safe()),
         "Url::write_to" => write_to(url, out),
         _ => look_at_borrowed(alloc, order, url, out),
     }
@@ -102,25 +102,25 @@ fn hand_out(alloc: Global, order: Order<'_>, url: &Url, out: &mut Out) -> Result
 fn look_at_borrowed(alloc: Global, order: Order<'_>, url: &Url, out: &mut Out) -> Result<(), Halt> {
     let borrowed = url.as_ref();
     match order.call() {
-        "Url::as_ref" => report_lent(out, &borrowed),
-        "UrlRef::agrees_with_git" => report_lent(out, &borrowed.agrees_with_git()),
-        "UrlRef::unmet_web_condition" => report_lent(out, &borrowed.unmet_web_condition()),
-        "unambiguous::is_unambiguous" => report_lent(out, &is_unambiguous(&borrowed)),
-        "unambiguous::unmet_condition" => report_lent(out, &unmet_condition(&borrowed)),
-        "UrlRef::is_settled" => report_lent(out, &borrowed.is_settled()),
-        "UrlRef::original_path" => report_lent(out, &borrowed.original_path()),
-        "UrlRef::port_or_default" => report_lent(out, &borrowed.port_or_default()),
-        "UrlRef::path_is_root" => report_lent(out, &borrowed.path_is_root()),
+        "Url::as_ref" => report_borrowed(out, &borrowed),
+        "UrlRef::agrees_with_git" => report_borrowed(out, &borrowed.agrees_with_git()),
+        "UrlRef::unmet_web_condition" => report_borrowed(out, &borrowed.unmet_web_condition()),
+        "unambiguous::is_unambiguous" => report_borrowed(out, &is_unambiguous(&borrowed)),
+        "unambiguous::unmet_condition" => report_borrowed(out, &unmet_condition(&borrowed)),
+        "UrlRef::is_settled" => report_borrowed(out, &borrowed.is_settled()),
+        "UrlRef::original_path" => report_borrowed(out, &borrowed.original_path()),
+        "UrlRef::port_or_default" => report_borrowed(out, &borrowed.port_or_default()),
+        "UrlRef::path_is_root" => report_borrowed(out, &borrowed.path_is_root()),
         "PathComponents::of" => report_owned(out, PathComponents::of(alloc, &borrowed)),
         "UrlRef:fmt" => show_display(out, &borrowed),
-        "UrlRef::text_len" => report_lent(out, &borrowed.text_len()),
+        "UrlRef::text_len" => report_borrowed(out, &borrowed.text_len()),
         "Url::text_of" => report_owned(out, Url::text_of(alloc, &borrowed)),
         "UrlRef::write_to" => write_borrowed(&borrowed, out),
-        "UrlRef::user_as_argument" => report_lent(out, &borrowed.user_as_argument()),
-        "UrlRef::host_as_argument" => report_lent(out, &borrowed.host_as_argument()),
-        "UrlRef::user_argument_safe" => report_lent(out, &borrowed.user_argument_safe()),
-        "UrlRef::host_argument_safe" => report_lent(out, &borrowed.host_argument_safe()),
-        "UrlRef::path_argument_safe" => report_lent(out, &borrowed.path_argument_safe()),
+        "UrlRef::user_as_argument" => report_borrowed(out, &borrowed.user_as_argument()),
+        "UrlRef::host_as_argument" => report_borrowed(out, &borrowed.host_as_argument()),
+        "UrlRef::user_argument_safe" => report_borrowed(out, &borrowed.user_argument_safe()),
+        "UrlRef::host_argument_safe" => report_borrowed(out, &borrowed.host_argument_safe()),
+        "UrlRef::path_argument_safe" => report_borrowed(out, &borrowed.path_argument_safe()),
         _ => fill_or_cut(alloc, order, url, out),
     }
 }
@@ -137,14 +137,14 @@ fn fill_or_cut(alloc: Global, order: Order<'_>, url: &Url, out: &mut Out) -> Res
 /// Writes a location into a buffer with these bytes, and reports the result of the call and the buffer's bytes after
 /// it.
 fn fill(alloc: Global, order: Order<'_>, url: &UrlRef<'_>, out: &mut Out) -> Result<(), Halt> {
-    let mut room = order.bytes(alloc, "room")?;
+    let mut buffer = order.bytes(alloc, "buffer")?;
     let outcome = if order.call().is_empty() {
         Ok(())
     } else {
-        let answer = url.write_into(room.as_mut_slice());
-        report_lent(out, &(answer, BStr::new(room.as_slice())))
+        let answer = url.write_into(buffer.as_mut_slice());
+        report_borrowed(out, &(answer, BStr::new(buffer.as_slice())))
     };
-    drop(room);
+    drop(buffer);
     outcome
 }
 
@@ -206,7 +206,7 @@ fn cut(
     match order.call() {
         "PathComponents::clone" => report_owned(out, parts.clone(alloc)),
         "QueryText::clone" => report_owned(out, first_name(parts)?.clone(alloc)),
-        "QueryText::as_bstr" => report_lent(out, &first_name(parts)?.as_bstr()),
+        "QueryText::as_bstr" => report_borrowed(out, &first_name(parts)?.as_bstr()),
         call => unknown(call),
     }
 }
@@ -237,7 +237,7 @@ fn over_two_paths(
     drop(parts);
     drop(others);
     if is_made {
-        report_lent(out, &are_equal)
+        report_borrowed(out, &are_equal)
     } else {
         Ok(())
     }

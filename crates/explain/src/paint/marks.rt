@@ -90,15 +90,15 @@ fn write_open(
     marked: &mut Marked,
 ) -> Result<usize, AllocError> {
     let (before, rest) = halves(piece.shown(), own.at);
-    let (inside, behind) = halves(rest, own.len);
+    let (inside, suffix) = halves(rest, own.len);
     let before = write_kept(out, before, is_long.then_some(Keep::End))?;
     let inside = write_kept(out, inside, is_long.then_some(Keep::Both))?;
-    let behind = write_kept(out, behind, is_long.then_some(Keep::Front))?;
+    let suffix = write_kept(out, suffix, is_long.then_some(Keep::Front))?;
     if own.at < piece.len() && marked.from.is_none() {
         marked.from = Some(column.saturating_add(before));
     }
     marked.columns = marked.columns.saturating_add(inside);
-    Ok(before.saturating_add(inside).saturating_add(behind))
+    Ok(before.saturating_add(inside).saturating_add(suffix))
 }
 
 /// Appends the word for a hidden piece, and marks it if the region has a byte of the piece.

@@ -45,16 +45,16 @@ pub(crate) fn span_of(piece: &Piece<'_>, from: usize, columns: usize) -> Span {
 
 /// Leaves a column between adjacent pieces, if the second one takes more than one.
 pub(crate) fn part_touching(spans: &mut [Span; PIECES]) {
-    let mut behind = None;
+    let mut end = None;
     for span in spans.iter_mut() {
         if span.columns == 0 {
             continue;
         }
-        if behind == Some(span.from) && 1 < span.columns {
+        if end == Some(span.from) && 1 < span.columns {
             span.from = span.from.saturating_add(1);
             span.columns -= 1;
         }
-        behind = Some(span.from.saturating_add(span.columns));
+        end = Some(span.from.saturating_add(span.columns));
     }
 }
 

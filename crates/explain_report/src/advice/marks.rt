@@ -39,8 +39,8 @@ pub(crate) fn before<'a>(text: &'a [u8], mark: &[u8]) -> &'a [u8]
 }
 
 /// The text after the last such mark, or the whole text if there is none.
-pub(crate) fn behind<'a>(text: &'a [u8], mark: &[u8]) -> &'a [u8]
-    ensures { result.now ≡ spec.behind mark.now text.now }
+pub(crate) fn suffix<'a>(text: &'a [u8], mark: &[u8]) -> &'a [u8]
+    ensures { result.now ≡ spec.suffix mark.now text.now }
 {
     match last_halves(text, mark) {
         Some((_, rest)) => rest,

@@ -12,7 +12,7 @@ ghost use Rattle.explain_report.specs.Slips as spec;
 
 use crate::advice::host_name::is_user;
 use crate::advice::marks::{
-    before, begins_with_some, behind, halves, holds, is_among, is_among_in_any_case, last_halves,
+    before, begins_with_some, halves, holds, is_among, is_among_in_any_case, last_halves, suffix,
 };
 
 /// Whether the line is a word that may be the name of a remote.
@@ -267,7 +267,7 @@ fn rest_of_url(line: &[u8]) -> Option<&[u8]>
 fn place_of(rest: &[u8]) -> &[u8]
     ensures { result.now ≡ spec.place_of rest.now }
 {
-    behind(before(rest, b"/"), b"@")
+    suffix(before(rest, b"/"), b"@")
 }
 
 /// Whether a URL has a host, and a text other than a port after its colon.
@@ -352,15 +352,15 @@ fn is_cut_in_password(rest: &[u8]) -> bool
 {
     match halves(rest, b"/") {
         Some((front, below)) => {
-            holds(front, b":") && !holds(front, b"@") && has_place_behind_user(below)
+            holds(front, b":") && !holds(front, b"@") && has_place_after_user(below)
         }
         None => false,
     }
 }
 
 /// Whether the bytes contain an `@`, and at least one byte and then a `/` follow the last one.
-fn has_place_behind_user(bytes: &[u8]) -> bool
-    ensures { result ≡ spec.has_place_behind_user bytes.now }
+fn has_place_after_user(bytes: &[u8]) -> bool
+    ensures { result ≡ spec.has_place_after_user bytes.now }
 {
     match last_halves(bytes, b"@") {
         Some((_, place)) => has_host(place),

@@ -13,7 +13,7 @@ pub(crate) fn shows(pieces: &[Piece<'_>], text: &[u8]) -> bool
     let Some((last, front)) = pieces.split_last() else {
         return false;
     };
-    match behind_all(front, text) {
+    match after_all(front, text) {
         Some(rest) => is_last(last.shown(), rest),
         None => false,
     }
@@ -27,18 +27,18 @@ fn is_last(last: &[u8], rest: &[u8]) -> bool
 }
 
 /// The rest of a text after these pieces as they are shown, if the text begins with them.
-fn behind_all<'a>(pieces: &[Piece<'_>], text: &'a [u8]) -> Option<&'a [u8]>
+fn after_all<'a>(pieces: &[Piece<'_>], text: &'a [u8]) -> Option<&'a [u8]>
     ensures { MatchOption result ⊤ (λ rest. text.now ≡ pieces_shown pieces.now ++ rest.now) }
 {
     let mut rest = text;
     for piece in pieces {
-        rest = behind(rest, piece.shown())?;
+        rest = suffix(rest, piece.shown())?;
     }
     Some(rest)
 }
 
 /// The rest of a text after a front, if the text begins with it.
-fn behind<'a>(text: &'a [u8], front: &[u8]) -> Option<&'a [u8]>
+fn suffix<'a>(text: &'a [u8], front: &[u8]) -> Option<&'a [u8]>
     ensures { MatchOption result ⊤ (λ rest. text.now ≡ front.now ++ rest.now) }
 {
     let (head, rest) = text.split_at(front.len().min(text.len()));

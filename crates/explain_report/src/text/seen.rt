@@ -143,8 +143,8 @@ fn is_around(line: &[u8], span: Span, shown: &[u8]) -> bool
     requires { shown.now ≡ shown_of line.now }
     ensures { IsTrue result → IsShownAround line.now }
 {
-    let (front, behind) = line.split_at(span.at.min(line.len()));
-    let (password, rest) = behind.split_at(span.len.min(behind.len()));
+    let (front, suffix) = line.split_at(span.at.min(line.len()));
+    let (password, rest) = suffix.split_at(span.len.min(suffix.len()));
     is_joined(shown, front, word_for(password), rest)
 }
 
@@ -152,16 +152,16 @@ fn is_around(line: &[u8], span: Span, shown: &[u8]) -> bool
 fn is_joined(text: &[u8], front: &[u8], word: &[u8], rest: &[u8]) -> bool
     ensures { IsTrue result → text.now ≡ front.now ++ (word.now ++ rest.now) }
 {
-    let (head, behind) = text.split_at(front.len().min(text.len()));
-    is_same(head, front) && is_both(behind, word, rest)
+    let (head, suffix) = text.split_at(front.len().min(text.len()));
+    is_same(head, front) && is_both(suffix, word, rest)
 }
 
 /// Whether a text is the concatenation of these two.
 fn is_both(text: &[u8], word: &[u8], rest: &[u8]) -> bool
     ensures { IsTrue result → text.now ≡ word.now ++ rest.now }
 {
-    let (head, behind) = text.split_at(word.len().min(text.len()));
-    is_same(head, word) && is_same(behind, rest)
+    let (head, suffix) = text.split_at(word.len().min(text.len()));
+    is_same(head, word) && is_same(suffix, rest)
 }
 
 /// Whether the shown text of this line has the same parts as the line.

@@ -30,11 +30,11 @@ if_ok (Ok a) follows given = follows a given
 if_ok (Err e) follows given = tt
 
 -- before the last colon is the host, and after it the port
-pub port_behind : (v : Location) (named host behind : List ℕ) (own : Bool) → FreeOf colon behind → named ≡ host ++ colon ∷ behind → IsTrue own ↔ ((list_all is_ascii_digit behind ≡ true) × HasHostName v (host_name host)) → IsTrue own ↔ NamesOwnPort v named
-port_behind v named host behind own free joined decided = (
-  (λ is. (host, behind, joined, (decided.0 is).0, (decided.0 is).1)),
+pub port_after : (v : Location) (named host suffix : List ℕ) (own : Bool) → FreeOf colon suffix → named ≡ host ++ colon ∷ suffix → IsTrue own ↔ ((list_all is_ascii_digit suffix ≡ true) × HasHostName v (host_name host)) → IsTrue own ↔ NamesOwnPort v named
+port_after v named host suffix own free joined decided = (
+  (λ is. (host, suffix, joined, (decided.0 is).0, (decided.0 is).1)),
   (λ found.
-      let same = last_cut_unique colon found.0 host found.1 behind (free_of_all is_ascii_digit colon found.1 found.3 refl) free (sym found.2 ∙ joined) in
+      let same = last_cut_unique colon found.0 host found.1 suffix (free_of_all is_ascii_digit colon found.1 found.3 refl) free (sym found.2 ∙ joined) in
       decided.1 (subst (λ t. list_all is_ascii_digit t ≡ true) same.1 found.3, subst (λ t. HasHostName v (host_name t)) same.0 found.4)),
 )
 

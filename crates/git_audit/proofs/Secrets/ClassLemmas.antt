@@ -4,11 +4,11 @@ use Rattle.std.proofs.Common.{◌≡◌, ◌∙◌, ℕ, ◌+◌, ◌<◌, Bool,
 use Rattle.std.proofs.Math.Seq.{drop-length}
 use Rattle.git_audit.specs.declared.secret.mark.Class.{Class}
 use Rattle.git_audit.specs.Secrets.{first_of, is_of}
-use Rattle.git_audit.proofs.Secrets.MarkLemmas.{cut_at, none_before, one_more, place_behind}
+use Rattle.git_audit.proofs.Secrets.MarkLemmas.{cut_at, none_before, one_more, place_after}
 
 -- no byte of the class is before a place, which are passed
 abbrev pub Passed : Class → List ℕ → ℕ → Type 0
-Passed c text n = first_of c text ≡ place_behind n (first_of c (drop n text))
+Passed c text n = first_of c text ≡ place_after n (first_of c (drop n text))
 
 -- nothing is before the first byte
 pub passed_none : (c : Class) (text : List ℕ) → Passed c text 0
@@ -20,14 +20,14 @@ first_by c b bs is e = ap (λ (t : Bool). if t then Some 0 else option_map (λ k
 -- a byte that is none is passed
 pub passed_more : (c : Class) (text : List ℕ) (n : ℕ) → n < length text → is_of c (get_or text n 0) ≡ false → Passed c text n → Passed c text (n + 1)
 passed_more c text n within is passed =
-    passed ∙ ap (λ t. place_behind n (first_of c t)) (cut_at text n within) ∙ ap (place_behind n) (first_by c _ _ false is) ∙ one_more n (first_of c (drop (n + 1) text))
+    passed ∙ ap (λ t. place_after n (first_of c t)) (cut_at text n within) ∙ ap (place_after n) (first_by c _ _ false is) ∙ one_more n (first_of c (drop (n + 1) text))
 
 -- the first one is here, if all before it is passed
 pub passed_here : (c : Class) (text : List ℕ) (n : ℕ) → n < length text → is_of c (get_or text n 0) ≡ true → Passed c text n → Some n ≡ first_of c text
 passed_here c text n within is passed =
-    sym (passed ∙ ap (λ t. place_behind n (first_of c t)) (cut_at text n within) ∙ ap (place_behind n) (first_by c _ _ true is) ∙ ap Some (omega arith))
+    sym (passed ∙ ap (λ t. place_after n (first_of c t)) (cut_at text n within) ∙ ap (place_after n) (first_by c _ _ true is) ∙ ap Some (omega arith))
 
 -- there is none, if all is passed
 pub passed_all : (c : Class) (text : List ℕ) (n : ℕ) → n ≡ length text → Passed c text n → None ≡ first_of c text
 passed_all c text n all passed =
-    sym (passed ∙ ap (λ t. place_behind n (first_of c t)) (ap (λ k. drop k text) all ∙ drop-length text))
+    sym (passed ∙ ap (λ t. place_after n (first_of c t)) (ap (λ k. drop k text) all ∙ drop-length text))

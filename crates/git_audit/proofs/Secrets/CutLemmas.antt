@@ -34,11 +34,11 @@ module _ (c : Class) where
       let less = one_less (first_of c bs) 0 (found_by b bs false (Some 0) e found) in absurd (omega (arith, less.2))
 
   -- it is found after a byte that is none
-  is_behind : (b : ℕ) (bs : List ℕ) (n : ℕ) (is : Bool) → is_of c b ≡ is → first_of c (b ∷ bs) ≡ Some (suc n) → (is ≡ false) × (first_of c bs ≡ Some n)
-  is_behind b bs n true e found =
+  is_after : (b : ℕ) (bs : List ℕ) (n : ℕ) (is : Bool) → is_of c b ≡ is → first_of c (b ∷ bs) ≡ Some (suc n) → (is ≡ false) × (first_of c bs ≡ Some n)
+  is_after b bs n true e found =
       let wrong : ◌≡◌ {A = Option ℕ} (Some 0) (Some (suc n)) = found_by b bs true (Some (suc n)) e found in
       let numbers : 0 ≡ suc n = cc in absurd (omega arith)
-  is_behind b bs n false e found =
+  is_after b bs n false e found =
       let less = one_less (first_of c bs) (suc n) (found_by b bs false (Some (suc n)) e found) in
       (refl, less.1 ∙ ap Some (omega (arith, less.2)))
 
@@ -52,14 +52,14 @@ module _ (c : Class) where
       let is : is_of c d ≡ true = is_here d ds (is_of c d) refl found in
       ap (onto_run c b) (runs_by d ds true is) ∙ onto_by b d [] (runs c ds) true is ∙ ap (λ t. (b ∷ []) ∷ t) (sym (runs_by d ds true is))
   run_onto b (d ∷ ds) (suc n) found rest =
-      let is = is_behind d ds n (is_of c d) refl found in
+      let is = is_after d ds n (is_of c d) refl found in
       ap (onto_run c b) (rest n refl) ∙ onto_by b d (take n ds) (runs c (drop n ds)) false is.0
 
   -- other bytes are a run up to the first one of the class
   up_to : (text : List ℕ) (n : ℕ) → first_of c text ≡ Some (suc n) → CutsRun text (suc n)
   up_to [] n found = cc
   up_to (b ∷ bs) n found =
-      let is = is_behind b bs n (is_of c b) refl found in
+      let is = is_after b bs n (is_of c b) refl found in
       runs_by b bs false is.0 ∙ run_onto b bs n is.1 (λ k e. subst (CutsRun bs) (sym e) (up_to bs k (is.1 ∙ ap Some e)))
 
   no_byte : (b : ℕ) (bs : List ℕ) (is : Bool) → is_of c b ≡ is → first_of c (b ∷ bs) ≡ None → (is ≡ false) × (first_of c bs ≡ None)

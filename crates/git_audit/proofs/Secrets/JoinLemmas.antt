@@ -60,11 +60,11 @@ whole_hidden (b ∷ bs) = append-nil (b ∷ bs)
 whole_three : (s : Secret) (text : List ℕ) (fronts middles : List Part) → joined fronts ≡ take s.at text → joined middles ≡ take s.len (drop s.at text) → joined (fronts ++ (middles ++ tokens (drop s.len (drop s.at text)))) ≡ text
 whole_three s text fronts middles front middle =
     let rest = drop s.at text in
-    let behind : joined (middles ++ tokens (drop s.len rest)) ≡ rest =
+    let suffix : joined (middles ++ tokens (drop s.len rest)) ≡ rest =
     joined_both middles (tokens (drop s.len rest)) ∙ ap (λ t. t ++ joined (tokens (drop s.len rest))) middle
     ∙ ap (λ t. take s.len rest ++ t) (whole_tokens (drop s.len rest)) ∙ take-append-drop s.len rest in
     joined_both fronts _ ∙ ap (λ t. t ++ joined (middles ++ tokens (drop s.len rest))) front
-    ∙ ap (λ t. take s.at text ++ t) behind ∙ take-append-drop s.at text
+    ∙ ap (λ t. take s.at text ++ t) suffix ∙ take-append-drop s.at text
 
 whole_run : (found : Option Secret) (text : List ℕ) → joined (run_parts found text) ≡ text
 whole_run None text = whole_tokens text

@@ -9,20 +9,20 @@ pub cut_at : (text : List ℕ) (n : ℕ) → n < length text → drop n text ≡
 cut_at text n within = drop-cons text n 0 within ∙ ap (λ k. get_or text n 0 ∷ drop k text) {x = suc n} (omega arith)
 
 -- the place of a first mark, if so many bytes are before the text that it was found in
-abbrev pub place_behind : ℕ → Option ℕ → Option ℕ
-place_behind n found = option_map (λ k. k + n) found
+abbrev pub place_after : ℕ → Option ℕ → Option ℕ
+place_after n found = option_map (λ k. k + n) found
 
 -- no mark is in the bytes before a place, which are passed
 abbrev pub Passed : Mark → List ℕ → ℕ → Type 0
-Passed m text n = first_mark m text ≡ place_behind n (first_mark m (drop n text))
+Passed m text n = first_mark m text ≡ place_after n (first_mark m (drop n text))
 
 -- before no byte the place is the same
-pub none_before : (found : Option ℕ) → found ≡ place_behind 0 found
+pub none_before : (found : Option ℕ) → found ≡ place_after 0 found
 none_before None = refl
 none_before (Some k) = ap Some (omega arith)
 
 -- after one byte more
-pub one_more : (n : ℕ) (found : Option ℕ) → place_behind n (option_map (λ k. k + 1) found) ≡ place_behind (n + 1) found
+pub one_more : (n : ℕ) (found : Option ℕ) → place_after n (option_map (λ k. k + 1) found) ≡ place_after (n + 1) found
 one_more n None = refl
 one_more n (Some k) = ap Some (omega arith)
 
@@ -41,20 +41,20 @@ pub passed_more : (m : Mark) (text : List ℕ) (n : ℕ) → n < length text →
 passed_more m text n within begins passed =
     let cut : drop n text ≡ get_or text n 0 ∷ drop (n + 1) text = cut_at text n within in
     let here : begins_as m (get_or text n 0 ∷ drop (n + 1) text) ≡ false = subst (λ t. begins_as m t ≡ false) cut begins in
-    passed ∙ ap (λ t. place_behind n (first_mark m t)) cut ∙ ap (place_behind n) (first_step m _ _ here) ∙ one_more n (first_mark m (drop (n + 1) text))
+    passed ∙ ap (λ t. place_after n (first_mark m t)) cut ∙ ap (place_after n) (first_step m _ _ here) ∙ one_more n (first_mark m (drop (n + 1) text))
 
 -- the first mark is the one that begins at a place, if no mark begins before it
 pub passed_here : (m : Mark) (text : List ℕ) (n : ℕ) → n < length text → begins_as m (drop n text) ≡ true → Passed m text n → Some n ≡ first_mark m text
 passed_here m text n within begins passed =
     let cut : drop n text ≡ get_or text n 0 ∷ drop (n + 1) text = cut_at text n within in
     let here : begins_as m (get_or text n 0 ∷ drop (n + 1) text) ≡ true = subst (λ t. begins_as m t ≡ true) cut begins in
-    sym (passed ∙ ap (λ t. place_behind n (first_mark m t)) cut ∙ ap (place_behind n) (first_here m _ _ here) ∙ ap Some (omega arith))
+    sym (passed ∙ ap (λ t. place_after n (first_mark m t)) cut ∙ ap (place_after n) (first_here m _ _ here) ∙ ap Some (omega arith))
 
 -- there is none, if all is passed
 pub passed_all : (m : Mark) (text : List ℕ) (n : ℕ) → n ≡ length text → Passed m text n → None ≡ first_mark m text
 passed_all m text n all passed =
     let rest : drop n text ≡ [] = ap (λ k. drop k text) all ∙ drop-length text in
-    sym (passed ∙ ap (λ t. place_behind n (first_mark m t)) rest)
+    sym (passed ∙ ap (λ t. place_after n (first_mark m t)) rest)
 
 -- ---- the last
 
@@ -70,8 +70,8 @@ none_at_end m text = ap (last_mark m) (drop-length text)
 
 -- no mark begins at a byte, nor after it
 pub none_from : (m : Mark) (text : List ℕ) (n next : ℕ) → n < length text → n + 1 ≡ next → begins_as m (drop n text) ≡ false → last_mark m (drop next text) ≡ None → last_mark m (drop n text) ≡ None
-none_from m text n next within step begins behind =
-    let none : last_mark m (drop (n + 1) text) ≡ None = ap (λ k. last_mark m (drop k text)) step ∙ behind in
+none_from m text n next within step begins suffix =
+    let none : last_mark m (drop (n + 1) text) ≡ None = ap (λ k. last_mark m (drop k text)) step ∙ suffix in
     let cut : drop n text ≡ get_or text n 0 ∷ drop (n + 1) text = cut_at text n within in
     let here : begins_as m (get_or text n 0 ∷ drop (n + 1) text) ≡ false = subst (λ t. begins_as m t ≡ false) cut begins in
     ap (last_mark m) cut ∙ last_none m _ _ none here
@@ -85,8 +85,8 @@ moved_on m (b ∷ bs) (suc n) k found = ap (λ t. later_mark t (begins_as m (b �
 
 -- the last mark is the one that begins at a place, if none is after it
 pub last_found : (m : Mark) (text : List ℕ) (n next : ℕ) → n < length text → n + 1 ≡ next → begins_as m (drop n text) ≡ true → last_mark m (drop next text) ≡ None → Some n ≡ last_mark m text
-last_found m text n next within step begins behind =
-    let none : last_mark m (drop (n + 1) text) ≡ None = ap (λ k. last_mark m (drop k text)) step ∙ behind in
+last_found m text n next within step begins suffix =
+    let none : last_mark m (drop (n + 1) text) ≡ None = ap (λ k. last_mark m (drop k text)) step ∙ suffix in
     let cut : drop n text ≡ get_or text n 0 ∷ drop (n + 1) text = cut_at text n within in
     let here : begins_as m (get_or text n 0 ∷ drop (n + 1) text) ≡ true = subst (λ t. begins_as m t ≡ true) cut begins in
     sym (moved_on m text n 0 (ap (last_mark m) cut ∙ last_here m _ _ none here) ∙ ap Some (omega arith))

@@ -42,13 +42,13 @@ pub(super) fn wide_password(web: bool, text: &[u8]) -> Option<Secret>
     ensures within { IfSome result (λ s. s.at + s.len ≤ length text.now) }
 {
     let authority = Mark::Authority.first(text)?;
-    wide_behind(web, text, Mark::Authority.end(text, authority))
+    wide_after(web, text, Mark::Authority.end(text, authority))
 }
 
 /// A possible password with a `/` in it, after this many bytes.
-fn wide_behind(web: bool, text: &[u8], at: usize) -> Option<Secret>
+fn wide_after(web: bool, text: &[u8], at: usize) -> Option<Secret>
     requires { at ≤ length text.now }
-    ensures place { result ≡ spec.wide_behind web text.now at }
+    ensures place { result ≡ spec.wide_after web text.now at }
     ensures within { IfSome result (λ s. s.at + s.len ≤ length text.now) }
 {
     let rest = text.split_at(at).1;

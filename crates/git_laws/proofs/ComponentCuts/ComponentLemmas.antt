@@ -64,8 +64,8 @@ kept_not_percent b kept =
     false_from_ne_true (b == percent_sign) (λ e. both_ways (contains PATH b) (outside_from_kept PATH b kept) (ap (contains PATH) (eqb-true b percent_sign e) ∙ path_holds percent_sign (omega arith)))
 
 -- nor is its meaning
-meant_not_percent : (b : ℕ) → (b == percent_sign) ≡ false → ((if b == plus_sign then space else b) == percent_sign) ≡ false
-meant_not_percent b other = grind (arith, nat_tests)
+denoted_not_percent : (b : ℕ) → (b == percent_sign) ≡ false → ((if b == plus_sign then space else b) == percent_sign) ≡ false
+denoted_not_percent b other = grind (arith, nat_tests)
 
 -- an escape decodes to its byte, before spaces
 spaces_escaped : (b : ℕ) (bs : List ℕ) → b < 256 → should_percent_encode PATH b ≡ true → percent_decode (with_spaces (percent_encode PATH (b ∷ bs))) ≡ b ∷ percent_decode (with_spaces (percent_encode PATH bs))
@@ -73,7 +73,7 @@ spaces_escaped b bs h2 h3 = grind (arith, nat_tests, percent_encode_escaped, map
 
 -- a byte that is kept decodes to its meaning
 spaces_kept : (b : ℕ) (bs : List ℕ) → should_percent_encode PATH b ≡ false → percent_decode (with_spaces (percent_encode PATH (b ∷ bs))) ≡ (if b == plus_sign then space else b) ∷ percent_decode (with_spaces (percent_encode PATH bs))
-spaces_kept b bs h2 = grind (arith, nat_tests, percent_encode_kept, decode_byte, meant_not_percent, kept_not_percent)
+spaces_kept b bs h2 = grind (arith, nat_tests, percent_encode_kept, decode_byte, denoted_not_percent, kept_not_percent)
 
 -- decoding undoes the encoding of a path, if both have spaces for `+`
 spaces_decoded : (t : List ℕ) → IsBytes t → percent_decode (with_spaces (percent_encode PATH t)) ≡ with_spaces t
@@ -98,7 +98,7 @@ bytes_around c (b ∷ x) y small =
     (All-cons (λ b. b < 256) b x (All-head (λ b. b < 256) b (x ++ c ∷ y) small) rest.0, rest.1)
 
 -- so are the parts around a first one
-bytes_off : (c : ℕ) (t front : List ℕ) (behind : Option (List ℕ)) → IsBytes t → CutsText c t front behind → IsBytes front × IfSome behind IsBytes
+bytes_off : (c : ℕ) (t front : List ℕ) (suffix : Option (List ℕ)) → IsBytes t → CutsText c t front suffix → IsBytes front × IfSome suffix IsBytes
 bytes_off c t front None small (free, e) = (subst IsBytes (sym e) small, tt)
 bytes_off c t front (Some x) small (free, e) = bytes_around c front x (subst IsBytes e small)
 
@@ -187,12 +187,12 @@ cut_back f c t front rest way mark free e =
     ]
 
 -- the parts around a first mark are written as those of the written text
-off_written : (f : List ℕ → List ℕ) (c : ℕ) (t front : List ℕ) (behind : Option (List ℕ)) → IsWay f → IsMark c → CutsText c t front behind → CutsText c (f t) (f front) (option_map f behind)
+off_written : (f : List ℕ → List ℕ) (c : ℕ) (t front : List ℕ) (suffix : Option (List ℕ)) → IsWay f → IsMark c → CutsText c t front suffix → CutsText c (f t) (f front) (option_map f suffix)
 off_written f c t front None way mark (free, e) = (way.free c t mark free, ap f e)
 off_written f c t front (Some x) way mark (free, e) = (way.free c front mark free, ap f e ∙ way.around c front x mark)
 
 -- those of the written text are written of parts of the text
-off_back : (f : List ℕ → List ℕ) (c : ℕ) (t front : List ℕ) (behind : Option (List ℕ)) → IsWay f → IsMark c → CutsText c (f t) front behind → (x : List ℕ) × (y : Option (List ℕ)) × (front ≡ f x) × (behind ≡ option_map f y) × CutsText c t x y
+off_back : (f : List ℕ → List ℕ) (c : ℕ) (t front : List ℕ) (suffix : Option (List ℕ)) → IsWay f → IsMark c → CutsText c (f t) front suffix → (x : List ℕ) × (y : Option (List ℕ)) × (front ≡ f x) × (suffix ≡ option_map f y) × CutsText c t x y
 off_back f c t front None way mark (free, e) = (t, None, e, refl, (way.freed c t mark free, refl))
 off_back f c t front (Some r) way mark (free, e) =
     let (x, y, lone, cut, is_x, is_y) = cut_back f c t front r way mark free e in
@@ -353,9 +353,9 @@ parts_written f v w components h parts =
       query = option_map f parts.query;
       fragment = option_map f parts.fragment;
       cut = subst (λ t. CutsPath t (f parts.front) (option_map f parts.query) (option_map f parts.fragment)) (sym h.original) (cuts_written f (original_path v) parts.front parts.query parts.fragment h.way parts.cut);
-      path_meant = parts.path_meant ∙ ap or_root (sym (h.denoted parts.front front));
-      query_meant = query_written f v w parts.query components.query h query parts.query_meant;
-      fragment_meant = parts.fragment_meant ∙ sym (fragment_written f v w parts.fragment h fragment);
+      path_denoted = parts.path_denoted ∙ ap or_root (sym (h.denoted parts.front front));
+      query_denoted = query_written f v w parts.query components.query h query parts.query_denoted;
+      fragment_denoted = parts.fragment_denoted ∙ sym (fragment_written f v w parts.fragment h fragment);
     }
 
 -- and those of the path are those of the written text
@@ -367,9 +367,9 @@ parts_back f v w components h parts =
       query = back.second;
       fragment = back.third;
       cut = back.cut;
-      path_meant = parts.path_meant ∙ ap (λ t. or_root (stands_for w t)) back.is_front ∙ ap or_root (h.denoted back.first front);
-      query_meant = query_back f v w back.second components.query h query (subst (λ o. QueryOf w o components.query) back.is_query parts.query_meant);
-      fragment_meant = parts.fragment_meant ∙ ap (option_map (stands_for w)) back.is_fragment ∙ fragment_written f v w back.third h fragment;
+      path_denoted = parts.path_denoted ∙ ap (λ t. or_root (stands_for w t)) back.is_front ∙ ap or_root (h.denoted back.first front);
+      query_denoted = query_back f v w back.second components.query h query (subst (λ o. QueryOf w o components.query) back.is_query parts.query_denoted);
+      fragment_denoted = parts.fragment_denoted ∙ ap (option_map (stands_for w)) back.is_fragment ∙ fragment_written f v w back.third h fragment;
     }
 
 -- a location has the components of the path that its own is written of

@@ -20,7 +20,7 @@ off_unique : (c : ℕ) (text f g : List ℕ) (p q : Option (List ℕ)) → CutsT
 off_unique c text f g p q h6 h7 = grind (arith, nat_tests, not_free, cut_unique)
 
 -- and each text has them
-off_some : (c : ℕ) (text : List ℕ) → (front : List ℕ) × (behind : Option (List ℕ)) × CutsText c text front behind
+off_some : (c : ℕ) (text : List ℕ) → (front : List ℕ) × (suffix : Option (List ℕ)) × CutsText c text front suffix
 off_some c text = elim (free_or_cut c text) [ inl none ↦ (text, None, (none, refl)) | inr (x, y, free, cut) ↦ (x, Some y, (free, cut)) ]
 
 -- the path, the query and the fragment of a text are determined
@@ -139,9 +139,9 @@ no_query v (Some text) (fields, pairs, cut, of, e) = absurd (cc)
 web_unique : (v : Location) (x y : Components) → WebComponents v x → WebComponents v y → x ≡ y
 web_unique v x y h k =
     let (front, query, fragment) = path_unique (original_path v) h.front k.front h.query k.query h.fragment k.fragment h.cut k.cut in
-    let path_same = h.path_meant ∙ ap (λ t. or_root (stands_for v t)) front ∙ sym k.path_meant in
-    let query_same = query_unique v k.query x.query y.query (subst (λ o. QueryOf v o x.query) query h.query_meant) k.query_meant in
-    let fragment_same = h.fragment_meant ∙ ap (option_map (stands_for v)) fragment ∙ sym k.fragment_meant in
+    let path_same = h.path_denoted ∙ ap (λ t. or_root (stands_for v t)) front ∙ sym k.path_denoted in
+    let query_same = query_unique v k.query x.query y.query (subst (λ o. QueryOf v o x.query) query h.query_denoted) k.query_denoted in
+    let fragment_same = h.fragment_denoted ∙ ap (option_map (stands_for v)) fragment ∙ sym k.fragment_denoted in
     λ i. record { path = path_same i; query = query_same i; fragment = fragment_same i }
 
 -- and one at least
@@ -156,9 +156,9 @@ web_some v =
         query = query;
         fragment = fragment;
         cut = (middle, first, second);
-        path_meant = refl;
-        query_meant = of;
-        fragment_meant = refl;
+        path_denoted = refl;
+        query_denoted = of;
+        fragment_denoted = refl;
       },
     )
 

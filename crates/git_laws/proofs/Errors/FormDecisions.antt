@@ -51,22 +51,22 @@ abbrev PieceOrFlawed : List ℕ → Type 0
 PieceOrFlawed host = ((denoted : List ℕ) × SpellsHost (escaped_percents host) denoted) ⊎ ((named : UrlFault) × ScpNameFlaw host named)
 
 -- a text between brackets
-inner_decided : (behind inner rest : List ℕ) → IsUtf8 (left_bracket ∷ behind) → FreeOf right_bracket inner → behind ≡ inner ++ right_bracket ∷ rest → true ≡ (length rest == 0) → PieceOrFlawed (left_bracket ∷ behind)
-inner_decided behind inner rest text closed e none =
+inner_decided : (suffix inner rest : List ℕ) → IsUtf8 (left_bracket ∷ suffix) → FreeOf right_bracket inner → suffix ≡ inner ++ right_bracket ∷ rest → true ≡ (length rest == 0) → PieceOrFlawed (left_bracket ∷ suffix)
+inner_decided suffix inner rest text closed e none =
     elim (literal_or_not (escaped_percents inner)) [
-      | inl h ↦ inl (_, literal_found behind inner rest closed e none h)
-      | inr other ↦ inl (_, inner_kept behind inner rest text closed e none other)
+      | inl h ↦ inl (_, literal_found suffix inner rest closed e none h)
+      | inr other ↦ inl (_, inner_kept suffix inner rest text closed e none other)
     ]
 
 -- a bracket in front
-brackets_decided : (behind : List ℕ) → IsUtf8 (left_bracket ∷ behind) → ColonsInside (left_bracket ∷ behind) → PieceOrFlawed (left_bracket ∷ behind)
-brackets_decided behind text inside =
-    elim (free_or_cut right_bracket behind) [
-      | inl free ↦ inr (fault.BadCharacter, open_found behind free)
+brackets_decided : (suffix : List ℕ) → IsUtf8 (left_bracket ∷ suffix) → ColonsInside (left_bracket ∷ suffix) → PieceOrFlawed (left_bracket ∷ suffix)
+brackets_decided suffix text inside =
+    elim (free_or_cut right_bracket suffix) [
+      | inl free ↦ inr (fault.BadCharacter, open_found suffix free)
       | inr (inner, rest, closed, e) ↦
           elim (cases_Bool (length rest == 0)) [
-            | inl none ↦ inner_decided behind inner rest text closed e (sym none)
-            | inr some ↦ inr (fault.BadCharacter, rest_found behind inner rest inside closed e (sym some))
+            | inl none ↦ inner_decided suffix inner rest text closed e (sym none)
+            | inr some ↦ inr (fault.BadCharacter, rest_found suffix inner rest inside closed e (sym some))
           ]
     ]
 
@@ -75,13 +75,13 @@ open_decided : (host : List ℕ) → 0 < length host → begins_with left_bracke
 open_decided host some open_front text inside =
     elim (free_or_cut colon host) [
       | inl free ↦ inl (_, name_found host some open_front text free)
-      | inr (front, behind, free, e) ↦
+      | inr (front, suffix, free, e) ↦
           elim (cases_Bool (length front == 0)) [
-            | inl none ↦ inl (_, colons_found host front behind open_front text inside e (inl (sym none)))
+            | inl none ↦ inl (_, colons_found host front suffix open_front text inside e (inl (sym none)))
             | inr some ↦
-                elim (free_or_not colon behind) [
-                  | inr held ↦ inl (_, colons_found host front behind open_front text inside e (inr held))
-                  | inl last ↦ inr (fault.BadPort, no_port_found host front behind open_front inside free e (sym some) last)
+                elim (free_or_not colon suffix) [
+                  | inr held ↦ inl (_, colons_found host front suffix open_front text inside e (inr held))
+                  | inl last ↦ inr (fault.BadPort, no_port_found host front suffix open_front inside free e (sym some) last)
                 ]
           ]
     ]
@@ -92,8 +92,8 @@ piece_decided host some text inside =
     elim (cases_Bool (begins_with left_bracket host)) [
       | inr open_front ↦ open_decided host some open_front text inside
       | inl front ↦
-          let (behind, e) = begins_cut left_bracket host front in
-          subst PieceOrFlawed (sym e) (brackets_decided behind (subst IsUtf8 e text) (subst ColonsInside e inside))
+          let (suffix, e) = begins_cut left_bracket host front in
+          subst PieceOrFlawed (sym e) (brackets_decided suffix (subst IsUtf8 e text) (subst ColonsInside e inside))
     ]
 
 -- by its bytes
@@ -153,7 +153,7 @@ addressed_decided b user address path h =
       | inr bad ↦ inr (refusal.NotUtf8 kind.Scp, (bad, inr (user, address, path, h)))
       | inl text ↦
           elim (nil_or_some path) [
-            | inl none ↦ inr (refusal.MissingPath kind.Scp, MissesPath.behind_address user address (subst (λ p. AddressedForm b user address p) none h))
+            | inl none ↦ inr (refusal.MissingPath kind.Scp, MissesPath.after_address user address (subst (λ p. AddressedForm b user address p) none h))
             | inr some ↦
                 inl (scp_location (Some user) (lowercase address) path, Spells.scp_form (inr (record { user = user; address = address; path = path; form = h; text = text; pathed = some; value = refl })))
           ]
@@ -162,7 +162,7 @@ addressed_decided b user address path h =
 -- ---- the shapes of the scp form
 
 -- the user and the bracket of `user@[address]:path` are there, or not
-user_or_not : (b : List ℕ) → ((user : List ℕ) × (behind : List ℕ) × AddressedFront b user behind) ⊎ ¬ HasAddressedCut b
+user_or_not : (b : List ℕ) → ((user : List ℕ) × (suffix : List ℕ) × AddressedFront b user suffix) ⊎ ¬ HasAddressedCut b
 user_or_not b =
     elim (free_or_cut colon b) [
       | inl free ↦ inr (addressed_free b free)
@@ -183,18 +183,18 @@ addressed_or_not : (b : List ℕ) → Decides (HasAddressedCut b)
 addressed_or_not b =
     elim (user_or_not b) [
       | inr none ↦ inr none
-      | inl (user, behind, s) ↦
-          elim (free_or_cut right_bracket behind) [
+      | inl (user, suffix, s) ↦
+          elim (free_or_cut right_bracket suffix) [
             | inl free ↦ inr (λ (u, a, p, h). not_free right_bracket a (colon ∷ p) (subst (λ t. FreeOf right_bracket t) (s.only u a p h).1 free))
             | inr (address, rest, free, e) ↦
                 elim (cases_Bool (begins_with colon rest)) [
-                  | inr other ↦ inr (addressed_no_path b user behind address rest s free e other)
+                  | inr other ↦ inr (addressed_no_path b user suffix address rest s free e other)
                   | inl begins ↦
                       elim (free_or_not slash user) [
-                        | inr held ↦ inr (addressed_other b user behind address rest s free e (λ none. absurd (held none)))
+                        | inr held ↦ inr (addressed_other b user suffix address rest s free e (λ none. absurd (held none)))
                         | inl none ↦
                             elim (address_or_not address) [
-                              | inr other ↦ inr (addressed_other b user behind address rest s free e (λ lacks. other))
+                              | inr other ↦ inr (addressed_other b user suffix address rest s free e (λ lacks. other))
                               | inl is ↦
                                   let (path, k) = begins_cut colon rest begins in
                                   inl (user, address, path, record { joined = s.joined ∙ ap (λ t. user ++ at_sign ∷ (left_bracket ∷ t)) (e ∙ ap (λ t. address ++ right_bracket ∷ t) k); no_slash = none; no_colon = s.no_colon; addressed = is })
@@ -213,11 +213,11 @@ open_cut b lacks =
     ]
 
 -- the first colon after brackets cuts a text with brackets at its front
-closed_cut : (b inside behind : List ℕ) → FreeOf right_bracket inside → b ≡ left_bracket ∷ (inside ++ right_bracket ∷ behind) → Decides (HasFrontCut b)
-closed_cut b inside behind free e =
-    elim (free_or_cut colon behind) [
-      | inl none ↦ inr (front_unbracketed b inside behind free e none)
-      | inr (rest, path, none, k) ↦ inl (_, path, front_taken b inside behind rest path free none e k)
+closed_cut : (b inside suffix : List ℕ) → FreeOf right_bracket inside → b ≡ left_bracket ∷ (inside ++ right_bracket ∷ suffix) → Decides (HasFrontCut b)
+closed_cut b inside suffix free e =
+    elim (free_or_cut colon suffix) [
+      | inl none ↦ inr (front_unbracketed b inside suffix free e none)
+      | inr (rest, path, none, k) ↦ inl (_, path, front_taken b inside suffix rest path free none e k)
     ]
 
 -- the colon of the scp form is there, or not
@@ -229,7 +229,7 @@ front_or_not b =
           let (tail, e) = begins_cut left_bracket b begins in
           elim (free_or_cut right_bracket tail) [
             | inl free ↦ open_cut b (inr (subst (λ t. FreeOf right_bracket t) (sym e) (free-cons right_bracket left_bracket tail refl free)))
-            | inr (inside, behind, free, k) ↦ closed_cut b inside behind free (e ∙ ap (λ t. left_bracket ∷ t) k)
+            | inr (inside, suffix, free, k) ↦ closed_cut b inside suffix free (e ∙ ap (λ t. left_bracket ∷ t) k)
           ]
     ]
 

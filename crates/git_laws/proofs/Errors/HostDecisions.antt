@@ -100,21 +100,21 @@ abbrev pub NamesOrFlawed : HostSyntax → List ℕ → Type 0
 NamesOrFlawed syntax piece = ((host : Option (List ℕ)) × (port : Option ℕ) × SpellsHostPort syntax piece host port) ⊎ ((named : UrlFault) × HostPortFlaw syntax piece named)
 
 -- the text after brackets and a colon
-behind_colon : (syntax : HostSyntax) (x digits inner : List ℕ) → FreeOf right_bracket x → Inner syntax x inner → NamesOrFlawed syntax (left_bracket ∷ (x ++ right_bracket ∷ (colon ∷ digits)))
-behind_colon syntax x [] inner free h = inl (_, _, SpellsHostPort.bracketed_colon x inner free h refl refl refl)
-behind_colon syntax x (d ∷ digits) inner free h =
+after_colon : (syntax : HostSyntax) (x digits inner : List ℕ) → FreeOf right_bracket x → Inner syntax x inner → NamesOrFlawed syntax (left_bracket ∷ (x ++ right_bracket ∷ (colon ∷ digits)))
+after_colon syntax x [] inner free h = inl (_, _, SpellsHostPort.bracketed_colon x inner free h refl refl refl)
+after_colon syntax x (d ∷ digits) inner free h =
     elim (number_or_not syntax (d ∷ digits)) [
       | inl (port, n) ↦ inl (_, _, SpellsHostPort.bracketed_port x inner (d ∷ digits) port free h n refl refl refl)
       | inr none ↦ inr (fault.BadPort, HasBadPort.bracketed x (d ∷ digits) free refl (omega arith, none))
     ]
 
 -- the text after brackets
-behind_brackets : (syntax : HostSyntax) (x rest inner : List ℕ) → FreeOf right_bracket x → Inner syntax x inner → EndsHost rest → NamesOrFlawed syntax (left_bracket ∷ (x ++ right_bracket ∷ rest))
-behind_brackets syntax x rest inner free h (inl e) =
+after_brackets : (syntax : HostSyntax) (x rest inner : List ℕ) → FreeOf right_bracket x → Inner syntax x inner → EndsHost rest → NamesOrFlawed syntax (left_bracket ∷ (x ++ right_bracket ∷ rest))
+after_brackets syntax x rest inner free h (inl e) =
     subst (λ t. NamesOrFlawed syntax (left_bracket ∷ (x ++ right_bracket ∷ t))) (sym e) (inl (_, _, SpellsHostPort.bracketed x inner free h refl refl refl))
-behind_brackets syntax x rest inner free h (inr begins) =
+after_brackets syntax x rest inner free h (inr begins) =
     let (digits, e) = begins_cut colon rest begins in
-    subst (λ t. NamesOrFlawed syntax (left_bracket ∷ (x ++ right_bracket ∷ t))) (sym e) (behind_colon syntax x digits inner free h)
+    subst (λ t. NamesOrFlawed syntax (left_bracket ∷ (x ++ right_bracket ∷ t))) (sym e) (after_colon syntax x digits inner free h)
 
 -- a host ends, or not
 ends_host_or_not : (rest : List ℕ) → Decides (EndsHost rest)
@@ -130,15 +130,15 @@ closed_named syntax x rest free =
       | inl ended ↦
           elim (inner_or_not syntax x) [
             | inr none ↦ inr (fault.BadCharacter, not_inner syntax (x ++ right_bracket ∷ rest) x rest free refl ended none)
-            | inl (inner, h) ↦ behind_brackets syntax x rest inner free h ended
+            | inl (inner, h) ↦ after_brackets syntax x rest inner free h ended
           ]
     ]
 
 -- a bracket in front
-bracket_named : (syntax : HostSyntax) (behind : List ℕ) → NamesOrFlawed syntax (left_bracket ∷ behind)
-bracket_named syntax behind =
-    elim (free_or_cut right_bracket behind) [
-      | inl free ↦ inr (fault.BadCharacter, HasBadHost.open_bracket behind free refl)
+bracket_named : (syntax : HostSyntax) (suffix : List ℕ) → NamesOrFlawed syntax (left_bracket ∷ suffix)
+bracket_named syntax suffix =
+    elim (free_or_cut right_bracket suffix) [
+      | inl free ↦ inr (fault.BadCharacter, HasBadHost.open_bracket suffix free refl)
       | inr (x, rest, free, e) ↦ subst (λ t. NamesOrFlawed syntax (left_bracket ∷ t)) (sym e) (closed_named syntax x rest free)
     ]
 
@@ -207,6 +207,6 @@ pub named_or_flawed : (syntax : HostSyntax) (piece : List ℕ) → NamesOrFlawed
 named_or_flawed syntax [] = inl (_, _, SpellsHostPort.nothing refl refl refl)
 named_or_flawed syntax (b ∷ piece) =
     elim (cases_Bool (begins_with left_bracket (b ∷ piece))) [
-      | inl front ↦ let (behind, e) = begins_cut left_bracket (b ∷ piece) front in subst (NamesOrFlawed syntax) (sym e) (bracket_named syntax behind)
+      | inl front ↦ let (suffix, e) = begins_cut left_bracket (b ∷ piece) front in subst (NamesOrFlawed syntax) (sym e) (bracket_named syntax suffix)
       | inr open_front ↦ open_named syntax (b ∷ piece) (omega arith) open_front
     ]

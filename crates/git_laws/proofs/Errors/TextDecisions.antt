@@ -100,13 +100,13 @@ literal_or_not t =
     elim (free_or_cut percent_sign t) [
       | inl free ↦
           elim (address_or_not t) [ inl h ↦ inl (literal_alone t h) | inr none ↦ inr (λ h. none (literal_address t free h)) ]
-      | inr (a, behind, free, e) ↦
+      | inr (a, suffix, free, e) ↦
           elim (address_or_not a) [
-            | inr none ↦ inr (λ h. none (literal_parts t a behind free e h).0)
+            | inr none ↦ inr (λ h. none (literal_parts t a suffix free e h).0)
             | inl address ↦
-                elim (escaped_zone_or_not behind) [
-                  | inl zone ↦ inl (literal_zoned t a behind e address zone)
-                  | inr none ↦ inr (λ h. none (literal_parts t a behind free e h).1)
+                elim (escaped_zone_or_not suffix) [
+                  | inl zone ↦ inl (literal_zoned t a suffix e address zone)
+                  | inr none ↦ inr (λ h. none (literal_parts t a suffix free e h).1)
                 ]
           ]
     ]
@@ -146,13 +146,13 @@ starts_or_not (a ∷ b ∷ c ∷ bs) =
     ]
 
 -- a text that holds `://` begins with it, or holds it after its first byte
-held_behind : (b : ℕ) (bs : List ℕ) → Holds url_mark (b ∷ bs) → StartsAtMark (b ∷ bs) ⊎ Holds url_mark bs
-held_behind b bs ([], rest, e) = inl (rest, e)
-held_behind b bs (c ∷ front, rest, e) = inr (front, rest, tails e)
+held_after : (b : ℕ) (bs : List ℕ) → Holds url_mark (b ∷ bs) → StartsAtMark (b ∷ bs) ⊎ Holds url_mark bs
+held_after b bs ([], rest, e) = inl (rest, e)
+held_after b bs (c ∷ front, rest, e) = inr (front, rest, tails e)
 
 -- a text that holds `://` at its front holds it there with another text after it
-starts_further : (b : ℕ) (front behind bs : List ℕ) → bs ≡ front ++ behind → StartsAtMark (b ∷ front) → StartsAtMark (b ∷ bs)
-starts_further b front behind bs e (rest, is) = (rest ++ behind, ap (λ t. b ∷ t) e ∙ ap (λ t. t ++ behind) is)
+starts_further : (b : ℕ) (front suffix bs : List ℕ) → bs ≡ front ++ suffix → StartsAtMark (b ∷ front) → StartsAtMark (b ∷ bs)
+starts_further b front suffix bs e (rest, is) = (rest ++ suffix, ap (λ t. b ∷ t) e ∙ ap (λ t. t ++ suffix) is)
 
 -- a text holds no `://`, or is the text before the first one, the mark, and the text after it
 pub mark_or_cut : (bs : List ℕ) → (¬ Holds url_mark bs) ⊎ ((front : List ℕ) × (rest : List ℕ) × (¬ Holds url_mark front) × (bs ≡ front ++ (url_mark ++ rest)))
@@ -162,8 +162,8 @@ mark_or_cut (b ∷ bs) =
       | inl (rest, e) ↦ inr ([], rest, λ (front, more, k). absurd (omega (arith, ap length k, length-append front (url_mark ++ more))), e)
       | inr other ↦
           elim (mark_or_cut bs) [
-            | inl none ↦ inl (λ h. elim (held_behind b bs h) [ inl starts ↦ other starts | inr held ↦ none held ])
+            | inl none ↦ inl (λ h. elim (held_after b bs h) [ inl starts ↦ other starts | inr held ↦ none held ])
             | inr (front, rest, none, e) ↦
-                inr (b ∷ front, rest, λ h. elim (held_behind b front h) [ inl starts ↦ other (starts_further b front (url_mark ++ rest) bs e starts) | inr held ↦ none held ], ap (λ t. b ∷ t) e)
+                inr (b ∷ front, rest, λ h. elim (held_after b front h) [ inl starts ↦ other (starts_further b front (url_mark ++ rest) bs e starts) | inr held ↦ none held ], ap (λ t. b ∷ t) e)
           ]
     ]

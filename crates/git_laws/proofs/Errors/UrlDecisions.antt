@@ -60,10 +60,10 @@ alone_held syntax false authority None port free n =
     inl (_, _, _, _, record { named = Authority.host_alone free n refl refl; hosted = λ e. absurd (false≢true e) })
 
 -- an authority with user information
-behind_held : (syntax : HostSyntax) (needed : Bool) (authority information piece : List ℕ) (host : Option (List ℕ)) (port : Option ℕ) → FreeOf at_sign piece → authority ≡ information ++ at_sign ∷ piece → SpellsHostPort syntax piece host port → HeldOrFlawed syntax needed authority
-behind_held syntax needed authority information piece None port free e n =
+after_held : (syntax : HostSyntax) (needed : Bool) (authority information piece : List ℕ) (host : Option (List ℕ)) (port : Option ℕ) → FreeOf at_sign piece → authority ≡ information ++ at_sign ∷ piece → SpellsHostPort syntax piece host port → HeldOrFlawed syntax needed authority
+after_held syntax needed authority information piece None port free e n =
     inr (fault.BadCharacter, AuthorityFlaw.no_host information (e ∙ ap (λ p. information ++ at_sign ∷ p) (nothing_named syntax piece None port n refl)))
-behind_held syntax needed authority information piece (Some host) port free e n =
+after_held syntax needed authority information piece (Some host) port free e n =
     elim (credentials_or_not information) [
       | inr bad ↦ inr (fault.BadCharacter, bad_user_flaw syntax needed authority information piece free e bad)
       | inl (user, password, c) ↦ inl (_, _, _, _, record { named = Authority.with_user information piece free e c n refl; hosted = λ e. refl })
@@ -80,8 +80,8 @@ held_or_flawed syntax needed authority =
           ]
       | inr (information, piece, free, e) ↦
           elim (named_or_flawed syntax piece) [
-            | inl (host, port, n) ↦ behind_held syntax needed authority information piece host port free e n
-            | inr (named, flaw) ↦ inr (named, AuthorityFlaw.bad_name piece named (PieceOf.behind information free e) flaw)
+            | inl (host, port, n) ↦ after_held syntax needed authority information piece host port free e n
+            | inr (named, flaw) ↦ inr (named, AuthorityFlaw.bad_name piece named (PieceOf.suffix information free e) flaw)
           ]
     ]
 
@@ -171,8 +171,8 @@ file_decided b rest form =
       | inl text ↦
           elim (free_or_cut slash rest) [
             | inl free ↦ inr (refusal.MissingPath kind.Url, file_misses_path b rest form free)
-            | inr (host, behind, free, e) ↦
-                let path = slash ∷ behind in
+            | inr (host, suffix, free, e) ↦
+                let path = slash ∷ suffix in
                 let v = record (path_alone file false path) { host = unless_empty host } in
                 inl (v, Spells.file_url (file_found b rest host path v form text free e refl refl))
           ]

@@ -19,12 +19,12 @@ use Rattle.git_reads.proofs.Texts.PlaceLemmas.{host_end_unique}
 -- ---- cuts
 
 -- a bracket at the front opens the host
-at_front : (inside behind : List ℕ) → ¬ Holds host_mark (left_bracket ∷ (inside ++ right_bracket ∷ behind)) → FreeOf right_bracket inside → BracketCut (left_bracket ∷ (inside ++ right_bracket ∷ behind)) [] inside behind
-at_front inside behind none next = record { opened = OpensHost.at_front none refl refl; next = next }
+at_front : (inside suffix : List ℕ) → ¬ Holds host_mark (left_bracket ∷ (inside ++ right_bracket ∷ suffix)) → FreeOf right_bracket inside → BracketCut (left_bracket ∷ (inside ++ right_bracket ∷ suffix)) [] inside suffix
+at_front inside suffix none next = record { opened = OpensHost.at_front none refl refl; next = next }
 
 -- or the first one after an `@`
-behind_at : (user inside behind : List ℕ) → ¬ Holds host_mark user → FreeOf right_bracket inside → BracketCut (user ++ (host_mark ++ (inside ++ right_bracket ∷ behind))) (user ++ at_sign ∷ []) inside behind
-behind_at user inside behind none next = record { opened = OpensHost.behind_at user none refl refl; next = next }
+after_at : (user inside suffix : List ℕ) → ¬ Holds host_mark user → FreeOf right_bracket inside → BracketCut (user ++ (host_mark ++ (inside ++ right_bracket ∷ suffix))) (user ++ at_sign ∷ []) inside suffix
+after_at user inside suffix none next = record { opened = OpensHost.after_at user none refl refl; next = next }
 
 -- the place goes to the first c after the brackets
 bracket_cut : (c : ℕ) (t front inside between rest : List ℕ) → BracketCut t front inside (between ++ c ∷ rest) → (right_bracket == c) ≡ false → FreeOf c between → CutsPlace c t ((front ++ left_bracket ∷ inside) ++ right_bracket ∷ between) rest
@@ -67,8 +67,8 @@ plain_word word host path user unbracketed free split first second other =
     reached word path word word host None None user (HostAndPort.none (lacks_brackets word unbracketed) portless.before) portless.secure split first second other
 
 -- a place in brackets, with only the place's own rest after them
-enclosed : (place front inside behind dropped : List ℕ) (found : Option ℕ) → BracketCut place front inside behind → BeforePort behind dropped found → HostAndPort place (front ++ inside) found
-enclosed place front inside behind dropped found h port = HostAndPort.brackets front inside behind dropped h refl port
+enclosed : (place front inside suffix dropped : List ℕ) (found : Option ℕ) → BracketCut place front inside suffix → BeforePort suffix dropped found → HostAndPort place (front ++ inside) found
+enclosed place front inside suffix dropped found h port = HostAndPort.brackets front inside suffix dropped h refl port
 
 -- ---- URLs
 
@@ -109,16 +109,16 @@ git_url_rows = (
       record { whole = refl; no_option = refl; reads = ReadsInput.secure_url (codes "u:p@h:22/p") place (codes "p") (url ssh (codes "ssh") (codes "u:p@h:22/p") (codes "u:p@h:22/p") refl refl) (place_cut slash (codes "u:p@h:22/p") place (codes "p") refl refl refl) word },
   -- white space, a sign and zeros before a port
   let place = codes "h: +022" in
-      let word = reached place (codes "/p") (codes "h") (codes "h") (codes "h") (Some 22) (Some 22) None (HostAndPort.none (lacks_brackets place refl) (BeforePort.marked (codes " +022") 22 refl refl refl refl)) (SecurePort.behind 22 refl refl refl) (UserCut.host_alone refl refl refl) refl refl refl in
+      let word = reached place (codes "/p") (codes "h") (codes "h") (codes "h") (Some 22) (Some 22) None (HostAndPort.none (lacks_brackets place refl) (BeforePort.marked (codes " +022") 22 refl refl refl refl)) (SecurePort.outside 22 refl refl refl) (UserCut.host_alone refl refl refl) refl refl refl in
       record { whole = refl; no_option = refl; reads = ReadsInput.secure_url (codes "h: +022/p") place (codes "p") (url ssh (codes "ssh") (codes "h: +022/p") (codes "h: +022/p") refl refl) (place_cut slash (codes "h: +022/p") place (codes "p") refl refl refl) word },
   -- a tab before a port
-  secure_row (codes "h:" ++ tab ∷ codes "22") (codes "p") (codes "h") (Some 22) refl refl refl refl (BeforePort.marked (tab ∷ codes "22") 22 refl refl refl refl) (SecurePort.behind 22 refl refl refl) refl refl refl refl refl,
+  secure_row (codes "h:" ++ tab ∷ codes "22") (codes "p") (codes "h") (Some 22) refl refl refl refl (BeforePort.marked (tab ∷ codes "22") 22 refl refl refl refl) (SecurePort.outside 22 refl refl refl) refl refl refl refl refl,
   -- no number below zero is a port, but `-0` is 0
-  secure_row (codes "h:-0") (codes "p") (codes "h") (Some 0) refl refl refl refl (BeforePort.marked (codes "-0") 0 refl refl refl refl) (SecurePort.behind 0 refl refl refl) refl refl refl refl refl,
+  secure_row (codes "h:-0") (codes "p") (codes "h") (Some 0) refl refl refl refl (BeforePort.marked (codes "-0") 0 refl refl refl refl) (SecurePort.outside 0 refl refl refl) refl refl refl refl refl,
   -- so any other belongs to the host
   secure_row (codes "h:-5") (codes "p") (codes "h:-5") None refl refl refl refl (BeforePort.unmarked (codes "h") (codes "-5") refl refl (lit< tt) refl refl refl) (SecurePort.unmarked (codes "h") (codes "-5") refl refl refl refl refl refl) refl refl refl refl refl,
   -- the largest port
-  secure_row (codes "h:65535") (codes "p") (codes "h") (Some 65535) refl refl refl refl (BeforePort.marked (codes "65535") 65535 refl refl refl refl) (SecurePort.behind 65535 refl refl refl) refl refl refl refl refl,
+  secure_row (codes "h:65535") (codes "p") (codes "h") (Some 65535) refl refl refl refl (BeforePort.marked (codes "65535") 65535 refl refl refl refl) (SecurePort.outside 65535 refl refl refl) refl refl refl refl refl,
   -- and a number past it, which belongs to the host
   secure_row (codes "h:65536") (codes "p") (codes "h:65536") None refl refl refl refl (BeforePort.unmarked (codes "h") (codes "65536") refl refl (lit< tt) refl refl refl) (SecurePort.unmarked (codes "h") (codes "65536") refl refl refl refl refl refl) refl refl refl refl refl,
   -- a colon without a port is passed over
@@ -132,8 +132,8 @@ git_url_rows = (
       record { whole = refl; no_option = refl; reads = ReadsInput.secure_url (codes "[h/p") place (codes "p") (url ssh (codes "ssh") (codes "[h/p") (codes "[h/p") refl refl) cut word },
   -- a bracket in the path opens the host
   let place = codes "h/@[x]" in
-      let opened = behind_at (codes "h/") (codes "x") (codes "/p") (not_held host_mark (codes "h/") refl) refl in
-      let inner = behind_at (codes "h/") (codes "x") [] (not_held host_mark (codes "h/") refl) refl in
+      let opened = after_at (codes "h/") (codes "x") (codes "/p") (not_held host_mark (codes "h/") refl) refl in
+      let inner = after_at (codes "h/") (codes "x") [] (not_held host_mark (codes "h/") refl) refl in
       let word = reached place (codes "/p") (codes "h/@x") (codes "h/@x") (codes "x") None None (Some (codes "h/")) (enclosed place (codes "h/@") (codes "x") [] [] None inner (BeforePort.no_colon refl refl refl)) (SecurePort.no_colon refl refl refl refl) (UserCut.with_user (codes "h/") (lit< tt) refl refl refl) refl refl refl in
       record { whole = refl; no_option = refl; reads = ReadsInput.secure_url (codes "h/@[x]/p") place (codes "p") (url ssh (codes "ssh") (codes "h/@[x]/p") (codes "h/@[x]/p") refl refl) (bracket_cut slash (codes "h/@[x]/p") (codes "h/@") (codes "x") [] (codes "p") opened refl refl) word },
   -- a port in brackets
@@ -146,7 +146,7 @@ git_url_rows = (
   let place = codes "[::1]:22" in
       let opened = at_front (codes "::1") (codes ":22/p") (not_held host_mark (codes "[::1]:22/p") refl) refl in
       let inner = at_front (codes "::1") (codes ":22") (not_held host_mark place refl) refl in
-      let word = reached place (codes "/p") (codes "::1") (codes "::1") (codes "::1") (Some 22) (Some 22) None (enclosed place [] (codes "::1") (codes ":22") [] (Some 22) inner (BeforePort.marked (codes "22") 22 refl refl refl refl)) (SecurePort.behind 22 refl refl refl) (UserCut.host_alone refl refl refl) refl refl refl in
+      let word = reached place (codes "/p") (codes "::1") (codes "::1") (codes "::1") (Some 22) (Some 22) None (enclosed place [] (codes "::1") (codes ":22") [] (Some 22) inner (BeforePort.marked (codes "22") 22 refl refl refl refl)) (SecurePort.outside 22 refl refl refl) (UserCut.host_alone refl refl refl) refl refl refl in
       record { whole = refl; no_option = refl; reads = ReadsInput.secure_url (codes "[::1]:22/p") place (codes "p") (url ssh (codes "ssh") (codes "[::1]:22/p") (codes "[::1]:22/p") refl refl) (bracket_cut slash (codes "[::1]:22/p") [] (codes "::1") (codes ":22") (codes "p") opened refl refl) word },
   -- the text after a bracket is dropped
   let place = codes "[x]u@h" in
@@ -212,13 +212,13 @@ git_text_rows = (
   -- brackets after a colon
   let place = codes "u:p@[h]" in
       let none = not_held host_mark (codes "u:p") refl in
-      let word = reached place (codes "q") (codes "u:p@h") (codes "u:p@h") (codes "h") None None (Some (codes "u:p")) (enclosed place (codes "u:p@") (codes "h") [] [] None (behind_at (codes "u:p") (codes "h") [] none refl) (BeforePort.no_colon refl refl refl)) (SecurePort.unmarked (codes "u") (codes "p@h") refl refl refl refl refl refl) (UserCut.with_user (codes "u:p") (lit< tt) refl refl refl) refl refl refl in
-      record { whole = refl; no_option = refl; reads = ReadsInput.scp_form place (codes "q") (no_url (codes "u:p@[h]:q") (codes "u") (codes "p@[h]:q") refl refl (not_held (codes "://") (codes "u:p@[h]:q") refl) refl (λ e. cc) (λ e. different_bytes 117 114 refl e)) record { front = codes "u"; rest = codes "p@[h]:q"; joined = refl; no_slash = refl } (bracket_cut colon (codes "u:p@[h]:q") (codes "u:p@") (codes "h") [] (codes "q") (behind_at (codes "u:p") (codes "h") (codes ":q") none refl) refl refl) word },
+      let word = reached place (codes "q") (codes "u:p@h") (codes "u:p@h") (codes "h") None None (Some (codes "u:p")) (enclosed place (codes "u:p@") (codes "h") [] [] None (after_at (codes "u:p") (codes "h") [] none refl) (BeforePort.no_colon refl refl refl)) (SecurePort.unmarked (codes "u") (codes "p@h") refl refl refl refl refl refl) (UserCut.with_user (codes "u:p") (lit< tt) refl refl refl) refl refl refl in
+      record { whole = refl; no_option = refl; reads = ReadsInput.scp_form place (codes "q") (no_url (codes "u:p@[h]:q") (codes "u") (codes "p@[h]:q") refl refl (not_held (codes "://") (codes "u:p@[h]:q") refl) refl (λ e. cc) (λ e. different_bytes 117 114 refl e)) record { front = codes "u"; rest = codes "p@[h]:q"; joined = refl; no_slash = refl } (bracket_cut colon (codes "u:p@[h]:q") (codes "u:p@") (codes "h") [] (codes "q") (after_at (codes "u:p") (codes "h") (codes ":q") none refl) refl refl) word },
   -- an address in brackets, of whose colons none marks a port
   let place = codes "u@[::1]" in
       let none = not_held host_mark (codes "u") refl in
-      let word = reached place (codes "p") (codes "u@::1") (codes "u@::1") (codes "::1") None None (Some (codes "u")) (enclosed place (codes "u@") (codes "::1") [] [] None (behind_at (codes "u") (codes "::1") [] none refl) (BeforePort.no_colon refl refl refl)) (SecurePort.unmarked (codes "u@") (codes ":1") refl refl refl refl refl refl) (UserCut.with_user (codes "u") (lit< tt) refl refl refl) refl refl refl in
-      record { whole = refl; no_option = refl; reads = ReadsInput.scp_form place (codes "p") (no_url (codes "u@[::1]:p") (codes "u@[") (codes ":1]:p") refl refl (not_held (codes "://") (codes "u@[::1]:p") refl) refl (λ e. cc) (λ e. different_bytes 117 114 refl e)) record { front = codes "u@["; rest = codes ":1]:p"; joined = refl; no_slash = refl } (bracket_cut colon (codes "u@[::1]:p") (codes "u@") (codes "::1") [] (codes "p") (behind_at (codes "u") (codes "::1") (codes ":p") none refl) refl refl) word },
+      let word = reached place (codes "p") (codes "u@::1") (codes "u@::1") (codes "::1") None None (Some (codes "u")) (enclosed place (codes "u@") (codes "::1") [] [] None (after_at (codes "u") (codes "::1") [] none refl) (BeforePort.no_colon refl refl refl)) (SecurePort.unmarked (codes "u@") (codes ":1") refl refl refl refl refl refl) (UserCut.with_user (codes "u") (lit< tt) refl refl refl) refl refl refl in
+      record { whole = refl; no_option = refl; reads = ReadsInput.scp_form place (codes "p") (no_url (codes "u@[::1]:p") (codes "u@[") (codes ":1]:p") refl refl (not_held (codes "://") (codes "u@[::1]:p") refl) refl (λ e. cc) (λ e. different_bytes 117 114 refl e)) record { front = codes "u@["; rest = codes ":1]:p"; joined = refl; no_slash = refl } (bracket_cut colon (codes "u@[::1]:p") (codes "u@") (codes "::1") [] (codes "p") (after_at (codes "u") (codes "::1") (codes ":p") none refl) refl refl) word },
   -- a byte before `~` is lost
   record {
     whole = refl;
@@ -229,7 +229,7 @@ git_text_rows = (
   record {
     whole = refl;
     no_option = refl;
-    reads = ReadsInput.local_path (codes "/srv/a@[b") (codes "]/c") (no_url_free (codes "/srv/a@[b]/c") refl) (inl refl) (HostEnd.brackets (codes "/srv/a@") (codes "b") (codes "/c") (behind_at (codes "/srv/a") (codes "b") (codes "/c") (not_held host_mark (codes "/srv/a") refl) refl) refl refl) (lit< tt) refl refl refl;
+    reads = ReadsInput.local_path (codes "/srv/a@[b") (codes "]/c") (no_url_free (codes "/srv/a@[b]/c") refl) (inl refl) (HostEnd.brackets (codes "/srv/a@") (codes "b") (codes "/c") (after_at (codes "/srv/a") (codes "b") (codes "/c") (not_held host_mark (codes "/srv/a") refl) refl) refl refl) (lit< tt) refl refl refl;
   },
   -- a local path with a colon
   record {
@@ -388,7 +388,7 @@ free_piece piece free = CredentialDecodes.whole free refl
 
 -- a piece with one
 marked_piece : (front rest : List ℕ) → FreeOf colon front → CredentialDecodes (front ++ colon ∷ rest) (front ++ colon ∷ git_decode rest)
-marked_piece front rest free = CredentialDecodes.behind front rest free refl refl
+marked_piece front rest free = CredentialDecodes.suffix front rest free refl refl
 
 -- a text with a user and a password, by its cuts
 asked_row : (scheme u w named place slashes rest below : List ℕ) → 0 < length scheme → FreeOf colon scheme → FreeOf colon u → FreeOf at_sign u → FreeOf at_sign w → FreeOf colon w → CredentialDecodes named place → are_slashes slashes ≡ true → begins_with slash rest ≡ false → CredentialDecodes rest below
@@ -396,7 +396,7 @@ asked_row : (scheme u w named place slashes rest below : List ℕ) → 0 < lengt
     → CredentialReads (scheme ++ (codes "://" ++ ((u ++ colon ∷ (w ++ at_sign ∷ named)) ++ (slashes ++ rest)))) (asked scheme (git_decode u) (git_decode w) place (trimmed_path below))
 asked_row scheme u w named place slashes rest below some no_colon plain first second free host all begins path whole before starts lines = record {
   authority = u ++ colon ∷ (w ++ at_sign ∷ named);
-  behind = slashes ++ rest;
+  suffix = slashes ++ rest;
   named = named;
   whole = whole;
   protocol = some;

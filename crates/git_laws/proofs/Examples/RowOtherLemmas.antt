@@ -21,7 +21,7 @@ pub slip_rows : SlipRows
 unfolding percent_encoding_on_literals
 slip_rows = (
   refl,
-  record { front = codes "/a%20b"; query = None; fragment = None; cut = (codes "/a%20b", (refl, refl), (refl, refl)); path_meant = refl; query_meant = refl; fragment_meant = refl },
+  record { front = codes "/a%20b"; query = None; fragment = None; cut = (codes "/a%20b", (refl, refl), (refl, refl)); path_denoted = refl; query_denoted = refl; fragment_denoted = refl },
   refl,
 )
 

@@ -23,9 +23,9 @@ no_host_mark t free (front, rest, e) =
     false≢true (sym (free_parts left_bracket front (host_mark ++ rest) there).1)
 
 -- nor in one that begins with it and has no second one
-no_mark_behind : (t : List ℕ) → FreeOf left_bracket t → ¬ Holds host_mark (left_bracket ∷ t)
-no_mark_behind t free ([], rest, e) = both_ways (left_bracket == at_sign) refl (eq-eqb left_bracket at_sign (heads e))
-no_mark_behind t free (b ∷ front, rest, e) = no_host_mark t free (front, rest, tails e)
+no_mark_after : (t : List ℕ) → FreeOf left_bracket t → ¬ Holds host_mark (left_bracket ∷ t)
+no_mark_after t free ([], rest, e) = both_ways (left_bracket == at_sign) refl (eq-eqb left_bracket at_sign (heads e))
+no_mark_after t free (b ∷ front, rest, e) = no_host_mark t free (front, rest, tails e)
 
 -- so no host is in brackets
 pub lacks_brackets : (t : List ℕ) → FreeOf left_bracket t → LacksHostBrackets t
@@ -47,14 +47,14 @@ place_cut c t place rest free first e = record {
 
 -- after a user, or at the front, a bracket opens a host if no second one follows
 opens_host : (user : Option (List ℕ)) (rest : List ℕ) → FreeOf left_bracket (raw_user user) → FreeOf left_bracket rest → OpensHost (raw_user user ++ left_bracket ∷ rest) (raw_user user) rest
-opens_host None rest free behind = OpensHost.at_front (no_mark_behind rest behind) refl refl
-opens_host (Some u) rest free behind =
-    OpensHost.behind_at u (no_host_mark u (free_parts left_bracket u (at_sign ∷ []) free).0) refl (append_assoc u (at_sign ∷ []) (left_bracket ∷ rest))
+opens_host None rest free suffix = OpensHost.at_front (no_mark_after rest suffix) refl refl
+opens_host (Some u) rest free suffix =
+    OpensHost.after_at u (no_host_mark u (free_parts left_bracket u (at_sign ∷ []) free).0) refl (append_assoc u (at_sign ∷ []) (left_bracket ∷ rest))
 
 -- the next bracket closes it
-in_brackets : (user : Option (List ℕ)) (inside behind t : List ℕ) → t ≡ raw_user user ++ left_bracket ∷ (inside ++ right_bracket ∷ behind) → FreeOf left_bracket (raw_user user) → FreeOf left_bracket (inside ++ right_bracket ∷ behind) → FreeOf right_bracket inside → BracketCut t (raw_user user) inside behind
-in_brackets user inside behind t e free left right =
-    subst (λ x. BracketCut x (raw_user user) inside behind) (sym e) record { opened = opens_host user (inside ++ right_bracket ∷ behind) free left; next = right }
+in_brackets : (user : Option (List ℕ)) (inside suffix t : List ℕ) → t ≡ raw_user user ++ left_bracket ∷ (inside ++ right_bracket ∷ suffix) → FreeOf left_bracket (raw_user user) → FreeOf left_bracket (inside ++ right_bracket ∷ suffix) → FreeOf right_bracket inside → BracketCut t (raw_user user) inside suffix
+in_brackets user inside suffix t e free left right =
+    subst (λ x. BracketCut x (raw_user user) inside suffix) (sym e) record { opened = opens_host user (inside ++ right_bracket ∷ suffix) free left; next = right }
 
 -- a user, a host in brackets and the text after these
 abbrev pub bracketed_place : Option (List ℕ) → List ℕ → List ℕ → List ℕ
@@ -104,16 +104,16 @@ git_decoded (b ∷ high ∷ low ∷ rest) free =
       | inl escape ↦
           let e : percent_decode (b ∷ high ∷ low ∷ rest) ≡ escaped_byte high low ∷ percent_decode rest = cond-true _ _ _ escape in
           let parts = free_head_tail 0 (escaped_byte high low) (percent_decode rest) (subst (λ t. FreeOf 0 t) e free) in
-          let behind = git_decoded rest parts.1 in
+          let suffix = git_decoded rest parts.1 in
           let (first, second, third) = escape_bytes b high low escape in (
-            cond-true _ _ _ (and_from _ _ escape (ap not parts.0)) ∙ ap (λ t. escaped_byte high low ∷ t) behind.0 ∙ sym e,
-            free-cons 0 b (high ∷ low ∷ rest) first (free-cons 0 high (low ∷ rest) second (free-cons 0 low rest third behind.1)),
+            cond-true _ _ _ (and_from _ _ escape (ap not parts.0)) ∙ ap (λ t. escaped_byte high low ∷ t) suffix.0 ∙ sym e,
+            free-cons 0 b (high ∷ low ∷ rest) first (free-cons 0 high (low ∷ rest) second (free-cons 0 low rest third suffix.1)),
           )
       | inr other ↦
           let e : percent_decode (b ∷ high ∷ low ∷ rest) ≡ b ∷ percent_decode (high ∷ low ∷ rest) = cond-false _ _ _ other in
           let parts = free_head_tail 0 b (percent_decode (high ∷ low ∷ rest)) (subst (λ t. FreeOf 0 t) e free) in
-          let behind = git_decoded (high ∷ low ∷ rest) parts.1 in
-          (cond-false _ _ _ (and_left _ _ other) ∙ ap (λ t. b ∷ t) behind.0 ∙ sym e, free-cons 0 b (high ∷ low ∷ rest) parts.0 behind.1)
+          let suffix = git_decoded (high ∷ low ∷ rest) parts.1 in
+          (cond-false _ _ _ (and_left _ _ other) ∙ ap (λ t. b ∷ t) suffix.0 ∙ sym e, free-cons 0 b (high ∷ low ∷ rest) parts.0 suffix.1)
     ]
 
 -- ---- ports
@@ -140,8 +140,8 @@ signed_port_colon (b ∷ x) y =
 
 -- nor after white space
 spaced_by : (space : Bool) (b : ℕ) (bs : List ℕ) → git_port bs ≡ None → signed_port (b ∷ bs) ≡ None → (if space then git_port bs else signed_port (b ∷ bs)) ≡ None
-spaced_by true b bs behind whole = behind
-spaced_by false b bs behind whole = whole
+spaced_by true b bs suffix whole = suffix
+spaced_by false b bs suffix whole = whole
 
 -- so it is none for C's `strtol`
 git_port_colon : (x y : List ℕ) → git_port (x ++ colon ∷ y) ≡ None
@@ -188,15 +188,15 @@ pub portless_free : (word : List ℕ) → FreeOf colon word → IsPortless word
 portless_free word free = record { before = BeforePort.no_colon free refl refl; secure = SecurePort.no_colon refl free refl refl }
 
 -- a text with a colon in it holds something
-pub some_behind : (p q : List ℕ) → 0 < length (p ++ colon ∷ q)
-some_behind [] q = omega arith
-some_behind (b ∷ p) q = omega arith
+pub some_after : (p q : List ℕ) → 0 < length (p ++ colon ∷ q)
+some_after [] q = omega arith
+some_after (b ∷ p) q = omega arith
 
 -- nor does one with a colon after its first one
 portless_cut : (word host other p q : List ℕ) → FreeOf colon host → word ≡ host ++ colon ∷ other → other ≡ p ++ colon ∷ q → IsPortless word
-portless_cut word host other p q free e behind =
-    let none : git_port other ≡ None = ap git_port behind ∙ git_port_colon p q in
-    let some : 0 < length other = subst (λ t. 0 < length t) (sym behind) (some_behind p q) in record {
+portless_cut word host other p q free e suffix =
+    let none : git_port other ≡ None = ap git_port suffix ∙ git_port_colon p q in
+    let some : 0 < length other = subst (λ t. 0 < length t) (sym suffix) (some_after p q) in record {
       before = BeforePort.unmarked host other free e some none refl refl;
       secure = SecurePort.unmarked host other refl free e none refl refl;
     }
@@ -207,8 +207,8 @@ portless_coloned front host free (x, y, z, e) =
     elim (free_or_cut colon host) [
       | inl none ↦ absurd (not_free colon x (y ++ colon ∷ z) (subst (λ t. FreeOf colon t) e none))
       | inr (a, b, first, cut) ↦
-          let (p, q, behind) = second_colon a b x y z first (sym cut ∙ e) in
-          portless_cut (front ++ host) (front ++ a) b p q (free-append colon front a free first) (ap (λ t. front ++ t) cut ∙ sym (append_assoc front a (colon ∷ b))) behind
+          let (p, q, suffix) = second_colon a b x y z first (sym cut ∙ e) in
+          portless_cut (front ++ host) (front ++ a) b p q (free-append colon front a free first) (ap (λ t. front ++ t) cut ∙ sym (append_assoc front a (colon ∷ b))) suffix
     ]
 
 -- a place is read as a word and the port that is written after it
@@ -220,7 +220,7 @@ pub record ReadsPlace (place word : List ℕ) (port : Option ℕ) : Type 0 where
 pub place_with_port : (word : List ℕ) (port : ℕ) → port < 65536 → FreeOf colon word → FreeOf left_bracket (word ++ port_part (Some port)) → ReadsPlace (word ++ port_part (Some port)) word (Some port)
 place_with_port word port small free unbracketed = record {
   cut = HostAndPort.none (lacks_brackets (word ++ port_part (Some port)) unbracketed) (BeforePort.marked (decimal port) port free refl (git_port_written port small) refl);
-  secure = SecurePort.behind port refl refl refl;
+  secure = SecurePort.outside port refl refl refl;
 }
 
 -- without one the word names none
@@ -231,28 +231,28 @@ place_without_port word portless unbracketed = record {
 }
 
 -- after the brackets the port is marked
-port_behind : (port : Option ℕ) → IfSome port (λ p. p < 65536) → BeforePort (port_part port) [] port
-port_behind None small = BeforePort.no_colon refl refl refl
-port_behind (Some p) small = BeforePort.marked (decimal p) p refl refl (git_port_written p small) refl
+port_after : (port : Option ℕ) → IfSome port (λ p. p < 65536) → BeforePort (port_part port) [] port
+port_after None small = BeforePort.no_colon refl refl refl
+port_after (Some p) small = BeforePort.marked (decimal p) p refl refl (git_port_written p small) refl
 
 -- and if it isn't, the word names none
-secure_behind : (word : List ℕ) (port : Option ℕ) → IsPortless word → SecurePort word port word port
-secure_behind word None portless = portless.secure
-secure_behind word (Some p) portless = SecurePort.behind p refl refl refl
+secure_after : (word : List ℕ) (port : Option ℕ) → IsPortless word → SecurePort word port word port
+secure_after word None portless = portless.secure
+secure_after word (Some p) portless = SecurePort.outside p refl refl refl
 
 -- so the word of a host in brackets is user and host, whatever colons the host has
 pub place_in_brackets : (user : Option (List ℕ)) (inside : List ℕ) (port : Option ℕ) → IfSome port (λ p. p < 65536) → FreeOf left_bracket (raw_user user) → FreeOf left_bracket (inside ++ right_bracket ∷ port_part port) → FreeOf right_bracket inside → IsPortless (raw_user user ++ inside) → ReadsPlace (bracketed_place user inside (port_part port)) (raw_user user ++ inside) port
 place_in_brackets user inside port small free left right portless = record {
-  cut = HostAndPort.brackets (raw_user user) inside (port_part port) [] (in_brackets user inside (port_part port) (bracketed_place user inside (port_part port)) refl free left right) refl (port_behind port small);
-  secure = secure_behind (raw_user user ++ inside) port portless;
+  cut = HostAndPort.brackets (raw_user user) inside (port_part port) [] (in_brackets user inside (port_part port) (bracketed_place user inside (port_part port)) refl free left right) refl (port_after port small);
+  secure = secure_after (raw_user user ++ inside) port portless;
 }
 
 -- a text with such brackets isn't one whose first colon follows a word without them
-pub bracket_first : (front behind word rest : List ℕ) → FreeOf colon front → FreeOf left_bracket word → ¬ (front ++ left_bracket ∷ behind ≡ word ++ colon ∷ rest)
-bracket_first [] behind [] rest free plain e = both_ways (left_bracket == colon) refl (eq-eqb left_bracket colon (heads e))
-bracket_first [] behind (b ∷ word) rest free plain e =
+pub bracket_first : (front suffix word rest : List ℕ) → FreeOf colon front → FreeOf left_bracket word → ¬ (front ++ left_bracket ∷ suffix ≡ word ++ colon ∷ rest)
+bracket_first [] suffix [] rest free plain e = both_ways (left_bracket == colon) refl (eq-eqb left_bracket colon (heads e))
+bracket_first [] suffix (b ∷ word) rest free plain e =
     both_ways (b == left_bracket) (free_head_tail left_bracket b word plain).0 (eq-eqb b left_bracket (sym (heads e)))
-bracket_first (b ∷ front) behind [] rest free plain e =
+bracket_first (b ∷ front) suffix [] rest free plain e =
     both_ways (b == colon) (free_head_tail colon b front free).0 (eq-eqb b colon (heads e))
-bracket_first (b ∷ front) behind (c ∷ word) rest free plain e =
-    bracket_first front behind word rest (free_head_tail colon b front free).1 (free_head_tail left_bracket c word plain).1 (tails e)
+bracket_first (b ∷ front) suffix (c ∷ word) rest free plain e =
+    bracket_first front suffix word rest (free_head_tail colon b front free).1 (free_head_tail left_bracket c word plain).1 (tails e)

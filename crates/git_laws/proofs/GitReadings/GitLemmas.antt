@@ -20,7 +20,7 @@ use Rattle.git_syntax.proofs.Addresses.AddressLemmas.{address_free, address_two_
 use Rattle.git_laws.proofs.Writing.FileLemmas.{hostless_text}
 use Rattle.git_laws.proofs.Writing.KeptLemmas.{flagged_text}
 use Rattle.git_laws.proofs.Writing.WrittenScpLemmas.{address_raw, scp_value_of, scp_written, scp_spelled}
-use Rattle.git_laws.proofs.GitReadings.GitCutLemmas.{bracket_first, bracketed_cut, bracketed_place, git_decode_kept, lacks_brackets, nothing_passed, place_cut, place_in_brackets, portless_coloned, portless_free, some_behind}
+use Rattle.git_laws.proofs.GitReadings.GitCutLemmas.{bracket_first, bracketed_cut, bracketed_place, git_decode_kept, lacks_brackets, nothing_passed, place_cut, place_in_brackets, portless_coloned, portless_free, some_after}
 use Rattle.git_laws.proofs.GitReadings.GitPieceLemmas.{from_tilde_kept, scp_host_raw}
 use Rattle.git_laws.proofs.GitReadings.GitTransportLemmas.{IsReadBy, own_read, secure_host, secure_reading, word_of, secure_reached, host_safe, own_url, secure_url_alike, git_url_alike}
 use Rattle.git_laws.proofs.GitReadings.WebCredentialLemmas.{credential_own}
@@ -233,14 +233,14 @@ addressed_no_url v host t = record {
 address_nonempty : (host : List ℕ) → IsIpv6Text host → 0 < length host
 address_nonempty host address =
     let (x, y, z, e) = address_two_colons host address in
-    subst (λ t. 0 < length t) (sym e) (some_behind x (y ++ colon ∷ z))
+    subst (λ t. 0 < length t) (sym e) (some_after x (y ++ colon ∷ z))
 
 -- Git reads in it the location's own fields
 addressed_reads : (v : Location) (host : List ℕ) → IsAddressedText v host → AgreesByTransport v → is_tilde_second v.path ≡ false → ¬ (v.user ≡ Some []) → ReadsInput (bracketed_place v.user host [] ++ colon ∷ v.path) (secure_reading v.user (Some host) None v.path)
 addressed_reads v host t a second named =
     let place = bracketed_place v.user host [] in
     let free : (c : ℕ) → is_address_byte c ≡ false → FreeOf c host = λ c other. address_free c host other t.address in
-    let closed : (behind : List ℕ) → FreeOf left_bracket behind → FreeOf left_bracket (host ++ right_bracket ∷ behind) = λ behind plain. free-append left_bracket host (right_bracket ∷ behind) (free left_bracket refl) (free-cons left_bracket right_bracket behind refl plain) in
+    let closed : (suffix : List ℕ) → FreeOf left_bracket suffix → FreeOf left_bracket (host ++ right_bracket ∷ suffix) = λ suffix plain. free-append left_bracket host (right_bracket ∷ suffix) (free left_bracket refl) (free-cons left_bracket right_bracket suffix refl plain) in
     let read = place_in_brackets v.user host None tt t.no_left (closed [] refl) (free right_bracket refl) (portless_coloned (raw_user v.user) host t.no_colon (address_two_colons host t.address)) in
     let reached = secure_reached v.user host None place v.path read.cut read.secure (free-append slash (raw_user v.user) host t.no_slash (free slash refl)) (free at_sign refl) (address_nonempty host t.address) named a.no_option.user (host_safe v host t.there a.no_option) a.no_option.path in
     ReadsInput.scp_form place v.path (addressed_no_url v host t) record { front = place; rest = v.path; joined = refl; no_slash = addressed_free v host t slash refl refl refl t.no_slash } (bracketed_cut colon v.user host [] v.path t.no_left (closed (colon ∷ v.path) (path_free v a.plain left_bracket refl)) (free right_bracket refl) refl) (subst (λ p. ReachesSecure place p (secure_reading v.user (Some host) None v.path)) (sym (from_tilde_kept v.path second)) reached)

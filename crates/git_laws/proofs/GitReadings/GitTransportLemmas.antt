@@ -27,7 +27,7 @@ use Rattle.git_syntax.proofs.Addresses.AddressLemmas.{address_free, address_two_
 use Rattle.git_syntax.proofs.Parsing.UrlLemmas.{some_kept}
 use Rattle.git_laws.proofs.Writing.WrittenHostLemmas.{address_in_brackets, bracketed_escaped, written_host}
 use Rattle.git_laws.proofs.Writing.WrittenUrlLemmas.{authority_text, canonical_cut}
-use Rattle.git_laws.proofs.GitReadings.GitCutLemmas.{IsPortless, ReadsPlace, bracketed_cut, bracketed_place, git_decoded, place_cut, place_in_brackets, place_with_port, place_without_port, portless_coloned, portless_free, some_behind}
+use Rattle.git_laws.proofs.GitReadings.GitCutLemmas.{IsPortless, ReadsPlace, bracketed_cut, bracketed_place, git_decoded, place_cut, place_in_brackets, place_with_port, place_without_port, portless_coloned, portless_free, some_after}
 use Rattle.git_laws.proofs.GitReadings.GitPieceLemmas.{IsHostRaw, IsPathRaw, IsUserRaw, host_raw, kept_free, path_raw, port_free, unmarked, user_raw}
 use Rattle.git_location.proofs.Writing.WrittenAsUrlLemmas.{written_git, written_secure}
 
@@ -124,7 +124,7 @@ pub record HasPlace (v : Location) (word : List ℕ) : Type 0 where
 -- the text of a location after `://`: it is decoded to the place and a path
 record IsTransportText (v : Location) (place : List ℕ) : Type 0 where
   pathed : IsPathRaw v
-  behind : git_decode (authority_text v ++ canonical_path v) ≡ place ++ slash ∷ pathed.rest
+  suffix : git_decode (authority_text v ++ canonical_path v) ≡ place ++ slash ∷ pathed.rest
   zero_free : FreeOf 0 (authority_text v ++ canonical_path v)
   left : FreeOf left_bracket pathed.rest
 
@@ -182,7 +182,7 @@ open_place v host is h hosted beside portless =
       decoded = place_decoded v place raw (free percent_sign refl refl refl refl refl);
       zero_free = free 0 refl refl refl refl refl;
       line_free = free newline refl refl refl refl refl;
-      cut = λ rest behind. place_cut slash (place ++ slash ∷ rest) place rest (free-append left_bracket place (slash ∷ rest) left (free-cons left_bracket slash rest refl behind)) (free slash refl refl refl refl refl) refl;
+      cut = λ rest suffix. place_cut slash (place ++ slash ∷ rest) place rest (free-append left_bracket place (slash ∷ rest) left (free-cons left_bracket slash rest refl suffix)) (free slash refl refl refl refl refl) refl;
       read = word_read (word_of v.user host) v.port is.port (λ given. free-append colon (raw_user v.user) host (user.free colon refl refl) (beside given)) portless left;
     }
 
@@ -201,9 +201,9 @@ address_free_place user address port h small raw c in_user other mark left right
     free-append c (raw_user user) (left_bracket ∷ (address ++ right_bracket ∷ port_part port)) (raw.free c in_user mark) (free-cons c left_bracket (address ++ right_bracket ∷ port_part port) left (free-append c address (right_bracket ∷ port_part port) (address_free c address other h) (free-cons c right_bracket (port_part port) right (port_free c port digit separator small))))
 
 -- after its bracket nothing opens another
-address_closed : (address behind : List ℕ) → IsIpv6Text address → FreeOf left_bracket behind → FreeOf left_bracket (address ++ right_bracket ∷ behind)
-address_closed address behind h free =
-    free-append left_bracket address (right_bracket ∷ behind) (address_free left_bracket address refl h) (free-cons left_bracket right_bracket behind refl free)
+address_closed : (address suffix : List ℕ) → IsIpv6Text address → FreeOf left_bracket suffix → FreeOf left_bracket (address ++ right_bracket ∷ suffix)
+address_closed address suffix h free =
+    free-append left_bracket address (right_bracket ∷ suffix) (address_free left_bracket address refl h) (free-cons left_bracket right_bracket suffix refl free)
 
 -- with a port, an address is read so if it is decoded to itself in brackets
 address_place : (v : Location) (address : List ℕ) → IsValue v → IsIpv6Text address → IsUserRaw v.user → ((t : List ℕ) → percent_decode (authority_text v ++ t) ≡ bracketed_place v.user address (port_part v.port) ++ percent_decode t) → HasPlace v (word_of v.user address)
@@ -218,13 +218,13 @@ address_place v address is h user decoded =
       decoded = decoded;
       zero_free = free 0 refl refl refl refl refl refl refl;
       line_free = free newline refl refl refl refl refl refl refl;
-      cut = λ rest behind. bracketed_cut slash v.user address (port_part v.port) rest front (address_closed address (port_part v.port ++ slash ∷ rest) h (free-append left_bracket (port_part v.port) (slash ∷ rest) ported (free-cons left_bracket slash rest refl behind))) right (free-cons slash right_bracket (port_part v.port) refl (port_free slash v.port refl refl is.port));
+      cut = λ rest suffix. bracketed_cut slash v.user address (port_part v.port) rest front (address_closed address (port_part v.port ++ slash ∷ rest) h (free-append left_bracket (port_part v.port) (slash ∷ rest) ported (free-cons left_bracket slash rest refl suffix))) right (free-cons slash right_bracket (port_part v.port) refl (port_free slash v.port refl refl is.port));
       read = place_in_brackets v.user address v.port is.port front (address_closed address (port_part v.port) h ported) right (portless_coloned (raw_user v.user) address (user.free colon refl refl) (address_two_colons address h));
     }
 
 -- a host in brackets and the text after it, joined
-brackets_joined : (address behind : List ℕ) → (left_bracket ∷ (address ++ right_bracket ∷ [])) ++ behind ≡ left_bracket ∷ (address ++ right_bracket ∷ behind)
-brackets_joined address behind = ap (λ t. left_bracket ∷ t) (append_assoc address (right_bracket ∷ []) behind)
+brackets_joined : (address suffix : List ℕ) → (left_bracket ∷ (address ++ right_bracket ∷ [])) ++ suffix ≡ left_bracket ∷ (address ++ right_bracket ∷ suffix)
+brackets_joined address suffix = ap (λ t. left_bracket ∷ t) (append_assoc address (right_bracket ∷ []) suffix)
 
 -- so is one of Secure Shell beside a port, if it is written in brackets
 marked_place : (v : Location) (host : List ℕ) (p : ℕ) → v.port ≡ Some p → IsValue v → HasHostGiven v host → IsIpv6Text host → HasPlace v (word_of v.user host)
@@ -258,7 +258,7 @@ transport_text v host word h p =
     let decoded = git_decoded (authority_text v ++ canonical_path v) (subst (λ t. FreeOf 0 t) (sym whole) zero) in
     record {
       pathed = pathed;
-      behind = decoded.0 ∙ whole;
+      suffix = decoded.0 ∙ whole;
       zero_free = decoded.1;
       left = (free_head_tail left_bracket slash pathed.rest (pathed.free left_bracket refl (free_of_lacked is_contested left_bracket v.path h.plain_path refl))).1;
     }
@@ -278,7 +278,7 @@ bare_nonempty : (host : List ℕ) → IsBareHost host → 0 < length host
 bare_nonempty host (inl name) = name.unbracketed.nonempty
 bare_nonempty host (inr address) =
     let (x, y, z, e) = address_two_colons host address.address in
-    subst (λ t. 0 < length t) (sym e) (some_behind x (y ++ colon ∷ z))
+    subst (λ t. 0 < length t) (sym e) (some_after x (y ++ colon ∷ z))
 
 -- Secure Shell's host is plain
 secure_kept : (v : Location) (host : List ℕ) → v.scheme ≡ ssh → HasHostGiven v host → Lacks (should_percent_encode PASSWORD) host
@@ -294,7 +294,7 @@ secure_url_reads : (v : Location) (host : List ℕ) → Lacks (should_percent_en
 secure_url_reads v host kept h p t kind safe named =
     let no_slash = free-append slash (raw_user v.user) host ((user_raw v.user h.user).free slash refl refl) (kept_free PASSWORD host kept slash refl) in
     let reached = secure_reached v.user host v.port p.place v.path p.read.cut p.read.secure no_slash (kept_free PASSWORD host kept at_sign refl) (bare_nonempty host kind) named safe.user (host_safe v host h.there safe) safe.path in
-    ReadsInput.secure_url (p.place ++ slash ∷ t.pathed.rest) p.place t.pathed.rest (own_url ssh (codes "ssh") (authority_text v ++ canonical_path v) (p.place ++ slash ∷ t.pathed.rest) refl t.behind) (p.cut t.pathed.rest t.left) (subst (λ q. ReachesSecure p.place q (secure_reading v.user (Some host) v.port v.path)) (sym t.pathed.denoted) reached)
+    ReadsInput.secure_url (p.place ++ slash ∷ t.pathed.rest) p.place t.pathed.rest (own_url ssh (codes "ssh") (authority_text v ++ canonical_path v) (p.place ++ slash ∷ t.pathed.rest) refl t.suffix) (p.cut t.pathed.rest t.left) (subst (λ q. ReachesSecure p.place q (secure_reading v.user (Some host) v.port v.path)) (sym t.pathed.denoted) reached)
 
 -- a settled URL of Secure Shell
 pub secure_url_alike : (v : Location) → v.scheme ≡ ssh → IsValue v → AgreesByTransport v → ¬ (v.user ≡ Some []) → IsSettledSecure v → IsReadBy ssh v
@@ -372,7 +372,7 @@ git_url_reads v host p t some none path_line =
       path_line = path_line;
       value = ap (λ h. git_reading None h v.port v.path) (sym (nonempty_kept host some));
     } in
-    ReadsInput.git_url (p.place ++ slash ∷ t.pathed.rest) p.place t.pathed.rest (own_url git (codes "git") (authority_text v ++ canonical_path v) (p.place ++ slash ∷ t.pathed.rest) refl t.behind) (p.cut t.pathed.rest t.left) (subst (λ q. ReachesGit p.place q (git_reading None (Some host) v.port v.path)) (sym t.pathed.denoted) reached)
+    ReadsInput.git_url (p.place ++ slash ∷ t.pathed.rest) p.place t.pathed.rest (own_url git (codes "git") (authority_text v ++ canonical_path v) (p.place ++ slash ∷ t.pathed.rest) refl t.suffix) (p.cut t.pathed.rest t.left) (subst (λ q. ReachesGit p.place q (git_reading None (Some host) v.port v.path)) (sym t.pathed.denoted) reached)
 
 -- the host of Git's own protocol is the location's without its brackets
 own_git_host : (v : Location) (own host : List ℕ) → v.scheme ≡ git → v.host ≡ Some own → Unbrackets own host → HostForGit v.scheme v.host (Some host)

@@ -57,7 +57,7 @@ decodes_kept piece plain =
       | inl free ↦ CredentialDecodes.whole free (sym (git_decode_kept piece plain))
       | inr (x, y, first, cut) ↦
           let rest = (free_parts percent_sign x (colon ∷ y) (subst (λ t. FreeOf percent_sign t) cut plain)).1 in
-          CredentialDecodes.behind x y first cut (cut ∙ ap (λ t. x ++ colon ∷ t) (sym (git_decode_kept y rest)))
+          CredentialDecodes.suffix x y first cut (cut ∙ ap (λ t. x ++ colon ∷ t) (sym (git_decode_kept y rest)))
     ]
 
 -- a piece without a colon is decoded
@@ -151,21 +151,21 @@ rooted_path : (path written : List ℕ) → first_byte written ≡ first_byte pa
 rooted_path path written h2 h3 h4 h5 = grind (arith, nat_tests, begins_cut, false≢true, same_Some, decode_byte, one_root)
 
 -- after a byte a piece is decoded whole if it is with it
-whole_behind : (b : ℕ) (t : List ℕ) → IsDecodedWhole (b ∷ t) → IsDecodedWhole t
-whole_behind b t (inl free) = inl (free_head_tail colon b t free).1
-whole_behind b t (inr plain) = inr (free_head_tail percent_sign b t plain).1
+whole_after : (b : ℕ) (t : List ℕ) → IsDecodedWhole (b ∷ t) → IsDecodedWhole t
+whole_after b t (inl free) = inl (free_head_tail colon b t free).1
+whole_after b t (inr plain) = inr (free_head_tail percent_sign b t plain).1
 
 -- the path is read after its `/`
 path_read : (path written : List ℕ) → IsRootedPath path written → IsDecodedWhole written → FreeOf 0 path → CredentialPath written (below_root path)
 path_read path written p whole zero =
-    let behind = (free_head_tail 0 slash (percent_decode p.rest) (subst (λ t. FreeOf 0 t) p.decoded zero)).1 in record {
+    let suffix = (free_head_tail 0 slash (percent_decode p.rest) (subst (λ t. FreeOf 0 t) p.decoded zero)).1 in record {
       slashes = slash ∷ [];
       rest = p.rest;
       decoded = percent_decode p.rest;
       joined = p.joined;
       front = refl;
       begins = p.begins;
-      decodes = decodes_whole p.rest (percent_decode p.rest) (whole_behind slash p.rest (subst IsDecodedWhole p.joined whole)) refl behind;
+      decodes = decodes_whole p.rest (percent_decode p.rest) (whole_after slash p.rest (subst IsDecodedWhole p.joined whole)) refl suffix;
       value = ap below_root p.decoded;
     }
 
@@ -201,7 +201,7 @@ credential_own v web is a host there =
     let writing = web_path_writing v web h.path h.common.path in
     let path = rooted_path v.path (canonical_path v) writing.front writing.decoded a.path.rooted a.path.one_slash in record {
       authority = authority_text v;
-      behind = canonical_path v;
+      suffix = canonical_path v;
       named = named;
       whole = text_zero v named (scheme_text_free (scheme_text v.scheme) 0 scheme.text refl) authority.written (free_of_lacked is_odd 0 named odd refl) (free_of_all is_uri_byte 0 (canonical_path v) a.path.bytes refl);
       protocol = scheme.nonempty;

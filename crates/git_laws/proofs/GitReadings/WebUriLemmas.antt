@@ -110,14 +110,14 @@ information_cut (Some u) (Some p) named free =
 record IsUriHost (host : List ℕ) : Type 0 where
   bytes : (begins_with left_bracket host ≡ true) ⊎ IsEscaped is_host_byte host
   lower : IsLowercase host
-  read : (behind : List ℕ) → UriHost (host ++ behind) host behind
+  read : (suffix : List ℕ) → UriHost (host ++ suffix) host suffix
 
 -- it is if it has the bytes of a plain host
 plain_host : (host : List ℕ) → list_all is_plain_host_byte host ≡ true → IsUriHost host
 plain_host host h = record {
   bytes = inr (all_weaker is_plain_host_byte is_host_byte (λ b is. grind (arith, nat_tests)) host h, sound_free host (free_of_all is_plain_host_byte percent_sign host h refl));
   lower = plain_lowercase host h;
-  read = λ behind. UriHost.unbracketed (free_of_all is_plain_host_byte colon host h refl) (free_begins left_bracket host (free_of_all is_plain_host_byte left_bracket host h refl)) refl;
+  read = λ suffix. UriHost.unbracketed (free_of_all is_plain_host_byte colon host h refl) (free_begins left_bracket host (free_of_all is_plain_host_byte left_bracket host h refl)) refl;
 }
 
 -- and if it is an address in brackets
@@ -125,7 +125,7 @@ bracketed_host : (host : List ℕ) → IsBracketedAddress host → IsUriHost hos
 bracketed_host host (address, normal, e) = record {
   bytes = inl (ap (begins_with left_bracket) e);
   lower = subst (λ h. IsLowercase h) (sym e) (ap (λ t. left_bracket ∷ t) (map-append to_ascii_lowercase address (right_bracket ∷ []) ∙ ap (λ t. t ++ right_bracket ∷ []) normal.lower));
-  read = λ behind. UriHost.bracketed address normal.address e refl;
+  read = λ suffix. UriHost.bracketed address normal.address e refl;
 }
 
 -- the port is read after its colon
@@ -160,30 +160,30 @@ query_decoded : (path : List ℕ) (query : Option (List ℕ)) → is_sound path 
 query_decoded path query sound = grind (arith, nat_tests, decode_byte, decodes_in_parts)
 
 -- a text that ends a segment of a path ends it before a query, too
-end_joined : (behind query : List ℕ) → (behind ≡ []) ⊎ (begins_by is_segment_end behind ≡ true) → begins_by is_segment_end (behind ++ question_mark ∷ query) ≡ true
-end_joined behind query end = grind arith
+end_joined : (suffix query : List ℕ) → (suffix ≡ []) ⊎ (begins_by is_segment_end suffix ≡ true) → begins_by is_segment_end (suffix ++ question_mark ∷ query) ≡ true
+end_joined suffix query end = grind arith
 
 -- so a segment `.` or `..` of a path is one of the path with its query
 dots_joined : (path : List ℕ) (query : Option (List ℕ)) → HasDotSegment path → HasDotSegment (with_query path query)
 dots_joined path query h = grind (arith, nat_tests, end_joined, append_assoc)
 
 -- a text that ends a segment ends it in the decoded text
-end_decoded : (behind : List ℕ) → (behind ≡ []) ⊎ (begins_by is_segment_end behind ≡ true) → (percent_decode behind ≡ []) ⊎ (begins_by is_segment_end (percent_decode behind) ≡ true)
-end_decoded behind h = grind (arith, nat_tests, decode_byte, nothing_decoded)
+end_decoded : (suffix : List ℕ) → (suffix ≡ []) ⊎ (begins_by is_segment_end suffix ≡ true) → (percent_decode suffix ≡ []) ⊎ (begins_by is_segment_end (percent_decode suffix) ≡ true)
+end_decoded suffix h = grind (arith, nat_tests, decode_byte, nothing_decoded)
 
 -- so such a segment of an escaped text is one of its decoding
 dots_decoded : (t : List ℕ) → is_sound t ≡ true → HasDotSegment t → HasDotSegment (percent_decode t)
 dots_decoded t sound h =
-    let front = (sound_around h.front (h.dots ++ h.behind) slash refl (subst (λ x. is_sound x ≡ true) h.joined sound)).0 in
+    let front = (sound_around h.front (h.dots ++ h.suffix) slash refl (subst (λ x. is_sound x ≡ true) h.joined sound)).0 in
     let free : FreeOf percent_sign h.dots = ⊎_elim (λ e. ap has_percent e) (λ e. ap has_percent e) h.segment in
-    let dots = decodes_in_parts h.dots h.behind (sound_free h.dots free) ∙ ap (λ t. t ++ percent_decode h.behind) (decode_kept h.dots free) in
+    let dots = decodes_in_parts h.dots h.suffix (sound_free h.dots free) ∙ ap (λ t. t ++ percent_decode h.suffix) (decode_kept h.dots free) in
     record {
       front = percent_decode h.front;
       dots = h.dots;
-      behind = percent_decode h.behind;
-      joined = ap percent_decode h.joined ∙ decodes_in_parts h.front (slash ∷ (h.dots ++ h.behind)) front ∙ ap (λ t. percent_decode h.front ++ t) (decode_byte slash (h.dots ++ h.behind) refl ∙ ap (λ t. slash ∷ t) dots);
+      suffix = percent_decode h.suffix;
+      joined = ap percent_decode h.joined ∙ decodes_in_parts h.front (slash ∷ (h.dots ++ h.suffix)) front ∙ ap (λ t. percent_decode h.front ++ t) (decode_byte slash (h.dots ++ h.suffix) refl ∙ ap (λ t. slash ∷ t) dots);
       segment = h.segment;
-      end = end_decoded h.behind h.end;
+      end = end_decoded h.suffix h.end;
     }
 
 -- ---- the text
@@ -212,7 +212,7 @@ uri_own v web is a host there =
       },
       record {
         authority = authority_text v;
-        behind = canonical_path v;
+        suffix = canonical_path v;
         named = host ++ port_part v.port;
         after_host = port_part v.port;
         joined = canonical_cut v;

@@ -33,7 +33,7 @@ use Rattle.git_syntax.proofs.Parsing.SchemeLemmas.{scheme_cases, helper_cases, m
 use Rattle.git_location.proofs.SettledClass.UnchangedLemmas.{helper_unchanged, local_unchanged}
 use Rattle.git_laws.proofs.Writing.PieceTextLemmas.{port_piece}
 use Rattle.git_laws.proofs.Writing.WrittenPathLemmas.{matching_cases}
-use Rattle.git_syntax.proofs.Parsing.ScpLemmas.{scp_meant_utf8}
+use Rattle.git_syntax.proofs.Parsing.ScpLemmas.{scp_denoted_utf8}
 use Rattle.git_laws.proofs.Writing.WrittenScpLemmas.{scp_written}
 use Rattle.git_location.proofs.Writing.WrittenAsUrlLemmas.{one_text, written_web, written_git, written_secure, written_other}
 
@@ -49,8 +49,8 @@ open_line p host h2 = grind (arith, nat_tests, cond-false, cond-true, encode_fre
 
 -- brackets hold no line's end if neither the text in them nor the rest does
 bracketed_line : (inner rest : List ℕ) → FreeOf newline inner → FreeOf newline rest → FreeOf newline (left_bracket ∷ (inner ++ right_bracket ∷ rest))
-bracketed_line inner rest free behind =
-    free-cons newline left_bracket (inner ++ right_bracket ∷ rest) refl (free-append newline inner (right_bracket ∷ rest) free (free-cons newline right_bracket rest refl behind))
+bracketed_line inner rest free suffix =
+    free-cons newline left_bracket (inner ++ right_bracket ∷ rest) refl (free-append newline inner (right_bracket ∷ rest) free (free-cons newline right_bracket rest refl suffix))
 
 -- a host without one is written without one
 unmarked_line : (p : Scheme) (host : List ℕ) → FreeOf newline host → FreeOf newline (open_host p host)
@@ -127,14 +127,14 @@ raw_line v p e same h raw none =
 url_line : (v : Location) (t : List ℕ) → IsWrittenAsUrl v → IsSettledUrl v → IsPort v.port → FreeOf newline (scheme_text v.scheme) → FreeOf newline (host_part v v.host) → (¬ HasMatch v → FreeOf newline (plain_path v.scheme v.path)) → text v ≡ Ok t → FreeOf newline t
 url_line v t written h small scheme host plain is =
     let canonical = written.canonical h.unflagged h.hosted in
-    let behind_host = port_part v.port ++ canonical_path v in
-    let behind_user = host_part v v.host ++ behind_host in
-    let behind_mark = user_information v.user v.password ++ behind_user in
+    let past_host = port_part v.port ++ canonical_path v in
+    let after_user = host_part v v.host ++ past_host in
+    let after_mark = user_information v.user v.password ++ after_user in
     subst (λ x. FreeOf newline x) (one_text canonical is)
-    (free-append newline (scheme_text v.scheme) (codes "://" ++ behind_mark) scheme
-    (free-append newline (codes "://") behind_mark refl
-    (free-append newline (user_information v.user v.password) behind_user (user_line v.user v.password)
-    (free-append newline (host_part v v.host) behind_host host
+    (free-append newline (scheme_text v.scheme) (codes "://" ++ after_mark) scheme
+    (free-append newline (codes "://") after_mark refl
+    (free-append newline (user_information v.user v.password) after_user (user_line v.user v.password)
+    (free-append newline (host_part v v.host) past_host host
     (free-append newline (port_part v.port) (canonical_path v) (port_line v.port small) (path_line v h plain))))))
 
 -- one of HTTP
@@ -222,7 +222,7 @@ scp_before_line : (b : List ℕ) (v : Location) (t : List ℕ) → FreeOf newlin
 scp_before_line b v t free h settled is =
     let (front, rest) = free_parts newline h.front (colon ∷ h.path) (subst (λ x. FreeOf newline x) h.form.joined free) in
     let hosted = h.hosted in
-    let utf8 : IsUtf8 h.denoted = scp_meant_utf8 hosted in
+    let utf8 : IsUtf8 h.denoted = scp_denoted_utf8 hosted in
     let host = settled_host_line h.user h.denoted h.path utf8 (subst (λ l. IsSettled l) h.value settled) in
     scp_line v t h.user h.denoted h.path h.value (scp_user_line h.front h.user h.host h.split front) host (free_head_tail newline colon h.path rest).1 is
 
@@ -231,8 +231,8 @@ scp_addressed_line : (b : List ℕ) (v : Location) (t : List ℕ) → FreeOf new
 scp_addressed_line b v t free h is =
     let cut = h.form.cut in
     let (user, rest) = free_parts newline h.user (at_sign ∷ (left_bracket ∷ (h.address ++ right_bracket ∷ (colon ∷ h.path)))) (subst (λ x. FreeOf newline x) cut.joined free) in
-    let behind = (free_parts newline (at_sign ∷ (left_bracket ∷ h.address)) (right_bracket ∷ (colon ∷ h.path)) rest).1 in
-    let path = (free_parts newline (right_bracket ∷ (colon ∷ [])) h.path behind).1 in
+    let suffix = (free_parts newline (at_sign ∷ (left_bracket ∷ h.address)) (right_bracket ∷ (colon ∷ h.path)) rest).1 in
+    let path = (free_parts newline (right_bracket ∷ (colon ∷ [])) h.path suffix).1 in
     scp_line v t (Some h.user) (lowercase h.address) h.path h.value (free-append newline h.user (at_sign ∷ []) user refl) (address_free newline (lowercase h.address) refl (address-lowercase h.address cut.addressed)) path is
 
 -- ---- all forms
@@ -305,11 +305,11 @@ answered_lines : (lines : List (List ℕ)) (out : List ℕ) (good : Bool) → Al
 answered_lines [] out good each h = record { reported = []; each = All-nil (FreeOf newline); joined = h.0; answered = tt }
 answered_lines (line ∷ lines) out good each (answer, more, first, others, is, rest, joined, all) =
     let (reported, free, e) = one_line line answer first (All-head (FreeOf newline) line lines each) is in
-    let behind = answered_lines lines more others (All-tail (FreeOf newline) line lines each) rest in record {
-      reported = reported ∷ behind.reported;
-      each = All-cons (FreeOf newline) reported behind.reported free behind.each;
-      joined = joined ∙ ap (λ t. t ++ more) e ∙ ap (λ t. (reported ++ newline ∷ []) ++ t) behind.joined;
-      answered = ((first, subst (λ t. IsAnswer line t first) e is), behind.answered);
+    let suffix = answered_lines lines more others (All-tail (FreeOf newline) line lines each) rest in record {
+      reported = reported ∷ suffix.reported;
+      each = All-cons (FreeOf newline) reported suffix.reported free suffix.each;
+      joined = joined ∙ ap (λ t. t ++ more) e ∙ ap (λ t. (reported ++ newline ∷ []) ++ t) suffix.joined;
+      answered = ((first, subst (λ t. IsAnswer line t first) e is), suffix.answered);
     }
 
 -- the last line holds no line's end

@@ -35,15 +35,15 @@ written_back : (b : ℕ) (rest : List ℕ) → b < 256 → percent_decode (writt
 written_back b rest h2 = grind (arith, nat_tests, round_trip, All-cons, All-nil, written_alone, decodes_in_parts, encode_sound)
 
 -- a byte that begins no escape stays
-byte_kept : (b : ℕ) (behind : List ℕ) → begins_escape b behind ≡ false → percent_decode (b ∷ behind) ≡ b ∷ percent_decode behind
-byte_kept b behind h2 = grind (arith, nat_tests, decode_broken, decode_byte, cases_Bool)
+byte_kept : (b : ℕ) (suffix : List ℕ) → begins_escape b suffix ≡ false → percent_decode (b ∷ suffix) ≡ b ∷ percent_decode suffix
+byte_kept b suffix h2 = grind (arith, nat_tests, decode_broken, decode_byte, cases_Bool)
 
 -- a hexadecimal digit is written as it is, and begins no escape
 digit_written : (d : ℕ) → is_digit d 16 ≡ true → written_in_path d ≡ d ∷ []
 digit_written d h1 = grind (arith, nat_tests, nat_lt, cond-false)
 
-digit_begins_none : (d : ℕ) (behind : List ℕ) → is_digit d 16 ≡ true → begins_escape d behind ≡ false
-digit_begins_none d behind digit = let kept : (d == 37) ≡ false = grind (arith, nat_tests) in rw kept refl
+digit_begins_none : (d : ℕ) (suffix : List ℕ) → is_digit d 16 ≡ true → begins_escape d suffix ≡ false
+digit_begins_none d suffix digit = let kept : (d == 37) ≡ false = grind (arith, nat_tests) in rw kept refl
 
 -- ---- the new spelling
 
@@ -64,24 +64,24 @@ respelled_escape : (high low : ℕ) (path : List ℕ) → is_digit high 16 ≡ t
 respelled_escape high low path h3 h4 = grind (arith, nat_tests, respelled_begin, and_from, respelled_digit)
 
 -- the front of a new spelling that has the byte as it is
-front_itself : (b : ℕ) (path behind front rest : List ℕ) → path ≡ b ∷ behind → front ≡ take 1 path → rest ≡ drop 1 path → new_spelling (b ∷ behind) ≡ b ∷ new_spelling behind → SpellsFront path front rest
-front_itself b path behind front rest h5 h6 h7 h8 = grind (arith, nat_tests, take, drop, length)
+front_itself : (b : ℕ) (path suffix front rest : List ℕ) → path ≡ b ∷ suffix → front ≡ take 1 path → rest ≡ drop 1 path → new_spelling (b ∷ suffix) ≡ b ∷ new_spelling suffix → SpellsFront path front rest
+front_itself b path suffix front rest h5 h6 h7 h8 = grind (arith, nat_tests, take, drop, length)
 
 -- a byte that begins an escape is there
-pub front_begins : (b : ℕ) (path behind front rest : List ℕ) → path ≡ b ∷ behind → front ≡ take 1 path → rest ≡ drop 1 path → begins_escape b behind ≡ true → SpellsFront path front rest
-front_begins b path behind front rest whole first last begins = front_itself b path behind front rest whole first last (respelled_begin b behind begins)
+pub front_begins : (b : ℕ) (path suffix front rest : List ℕ) → path ≡ b ∷ suffix → front ≡ take 1 path → rest ≡ drop 1 path → begins_escape b suffix ≡ true → SpellsFront path front rest
+front_begins b path suffix front rest whole first last begins = front_itself b path suffix front rest whole first last (respelled_begin b suffix begins)
 
 -- so does a byte that a path is written with
-pub front_kept : (b : ℕ) (path behind front rest : List ℕ) → path ≡ b ∷ behind → front ≡ take 1 path → rest ≡ drop 1 path → begins_escape b behind ≡ false → should_percent_encode PATH b ≡ false → SpellsFront path front rest
-front_kept b path behind front rest h5 h6 h7 h8 h9 = grind (arith, nat_tests, cond-false, escaped_alike, front_itself, respelled_other)
+pub front_kept : (b : ℕ) (path suffix front rest : List ℕ) → path ≡ b ∷ suffix → front ≡ take 1 path → rest ≡ drop 1 path → begins_escape b suffix ≡ false → should_percent_encode PATH b ≡ false → SpellsFront path front rest
+front_kept b path suffix front rest h5 h6 h7 h8 h9 = grind (arith, nat_tests, cond-false, escaped_alike, front_itself, respelled_other)
 
 three_bytes : (b : ℕ) → length (percent_encode_byte b) ≤ 3
 unfolding percent_encode_byte
 three_bytes b = omega arith
 
 -- any other byte has its escape there
-pub front_escaped : (b : ℕ) (path behind front : List ℕ) → path ≡ b ∷ behind → front ≡ percent_encode_byte b → begins_escape b behind ≡ false → should_percent_encode PATH b ≡ true → SpellsFront path front behind
-front_escaped b path behind front h4 h5 h6 h7 = grind (arith, nat_tests, cond-true, escaped_alike, respelled_other, length, three_bytes)
+pub front_escaped : (b : ℕ) (path suffix front : List ℕ) → path ≡ b ∷ suffix → front ≡ percent_encode_byte b → begins_escape b suffix ≡ false → should_percent_encode PATH b ≡ true → SpellsFront path front suffix
+front_escaped b path suffix front h4 h5 h6 h7 = grind (arith, nat_tests, cond-true, escaped_alike, respelled_other, length, three_bytes)
 
 -- one byte more, and one escape more
 byte_more : (b : ℕ) (path : List ℕ) → begins_escape b path ≡ false → Respells path (new_spelling path) → Respells (b ∷ path) (new_spelling (b ∷ path))
@@ -95,8 +95,8 @@ escape_more b high low path begins rest =
     let whole = subst (Respells (percent_sign ∷ high ∷ low ∷ path)) (sym (respelled_escape high low path digits.0 digits.1)) (escape high low path (new_spelling path) digits.0 digits.1 rest) in
     subst (λ c. Respells (c ∷ high ∷ low ∷ path) (new_spelling (c ∷ high ∷ low ∷ path))) is whole
 
-no_digits : (b : ℕ) (behind : List ℕ) → begins_with_digits behind ≡ false → begins_escape b behind ≡ false
-no_digits b behind none = and_right _ _ none
+no_digits : (b : ℕ) (suffix : List ℕ) → begins_with_digits suffix ≡ false → begins_escape b suffix ≡ false
+no_digits b suffix none = and_right _ _ none
 
 -- each path has a new spelling
 pub respells : (path : List ℕ) → Respells path (new_spelling path)
@@ -127,8 +127,8 @@ keeps_meaning path spelling small (escape high low rest written h l r) =
     let byte = 16 * digit_value high + digit_value low in
     decode_escape percent_sign high low written refl h l ∙ ap (λ t. byte ∷ t) (keeps_meaning rest written last r) ∙ sym (decode_escape percent_sign high low rest refl h l)
 keeps_meaning path spelling small (other b rest written none r) =
-    let behind = All-tail (λ c. c < 256) b rest small in
-    written_back b written (All-head (λ c. c < 256) b rest small) ∙ ap (λ t. b ∷ t) (keeps_meaning rest written behind r) ∙ sym (byte_kept b rest none)
+    let suffix = All-tail (λ c. c < 256) b rest small in
+    written_back b written (All-head (λ c. c < 256) b rest small) ∙ ap (λ t. b ∷ t) (keeps_meaning rest written suffix r) ∙ sym (byte_kept b rest none)
 
 -- ---- the new spelling of a new spelling
 

@@ -44,8 +44,8 @@ normal_bytes text true domain bytes = ap (list_all is_http_host_byte) (cond-true
 normal_bytes text false other bytes = ap (list_all is_http_host_byte) (cond-false _ _ _ other) ∙ bytes
 
 -- a text that denotes a host in HTTP consists of such bytes
-pub meant_bytes : (text name : List ℕ) → HostText http_hosts text name → list_all is_http_host_byte name ≡ true
-meant_bytes text name denoted = ap (list_all is_http_host_byte) denoted.1 ∙ normal_bytes text (list_all is_dns_byte text) refl denoted.0
+pub denoted_bytes : (text name : List ℕ) → HostText http_hosts text name → list_all is_http_host_byte name ≡ true
+denoted_bytes text name denoted = ap (list_all is_http_host_byte) denoted.1 ∙ normal_bytes text (list_all is_dns_byte text) refl denoted.0
 
 -- the normal form of a sound text is sound, and as long
 normal_facts : (text : List ℕ) (is_domain : Bool) → list_all is_dns_byte text ≡ is_domain → 0 < length text → is_sound text ≡ true → (0 < length (normal_host text)) × (is_sound (normal_host text) ≡ true)
@@ -61,7 +61,7 @@ web_name_of : (text name : List ℕ) → 0 < length text → is_sound text ≡ t
 web_name_of text name some sound denoted =
     let facts = normal_facts text (list_all is_dns_byte text) refl some sound in
     let is : name ≡ normal_host text = denoted.1 in
-    record { nonempty = subst (λ t. 0 < length t) (sym is) facts.0; bytes = meant_bytes text name denoted; sound = ap is_sound is ∙ facts.1; normal = ap normal_host is ∙ normal_again text ∙ sym is }
+    record { nonempty = subst (λ t. 0 < length t) (sym is) facts.0; bytes = denoted_bytes text name denoted; sound = ap is_sound is ∙ facts.1; normal = ap normal_host is ∙ normal_again text ∙ sym is }
 
 -- a name of HTTP with a colon after it has no bracket at its front
 no_bracket_before_colon : (name : List ℕ) → IsWebName name → begins_with left_bracket (name ++ colon ∷ []) ≡ false
@@ -126,8 +126,8 @@ not_web scheme v other e (inl web) = absurd (both_ways _ other (ap is_known_web_
 not_web scheme v other e (inr web) = absurd (both_ways _ other (ap is_known_web_scheme (sym e ∙ web)))
 
 -- the location of the parts of a URL of HTTP
-abbrev pub web_meant : Scheme → UrlSyntax → Location
-web_meant scheme parts = record {
+abbrev pub web_denoted : Scheme → UrlSyntax → Location
+web_denoted scheme parts = record {
   scheme = scheme;
   user = parts.user;
   password = parts.password;
@@ -139,15 +139,15 @@ web_meant scheme parts = record {
 }
 
 -- a URL that is read as a location of HTTP has such a scheme, and its parts denote that
-pub web_read : (b : List ℕ) (v : Location) → (h : SpellsUrl b v) → IsWeb v → (is_web_scheme h.parts.scheme ≡ true) × (v ≡ web_meant (scheme_of h.parts.scheme) h.parts)
+pub web_read : (b : List ℕ) (v : Location) → (h : SpellsUrl b v) → IsWeb v → (is_web_scheme h.parts.scheme ≡ true) × (v ≡ web_denoted (scheme_of h.parts.scheme) h.parts)
 web_read b v h web =
     let parts = h.parts in
-    scheme_cases (λ p. DenotesAs p b parts v → (is_web_scheme parts.scheme ≡ true) × (v ≡ web_meant p parts)) parts.scheme
+    scheme_cases (λ p. DenotesAs p b parts v → (is_web_scheme parts.scheme ≡ true) × (v ≡ web_denoted p parts)) parts.scheme
     (λ e m. not_web ssh v refl (ap (λ l. l.scheme) m.value) web)
     (λ e m. not_web file v refl (ap (λ l. l.scheme) m.value) web)
     (λ m. not_web git v refl (ap (λ l. l.scheme) m.value) web)
-    (λ e m. (or_left _ _ e, m.value ∙ ap (λ host. record (web_meant http parts) { host = host }) m.hosted))
-    (λ e m. (or_right _ _ e, m.value ∙ ap (λ host. record (web_meant https parts) { host = host }) m.hosted))
+    (λ e m. (or_left _ _ e, m.value ∙ ap (λ host. record (web_denoted http parts) { host = host }) m.hosted))
+    (λ e m. (or_right _ _ e, m.value ∙ ap (λ host. record (web_denoted https parts) { host = host }) m.hosted))
     (λ m. not_web ext v refl (ap (λ l. l.scheme) m) web)
     (λ m. not_web (helper_url parts.scheme) v refl (ap (λ l. l.scheme) m.value) web) h.means
 
@@ -203,8 +203,8 @@ retained_by path s false lacks e = absurd (none-some s (sym (cond-false _ _ _ la
 -- a path of a URL of HTTP, after a sound front, and its location
 pub record IsWebPath (front path : List ℕ) : Type 0 where
   pub front_sound : is_sound front ≡ true
-  pub meant_text : IsUtf8 (or_root (percent_decode path))
-  pub meant_starts : begins_by (is_path_start true) (or_root (percent_decode path)) ≡ true
+  pub denoted_text : IsUtf8 (or_root (percent_decode path))
+  pub denoted_starts : begins_by (is_path_start true) (or_root (percent_decode path)) ≡ true
   pub fair : (s : List ℕ) → retained_spelling path ≡ Some s → IsFairSpelling s (or_root (percent_decode path))
 
 -- a path that is there
@@ -216,8 +216,8 @@ some_path front rest c start text sound space denoted =
     let sounds = sound_parts front rest c (start_no_digit c start) sound in
     let spaces = white_space_parts front (c ∷ rest) texts.0 space in record {
       front_sound = sounds.0;
-      meant_text = subst IsUtf8 (same ∙ sym rooted) denoted;
-      meant_starts = ap (begins_by (is_path_start true)) rooted ∙ start;
+      denoted_text = subst IsUtf8 (same ∙ sym rooted) denoted;
+      denoted_starts = ap (begins_by (is_path_start true)) rooted ∙ start;
       fair = λ s e.
           let kept = retained_by (c ∷ rest) s (has_percent (c ∷ rest)) refl e in
           subst (λ t. IsFairSpelling t (or_root (percent_decode (c ∷ rest)))) kept.0 record {
@@ -234,8 +234,8 @@ no_path : (front : List ℕ) → is_sound front ≡ true → IsWebPath front []
 no_path front sound =
     let rooted : or_root (percent_decode []) ≡ slash ∷ [] = ap or_root percent_decode-nil in record {
       front_sound = sound;
-      meant_text = subst IsUtf8 (sym rooted) (utf8_byte slash (lit< tt));
-      meant_starts = ap (begins_by (is_path_start true)) rooted;
+      denoted_text = subst IsUtf8 (sym rooted) (utf8_byte slash (lit< tt));
+      denoted_starts = ap (begins_by (is_path_start true)) rooted;
       fair = λ s e. absurd (none-some s e);
     }
 
@@ -246,9 +246,9 @@ path_closed front path h2 h3 h4 h5 h6 = grind (arith, nat_tests, no_path, append
 -- ---- locations
 
 -- the end of a sound text is sound
-pub sound_behind : (xs ys : List ℕ) → is_sound (xs ++ ys) ≡ true → is_sound ys ≡ true
-sound_behind [] ys sound = sound
-sound_behind (x ∷ xs) ys sound = sound_behind xs ys (sound_tail x (xs ++ ys) sound)
+pub sound_after : (xs ys : List ℕ) → is_sound (xs ++ ys) ≡ true → is_sound ys ≡ true
+sound_after [] ys sound = sound
+sound_after (x ∷ xs) ys sound = sound_after xs ys (sound_tail x (xs ++ ys) sound)
 
 -- the fields that are there
 some_there : {A : Type 0} (o : Option A) → IsSome o → (x : A) × (o ≡ Some x)
@@ -266,7 +266,7 @@ url_path_closed {b} {parts} web h =
     path_closed (parts.scheme ++ (codes "://" ++ h.authority)) parts.path (subst (λ w. StartsPath w parts.path) web h.path_starts) (subst IsUtf8 joined h.text) (subst (λ t. is_sound t ≡ true) joined h.sound) (subst LacksWhiteSpace joined h.no_white_space) h.path_text
 
 -- the location of the parts of a URL of HTTP is settled
-parts_closed : {b : List ℕ} {parts : UrlSyntax} → (scheme : Scheme) → is_web_scheme parts.scheme ≡ true → HasUrlSyntax b parts → ((host : List ℕ) → parts.host ≡ Some host → IsApart host) → HasFittingText (web_meant scheme parts) → IsSettledWeb (web_meant scheme parts)
+parts_closed : {b : List ℕ} {parts : UrlSyntax} → (scheme : Scheme) → is_web_scheme parts.scheme ≡ true → HasUrlSyntax b parts → ((host : List ℕ) → parts.host ≡ Some host → IsApart host) → HasFittingText (web_denoted scheme parts) → IsSettledWeb (web_denoted scheme parts)
 parts_closed {b} {parts} scheme web h apart fits =
     let syntax : host_syntax_of parts.scheme ≡ http_hosts = cond-true _ _ _ web in
     let hosted : IsSome parts.host = h.hosted (or_left _ _ web) in
@@ -274,18 +274,18 @@ parts_closed {b} {parts} scheme web h apart fits =
     let way = url_path_closed web h in
     let named : Authority http_hosts h.authority parts.user parts.password parts.host parts.port = subst (λ m. Authority m h.authority parts.user parts.password parts.host parts.port) syntax h.named in
     let credentials = authority_closed http_hosts h.authority parts.user parts.password parts.host parts.port named in
-    let names = authority_names http_hosts h.authority parts.user parts.password parts.host parts.port (sound_behind (codes "://") h.authority (sound_behind parts.scheme (codes "://" ++ h.authority) way.front_sound)) named in
+    let names = authority_names http_hosts h.authority parts.user parts.password parts.host parts.port (sound_after (codes "://") h.authority (sound_after parts.scheme (codes "://" ++ h.authority) way.front_sound)) named in
     let host = web_host_closed names.0 some.0 parts.port names.1 (subst (λ o. SpellsHostPort http_hosts names.0 o parts.port) some.1 names.2) (apart some.0 some.1) in record {
       common = record {
         unflagged = refl;
         credentials = credentials;
         hosted = (λ given. hosted, λ given. hosted);
-        path = record { path_text = way.meant_text; spelling = λ s e matches. way.fair s e };
+        path = record { path_text = way.denoted_text; spelling = λ s e matches. way.fair s e };
         fits = fits;
       };
       host = (some.0, some.1, host.0);
       port = host.1;
-      path = way.meant_starts;
+      path = way.denoted_starts;
     }
 
 -- a location of HTTP that is read is settled if its text is short

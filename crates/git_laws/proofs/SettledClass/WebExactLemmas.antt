@@ -28,7 +28,7 @@ use Rattle.git_syntax.proofs.Parsing.UrlLocationLemmas.{texts}
 use Rattle.git_laws.proofs.Writing.WrittenUserLemmas.{information_written}
 use Rattle.git_laws.proofs.Writing.WrittenUrlLemmas.{authority_text, canonical_cut}
 use Rattle.git_laws.proofs.Writing.WrittenPathLemmas.{web_path_written}
-use Rattle.git_laws.proofs.SettledClass.WebClosedLemmas.{meant_bytes, not_web, web_meant, web_read, AreCredentials, authority_closed, url_path_closed, web_closed, web_exact_spelling}
+use Rattle.git_laws.proofs.SettledClass.WebClosedLemmas.{denoted_bytes, not_web, web_denoted, web_read, AreCredentials, authority_closed, url_path_closed, web_closed, web_exact_spelling}
 use Rattle.git_laws.proofs.Writing.WrittenScpLemmas.{holds_colon}
 use Rattle.git_location.proofs.Writing.WrittenAsUrlLemmas.{one_text, written_web}
 use Rattle.git_syntax.proofs.Parsing.HostLemmas.{strict_not_bare}
@@ -44,8 +44,8 @@ host_byte_inside : (b : ℕ) → is_http_host_byte b ≡ true → ends_host b �
 host_byte_inside b h = grind (arith, nat_tests)
 
 -- a host of such bytes has no colon at its end
-no_colon_behind : {A : Type 0} (host front named : List ℕ) → list_all is_http_host_byte named ≡ true → host ≡ named → host ≡ front ++ colon ∷ [] → A
-no_colon_behind host front named bytes same ends =
+no_colon_after : {A : Type 0} (host front named : List ℕ) → list_all is_http_host_byte named ≡ true → host ≡ named → host ≡ front ++ colon ∷ [] → A
+no_colon_after host front named bytes same ends =
     absurd (not_free colon front [] (subst (λ t. FreeOf colon t) (sym same ∙ ends) (free_of_all is_http_host_byte colon named bytes refl)))
 
 -- with a colon after it a text still has neither `@` nor a path start
@@ -60,10 +60,10 @@ colon_named piece host front port (bracketed x inner free spelled e named_as at)
 colon_named piece host front port (bracketed_colon x inner free spelled e named_as at) ends no_bracket = absurd (both_ways _ no_bracket (ap (begins_with left_bracket) (same_Some _ _ named_as)))
 colon_named piece host front port (bracketed_port x inner digits number free spelled numbered e named_as at) ends no_bracket = absurd (both_ways _ no_bracket (ap (begins_with left_bracket) (same_Some _ _ named_as)))
 colon_named piece host front port (unbracketed reads named_as at) ends no_bracket = absurd (strict_not_bare reads.0)
-colon_named piece host front port (plain named is_plain denoted named_as at) ends no_bracket = no_colon_behind host front named (meant_bytes piece named denoted) (same_Some _ _ named_as) ends
+colon_named piece host front port (plain named is_plain denoted named_as at) ends no_bracket = no_colon_after host front named (denoted_bytes piece named denoted) (same_Some _ _ named_as) ends
 colon_named piece host front port (plain_colon text named is_plain denoted e named_as at) ends no_bracket =
-    (at, lacks_before_colon host named (same_Some _ _ named_as) (lacks_of_all is_http_host_byte ends_host host_byte_inside named (meant_bytes text named denoted)))
-colon_named piece host front port (plain_port text named digits number is_plain denoted numbered e named_as at) ends no_bracket = no_colon_behind host front named (meant_bytes text named denoted) (same_Some _ _ named_as) ends
+    (at, lacks_before_colon host named (same_Some _ _ named_as) (lacks_of_all is_http_host_byte ends_host host_byte_inside named (denoted_bytes text named denoted)))
+colon_named piece host front port (plain_port text named digits number is_plain denoted numbered e named_as at) ends no_bracket = no_colon_after host front named (denoted_bytes text named denoted) (same_Some _ _ named_as) ends
 colon_named piece host front port (colons named not_strict other begins many denoted named_as at) ends no_bracket = absurd (not_strict refl)
 
 -- so does such a host in an authority
@@ -151,21 +151,21 @@ authority_bracketed : (w : Location) (host : List ℕ) → w.host ≡ Some host 
 authority_bracketed w host h2 h3 h4 = grind (arith, nat_tests, cond-true, append-nil)
 
 -- the path of a location that is read is written with a start of a path
-path_shown : {t : List ℕ} {parts : UrlSyntax} → (scheme : Scheme) → IsWeb (web_meant scheme parts) → is_web_scheme parts.scheme ≡ true → HasUrlSyntax t parts → StartsPath true (canonical_path (web_meant scheme parts))
+path_shown : {t : List ℕ} {parts : UrlSyntax} → (scheme : Scheme) → IsWeb (web_denoted scheme parts) → is_web_scheme parts.scheme ≡ true → HasUrlSyntax t parts → StartsPath true (canonical_path (web_denoted scheme parts))
 path_shown {t} {parts} scheme web is_web h =
     let way = url_path_closed is_web h in
-    (web_path_written (web_meant scheme parts) web way.meant_starts record { path_text = way.meant_text; spelling = λ s e matches. way.fair s e }).starts
+    (web_path_written (web_denoted scheme parts) web way.denoted_starts record { path_text = way.denoted_text; spelling = λ s e matches. way.fair s e }).starts
 
 -- a location that is read has its canonical text
-canonical_shown : (t : List ℕ) (scheme : Scheme) (parts : UrlSyntax) → IsWeb (web_meant scheme parts) → IsSome parts.host → text (web_meant scheme parts) ≡ Ok t → canonical_text (web_meant scheme parts) ≡ t
+canonical_shown : (t : List ℕ) (scheme : Scheme) (parts : UrlSyntax) → IsWeb (web_denoted scheme parts) → IsSome parts.host → text (web_denoted scheme parts) ≡ Ok t → canonical_text (web_denoted scheme parts) ≡ t
 canonical_shown t scheme parts web hosted written =
-    one_text ((written_web (web_meant scheme parts) web).canonical refl (λ given. hosted, λ given. hosted)) written
+    one_text ((written_web (web_denoted scheme parts) web).canonical refl (λ given. hosted, λ given. hosted)) written
 
 -- a host with an escape and a colon at its end, and without a
 -- bracket at its front, isn't written as it was read
-no_exception_syntax : {t : List ℕ} {parts : UrlSyntax} → (scheme : Scheme) → IsWeb (web_meant scheme parts) → is_web_scheme parts.scheme ≡ true → HasUrlSyntax t parts → text (web_meant scheme parts) ≡ Ok t → (host front : List ℕ) → parts.host ≡ Some host → host ≡ front ++ colon ∷ [] → begins_with left_bracket host ≡ false → has_percent host ≡ true → ⊥
+no_exception_syntax : {t : List ℕ} {parts : UrlSyntax} → (scheme : Scheme) → IsWeb (web_denoted scheme parts) → is_web_scheme parts.scheme ≡ true → HasUrlSyntax t parts → text (web_denoted scheme parts) ≡ Ok t → (host front : List ℕ) → parts.host ≡ Some host → host ≡ front ++ colon ∷ [] → begins_with left_bracket host ≡ false → has_percent host ≡ true → ⊥
 no_exception_syntax {t} {parts} scheme web is_web h written host front hosted ends no_bracket escaped =
-    let w = web_meant scheme parts in
+    let w = web_denoted scheme parts in
     let syntax : host_syntax_of parts.scheme ≡ http_hosts = cond-true _ _ _ is_web in
     let held : Authority http_hosts h.authority parts.user parts.password (Some host) parts.port = subst (λ m. Authority m h.authority parts.user parts.password (Some host) parts.port) syntax (subst (λ o. Authority (host_syntax_of parts.scheme) h.authority parts.user parts.password o parts.port) hosted h.named) in
     let facts = colon_held h.authority parts.user parts.password host front parts.port held ends no_bracket in

@@ -22,10 +22,10 @@ use Rattle.git_syntax.proofs.Texts.EscapeLemmas.{sound_head, sound_tail, decode_
 use Rattle.git_syntax.proofs.Texts.CutLemmas.{begins_cut}
 use Rattle.git_syntax.proofs.Parsing.UrlLemmas.{none_not_some}
 use Rattle.git_syntax.proofs.Parsing.SchemeLemmas.{scheme_cases, means_cases}
-use Rattle.git_syntax.proofs.Unique.UniqueLemmas.{meant_with}
+use Rattle.git_syntax.proofs.Unique.UniqueLemmas.{denoted_with}
 use Rattle.git_location.proofs.SettledClass.UnchangedLemmas.{helper_unchanged, local_unchanged}
 use Rattle.git_laws.proofs.Records.RecordLemmas.{unmigrated}
-use Rattle.git_laws.proofs.SettledClass.WebClosedLemmas.{retained_by, sound_behind, parts_joined}
+use Rattle.git_laws.proofs.SettledClass.WebClosedLemmas.{retained_by, sound_after, parts_joined}
 use Rattle.git_laws.proofs.Writing.WrittenScpLemmas.{scp_written}
 use Rattle.std.proofs.lemmas.Option.{none-some}
 use Rattle.git_location.proofs.Writing.WrittenAsUrlLemmas.{host_given, not_relative, secure_choice}
@@ -50,9 +50,9 @@ parts_hosted : (b : List ℕ) (parts : UrlSyntax) → HasUrlSyntax b parts → I
 parts_hosted b parts h given = user_hosted (host_syntax_of parts.scheme) h.authority parts.user parts.password parts.host parts.port h.named given
 
 -- the location of a URL that has the host that the URL names has a text, if it is written as a URL
-named_there : (scheme : Scheme) (parts : UrlSyntax) (v : Location) → (h : DenotesByScheme scheme parts v) → h.host ≡ parts.host → (IsSome parts.user → IsSome parts.host) → choice (meant_with scheme parts h.host) ≡ with_host (meant_with scheme parts h.host) canonical_form → HasText v
+named_there : (scheme : Scheme) (parts : UrlSyntax) (v : Location) → (h : DenotesByScheme scheme parts v) → h.host ≡ parts.host → (IsSome parts.user → IsSome parts.host) → choice (denoted_with scheme parts h.host) ≡ with_host (denoted_with scheme parts h.host) canonical_form → HasText v
 named_there scheme parts v h same hosted chosen =
-    subst HasText (sym h.value) (canonical_there (meant_with scheme parts h.host) chosen (λ given. ap is_some same ∙ hosted given))
+    subst HasText (sym h.value) (canonical_there (denoted_with scheme parts h.host) chosen (λ given. ap is_some same ∙ hosted given))
 
 -- ---- Secure Shell
 
@@ -82,7 +82,7 @@ secure_there : (b : List ℕ) (parts : UrlSyntax) (v : Location) → is_ssh_sche
 secure_there b parts v is_ssh spelled h =
     let starts = subst (λ web. StartsPath web parts.path) (ssh_not_web parts.scheme is_ssh) spelled.path_starts in
     let begins = path_begins parts.path (begins_rooted parts.path (h.pathed refl) starts) in
-    let value = meant_with ssh parts h.host in
+    let value = denoted_with ssh parts h.host in
     let chosen = secure_choice value (not_relative value.path begins) refl in
     subst HasText (sym h.value) (canonical_there value chosen (λ given. ssh_host_there parts.host h.host h.hosted (parts_hosted b parts spelled given)))
 
@@ -126,14 +126,14 @@ escape_shorter : (b : ℕ) (bs : List ℕ) → (b == 37) ≡ true → begins_wit
 escape_shorter b bs h2 h3 = grind (arith, nat_tests, false≢true, and_parts, length, decode_escape, length-percent_decode)
 
 -- if a first byte begins an escape, two digits follow it
-digits_behind : (b : ℕ) (bs : List ℕ) → (b == 37) ≡ true → is_sound (b ∷ bs) ≡ true → begins_with_digits bs ≡ true
-digits_behind b bs percent sound = rw percent at (sound_head b bs sound)
+digits_after : (b : ℕ) (bs : List ℕ) → (b == 37) ≡ true → is_sound (b ∷ bs) ≡ true → begins_with_digits bs ≡ true
+digits_after b bs percent sound = rw percent at (sound_head b bs sound)
 
 -- the decoding of a sound text that holds an escape is shorter than the text
 decoding_shorter : (bs : List ℕ) → is_sound bs ≡ true → has_percent bs ≡ true → length (percent_decode bs) < length bs
 decoding_shorter [] sound held = absurd (false≢true held)
 decoding_shorter (b ∷ bs) sound held = ⊎_elim
-    (λ percent. escape_shorter b bs percent (digits_behind b bs percent sound))
+    (λ percent. escape_shorter b bs percent (digits_after b bs percent sound))
     (λ other.
     let tail : has_percent bs ≡ true = ⊎_elim (λ percent. absurd (both_ways (b == 37) other percent)) (λ e. e) (or_cases _ _ held) in
     let rest = decoding_shorter bs (sound_tail b bs sound) tail in
@@ -172,11 +172,11 @@ retained_other scheme path sound e =
 -- the path of a URL is sound
 path_sound : (b : List ℕ) (parts : UrlSyntax) → HasUrlSyntax b parts → is_sound parts.path ≡ true
 path_sound b parts h =
-    sound_behind (parts.scheme ++ (codes "://" ++ h.authority)) parts.path (subst (λ t. is_sound t ≡ true) (parts_joined h) h.sound)
+    sound_after (parts.scheme ++ (codes "://" ++ h.authority)) parts.path (subst (λ t. is_sound t ≡ true) (parts_joined h) h.sound)
 
 -- the spelling isn't the path in the location of the parts of a URL
-meant_other : (scheme : Scheme) (b : List ℕ) (parts : UrlSyntax) (v : Location) → HasUrlSyntax b parts → DenotesByScheme scheme parts v → ¬ (v.spelling ≡ Some v.path)
-meant_other scheme b parts v spelled h =
+denoted_other : (scheme : Scheme) (b : List ℕ) (parts : UrlSyntax) (v : Location) → HasUrlSyntax b parts → DenotesByScheme scheme parts v → ¬ (v.spelling ≡ Some v.path)
+denoted_other scheme b parts v spelled h =
     subst (λ l. ¬ (l.spelling ≡ Some l.path)) (sym h.value) (retained_other scheme parts.path (path_sound b parts spelled))
 
 -- nor if there is no spelling
@@ -188,7 +188,7 @@ url_other : (scheme : Scheme) (b : List ℕ) (parts : UrlSyntax) (v : Location) 
 url_other scheme b parts v spelled h =
     elim (means_cases scheme b parts v h) [
       | inl m ↦ unspelled_other v (ap (λ l. l.spelling) m.1)
-      | inr m ↦ meant_other scheme b parts v spelled m.1
+      | inr m ↦ denoted_other scheme b parts v spelled m.1
     ]
 
 -- the scp form has no spelling

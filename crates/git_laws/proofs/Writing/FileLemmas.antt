@@ -23,7 +23,7 @@ use Rattle.git_laws.specs.Laws.{ComesBack}
 use Rattle.git_syntax.specs.Flaws.{UrlForm}
 use Rattle.git_syntax.specs.Hosts.{port_part}
 use Rattle.git_syntax.proofs.Texts.CutLemmas.{different_bytes, begins_cut}
-use Rattle.git_syntax.proofs.Texts.EscapeLemmas.{utf8_behind, utf8_seam}
+use Rattle.git_syntax.proofs.Texts.EscapeLemmas.{utf8_after, utf8_seam}
 use Rattle.git_syntax.proofs.Parsing.UrlLemmas.{some_kept}
 use Rattle.git_syntax.proofs.Parsing.ClassifierLemmas.{file_mark_utf8, url_has_form, spelled_as_file}
 use Rattle.git_laws.proofs.Writing.WrittenPathLemmas.{matched, unmatched}
@@ -153,8 +153,8 @@ host_settled (b ∷ bs) free stays = record { nonempty = omega arith; no_slash =
 path_utf8 : (host path : List ℕ) → IsUtf8 (codes "file://" ++ (host ++ path)) → begins_with slash path ≡ true → IsUtf8 path
 path_utf8 host path is_text rooted =
     let (rest, cut) = begins_cut slash path rooted in
-    let behind : IsUtf8 (host ++ path) = utf8_behind (codes "file://") (host ++ path) is_text file_mark_utf8 in
-    subst IsUtf8 (sym cut) (utf8_seam host rest slash (subst (λ p. IsUtf8 (host ++ p)) cut behind) (lit< tt)).1
+    let suffix : IsUtf8 (host ++ path) = utf8_after (codes "file://") (host ++ path) is_text file_mark_utf8 in
+    subst IsUtf8 (sym cut) (utf8_seam host rest slash (subst (λ p. IsUtf8 (host ++ p)) cut suffix) (lit< tt)).1
 
 -- a location that is read as a file URL is settled, except a host with a colon
 -- and an escape that has no bracket at its front
@@ -176,11 +176,11 @@ file_canonical : (v : Location) (t : List ℕ) → v.scheme ≡ file → v.flag 
 file_canonical v t h2 h3 h4 = grind (arith, nat_tests, cond-false, and_left, canonical_by)
 
 -- the text after `://` in the text of a URL
-abbrev behind_mark : Location → List ℕ
-behind_mark v = user_information v.user v.password ++ (host_part v v.host ++ (port_part v.port ++ canonical_path v))
+abbrev after_mark : Location → List ℕ
+after_mark v = user_information v.user v.password ++ (host_part v v.host ++ (port_part v.port ++ canonical_path v))
 
 -- the text of such a location has the form of a file URL
-file_has_form : (v : Location) (t : List ℕ) → v.scheme ≡ file → v.flag ≡ false → text v ≡ Ok t → UrlForm t (codes "file") (behind_mark v)
+file_has_form : (v : Location) (t : List ℕ) → v.scheme ≡ file → v.flag ≡ false → text v ≡ Ok t → UrlForm t (codes "file") (after_mark v)
 file_has_form v t h2 h3 h4 = grind (arith, nat_tests, codes, file_canonical, url_has_form)
 
 -- a host that needs no brackets is such a host, by the tests of its bytes
@@ -229,4 +229,4 @@ exact_at v w t apart written k same again =
 -- a file URL that comes back is settled, unless its spelling is its path
 pub file_exact : (v w : Location) (t : List ℕ) → v.scheme ≡ file → v.flag ≡ false → (¬ (v.spelling ≡ Some v.path)) → text v ≡ Ok t → Spells t w → fields w ≡ fields v → text w ≡ Ok t → IsSettledFile v
 file_exact v w t scheme unflagged apart written spelled same again =
-    exact_at v w t apart written (spelled_as_file t (behind_mark v) (file_has_form v t scheme unflagged written) w spelled) same again
+    exact_at v w t apart written (spelled_as_file t (after_mark v) (file_has_form v t scheme unflagged written) w spelled) same again

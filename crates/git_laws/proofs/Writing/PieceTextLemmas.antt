@@ -88,7 +88,7 @@ address_piece t h = class_piece is_address_byte (λ b is. grind (arith, nat_test
 
 -- so are `[`, such a piece and another one, joined
 pub brackets_piece : (t rest : List ℕ) → IsHostPiece t → IsHostPiece rest → IsHostPiece (left_bracket ∷ (t ++ rest))
-brackets_piece t rest inner behind = joined_hosts (left_bracket ∷ []) (t ++ rest) (host_piece (left_bracket ∷ []) refl refl) (joined_hosts t rest inner behind)
+brackets_piece t rest inner suffix = joined_hosts (left_bracket ∷ []) (t ++ rest) (host_piece (left_bracket ∷ []) refl refl) (joined_hosts t rest inner suffix)
 
 -- so is a port after its colon
 pub port_piece : (port : Option ℕ) → IfSome port (λ p. p < 65536) → IsHostPiece (port_part port)

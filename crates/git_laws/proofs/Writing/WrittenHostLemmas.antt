@@ -103,19 +103,19 @@ ssh_host_itself : (host : List ℕ) → FreeOf left_bracket host → ((front : L
 ssh_host_itself host h1 h2 = grind (arith, nat_tests, true≢false, free_head_tail)
 
 -- no colon follows the only colon of a text
-nothing_behind : (front x rest : List ℕ) → FreeOf colon front → front ++ colon ∷ [] ≡ x ++ colon ∷ rest → FreeOf colon rest
-nothing_behind front x rest free e = elim (free_or_cut colon x) [
+nothing_after : (front x rest : List ℕ) → FreeOf colon front → front ++ colon ∷ [] ≡ x ++ colon ∷ rest → FreeOf colon rest
+nothing_after front x rest free e = elim (free_or_cut colon x) [
   | inl none ↦ subst (λ t. FreeOf colon t) (cut_unique colon front x [] rest free none e).1 refl
   | inr (y, z, none, is) ↦
-      let behind : [] ≡ z ++ colon ∷ rest = (cut_unique colon front y [] (z ++ colon ∷ rest) free none (e ∙ ap (λ t. t ++ colon ∷ rest) is ∙ append_assoc y (colon ∷ z) (colon ∷ rest))).1 in
-      absurd (not_free colon z rest (subst (λ t. FreeOf colon t) behind refl))
+      let suffix : [] ≡ z ++ colon ∷ rest = (cut_unique colon front y [] (z ++ colon ∷ rest) free none (e ∙ ap (λ t. t ++ colon ∷ rest) is ∙ append_assoc y (colon ∷ z) (colon ∷ rest))).1 in
+      absurd (not_free colon z rest (subst (λ t. FreeOf colon t) suffix refl))
 ]
 
 -- an address does not end in its only colon
 address_colons : (a front : List ℕ) → IsIpv6Text a → FreeOf colon front → ¬ (a ≡ front ++ colon ∷ [])
 address_colons a front h free e =
     let (x, y, z, is) = address_two_colons a h in
-    not_free colon y z (nothing_behind front x (y ++ colon ∷ z) free (sym e ∙ is))
+    not_free colon y z (nothing_after front x (y ++ colon ∷ z) free (sym e ∙ is))
 
 -- an address needs brackets
 address_wants : (a : List ℕ) → IsIpv6Text a → wants_brackets a ≡ true

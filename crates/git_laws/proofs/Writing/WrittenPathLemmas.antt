@@ -309,9 +309,9 @@ home_unrooted [] begins = absurd (false≢true begins)
 home_unrooted (b ∷ path) begins = grind (arith, nat_tests)
 
 -- the `/` before a path below a home folder is taken off again
-home_meant : (path : List ℕ) → begins_with tilde path ≡ true → from_home (slash ∷ path) ≡ path
-home_meant [] begins = absurd (false≢true begins)
-home_meant (b ∷ path) begins = cond-true _ _ _ begins
+home_denoted : (path : List ℕ) → begins_with tilde path ≡ true → from_home (slash ∷ path) ≡ path
+home_denoted [] begins = absurd (false≢true begins)
+home_denoted (b ∷ path) begins = cond-true _ _ _ begins
 
 -- a raw path after a `/`
 home_piece : (path : List ℕ) → IsUtf8 path → (has_percent path ≡ false) × LacksWhiteSpace path → IsEscapedPiece (slash ∷ path)
@@ -354,7 +354,7 @@ home_written v facts h =
       starts = inr (ap (begins_by (is_path_start false)) whole);
       escaped = subst IsEscapedPiece (sym whole) piece;
       decoded = subst IsUtf8 (sym denoted) piece.text;
-      denoted = ap (path_for v.scheme) denoted ∙ facts.denoted (slash ∷ v.path) ∙ home_meant v.path h.home;
+      denoted = ap (path_for v.scheme) denoted ∙ facts.denoted (slash ∷ v.path) ∙ home_denoted v.path h.home;
       present = λ needed. subst (λ t. 0 < length t) (sym whole) (omega arith);
       again = ap (λ o. root_part v ++ matching_or o v.path (plain_path v.scheme v.path)) none ∙ home_unspelled v facts h ∙ sym whole;
       fair = λ s is same. absurd (none-some s (sym none ∙ is));

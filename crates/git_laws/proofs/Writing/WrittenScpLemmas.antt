@@ -70,8 +70,8 @@ no_mark_at [] path [] rest free other none e = both_ways (begins_with_slashes pa
 no_mark_at [] path (c ∷ x) rest free other none e = none (x, rest, tails e)
 no_mark_at (b ∷ []) path [] rest free other none e = different_bytes 58 47 refl (tails e)
 no_mark_at (b ∷ c ∷ front) path [] rest free other none e =
-    let behind = (free_head_tail slash b (c ∷ front) free).1 in
-    both_ways (c == slash) (free_head_tail slash c front behind).0 (eq-eqb c slash (heads (tails e)))
+    let suffix = (free_head_tail slash b (c ∷ front) free).1 in
+    both_ways (c == slash) (free_head_tail slash c front suffix).0 (eq-eqb c slash (heads (tails e)))
 no_mark_at (b ∷ front) path (c ∷ x) rest free other none e = no_mark_at front path x rest (free_head_tail slash b front free).1 other none (tails e)
 
 -- so a front without `/`, a colon and a settled path hold none
@@ -79,10 +79,10 @@ no_mark_joined : (front path : List ℕ) → FreeOf slash front → IsScpPath pa
 no_mark_joined front path free p (x, rest, e) = no_mark_at front path x rest free p.not_slashes p.no_mark e
 
 -- a text with an `@` in its front isn't that of a remote helper
-no_helper_at : (user behind path : List ℕ) → FreeOf colon (user ++ at_sign ∷ behind) → ¬ HasHelperForm ((user ++ at_sign ∷ behind) ++ colon ∷ path)
-no_helper_at user behind path free (name, address, h) =
-    let same = (helper_front _ (user ++ at_sign ∷ behind) path name address h free refl).0 in
-    not_free at_sign user behind (subst (λ t. FreeOf at_sign t) same (helper_name_free name at_sign h.named refl))
+no_helper_at : (user suffix path : List ℕ) → FreeOf colon (user ++ at_sign ∷ suffix) → ¬ HasHelperForm ((user ++ at_sign ∷ suffix) ++ colon ∷ path)
+no_helper_at user suffix path free (name, address, h) =
+    let same = (helper_front _ (user ++ at_sign ∷ suffix) path name address h free refl).0 in
+    not_free at_sign user suffix (subst (λ t. FreeOf at_sign t) same (helper_name_free name at_sign h.named refl))
 
 -- ---- a name
 

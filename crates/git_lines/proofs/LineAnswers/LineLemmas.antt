@@ -48,18 +48,18 @@ pub record Done (whole rest out : List ℕ) (good : Bool) : Type 0 where
   pub joined : whole ≡ ended_lines lines ++ rest
   pub answered : AnswersEach lines out good
 
-pub done_more : (whole rest out line behind answer : List ℕ) (good first : Bool) → Done whole rest out good → FreeOf newline line → rest ≡ line ++ newline ∷ behind → IsAnswer line answer first → Done whole behind (out ++ answer) (good && first)
-done_more whole rest out line behind answer good first done free cut one = record {
+pub done_more : (whole rest out line suffix answer : List ℕ) (good first : Bool) → Done whole rest out good → FreeOf newline line → rest ≡ line ++ newline ∷ suffix → IsAnswer line answer first → Done whole suffix (out ++ answer) (good && first)
+done_more whole rest out line suffix answer good first done free cut one = record {
   lines = done.lines ++ line ∷ [];
   each = All-append (FreeOf newline) done.lines (line ∷ []) done.each (All-cons (FreeOf newline) line [] free (All-nil (FreeOf newline)));
-  joined = done.joined ∙ ap (λ t. ended_lines done.lines ++ t) cut ∙ sym (ended_push done.lines line behind);
+  joined = done.joined ∙ ap (λ t. ended_lines done.lines ++ t) cut ∙ sym (ended_push done.lines line suffix);
   answered = answers_push done.lines out good line answer first done.answered one;
 }
 
 -- one more line, as the loop takes it
-pub done_step : (whole rest out line behind new : List ℕ) (good first : Bool) → Done whole rest out good → FreeOf newline line × (rest ≡ line ++ newline ∷ behind) → AppendsAnswer line out new (Ok first) → Done whole behind new (good && first)
-done_step whole rest out line behind new good first done (free, cut) (answer, one, joined) =
-    subst (λ t. Done whole behind t (good && first)) (sym joined) (done_more whole rest out line behind answer good first done free cut one)
+pub done_step : (whole rest out line suffix new : List ℕ) (good first : Bool) → Done whole rest out good → FreeOf newline line × (rest ≡ line ++ newline ∷ suffix) → AppendsAnswer line out new (Ok first) → Done whole suffix new (good && first)
+done_step whole rest out line suffix new good first done (free, cut) (answer, one, joined) =
+    subst (λ t. Done whole suffix t (good && first)) (sym joined) (done_more whole rest out line suffix answer good first done free cut one)
 
 -- the last line is empty
 pub done_all : (whole rest out : List ℕ) (good : Bool) → Done whole rest out good → FreeOf newline rest → (length rest == 0) ≡ true → Answers whole out good
@@ -107,33 +107,33 @@ refused_answer line old new refusal (Err fault) flaw memory = memory
 -- ---- the longest line
 
 -- a front of a text that has no line end is no longer than its first line
-first_within : (line behind first after : List ℕ) → FreeOf newline first → line ++ newline ∷ behind ≡ first ++ after → length first ≤ length line
-first_within line behind [] after free joined = omega arith
-first_within [] behind (b ∷ bs) after free joined = different_bytes b newline (free_head_tail newline b bs free).0 (sym joined)
-first_within (l ∷ ls) behind (b ∷ bs) after free joined =
-    let shorter = first_within ls behind bs after (free_head_tail newline b bs free).1 (tails joined) in
+first_within : (line suffix first after : List ℕ) → FreeOf newline first → line ++ newline ∷ suffix ≡ first ++ after → length first ≤ length line
+first_within line suffix [] after free joined = omega arith
+first_within [] suffix (b ∷ bs) after free joined = different_bytes b newline (free_head_tail newline b bs free).0 (sym joined)
+first_within (l ∷ ls) suffix (b ∷ bs) after free joined =
+    let shorter = first_within ls suffix bs after (free_head_tail newline b bs free).1 (tails joined) in
     omega arith
 
 -- a part of a text without a line end is no longer than its first line, or follows that line
-within_cut : (most : ℕ) (line behind : List ℕ) → length line ≤ most → HasLinesWithin most behind → HasLinesWithin most (line ++ newline ∷ behind)
-within_cut most line behind short others [] other rest free joined =
-    let shorter = first_within line behind other rest free joined in
+within_cut : (most : ℕ) (line suffix : List ℕ) → length line ≤ most → HasLinesWithin most suffix → HasLinesWithin most (line ++ newline ∷ suffix)
+within_cut most line suffix short others [] other rest free joined =
+    let shorter = first_within line suffix other rest free joined in
     omega arith
-within_cut most [] behind short others (b ∷ bs) other rest free joined = others bs other rest free (tails joined)
-within_cut most (l ∷ ls) behind short others (b ∷ bs) other rest free joined =
+within_cut most [] suffix short others (b ∷ bs) other rest free joined = others bs other rest free (tails joined)
+within_cut most (l ∷ ls) suffix short others (b ∷ bs) other rest free joined =
     let shorter : length ls ≤ most = omega arith in
-    within_cut most ls behind shorter others bs other rest free (tails joined)
+    within_cut most ls suffix shorter others bs other rest free (tails joined)
 
 -- the lines after a cut are lines of the text
-within_behind : (most : ℕ) (line behind : List ℕ) → HasLinesWithin most (line ++ newline ∷ behind) → HasLinesWithin most behind
-within_behind most line behind within before other rest free joined =
+within_after : (most : ℕ) (line suffix : List ℕ) → HasLinesWithin most (line ++ newline ∷ suffix) → HasLinesWithin most suffix
+within_after most line suffix within before other rest free joined =
     within (line ++ newline ∷ before) other rest free (ap (λ t. line ++ newline ∷ t) joined ∙ sym (append_assoc line (newline ∷ before) (other ++ rest)))
 
 -- a text has lines within a length exactly if its first line and those after it are
-pub lines_cut : (most : ℕ) (b line behind : List ℕ) → FreeOf newline line → b ≡ line ++ newline ∷ behind → HasLinesWithin most b ↔ ((length line ≤ most) × HasLinesWithin most behind)
-lines_cut most b line behind free cut = (
-  λ within. (within [] line (newline ∷ behind) free cut, within_behind most line behind (subst (HasLinesWithin most) cut within)),
-  λ (short, others). subst (HasLinesWithin most) (sym cut) (within_cut most line behind short others),
+pub lines_cut : (most : ℕ) (b line suffix : List ℕ) → FreeOf newline line → b ≡ line ++ newline ∷ suffix → HasLinesWithin most b ↔ ((length line ≤ most) × HasLinesWithin most suffix)
+lines_cut most b line suffix free cut = (
+  λ within. (within [] line (newline ∷ suffix) free cut, within_after most line suffix (subst (HasLinesWithin most) cut within)),
+  λ (short, others). subst (HasLinesWithin most) (sym cut) (within_cut most line suffix short others),
 )
 
 -- one line alone is within a length exactly if it is no longer
@@ -144,8 +144,8 @@ line_alone most b free = (
 )
 
 -- so the lines after a cut are within it
-pub within_next : (most buffer_len : ℕ) (b line behind : List ℕ) → HasLinesWithin most b → FreeOf newline line × (b ≡ line ++ newline ∷ behind) → buffer_len ≡ most → HasLinesWithin buffer_len behind
-within_next most buffer_len b line behind within (free, cut) same = subst (λ n. HasLinesWithin n behind) (sym same) ((lines_cut most b line behind free cut).0 within).1
+pub within_next : (most buffer_len : ℕ) (b line suffix : List ℕ) → HasLinesWithin most b → FreeOf newline line × (b ≡ line ++ newline ∷ suffix) → buffer_len ≡ most → HasLinesWithin buffer_len suffix
+within_next most buffer_len b line suffix within (free, cut) same = subst (λ n. HasLinesWithin n suffix) (sym same) ((lines_cut most b line suffix free cut).0 within).1
 
 -- the whole and its rest: the lines of the whole are within a length exactly if those of the rest are
 -- no shorter than the longest of those in front, and the lines of the rest are within it
@@ -153,10 +153,10 @@ abbrev pub Measured : List ℕ → List ℕ → ℕ → Type 0
 Measured whole rest longest = (most : ℕ) → HasLinesWithin most whole ↔ ((longest ≤ most) × HasLinesWithin most rest)
 
 -- one more line
-pub measured_step : (whole rest line behind : List ℕ) (longest : ℕ) → Measured whole rest longest → FreeOf newline line × (rest ≡ line ++ newline ∷ behind) → Measured whole behind (max longest (length line))
-measured_step whole rest line behind longest measured (free, cut) most =
-    let cuts = lines_cut most rest line behind free cut in (
-      λ within. let (least, others) = (measured most).0 within in let (short, behind_it) = cuts.0 others in (omega (arith, least, short), behind_it),
+pub measured_step : (whole rest line suffix : List ℕ) (longest : ℕ) → Measured whole rest longest → FreeOf newline line × (rest ≡ line ++ newline ∷ suffix) → Measured whole suffix (max longest (length line))
+measured_step whole rest line suffix longest measured (free, cut) most =
+    let cuts = lines_cut most rest line suffix free cut in (
+      λ within. let (least, others) = (measured most).0 within in let (short, after_it) = cuts.0 others in (omega (arith, least, short), after_it),
       λ (least, others). (measured most).1 (omega (arith, least), cuts.1 (omega (arith, least), others)),
     )
 

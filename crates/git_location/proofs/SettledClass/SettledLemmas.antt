@@ -111,20 +111,20 @@ name_or_colon host front name e =
     absurd (false≢true (and_parts _ _ all).1)
 
 -- the colon after brackets follows the piece that they are part of
-colon_behind : (n : List ℕ) → left_bracket ∷ (n ++ right_bracket ∷ (colon ∷ [])) ≡ (left_bracket ∷ (n ++ right_bracket ∷ [])) ++ colon ∷ []
-colon_behind n = sym (append_assoc (left_bracket ∷ n) (right_bracket ∷ []) (colon ∷ []))
+colon_after : (n : List ℕ) → left_bracket ∷ (n ++ right_bracket ∷ (colon ∷ [])) ≡ (left_bracket ∷ (n ++ right_bracket ∷ [])) ++ colon ∷ []
+colon_after n = sym (append_assoc (left_bracket ∷ n) (right_bracket ∷ []) (colon ∷ []))
 
 -- a closed host and a colon are a settled host if there is no port
 colon_host_from : (port : Option ℕ) (host front : List ℕ) → host ≡ front ++ colon ∷ [] → port ≡ None → IsClosedHost front → IsWebHost port host
 colon_host_from port host front joined none (inl (n, l, e)) =
-    literal_colon n l none (joined ∙ ap (λ x. x ++ colon ∷ []) e ∙ sym (colon_behind n))
+    literal_colon n l none (joined ∙ ap (λ x. x ++ colon ∷ []) e ∙ sym (colon_after n))
 colon_host_from port host front joined none (inr (name, plain)) = named_colon front name plain none joined
 
 -- and such a host has no port, and is closed before its colon
 colon_host_to : (port : Option ℕ) (host front : List ℕ) → host ≡ front ++ colon ∷ [] → IsWebHost port host → (port ≡ None) × IsClosedHost front
 colon_host_to port host front joined (literal n l e) = bracket_or_colon front (left_bracket ∷ n) (sym e ∙ joined)
 colon_host_to port host front joined (literal_colon n l none e) =
-    (none, inl (n, l, sym (same_from_push (left_bracket ∷ (n ++ right_bracket ∷ [])) front colon colon (sym (colon_behind n) ∙ sym e ∙ joined)).0))
+    (none, inl (n, l, sym (same_from_push (left_bracket ∷ (n ++ right_bracket ∷ [])) front colon colon (sym (colon_after n) ∙ sym e ∙ joined)).0))
 colon_host_to port host front joined (named name) = name_or_colon host front name joined
 colon_host_to port host front joined (named_colon n name plain none e) =
     let same : n ≡ front = (same_from_push n front colon colon (sym e ∙ joined)).0 in
@@ -142,7 +142,7 @@ bare_host_from port host (inr name) = named name
 
 bare_host_to : (port : Option ℕ) (host : List ℕ) → ((front : List ℕ) → ¬ (host ≡ front ++ colon ∷ [])) → IsWebHost port host → IsBracketedLiteral host ⊎ IsWebName host
 bare_host_to port host ends (literal n l e) = inl (n, l, e)
-bare_host_to port host ends (literal_colon n l none e) = absurd (ends (left_bracket ∷ (n ++ right_bracket ∷ [])) (e ∙ colon_behind n))
+bare_host_to port host ends (literal_colon n l none e) = absurd (ends (left_bracket ∷ (n ++ right_bracket ∷ [])) (e ∙ colon_after n))
 bare_host_to port host ends (named name) = inr name
 bare_host_to port host ends (named_colon n name plain none e) = absurd (ends n e)
 
@@ -242,10 +242,10 @@ pub short_text : (v : Location) → FreeOf colon (scheme_text v.scheme) → text
 short_text v free canonical short =
     let rest = codes "://" ++ (user_information v.user v.password ++ (host_part v v.host ++ (port_part v.port ++ canonical_path v))) in
     let whole = length-append (scheme_text v.scheme) rest in
-    let behind = drop (length (scheme_text v.scheme) + 3) (canonical_text v) in
-    let few : length behind ≤ 1024 = omega (arith, short, length-drop (length (scheme_text v.scheme) + 3) (canonical_text v)) in
-    let fits = fits_tested (scheme_text v.scheme) behind (omega (arith, whole, short)) in
-    (fitting_text v (canonical_text v) free canonical (sym canonical)).0 (fits.0 (or_left _ _ (le-leb (length behind) 1024 few)))
+    let suffix = drop (length (scheme_text v.scheme) + 3) (canonical_text v) in
+    let few : length suffix ≤ 1024 = omega (arith, short, length-drop (length (scheme_text v.scheme) + 3) (canonical_text v)) in
+    let fits = fits_tested (scheme_text v.scheme) suffix (omega (arith, whole, short)) in
+    (fitting_text v (canonical_text v) free canonical (sym canonical)).0 (fits.0 (or_left _ _ (le-leb (length suffix) 1024 few)))
 
 -- and a test of its scheme and of its pieces decides it
 pub text_tested : (v : Location) (s t : List ℕ) (b : Bool) → s ≡ scheme_text v.scheme → FreeOf colon (scheme_text v.scheme) → text v ≡ Ok (canonical_text v) → Ok t ≡ text v

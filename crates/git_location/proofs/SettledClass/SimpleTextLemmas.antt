@@ -26,7 +26,7 @@ use Rattle.git_syntax.proofs.ByMasks.CommonLemmas.{common_around, common_parts, 
 use Rattle.git_syntax.proofs.ByMasks.SimpleTextLemmas.{simple_free}
 use Rattle.git_syntax.proofs.Parsing.ClassifierLemmas.{file_mark_utf8}
 use Rattle.git_syntax.proofs.Texts.CutLemmas.{free_begins, held_free}
-use Rattle.git_syntax.proofs.Texts.EscapeLemmas.{utf8_behind}
+use Rattle.git_syntax.proofs.Texts.EscapeLemmas.{utf8_after}
 use Rattle.git_syntax.proofs.Texts.PlainLemmas.{plain_utf8}
 use Rattle.git_location.proofs.SettledClass.SettledLemmas.{plain_raw_path, simple_normal_name, simple_scp_name, simple_web_host}
 use Rattle.git_location.proofs.SettledClass.WebClassLemmas.{rooted_starts}
@@ -127,8 +127,8 @@ url_unchanged b p user host path port remote parts allowed begins short joined =
   where
     path_common : (front : List ℕ) → b ≡ front ++ (codes "://" ++ (before_host user ++ (host ++ (port_part port ++ path)))) → is_common path ≡ true
     path_common front e =
-        let behind = (common_parts front (codes "://" ++ (before_host user ++ (host ++ (port_part port ++ path)))) (subst (λ s. is_common s ≡ true) e parts.common)).1 in
-        let rest = (common_parts (codes "://") (before_host user ++ (host ++ (port_part port ++ path))) behind).1 in
+        let suffix = (common_parts front (codes "://" ++ (before_host user ++ (host ++ (port_part port ++ path)))) (subst (λ s. is_common s ≡ true) e parts.common)).1 in
+        let rest = (common_parts (codes "://") (before_host user ++ (host ++ (port_part port ++ path))) suffix).1 in
         let place = (common_parts (before_host user) (host ++ (port_part port ++ path)) rest).1 in
         (common_parts (port_part port) path (common_parts host (port_part port ++ path) place).1).1
 
@@ -178,8 +178,8 @@ scp_user (Some user) simple = record { no_colon = simple_free colon user simple 
 scp_unchanged : (b : List ℕ) (user : Option (List ℕ)) (host path : List ℕ) → HasSimpleParts b user host path → FreeOf colon path → ((rest : List ℕ) → ¬ (path ≡ slash ∷ (slash ∷ rest)))
     → b ≡ before_host user ++ (host ++ colon ∷ path) → IsSettled (simple_value ssh true user host None path) × (text (simple_value ssh true user host None path) ≡ Ok b)
 scp_unchanged b user host path parts free other joined =
-    let behind = (common_parts (before_host user) (host ++ colon ∷ path) (subst (λ s. is_common s ≡ true) joined parts.common)).1 in
-    let common = (common_around (host ++ colon ∷ path) host path colon behind refl).1 in (
+    let suffix = (common_parts (before_host user) (host ++ colon ∷ path) (subst (λ s. is_common s ≡ true) joined parts.common)).1 in
+    let common = (common_around (host ++ colon ∷ path) host path colon suffix refl).1 in (
       inl (record {
         flagged = refl;
         no_password = refl;
@@ -196,7 +196,7 @@ scp_unchanged b user host path parts free other joined =
 -- a file URL without a host
 file_unchanged : (b path : List ℕ) → IsUtf8 b → begins_with slash path ≡ true → b ≡ codes "file://" ++ path → IsSettled (path_alone file false path) × (text (path_alone file false path) ≡ Ok b)
 file_unchanged b path utf8 begins joined =
-    let path_text = utf8_behind (codes "file://") path (subst IsUtf8 joined utf8) file_mark_utf8 in
+    let path_text = utf8_after (codes "file://") path (subst IsUtf8 joined utf8) file_mark_utf8 in
     (inr (record { unflagged = refl; alone = (refl, refl, refl); no_match = λ (s, e, d). absurd cc; host = tt; path_text = path_text; rooted = begins }), ap Ok (sym joined))
 
 -- a simple text is settled, and is the text of its location

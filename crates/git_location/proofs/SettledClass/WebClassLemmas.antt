@@ -24,7 +24,7 @@ use Rattle.git_syntax.specs.Addresses.Literal.{address}
 use Rattle.git_syntax.specs.Hosts.{is_http_host_byte}
 use Rattle.git_syntax.specs.Schemes.{requires_path}
 use Rattle.git_syntax.proofs.Parsing.HostLemmas.{decimal_digits}
-use Rattle.git_syntax.proofs.Parsing.RoomLemmas.{normal_host_kept}
+use Rattle.git_syntax.proofs.Parsing.BufferLemmas.{normal_host_kept}
 use Rattle.git_syntax.proofs.Texts.CutLemmas.{all_weaker, cut_unique, free-append, free_of_all, free_of_lacked, free_or_cut, lacks_of_all, lacks_weaker, last_cut_unique, not_free}
 use Rattle.git_syntax.proofs.Texts.EscapeLemmas.{encode_lacks_kept, lacks_from_encode, sound_free, utf8_class}
 use Rattle.git_location.specs.Settled.{HasUrlPath, IsBracketedAddress, IsFairSpelling, IsWeb, IsWebHost}
@@ -116,23 +116,23 @@ ends_from_cases (b ∷ bs) (inl none) = cc
 ends_from_cases (b ∷ bs) (inr ends) = ends
 
 -- dots after a `/` are a dot segment
-dots_from : (x behind : List ℕ) → (ends_segment behind ≡ true) ⊎ EndsSecondDot behind → HasDotSegment (x ++ slash ∷ (dot ∷ behind))
-dots_from x behind (inl ends) = record { front = x; dots = codes "."; behind = behind; joined = refl; segment = inl refl; end = ends_by_cases behind ends }
-dots_from x behind (inr (last, second, ends)) =
-    record { front = x; dots = codes ".."; behind = last; joined = ap (λ y. x ++ slash ∷ (dot ∷ y)) second; segment = inr refl; end = ends_by_cases last ends }
+dots_from : (x suffix : List ℕ) → (ends_segment suffix ≡ true) ⊎ EndsSecondDot suffix → HasDotSegment (x ++ slash ∷ (dot ∷ suffix))
+dots_from x suffix (inl ends) = record { front = x; dots = codes "."; suffix = suffix; joined = refl; segment = inl refl; end = ends_by_cases suffix ends }
+dots_from x suffix (inr (last, second, ends)) =
+    record { front = x; dots = codes ".."; suffix = last; joined = ap (λ y. x ++ slash ∷ (dot ∷ y)) second; segment = inr refl; end = ends_by_cases last ends }
 
 -- a dot segment begins with a dot
-dots_to : (dots rest : List ℕ) → (dots ≡ codes ".") ⊎ (dots ≡ codes "..") → (rest ≡ []) ⊎ (begins_by is_segment_end rest ≡ true) → (behind : List ℕ) × (dots ++ rest ≡ dot ∷ behind) × ((ends_segment behind ≡ true) ⊎ EndsSecondDot behind)
+dots_to : (dots rest : List ℕ) → (dots ≡ codes ".") ⊎ (dots ≡ codes "..") → (rest ≡ []) ⊎ (begins_by is_segment_end rest ≡ true) → (suffix : List ℕ) × (dots ++ rest ≡ dot ∷ suffix) × ((ends_segment suffix ≡ true) ⊎ EndsSecondDot suffix)
 dots_to dots rest (inl one) end = (rest, ap (λ x. x ++ rest) one, inl (ends_from_cases rest end))
 dots_to dots rest (inr two) end = (dot ∷ rest, ap (λ x. x ++ rest) two, inr (rest, refl, ends_from_cases rest end))
 
 -- a dot segment of the text after a front is one of the whole
-dots_behind : (front behind : List ℕ) → HasDotSegment behind → HasDotSegment (front ++ dot ∷ behind)
-dots_behind front behind h = record {
+dots_after : (front suffix : List ℕ) → HasDotSegment suffix → HasDotSegment (front ++ dot ∷ suffix)
+dots_after front suffix h = record {
   front = front ++ dot ∷ h.front;
   dots = h.dots;
-  behind = h.behind;
-  joined = ap (λ x. front ++ dot ∷ x) h.joined ∙ sym (append_assoc front (dot ∷ h.front) (slash ∷ (h.dots ++ h.behind)));
+  suffix = h.suffix;
+  joined = ap (λ x. front ++ dot ∷ x) h.joined ∙ sym (append_assoc front (dot ∷ h.front) (slash ∷ (h.dots ++ h.suffix)));
   segment = h.segment;
   end = h.end;
 }
@@ -140,29 +140,29 @@ dots_behind front behind h = record {
 -- a text without a `.` has no dot segment
 pub no_segment : (t : List ℕ) → FreeOf dot t → ¬ HasDotSegment t
 no_segment t free h =
-    let (behind, joined, ends) = dots_to h.dots h.behind h.segment h.end in
-    not_free dot (h.front ++ slash ∷ []) behind (subst (λ x. FreeOf dot x) (h.joined ∙ ap (λ x. h.front ++ slash ∷ x) joined ∙ sym (append_assoc h.front (slash ∷ []) (dot ∷ behind))) free)
+    let (suffix, joined, ends) = dots_to h.dots h.suffix h.segment h.end in
+    not_free dot (h.front ++ slash ∷ []) suffix (subst (λ x. FreeOf dot x) (h.joined ∙ ap (λ x. h.front ++ slash ∷ x) joined ∙ sym (append_assoc h.front (slash ∷ []) (dot ∷ suffix))) free)
 
 -- a dot segment begins at the first `.`, or follows it
-segment_at_cut : (front behind : List ℕ) → FreeOf dot front → HasDotSegment (front ++ dot ∷ behind) → IsDotSegment front behind ⊎ HasDotSegment behind
-segment_at_cut front behind free h = elim (free_or_cut dot h.front) [
+segment_at_cut : (front suffix : List ℕ) → FreeOf dot front → HasDotSegment (front ++ dot ∷ suffix) → IsDotSegment front suffix ⊎ HasDotSegment suffix
+segment_at_cut front suffix free h = elim (free_or_cut dot h.front) [
   | inl none ↦
-      let (rest, dots, ends) = dots_to h.dots h.behind h.segment h.end in
+      let (rest, dots, ends) = dots_to h.dots h.suffix h.segment h.end in
       let whole = h.joined ∙ ap (λ x. h.front ++ slash ∷ x) dots ∙ sym (append_assoc h.front (slash ∷ []) (dot ∷ rest)) in
-      let same = cut_unique dot front (h.front ++ slash ∷ []) behind rest free (free-append dot h.front (slash ∷ []) none refl) whole in
+      let same = cut_unique dot front (h.front ++ slash ∷ []) suffix rest free (free-append dot h.front (slash ∷ []) none refl) whole in
       inl (h.front, same.0, subst (λ x. (ends_segment x ≡ true) ⊎ EndsSecondDot x) (sym same.1) ends)
   | inr (x, y, none, cut) ↦
-      let whole = h.joined ∙ ap (λ z. z ++ slash ∷ (h.dots ++ h.behind)) cut ∙ append_assoc x (dot ∷ y) (slash ∷ (h.dots ++ h.behind)) in
-      inr (record { front = y; dots = h.dots; behind = h.behind; joined = (cut_unique dot front x behind (y ++ slash ∷ (h.dots ++ h.behind)) free none whole).1; segment = h.segment; end = h.end })
+      let whole = h.joined ∙ ap (λ z. z ++ slash ∷ (h.dots ++ h.suffix)) cut ∙ append_assoc x (dot ∷ y) (slash ∷ (h.dots ++ h.suffix)) in
+      inr (record { front = y; dots = h.dots; suffix = h.suffix; joined = (cut_unique dot front x suffix (y ++ slash ∷ (h.dots ++ h.suffix)) free none whole).1; segment = h.segment; end = h.end })
 ]
 
 -- so a text with a `.` has one exactly if it begins at the first `.`, or follows that
-pub segment_cut : (t front behind : List ℕ) → FreeOf dot front → t ≡ front ++ dot ∷ behind → (IsDotSegment front behind ⊎ HasDotSegment behind) ↔ HasDotSegment t
-segment_cut t front behind free joined = (
+pub segment_cut : (t front suffix : List ℕ) → FreeOf dot front → t ≡ front ++ dot ∷ suffix → (IsDotSegment front suffix ⊎ HasDotSegment suffix) ↔ HasDotSegment t
+segment_cut t front suffix free joined = (
   λ either. subst HasDotSegment (sym joined) (⊎_elim
-      (λ here. subst HasDotSegment (sym (append_assoc here.0 (slash ∷ []) (dot ∷ behind)) ∙ ap (λ x. x ++ dot ∷ behind) (sym here.1)) (dots_from here.0 behind here.2))
-      (λ later. dots_behind front behind later) either),
-  λ has. segment_at_cut front behind free (subst HasDotSegment joined has),
+      (λ here. subst HasDotSegment (sym (append_assoc here.0 (slash ∷ []) (dot ∷ suffix)) ∙ ap (λ x. x ++ dot ∷ suffix) (sym here.1)) (dots_from here.0 suffix here.2))
+      (λ later. dots_after front suffix later) either),
+  λ has. segment_at_cut front suffix free (subst HasDotSegment joined has),
 )
 
 -- ---- the written text

@@ -26,7 +26,7 @@ module _ {W : Type 0} (took : W → List ℕ → W → Type 0) where
 
   -- a formatter that took a text that is UTF-8 shows it unchanged, whatever comes after it
   pub shown_text : (f g : Formatter W) (r : Result (Unit {0}) Error) (text : List ℕ) → IsUtf8 text → WritesStyledOnOk took f r text g → OnOk r (ShowsText took f text g)
-  shown_text f g (Ok u) text utf8 writes = (λ behind. lossy_front text behind utf8, λ flush. writes flush refl)
+  shown_text f g (Ok u) text utf8 writes = (λ suffix. lossy_front text suffix utf8, λ flush. writes flush refl)
   shown_text f g (Err e) text utf8 writes = tt
 
   -- a formatter that took the end of a text shows it, whatever bytes it is

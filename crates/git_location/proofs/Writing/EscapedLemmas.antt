@@ -34,11 +34,11 @@ encoded_more set bs i within =
     ap (λ l. percent_encode set (take i bs) ++ l) one ∙ sym (percent_encode-append set (take i bs) (get_or bs i 0 ∷ [])) ∙ ap (percent_encode set) (sym (take_more bs i 0 within))
 
 -- the text that is written for a block, and for the text after it
-pub block_put : (set : AsciiSet) (rest block behind written chunk : List ℕ) (n : ℕ) → block ≡ take n rest → behind ≡ drop n rest → written ≡ percent_encode set block → chunk ≡ written → percent_encode set rest ≡ chunk ++ percent_encode set behind
-block_put set rest block behind written chunk n front back is same =
+pub block_put : (set : AsciiSet) (rest block suffix written chunk : List ℕ) (n : ℕ) → block ≡ take n rest → suffix ≡ drop n rest → written ≡ percent_encode set block → chunk ≡ written → percent_encode set rest ≡ chunk ++ percent_encode set suffix
+block_put set rest block suffix written chunk n front back is same =
     ap (percent_encode set) (sym (take-append-drop n rest)) ∙ percent_encode-append set (take n rest) (drop n rest)
     ∙ ap (λ l. percent_encode set l ++ percent_encode set (drop n rest)) (sym front) ∙ ap (λ l. percent_encode set block ++ percent_encode set l) (sym back)
-    ∙ ap (λ l. l ++ percent_encode set behind) (sym (same ∙ is))
+    ∙ ap (λ l. l ++ percent_encode set suffix) (sym (same ∙ is))
 
 -- at the end all is written
 pub all_put : (set : AsciiSet) (text rest done : List ℕ) → length rest ≡ 0 → percent_encode set text ≡ done ++ percent_encode set rest → done ≡ percent_encode set text

@@ -17,7 +17,7 @@ module _ {W : Type 0} (took : W → List ℕ → W → Type 0) where
   -- options
   abbrev pub ShowsText : Formatter W → List ℕ → Formatter W → Type 0
   ShowsText old text new =
-      ((behind : List ℕ) → lossy_text (text ++ behind) ≡ text ++ lossy_text behind)
+      ((suffix : List ℕ) → lossy_text (text ++ suffix) ≡ text ++ lossy_text suffix)
       × (IsFlush old → HasWrittenStyled took old text new)
 
   -- it wrote the end of a text, which may be any bytes
@@ -45,7 +45,7 @@ module _ {W : Type 0} (took : W → List ℕ → W → Type 0) where
 
   pub shows_nothing : (a : Formatter W) → ShowsText a [] a
   shows_nothing a = (
-    λ behind. refl,
+    λ suffix. refl,
     λ flush. record {
       wrote = record {
         parts = [];
@@ -60,9 +60,9 @@ module _ {W : Type 0} (took : W → List ℕ → W → Type 0) where
   pub shows_joined : (a b c : Formatter W) (x y : List ℕ) → ShowsText a x b → ShowsText b y c
       → ShowsText a (x ++ y) c
   shows_joined a b c x y first second = (
-    λ behind.
-        ap lossy_text (append_assoc x y behind) ∙ first.0 (y ++ behind) ∙ ap
-        (λ z. x ++ z) (second.0 behind) ∙ sym (append_assoc x y (lossy_text behind)),
+    λ suffix.
+        ap lossy_text (append_assoc x y suffix) ∙ first.0 (y ++ suffix) ∙ ap
+        (λ z. x ++ z) (second.0 suffix) ∙ sym (append_assoc x y (lossy_text suffix)),
     λ flush. let before = first.1 flush in joined a b c x y before (second.1 before.flush),
   )
 
@@ -77,13 +77,13 @@ module _ {W : Type 0} (took : W → List ℕ → W → Type 0) where
 
 -- the check after a text has the outcome of the check before it, whatever follows
 abbrev pub ChecksPast : LengthCheck → List ℕ → LengthCheck → Type 0
-ChecksPast old text new = (behind : List ℕ)
-    → is_text_in_time new behind ≡ is_text_in_time old (text ++ behind)
+ChecksPast old text new = (suffix : List ℕ)
+    → is_text_in_time new suffix ≡ is_text_in_time old (text ++ suffix)
 
 pub checks_nothing : (a : LengthCheck) → ChecksPast a [] a
-checks_nothing a behind = refl
+checks_nothing a suffix = refl
 
 pub checks_joined : (a b c : LengthCheck) (x y : List ℕ) → ChecksPast a x b → ChecksPast b y c
     → ChecksPast a (x ++ y) c
-checks_joined a b c x y first second behind = second behind ∙ first (y ++ behind) ∙ sym
-    (ap (is_text_in_time a) (append_assoc x y behind))
+checks_joined a b c x y first second suffix = second suffix ∙ first (y ++ suffix) ∙ sym
+    (ap (is_text_in_time a) (append_assoc x y suffix))

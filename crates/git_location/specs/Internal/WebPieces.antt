@@ -38,9 +38,9 @@ ends_segment (b ∷ bs) = is_segment_end b
 
 -- the text begins with a `.` that ends a segment
 abbrev pub EndsSecondDot : List ℕ → Type 0
-EndsSecondDot text = (behind : List ℕ) × (text ≡ dot ∷ behind) × (ends_segment behind ≡ true)
+EndsSecondDot text = (suffix : List ℕ) × (text ≡ dot ∷ suffix) × (ends_segment suffix ≡ true)
 
 -- the `.` between the texts begins a segment `.` or `..` after a `/`
 abbrev pub IsDotSegment : List ℕ → List ℕ → Type 0
-IsDotSegment front behind = (x : List ℕ) × (front ≡ x ++ slash ∷ [])
-    × ((ends_segment behind ≡ true) ⊎ EndsSecondDot behind)
+IsDotSegment front suffix = (x : List ℕ) × (front ≡ x ++ slash ∷ [])
+    × ((ends_segment suffix ≡ true) ⊎ EndsSecondDot suffix)

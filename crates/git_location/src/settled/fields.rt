@@ -8,7 +8,7 @@ ghost use Rattle.git_location.specs.Settled.{HasAtMostHost, HasMatch, IsFlaggedP
 use crate::url_ref::UrlRef;
 use git_syntax::bytes::{cut_at_mark, is_free_of, is_lowercase};
 use git_syntax::escape::decodes_to;
-use git_syntax::host::bytes::looks_like_domain;
+use git_syntax::host::bytes::is_like_domain;
 use git_syntax::host::is_simple_host;
 use git_syntax::ipv6::is_address;
 
@@ -57,7 +57,7 @@ pub(crate) fn lacks_mark(text: &[u8]) -> bool
 pub(crate) fn is_normal(host: &[u8]) -> bool
     ensures { IsTrue result ↔ (normal_host host.now ≡ host.now) }
 {
-    !looks_like_domain(host) || is_lowercase(host)
+    !is_like_domain(host) || is_lowercase(host)
 }
 
 /// Whether the text is not empty and lacks `:`, `[` and `]`.

@@ -133,10 +133,10 @@ impl Sink<LengthCheck> for LengthSink {
     ghost ends = { ChecksPast };
 
     fn put(place: &mut LengthCheck, slice: &str) -> Result<(), Infallible> {
-        LengthSink::put_end(place, slice.as_bytes())
+        LengthSink::write_end(place, slice.as_bytes())
     }
 
-    fn put_end(place: &mut LengthCheck, end: &[u8]) -> Result<(), Infallible> {
+    fn write_end(place: &mut LengthCheck, end: &[u8]) -> Result<(), Infallible> {
         *place = place.advance(end);
         Ok(())
     }

@@ -57,7 +57,7 @@ fn has_scp_host(url: &UrlRef<'_>) -> bool
 {
     match url.host {
         None => false,
-        Some(host) => is_scp_host(host) && !looks_like_helper(url, host.as_bytes()),
+        Some(host) => is_scp_host(host) && !is_like_helper(url, host.as_bytes()),
     }
 }
 
@@ -89,7 +89,7 @@ fn is_any_scp_name(host: &str) -> bool
 }
 
 /// Whether the text of this host and the path would be that of a remote helper.
-fn looks_like_helper(url: &UrlRef<'_>, host: &[u8]) -> bool
+fn is_like_helper(url: &UrlRef<'_>, host: &[u8]) -> bool
     ensures { IsTrue result ↔ LooksLikeHelper url.now host.now }
 {
     url.user.is_none() && is_helper_name(host) && starts_with_byte(url.path, b':')

@@ -19,7 +19,7 @@ const DIGITS: [u8; 16] = *b"0123456789ABCDEF";
 
 /// Puts the text with the bytes of the set, and those that aren't ASCII, as escapes.
 #[inline(never)]
-pub(crate) fn put_escaped<T, S: Sink<T>>(
+pub(crate) fn write_escaped<T, S: Sink<T>>(
     place: &mut T,
     text: &[u8],
     set: AsciiSet,
@@ -29,10 +29,10 @@ pub(crate) fn put_escaped<T, S: Sink<T>>(
     let mut buffer = [0; 96];
     let mut rest = text;
     while !rest.is_empty() {
-        let (block, behind) = rest.split_at(rest.len().min(BLOCK));
+        let (block, suffix) = rest.split_at(rest.len().min(BLOCK));
         let size = escape_block(&mut buffer, block, set);
         S::put(place, as_text(&buffer[..size]))?;
-        rest = behind;
+        rest = suffix;
     }
     Ok(())
 }
@@ -45,14 +45,14 @@ fn escape_block(buffer: &mut [u8; 96], block: &[u8], set: AsciiSet) -> usize
 {
     let mut size = 0;
     for byte in block {
-        size = put_byte(buffer, size, *byte, set);
+        size = write_byte(buffer, size, *byte, set);
     }
     size
 }
 
 /// Writes a byte, or its escape, at this index of the buffer, and returns the index after it.
 #[inline(always)]
-fn put_byte(buffer: &mut [u8; 96], at: usize, byte: u8, set: AsciiSet) -> usize
+fn write_byte(buffer: &mut [u8; 96], at: usize, byte: u8, set: AsciiSet) -> usize
     requires { at ≤ 93 }
     ensures bytes { take result buffer.new ≡ take at buffer.old ++ encode_byte set byte }
     ensures bound { result ≤ at + 3 }

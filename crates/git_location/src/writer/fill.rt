@@ -38,13 +38,13 @@ impl<'a> Sink<Filled<'a>> for Front {
     ghost ends = { Fills };
 
     fn put(place: &mut Filled<'a>, slice: &str) -> Result<(), Infallible> {
-        Front::put_end(place, slice.as_bytes())
+        Front::write_end(place, slice.as_bytes())
     }
 
-    fn put_end(place: &mut Filled<'a>, end: &[u8]) -> Result<(), Infallible> {
+    fn write_end(place: &mut Filled<'a>, end: &[u8]) -> Result<(), Infallible> {
         // Nothing is promised if the buffer is too short.
         if place.at <= place.buffer.len() && end.len() <= place.buffer.len() - place.at {
-            put_at(place.buffer, place.at, end);
+            write_at(place.buffer, place.at, end);
             place.at += end.len();
         }
         Ok(())
@@ -58,7 +58,7 @@ impl<'a> Sink<Filled<'a>> for Front {
 }
 
 /// Writes the bytes at this index of the buffer.
-fn put_at(buffer: &mut [u8], at: usize, bytes: &[u8])
+fn write_at(buffer: &mut [u8], at: usize, bytes: &[u8])
     requires { at + length bytes.now ≤ length buffer.old }
     ensures { buffer.new ≡ take at buffer.old ++ (bytes.now ++ drop (length bytes.now) (drop at buffer.old)) }
 {

@@ -10,8 +10,8 @@ ghost use Rattle.git_syntax.specs.declared.escape.TheConstants.{PATH, PASSWORD, 
 ghost use Rattle.git_syntax.specs.Bytes.{percent_sign};
 ghost use Rattle.git_location.specs.Internal.Pieces.{host_text, path_end_text, piece_text, pieces_text, port_text, scheme_piece_text, user_text};
 
-use crate::writer::escaped::put_escaped;
-use crate::writer::sink::{Sink, put_percents};
+use crate::writer::escaped::write_escaped;
+use crate::writer::sink::{Sink, write_percents};
 use crate::writer::unescaped::{needs_no_escape, user_needs_no_escape};
 use git_syntax::escape::{PASSWORD, PATH, USER};
 use percent_encoding::AsciiSet;
@@ -129,9 +129,9 @@ impl<'a> Piece<'a> {
     {
         match self {
             Piece::Raw(text) => S::put(place, text),
-            Piece::User(text) => put_escaped::<T, S>(place, text.as_bytes(), USER),
-            Piece::Password(text) => put_escaped::<T, S>(place, text.as_bytes(), PASSWORD),
-            Piece::Percents(text) => put_percents::<T, S>(place, text),
+            Piece::User(text) => write_escaped::<T, S>(place, text.as_bytes(), USER),
+            Piece::Password(text) => write_escaped::<T, S>(place, text.as_bytes(), PASSWORD),
+            Piece::Percents(text) => write_percents::<T, S>(place, text),
         }
     }
 }
@@ -264,12 +264,12 @@ impl<'a> PathPieces<'a> {
                 if !mark.is_empty() {
                     S::put(place, mark)?;
                 }
-                S::put_end(place, path)
+                S::write_end(place, path)
             }
             PathPieces::Escaped(mark, path) => {
                 S::put(place, mark)?;
-                put_escaped::<T, S>(place, path, PATH)?;
-                S::put_end(place, b"")
+                write_escaped::<T, S>(place, path, PATH)?;
+                S::write_end(place, b"")
             }
         }
     }
@@ -296,7 +296,7 @@ impl<'a> Pieces<'a> {
         self.scheme.put::<T, S>(place)?;
         self.user.put::<T, S>(place)?;
         self.host.put::<T, S>(place)?;
-        put_port::<T, S>(place, self.port)?;
+        write_port::<T, S>(place, self.port)?;
         self.path.put::<T, S>(place)
     }
 }
@@ -314,7 +314,7 @@ fn port_len(digits: Option<&str>) -> u128
 
 /// Puts a colon and a port into the sink.
 #[inline(always)]
-fn put_port<T, S: Sink<T>>(place: &mut T, digits: Option<&str>) -> Result<(), S::Fault>
+fn write_port<T, S: Sink<T>>(place: &mut T, digits: Option<&str>) -> Result<(), S::Fault>
     ensures { OnOk result (S.takes place.old (port_text digits.entry) place.new) }
 {
     match digits {

@@ -63,7 +63,7 @@ impl<W: fmt::Write> Sink<fmt::Formatter<W>> for Shown {
         place.write_str(slice)
     }
 
-    fn put_end(place: &mut fmt::Formatter<W>, end: &[u8]) -> fmt::Result {
+    fn write_end(place: &mut fmt::Formatter<W>, end: &[u8]) -> fmt::Result {
         show_lossy(place, end)
     }
 

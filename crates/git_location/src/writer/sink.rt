@@ -29,7 +29,7 @@ pub trait Sink<T> {
         ensures { OnOk result (takes place.old slice.now place.new) };
 
     /// Puts the end.
-    fn put_end(place: &mut T, end: &[u8]) -> Result<(), Self::Fault>
+    fn write_end(place: &mut T, end: &[u8]) -> Result<(), Self::Fault>
         ensures { OnOk result (ends place.old end.now place.new) };
 
     ghost takes_nothing: { (a : T) → takes a [] a };
@@ -43,7 +43,7 @@ pub trait Sink<T> {
 
 /// Puts the text with each `%` escaped.
 #[inline(never)]
-pub fn put_percents<T, S: Sink<T>>(place: &mut T, text: &str) -> Result<(), S::Fault>
+pub fn write_percents<T, S: Sink<T>>(place: &mut T, text: &str) -> Result<(), S::Fault>
     ensures { OnOk result (S.takes place.old (escaped_percents text.now) place.new) }
 {
     let mut rest = text;
@@ -76,7 +76,7 @@ impl<W: Write> Sink<W> for Output {
         place.write_all(slice.as_bytes())
     }
 
-    fn put_end(place: &mut W, end: &[u8]) -> io::Result<()> {
+    fn write_end(place: &mut W, end: &[u8]) -> io::Result<()> {
         place.write_all(end)
     }
 

@@ -7,7 +7,7 @@ use Rattle.git_modules.specs.declared.config_file.flaw.Flaw.{Flaw}
 use Rattle.git_modules.specs.declared.config_file.value.Mode.{Mode}
 use Rattle.git_modules.specs.declared.config_file.value.Mode.TheVariants.{Comment}
 use Rattle.git_modules.specs.declared.config_file.value.Part.TheVariants as part
-use Rattle.git_modules.specs.ConfigFileFlaws.{refused, behind}
+use Rattle.git_modules.specs.ConfigFileFlaws.{refused, prefixed}
 use Rattle.git_modules.specs.ConfigFileValues.{part_of, value_text, spaces}
 
 -- white space
@@ -19,11 +19,11 @@ pub has_byte : (k : ℕ) → nat_lt 0 (k + 1) ≡ true
 has_byte k = grind (arith, nat_tests)
 
 -- white space after a byte
-pub blank_goes : (old : List ℕ) (end kept c : ℕ) (mode : Mode) (left : List ℕ) → kept ≤ end → 0 < end → part_of mode c ≡ part.Blank → behind (take kept old) (value_text mode (nat_lt 0 end) (end - kept) (c ∷ left)) ≡ behind (take kept (set old end 32)) (value_text mode (nat_lt 0 (end + 1)) ((end + 1) - kept) left)
+pub blank_goes : (old : List ℕ) (end kept c : ℕ) (mode : Mode) (left : List ℕ) → kept ≤ end → 0 < end → part_of mode c ≡ part.Blank → prefixed (take kept old) (value_text mode (nat_lt 0 end) (end - kept) (c ∷ left)) ≡ prefixed (take kept (set old end 32)) (value_text mode (nat_lt 0 (end + 1)) ((end + 1) - kept) left)
 blank_goes old end kept c mode left h some e =
     let yes_now : nat_lt 0 end ≡ true = grind (arith, nat_tests) in
     let more : (end + 1) - kept ≡ (end - kept) + 1 = omega arith in
-    rw (yes_now, has_byte end, more, take-set-le kept old end 32 h) (ap (behind (take kept old)) (blank_step mode true (end - kept) c left e))
+    rw (yes_now, has_byte end, more, take-set-le kept old end 32 h) (ap (prefixed (take kept old)) (blank_step mode true (end - kept) c left e))
 
 -- the space is one of those that don't count yet
 pub blank_tail : (old : List ℕ) (end kept : ℕ) → kept ≤ end → take end old ≡ take kept old ++ spaces (end - kept) → end < length old → take (end + 1) (set old end 32) ≡ take kept (set old end 32) ++ spaces ((end + 1) - kept)

@@ -59,12 +59,12 @@ paths_same all i s paths within at none before q =
 -- one with a path changes the record for that path
 pub paths_more : (all : List GitSubmodule) (i : ℕ) (s : GitSubmodule) (u : UsedValue) (paths after : BTreeMap (Bor (List ℕ)) Bool) → i < length all → s ≡ get_or all i s → s.path ≡ Some u → HasPaths (take i all) paths → NotesPath paths u.value after → HasPaths (take (i + 1) all) after
 paths_more all i s u paths after within at some before noted q =
-    let told : has_path q s ≡ bytes_eq u.value q = ap (λ o. option_map_or (λ (path : UsedValue). bytes_eq path.value q) o false) some in
+    let has_same : has_path q s ≡ bytes_eq u.value q = ap (λ o. option_map_or (λ (path : UsedValue). bytes_eq path.value q) o false) some in
     elim (cases_Bool (bytes_eq u.value q)) [
       | inl is ↦
           let same : u.value ≡ q = (bytes_eq-Decides u.value q).0 is in
           noted q ∙ cond-true _ _ _ is ∙ ap (λ p. Some (is_some (noted_path paths p))) same ∙ ap (λ o. Some (is_some o)) (before q)
-          ∙ sym (note_next (path_count q (take i all))) ∙ ap count_note (sym (count_has q all i s within at (told ∙ is)))
+          ∙ sym (note_next (path_count q (take i all))) ∙ ap count_note (sym (count_has q all i s within at (has_same ∙ is)))
       | inr other ↦
-          noted q ∙ cond-false _ _ _ other ∙ before q ∙ ap count_note (sym (count_lacks q all i s within at (told ∙ other)))
+          noted q ∙ cond-false _ _ _ other ∙ before q ∙ ap count_note (sym (count_lacks q all i s within at (has_same ∙ other)))
     ]

@@ -54,8 +54,8 @@ pub record IsLeftOf (whole : List ℕ) (left : LeftOver) : Type 0 where
   pub no_slash : left.by_colon ≡ true → IfSome left.text (λ text. FreeOf slash text)
 
 -- a front of a front is one
-shorter : (whole text rest front behind : List ℕ) (c : ℕ) → whole ≡ text ++ rest → text ≡ front ++ c ∷ behind → whole ≡ front ++ c ∷ (behind ++ rest)
-shorter whole text rest front behind c e f = e ∙ ap (λ z. z ++ rest) f ∙ append_assoc front (c ∷ behind) rest
+shorter : (whole text rest front suffix : List ℕ) (c : ℕ) → whole ≡ text ++ rest → text ≡ front ++ c ∷ suffix → whole ≡ front ++ c ∷ (suffix ++ rest)
+shorter whole text rest front suffix c e f = e ∙ ap (λ z. z ++ rest) f ∙ append_assoc front (c ∷ suffix) rest
 
 -- a `/` is taken off if no `:` was
 follows_slash : (whole rest : List ℕ) (by_colon : Bool) → (by_colon ≡ true → ⊥) → Follows whole by_colon (slash ∷ rest)

@@ -27,13 +27,13 @@ starts_append test (b ∷ bs) path (inl none) k = cc
 starts_append test (b ∷ bs) path (inr begins) k = inr begins
 
 -- texts with one front that is followed by path starts have one authority
-same_authority : (test : ℕ → Bool) (a b p q front path behind : List ℕ) → Lacks test a → Lacks test b → (p ≡ []) ⊎ (begins_by test p ≡ true) → (q ≡ []) ⊎ (begins_by test q ≡ true) → (path ≡ []) ⊎ (begins_by test path ≡ true) → (behind ≡ []) ⊎ (begins_by test behind ≡ true) → a ++ p ≡ front ++ path → b ++ q ≡ front ++ behind → b ≡ a
-same_authority test a b p q front path behind f g h k m n d e =
+same_authority : (test : ℕ → Bool) (a b p q front path suffix : List ℕ) → Lacks test a → Lacks test b → (p ≡ []) ⊎ (begins_by test p ≡ true) → (q ≡ []) ⊎ (begins_by test q ≡ true) → (path ≡ []) ⊎ (begins_by test path ≡ true) → (suffix ≡ []) ⊎ (begins_by test suffix ≡ true) → a ++ p ≡ front ++ path → b ++ q ≡ front ++ suffix → b ≡ a
+same_authority test a b p q front path suffix f g h k m n d e =
     let cut = cut_at_first test front in
     let own = take (position_or_len test front) front in
     let rest = drop (position_or_len test front) front in
     let first = class_cut_unique test a own p (rest ++ path) f cut.1 h (starts_append test rest path cut.2 m) (d ∙ ap (λ z. z ++ path) cut.0 ∙ append_assoc own rest path) in
-    let second = class_cut_unique test b own q (rest ++ behind) g cut.1 k (starts_append test rest behind cut.2 n) (e ∙ ap (λ z. z ++ behind) cut.0 ∙ append_assoc own rest behind) in
+    let second = class_cut_unique test b own q (rest ++ suffix) g cut.1 k (starts_append test rest suffix cut.2 n) (e ∙ ap (λ z. z ++ suffix) cut.0 ∙ append_assoc own rest suffix) in
     second.0 ∙ sym first.0
 
 -- a `/` starts a path
@@ -105,20 +105,20 @@ scheme_name scheme h = record {
 kept_url : (t s : List ℕ) (v w : Location) (h : SpellsUrl t v) → KeepsAuthority h.parts.scheme (h.spelled.authority ++ h.parts.path) s → Spells s w → IsSamePlace v w
 kept_url t s v w h kept spelled =
     let scheme = h.parts.scheme in
-    let form : UrlForm s scheme (kept.authority ++ kept.behind) = url_has_form s scheme (kept.authority ++ kept.behind) (scheme_text_free scheme colon h.spelled.scheme_text refl) kept.joined in
-    let k = spelled_as_url s scheme (kept.authority ++ kept.behind) (record { form = form; not_file = h.spelled.not_file }) w spelled in
-    let pieces = url_pieces s scheme (kept.authority ++ kept.behind) w form k in
+    let form : UrlForm s scheme (kept.authority ++ kept.suffix) = url_has_form s scheme (kept.authority ++ kept.suffix) (scheme_text_free scheme colon h.spelled.scheme_text refl) kept.joined in
+    let k = spelled_as_url s scheme (kept.authority ++ kept.suffix) (record { form = form; not_file = h.spelled.not_file }) w spelled in
+    let pieces = url_pieces s scheme (kept.authority ++ kept.suffix) w form k in
     let web = is_web_scheme scheme in
     let lacks : Lacks (is_path_start web) k.spelled.authority = subst (λ z. Lacks (is_path_start (is_web_scheme z)) k.spelled.authority) pieces.0 k.spelled.before_path in
     let starts : StartsPath web k.parts.path = subst (λ z. StartsPath (is_web_scheme z) k.parts.path) pieces.0 k.spelled.path_starts in
-    url_place t s v w h k pieces.0 (same_authority (is_path_start web) h.spelled.authority k.spelled.authority h.parts.path k.parts.path kept.authority kept.path kept.behind h.spelled.before_path lacks h.spelled.path_starts starts (slash_or_none web kept.path kept.path_starts) (inr (slash_starts web kept.behind kept.behind_starts)) kept.cut pieces.1)
+    url_place t s v w h k pieces.0 (same_authority (is_path_start web) h.spelled.authority k.spelled.authority h.parts.path k.parts.path kept.authority kept.path kept.suffix h.spelled.before_path lacks h.spelled.path_starts starts (slash_or_none web kept.path kept.path_starts) (inr (slash_starts web kept.suffix kept.after_starts)) kept.cut pieces.1)
 
 -- and so of a file URL
 kept_file : (t s : List ℕ) (v w : Location) (h : SpellsFile t v) → KeepsAuthority (codes "file") (h.host ++ h.path) s → Spells s w → IsSamePlace v w
 kept_file t s v w h kept spelled =
-    let k = spelled_as_file s (kept.authority ++ kept.behind) (url_has_form s (codes "file") (kept.authority ++ kept.behind) refl kept.joined) w spelled in
-    let rest : k.host ++ k.path ≡ kept.authority ++ kept.behind = append_cancel_left (codes "file://") (k.host ++ k.path) (kept.authority ++ kept.behind) (sym k.joined ∙ kept.joined) in
-    let host = same_authority (λ b. b == slash) h.host k.host h.path k.path kept.authority kept.path kept.behind h.no_slash k.no_slash (inr h.rooted) (inr k.rooted) kept.path_starts (inr kept.behind_starts) kept.cut rest in
+    let k = spelled_as_file s (kept.authority ++ kept.suffix) (url_has_form s (codes "file") (kept.authority ++ kept.suffix) refl kept.joined) w spelled in
+    let rest : k.host ++ k.path ≡ kept.authority ++ kept.suffix = append_cancel_left (codes "file://") (k.host ++ k.path) (kept.authority ++ kept.suffix) (sym k.joined ∙ kept.joined) in
+    let host = same_authority (λ b. b == slash) h.host k.host h.path k.path kept.authority kept.path kept.suffix h.no_slash k.no_slash (inr h.rooted) (inr k.rooted) kept.path_starts (inr kept.after_starts) kept.cut rest in
     record {
       scheme = ap (λ z. z.scheme) k.value ∙ sym (ap (λ z. z.scheme) h.value);
       user = ap (λ z. z.user) k.value ∙ sym (ap (λ z. z.user) h.value);

@@ -6,11 +6,11 @@ use Rattle.git_syntax.specs.Bytes.{colon, slash, FreeOf, begins_with}
 use Rattle.git_syntax.proofs.Texts.CutLemmas.{ends_or_not, free_parts}
 use Rattle.git_rules.specs.Patterns.{without_last_slash}
 use Rattle.git_rules.proofs.Matched.PathLemmas.{without-slash, without-other}
-use Rattle.git_modules.specs.ResolveSteps.{behind_here, behind_steps, is_relative, ups}
+use Rattle.git_modules.specs.ResolveSteps.{after_here, after_steps, is_relative, ups}
 use Rattle.git_modules.specs.ResolveParents.{LeftOver, form_of, is_remote, left_of, whole_of}
 use Rattle.git_modules.specs.Resolve.{Resolution, against, join, joined, resolution, resolved_text}
 use Rattle.git_modules.specs.ResolveRoots.{authority_length, climbs, keeps_root, root_of, text_left}
-use Rattle.git_modules.proofs.Resolved.StepLemmas.{behind_here_joined}
+use Rattle.git_modules.proofs.Resolved.StepLemmas.{after_here_joined}
 use Rattle.git_modules.proofs.Resolved.ChopLemmas.{Follows, IsLeftOf, chopped_left}
 use Rattle.git_modules.proofs.Resolved.RootLemmas.{IsName, authority_ends, keeps_some, name_remote, root_of-url}
 
@@ -33,12 +33,12 @@ none_or_some None = inl refl
 none_or_some (Some x) = inr (x, refl)
 
 -- a text with a colon before each `/` doesn't begin with `./`
-remote_not_here : (text rest : List ℕ) → is_remote (text ++ rest) ≡ true → behind_here text ≡ None
+remote_not_here : (text rest : List ℕ) → is_remote (text ++ rest) ≡ true → after_here text ≡ None
 remote_not_here text rest remote =
-    elim (none_or_some (behind_here text)) [
+    elim (none_or_some (after_here text)) [
       | inl none ↦ none
-      | inr (behind, begins) ↦
-          let wrong : false ≡ true = subst (λ z. is_remote (z ++ rest) ≡ true) (behind_here_joined text behind begins) remote in cc
+      | inr (suffix, begins) ↦
+          let wrong : false ≡ true = subst (λ z. is_remote (z ++ rest) ≡ true) (after_here_joined text suffix begins) remote in cc
     ]
 
 -- all of a remote parent is a front of it
@@ -61,9 +61,9 @@ joined_some : (found : Option LeftOver) (rest : List ℕ) (r : Resolution) → j
 joined_some None rest r e = cc
 joined_some (Some left) rest r e = (left, refl, cc)
 
-pub against_some : (parent url : List ℕ) (r : Resolution) → against parent url ≡ Ok r → (left : LeftOver) × (left_of parent (ups url) ≡ Some left) × (join left.text left.by_colon (without_last_slash (behind_steps url)) ≡ r)
+pub against_some : (parent url : List ℕ) (r : Resolution) → against parent url ≡ Ok r → (left : LeftOver) × (left_of parent (ups url) ≡ Some left) × (join left.text left.by_colon (without_last_slash (after_steps url)) ≡ r)
 against_some [] url r e = cc
-against_some (b ∷ bs) url r e = joined_some (left_of (b ∷ bs) (ups url)) (behind_steps url) r e
+against_some (b ∷ bs) url r e = joined_some (left_of (b ∷ bs) (ups url)) (after_steps url) r e
 
 -- ---- the text
 
@@ -71,28 +71,28 @@ against_some (b ∷ bs) url r e = joined_some (left_of (b ∷ bs) (ups url)) (be
 pub record KeepsAuthority (name rest text : List ℕ) : Type 0 where
   pub authority : List ℕ
   pub path : List ℕ
-  pub behind : List ℕ
+  pub suffix : List ℕ
   pub cut : rest ≡ authority ++ path
   pub path_starts : (path ≡ []) ⊎ (begins_with slash path ≡ true)
-  pub joined : text ≡ name ++ (codes "://" ++ (authority ++ behind))
-  pub behind_starts : begins_with slash behind ≡ true
+  pub joined : text ≡ name ++ (codes "://" ++ (authority ++ suffix))
+  pub after_starts : begins_with slash suffix ≡ true
 
 pub not_false : (b : Bool) → not b ≡ false → b ≡ true
 not_false true e = refl
 not_false false e = cc
 
 -- the text after a front that is left begins with a `/`
-behind_begins : (more back path rest : List ℕ) → path ≡ more ++ back → (path ≡ []) ⊎ (begins_with slash path ≡ true) → begins_with slash (more ++ slash ∷ rest) ≡ true
-behind_begins [] back path rest e h = refl
-behind_begins (b ∷ bs) back path rest e (inl none) = let wrong : [] ≡ b ∷ (bs ++ back) = sym none ∙ e in cc
-behind_begins (b ∷ bs) back path rest e (inr begins) = subst (λ z. begins_with slash z ≡ true) e begins
+after_begins : (more back path rest : List ℕ) → path ≡ more ++ back → (path ≡ []) ⊎ (begins_with slash path ≡ true) → begins_with slash (more ++ slash ∷ rest) ≡ true
+after_begins [] back path rest e h = refl
+after_begins (b ∷ bs) back path rest e (inl none) = let wrong : [] ≡ b ∷ (bs ++ back) = sym none ∙ e in cc
+after_begins (b ∷ bs) back path rest e (inr begins) = subst (λ z. begins_with slash z ≡ true) e begins
 
 regroup : (n m a x z : List ℕ) → ((n ++ (m ++ a)) ++ x) ++ z ≡ n ++ (m ++ (a ++ (x ++ z)))
 regroup n m a x z = simp append_assoc
 
 -- after the root of a URL is the text after its authority
-behind_root : (name rest text more back : List ℕ) → text ≡ (name ++ (codes "://" ++ take (authority_length rest) rest)) ++ more → name ++ (codes "://" ++ rest) ≡ text ++ back → drop (authority_length rest) rest ≡ more ++ back
-behind_root name rest text more back e whole =
+after_root : (name rest text more back : List ℕ) → text ≡ (name ++ (codes "://" ++ take (authority_length rest) rest)) ++ more → name ++ (codes "://" ++ rest) ≡ text ++ back → drop (authority_length rest) rest ≡ more ++ back
+after_root name rest text more back e whole =
     let a = take (authority_length rest) rest in
     let d = drop (authority_length rest) rest in
     let both : name ++ (codes "://" ++ (a ++ d)) ≡ name ++ (codes "://" ++ (a ++ (more ++ back))) =
@@ -125,17 +125,17 @@ keeps_authority name rest parent url r h whole relative stays e =
     let has_text : left.text ≡ Some kept.0 = sym (ap (option_and_then (λ z. z.text)) some.1) ∙ kept.1 in
     let front = left_front parent (ups url) left remote some.1 in
     let back = subst (λ o. IfSome o (λ t. (y : List ℕ) × (parent ≡ t ++ y) × Follows parent left.by_colon y)) has_text front.front in
-    let behind = without_last_slash (behind_steps url) in
+    let suffix = without_last_slash (after_steps url) in
     elim (cases_Bool left.by_colon) [
       | inl colon ↦
           absurd (root_not_free name a more (subst (λ z. FreeOf slash z) text_is (subst (λ o. IfSome o (λ t. FreeOf slash t)) has_text (front.no_slash colon))))
       | inr none ↦ record {
         authority = a;
         path = drop (authority_length rest) rest;
-        behind = more ++ slash ∷ behind;
+        suffix = more ++ slash ∷ suffix;
         cut = sym (take-append-drop (authority_length rest) rest);
         path_starts = authority_ends rest;
-        joined = text_of_left left.text left.by_colon kept.0 behind r has_text none some.2 ∙ ap (λ z. z ++ slash ∷ behind) text_is ∙ regroup name (codes "://") a more (slash ∷ behind);
-        behind_starts = behind_begins more back.0 (drop (authority_length rest) rest) behind (behind_root name rest kept.0 more back.0 text_is (sym whole ∙ back.1)) (authority_ends rest);
+        joined = text_of_left left.text left.by_colon kept.0 suffix r has_text none some.2 ∙ ap (λ z. z ++ slash ∷ suffix) text_is ∙ regroup name (codes "://") a more (slash ∷ suffix);
+        after_starts = after_begins more back.0 (drop (authority_length rest) rest) suffix (after_root name rest kept.0 more back.0 text_is (sym whole ∙ back.1)) (authority_ends rest);
       }
     ]

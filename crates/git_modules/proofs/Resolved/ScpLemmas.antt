@@ -12,7 +12,7 @@ use Rattle.git_syntax.proofs.Unique.UniqueLemmas.{scp_before_unique}
 use Rattle.git_location.specs.Settled.{begins_with_slashes}
 use Rattle.git_rules.specs.Patterns.{without_last_slash}
 use Rattle.git_rules.proofs.Matched.PathLemmas.{without-slash}
-use Rattle.git_modules.specs.ResolveSteps.{behind_steps, is_relative, ups}
+use Rattle.git_modules.specs.ResolveSteps.{after_steps, is_relative, ups}
 use Rattle.git_modules.specs.ResolveParents.{is_remote}
 use Rattle.git_modules.specs.Resolve.{Resolution, join, resolution, resolved_text}
 use Rattle.git_modules.specs.ResolveRoots.{climbs, keeps_root, mark_length, root_of, text_left}
@@ -26,10 +26,10 @@ use Rattle.git_modules.proofs.Resolved.PlaceLemmas.{against_some, left_front, no
 -- the resolved text keeps the name and its colon, and begins neither by `::` nor by `://` if its parent
 -- doesn't
 pub record KeepsName (name path text : List ℕ) : Type 0 where
-  pub behind : List ℕ
-  pub joined : text ≡ name ++ colon ∷ behind
-  pub no_helper : begins_with colon behind ≡ true → begins_with colon path ≡ true
-  pub no_url : begins_with_slashes behind ≡ true → begins_with_slashes path ≡ true
+  pub suffix : List ℕ
+  pub joined : text ≡ name ++ colon ∷ suffix
+  pub no_helper : begins_with colon suffix ≡ true → begins_with colon path ≡ true
+  pub no_url : begins_with_slashes suffix ≡ true → begins_with_slashes path ≡ true
 
 -- the byte between the rest and the rest
 abbrev separator : Bool → ℕ
@@ -83,21 +83,21 @@ one_left false x back rest name path parent e whole (inr begins) h =
     ap begins_with_slashes e ∙ byte_slashes x back (and_parts (x == slash) true h).0 begins
 
 -- the text after the colon begins as the path does
-behind_helper : (by_colon : Bool) (m back rest path parent : List ℕ) → path ≡ m ++ back → Follows parent by_colon back → begins_with colon (m ++ separator by_colon ∷ rest) ≡ true → begins_with colon path ≡ true
-behind_helper true [] back rest path parent e follows h = ap (begins_with colon) e ∙ follows
-behind_helper false [] back rest path parent e follows h = absurd (both_ways false refl h)
-behind_helper by_colon (x ∷ m) back rest path parent e follows h = ap (begins_with colon) e ∙ h
+after_helper : (by_colon : Bool) (m back rest path parent : List ℕ) → path ≡ m ++ back → Follows parent by_colon back → begins_with colon (m ++ separator by_colon ∷ rest) ≡ true → begins_with colon path ≡ true
+after_helper true [] back rest path parent e follows h = ap (begins_with colon) e ∙ follows
+after_helper false [] back rest path parent e follows h = absurd (both_ways false refl h)
+after_helper by_colon (x ∷ m) back rest path parent e follows h = ap (begins_with colon) e ∙ h
 
-behind_url : (by_colon : Bool) (m back rest name path parent : List ℕ) → path ≡ m ++ back → parent ≡ name ++ colon ∷ path → Follows parent by_colon back → IsFair rest → begins_with_slashes (m ++ separator by_colon ∷ rest) ≡ true → begins_with_slashes path ≡ true
-behind_url true [] back rest name path parent e whole follows fair h = absurd (colon_slashes rest h)
-behind_url false [] back rest name path parent e whole follows fair h = absurd (both_ways (begins_with slash rest) fair.no_slash (slash_slashes rest h))
-behind_url by_colon (x ∷ []) back rest name path parent e whole follows fair h = one_left by_colon x back rest name path parent e whole follows h
-behind_url by_colon (x ∷ y ∷ m) back rest name path parent e whole follows fair h = ap begins_with_slashes e ∙ h
+after_url : (by_colon : Bool) (m back rest name path parent : List ℕ) → path ≡ m ++ back → parent ≡ name ++ colon ∷ path → Follows parent by_colon back → IsFair rest → begins_with_slashes (m ++ separator by_colon ∷ rest) ≡ true → begins_with_slashes path ≡ true
+after_url true [] back rest name path parent e whole follows fair h = absurd (colon_slashes rest h)
+after_url false [] back rest name path parent e whole follows fair h = absurd (both_ways (begins_with slash rest) fair.no_slash (slash_slashes rest h))
+after_url by_colon (x ∷ []) back rest name path parent e whole follows fair h = one_left by_colon x back rest name path parent e whole follows h
+after_url by_colon (x ∷ y ∷ m) back rest name path parent e whole follows fair h = ap begins_with_slashes e ∙ h
 
 -- the name and its colon are kept
 name_kept : (by_colon : Bool) (more back rest name path parent text : List ℕ) → parent ≡ name ++ colon ∷ path → colon ∷ path ≡ more ++ back → Follows parent by_colon back → IsFair rest → text ≡ (name ++ more) ++ separator by_colon ∷ rest → KeepsName name path text
 name_kept true [] back rest name path parent text whole cut follows fair e = record {
-  behind = rest;
+  suffix = rest;
   joined = e ∙ ap (λ z. z ++ colon ∷ rest) (append-nil name);
   no_helper = λ h. absurd (both_ways (begins_with colon rest) fair.no_colon h);
   no_url = λ h. absurd (fair_slashes rest fair.no_slash h);
@@ -109,10 +109,10 @@ name_kept false [] back rest name path parent text whole cut (inr begins) fair e
 name_kept by_colon (b ∷ m) back rest name path parent text whole cut follows fair e =
     let path_is : path ≡ m ++ back = tails cut in
     record {
-      behind = m ++ separator by_colon ∷ rest;
+      suffix = m ++ separator by_colon ∷ rest;
       joined = e ∙ append_assoc name (b ∷ m) (separator by_colon ∷ rest) ∙ ap (λ z. name ++ z ∷ (m ++ separator by_colon ∷ rest)) (sym (heads cut));
-      no_helper = behind_helper by_colon m back rest path parent path_is follows;
-      no_url = behind_url by_colon m back rest name path parent path_is whole follows fair;
+      no_helper = after_helper by_colon m back rest path parent path_is follows;
+      no_url = after_url by_colon m back rest name path parent path_is whole follows fair;
     }
 
 text_joined : (by_colon : Bool) (front rest : List ℕ) (r : Resolution) → join (Some front) by_colon rest ≡ r → (resolved_text r ≡ front ++ separator by_colon ∷ rest) × (r.rest ≡ rest)
@@ -133,10 +133,10 @@ keeps_name name path parent url r h whole fair relative stays e =
     let has_text : left.text ≡ Some kept.0 = sym (ap (option_and_then (λ z. z.text)) some.1) ∙ kept.1 in
     let front = left_front parent (ups url) left remote some.1 in
     let back = subst (λ o. IfSome o (λ t. (y : List ℕ) × (parent ≡ t ++ y) × Follows parent left.by_colon y)) has_text front.front in
-    let behind = without_last_slash (behind_steps url) in
+    let suffix = without_last_slash (after_steps url) in
     let cut : colon ∷ path ≡ more ++ back.0 = append_cancel_left name (colon ∷ path) (more ++ back.0) (sym whole ∙ back.1 ∙ ap (λ z. z ++ back.0) text_is ∙ append_assoc name more back.0) in
-    let text = text_joined left.by_colon kept.0 behind r (subst (λ z. join z left.by_colon behind ≡ r) has_text some.2) in
-    name_kept left.by_colon more back.0 behind name path parent (resolved_text r) whole cut back.2 (subst IsFair text.1 fair) (text.0 ∙ ap (λ z. z ++ separator left.by_colon ∷ behind) text_is)
+    let text = text_joined left.by_colon kept.0 suffix r (subst (λ z. join z left.by_colon suffix ≡ r) has_text some.2) in
+    name_kept left.by_colon more back.0 suffix name path parent (resolved_text r) whole cut back.2 (subst IsFair text.1 fair) (text.0 ∙ ap (λ z. z ++ separator left.by_colon ∷ suffix) text_is)
 
 -- ---- the law
 
@@ -156,23 +156,23 @@ slashes_cut (a ∷ b ∷ bs) h =
 -- a text that keeps the name of a parent in the scp form isn't a URL
 not_url : (parent front path s scheme rest : List ℕ) → ScpForm parent front path → FreeOf colon front → KeepsName front path s → FreeOf colon scheme → s ≡ scheme ++ (codes "://" ++ rest) → ⊥
 not_url parent front path s scheme rest form free kept other e =
-    let cut = cut_unique colon front scheme kept.behind (slash ∷ (slash ∷ rest)) free other (sym kept.joined ∙ e) in
+    let cut = cut_unique colon front scheme kept.suffix (slash ∷ (slash ∷ rest)) free other (sym kept.joined ∙ e) in
     let slashes = slashes_cut path (kept.no_url (ap begins_with_slashes cut.1)) in
     form.neither.no_mark (front, slashes.0, form.joined ∙ ap (λ z. front ++ colon ∷ z) slashes.1)
 
 -- nor is it for a remote helper
 not_helper : (parent front path s name address : List ℕ) → ScpForm parent front path → FreeOf colon front → KeepsName front path s → HelperCut s name address → ⊥
 not_helper parent front path s name address form free kept h =
-    let cut = cut_unique colon front name kept.behind (colon ∷ address) free (helper_name_free name colon h.named refl) (sym kept.joined ∙ h.joined) in
+    let cut = cut_unique colon front name kept.suffix (colon ∷ address) free (helper_name_free name colon h.named refl) (sym kept.joined ∙ h.joined) in
     let begins = begins_cut colon path (kept.no_helper (ap (begins_with colon) cut.1)) in
     form.neither.no_helper (front, begins.0, record { named = ap is_helper_name cut.0 ∙ h.named; joined = form.joined ∙ ap (λ z. front ++ colon ∷ z) begins.1 })
 
 -- its host is not in brackets
-not_addressed : (front behind s user address path : List ℕ) → FreeOf colon front → FreeOf left_bracket front → s ≡ front ++ colon ∷ behind → AddressedCut s user address path → ⊥
-not_addressed front behind s user address path free bare e h =
+not_addressed : (front suffix s user address path : List ℕ) → FreeOf colon front → FreeOf left_bracket front → s ≡ front ++ colon ∷ suffix → AddressedCut s user address path → ⊥
+not_addressed front suffix s user address path free bare e h =
     let (x, y, f, j) = address_cut address h.addressed in
     let joined = sym e ∙ h.joined ∙ addressed_joined user address path x y j in
-    let cut = cut_unique colon front (user ++ at_sign ∷ (left_bracket ∷ x)) behind (y ++ right_bracket ∷ (colon ∷ path)) free (addressed_front_free user x h.no_colon f) joined in
+    let cut = cut_unique colon front (user ++ at_sign ∷ (left_bracket ∷ x)) suffix (y ++ right_bracket ∷ (colon ∷ path)) free (addressed_front_free user x h.no_colon f) joined in
     not_free left_bracket (user ++ at_sign ∷ []) x (subst (λ z. FreeOf left_bracket z) (cut.0 ∙ sym (append_assoc user (at_sign ∷ []) (left_bracket ∷ x))) bare)
 
 -- the scp form with the front of a parent has its user and its host
@@ -210,11 +210,11 @@ scp_place parent s v w h bare free kept (Spells.remote_helper k) =
     absurd (not_helper parent h.front h.path s k.name k.address h.form free kept k.parts)
 scp_place parent s v w h bare free kept (Spells.scp_form (inl k)) =
     let front : ScpFront s h.front = ScpFront.plain free (inl (free_begins left_bracket h.front bare)) in
-    before_place parent s v w h k (same_front s h.front kept.behind k.front k.path kept.joined k.form.joined front k.form.form).0
+    before_place parent s v w h k (same_front s h.front kept.suffix k.front k.path kept.joined k.form.joined front k.form.form).0
 scp_place parent s v w h bare free kept (Spells.scp_form (inr k)) =
-    absurd (not_addressed h.front kept.behind s k.user k.address k.path free bare kept.joined k.form.cut)
+    absurd (not_addressed h.front kept.suffix s k.user k.address k.path free bare kept.joined k.form.cut)
 scp_place parent s v w h bare free kept (Spells.local_path k) =
-    absurd (k.no_scp (inl (h.front, kept.behind, record { joined = kept.joined; neither = k.neither; no_slash = h.form.no_slash; form = ScpFront.plain free (inl (free_begins left_bracket h.front bare)) })))
+    absurd (k.no_scp (inl (h.front, kept.suffix, record { joined = kept.joined; neither = k.neither; no_slash = h.form.no_slash; form = ScpFront.plain free (inl (free_begins left_bracket h.front bare)) })))
 
 -- a relative URL that doesn't climb stays at the place of a parent in the scp form
 pub same_place_of_scp : SamePlaceOfScp

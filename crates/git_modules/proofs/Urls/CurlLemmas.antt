@@ -23,18 +23,18 @@ curl_free s h =
     ]
 
 -- the text after the first colon of a URL for curl
-pub data BehindScheme (t behind text : List ℕ) : Type 0 where
-  named : behind ≡ colon ∷ text → BehindScheme t behind text
-  whole : (rest : List ℕ) → behind ≡ slash ∷ slash ∷ rest → text ≡ t → BehindScheme t behind text
+pub data AfterScheme (t suffix text : List ℕ) : Type 0 where
+  named : suffix ≡ colon ∷ text → AfterScheme t suffix text
+  whole : (rest : List ℕ) → suffix ≡ slash ∷ slash ∷ rest → text ≡ t → AfterScheme t suffix text
 
 -- a URL for curl, cut at its first colon
-pub curl_cut : (t scheme behind text : List ℕ) → FreeOf colon scheme → t ≡ scheme ++ colon ∷ behind → IsForCurl t text → (is_curl_scheme scheme ≡ true) × BehindScheme t behind text
-curl_cut t scheme behind text free e (IsForCurl.named s is joined) =
-    let same = cut_unique colon scheme s behind (colon ∷ text) free (curl_free s is) (sym e ∙ joined) in
-    (subst (λ x. is_curl_scheme x ≡ true) (sym same.0) is, BehindScheme.named same.1)
-curl_cut t scheme behind text free e (IsForCurl.whole s rest is joined all) =
-    let same = cut_unique colon scheme s behind (slash ∷ slash ∷ rest) free (curl_free s is) (sym e ∙ joined) in
-    (subst (λ x. is_curl_scheme x ≡ true) (sym same.0) is, BehindScheme.whole rest same.1 all)
+pub curl_cut : (t scheme suffix text : List ℕ) → FreeOf colon scheme → t ≡ scheme ++ colon ∷ suffix → IsForCurl t text → (is_curl_scheme scheme ≡ true) × AfterScheme t suffix text
+curl_cut t scheme suffix text free e (IsForCurl.named s is joined) =
+    let same = cut_unique colon scheme s suffix (colon ∷ text) free (curl_free s is) (sym e ∙ joined) in
+    (subst (λ x. is_curl_scheme x ≡ true) (sym same.0) is, AfterScheme.named same.1)
+curl_cut t scheme suffix text free e (IsForCurl.whole s rest is joined all) =
+    let same = cut_unique colon scheme s suffix (slash ∷ slash ∷ rest) free (curl_free s is) (sym e ∙ joined) in
+    (subst (λ x. is_curl_scheme x ≡ true) (sym same.0) is, AfterScheme.whole rest same.1 all)
 
 -- curl would get one text
 pub curl_unique : (t text other : List ℕ) → IsForCurl t text → IsForCurl t other → text ≡ other
@@ -47,15 +47,15 @@ curl_unique t text other (IsForCurl.whole s rest is joined all) (IsForCurl.named
 curl_unique t text other (IsForCurl.whole s rest is joined all) (IsForCurl.whole s' rest' is' joined' all') = all ∙ sym all'
 
 -- another scheme than those that the helper for curl serves
-pub curl_other : (t scheme behind : List ℕ) → FreeOf colon scheme → t ≡ scheme ++ colon ∷ behind → is_curl_scheme scheme ≡ false → (text : List ℕ) → ¬ IsForCurl t text
-curl_other t scheme behind free e other text h = clash (is_curl_scheme scheme) (curl_cut t scheme behind text free e h).0 other
+pub curl_other : (t scheme suffix : List ℕ) → FreeOf colon scheme → t ≡ scheme ++ colon ∷ suffix → is_curl_scheme scheme ≡ false → (text : List ℕ) → ¬ IsForCurl t text
+curl_other t scheme suffix free e other text h = clash (is_curl_scheme scheme) (curl_cut t scheme suffix text free e h).0 other
 
 -- a second colon
-pub curl_named : (t scheme behind text : List ℕ) → t ≡ scheme ++ colon ∷ behind → is_curl_scheme scheme ≡ true → behind ≡ colon ∷ text → IsForCurl t text
-curl_named t scheme behind text e is second = IsForCurl.named scheme is (e ∙ ap (λ x. scheme ++ colon ∷ x) second)
+pub curl_named : (t scheme suffix text : List ℕ) → t ≡ scheme ++ colon ∷ suffix → is_curl_scheme scheme ≡ true → suffix ≡ colon ∷ text → IsForCurl t text
+curl_named t scheme suffix text e is second = IsForCurl.named scheme is (e ∙ ap (λ x. scheme ++ colon ∷ x) second)
 
 -- two slashes
-pub curl_whole : (t scheme behind rest : List ℕ) → t ≡ scheme ++ colon ∷ behind → is_curl_scheme scheme ≡ true → behind ≡ slash ∷ rest → begins_with slash rest ≡ true → IsForCurl t t
-curl_whole t scheme behind rest e is first second =
+pub curl_whole : (t scheme suffix rest : List ℕ) → t ≡ scheme ++ colon ∷ suffix → is_curl_scheme scheme ≡ true → suffix ≡ slash ∷ rest → begins_with slash rest ≡ true → IsForCurl t t
+curl_whole t scheme suffix rest e is first second =
     let more = begins_cut slash rest second in
     IsForCurl.whole scheme more.0 is (e ∙ ap (λ x. scheme ++ colon ∷ x) (first ∙ ap (λ x. slash ∷ x) more.1)) refl

@@ -10,7 +10,7 @@ use Rattle.git_reads.specs.Git.{escaped_byte, is_git_escape, git_decode}
 use Rattle.git_reads.specs.Credentials.{CredentialDecodes}
 use Rattle.git_syntax.proofs.Texts.CutLemmas.{cut_unique, not_free}
 use Rattle.git_modules.specs.SubmoduleUrls.{DecodesToLines, has_feed}
-use Rattle.git_modules.specs.SubmoduleInternal.{TellsFeed}
+use Rattle.git_modules.specs.SubmoduleInternal.{TestsFeed}
 
 -- ---- truths
 
@@ -106,8 +106,8 @@ feeds_same (b ∷ high ∷ low ∷ rest) =
 -- ---- pieces
 
 -- the text before the first colon and the text after it
-pub feed_behind : (front rest : List ℕ) → has_feed (front ++ colon ∷ rest) ≡ (has_feed front || has_feed rest)
-feed_behind front rest = list_any-append (λ b. b == newline) front (colon ∷ rest)
+pub feed_after : (front rest : List ℕ) → has_feed (front ++ colon ∷ rest) ≡ (has_feed front || has_feed rest)
+feed_after front rest = list_any-append (λ b. b == newline) front (colon ∷ rest)
 
 -- the text before the first colon has a line feed if it isn't one line
 not_line : (front : List ℕ) (line : Bool) → (line ≡ true → FreeOf newline front) × (FreeOf newline front → line ≡ true) → not line ≡ has_feed front
@@ -128,9 +128,9 @@ line_tells front false k =
     ]
 
 -- the line feeds of a piece with a colon
-pub feed_cut : (piece front rest : List ℕ) (line inner : Bool) → FreeOf colon front → piece ≡ front ++ colon ∷ rest → (line ≡ true → FreeOf newline front) × (FreeOf newline front → line ≡ true) → inner ≡ has_feed (git_decode rest) → TellsFeed piece (not line || inner)
+pub feed_cut : (piece front rest : List ℕ) (line inner : Bool) → FreeOf colon front → piece ≡ front ++ colon ∷ rest → (line ≡ true → FreeOf newline front) × (FreeOf newline front → line ≡ true) → inner ≡ has_feed (git_decode rest) → TestsFeed piece (not line || inner)
 feed_cut piece front rest line inner free e k so =
-    (front ++ colon ∷ git_decode rest, CredentialDecodes.behind front rest free e refl, ap (λ x. x || inner) (not_line front line k) ∙ ap (λ x. has_feed front || x) so ∙ sym (feed_behind front (git_decode rest)))
+    (front ++ colon ∷ git_decode rest, CredentialDecodes.suffix front rest free e refl, ap (λ x. x || inner) (not_line front line k) ∙ ap (λ x. has_feed front || x) so ∙ sym (feed_after front (git_decode rest)))
 
 -- the decoding of a piece has a line feed or has none
 same_feed : (piece one two : List ℕ) → CredentialDecodes piece one → CredentialDecodes piece two → has_feed one ≡ has_feed two
@@ -139,7 +139,7 @@ same_feed piece one two h k =
     ap has_feed same
 
 -- there are several lines if there is a line feed
-pub tells_lines : (t : List ℕ) (feed : Bool) → TellsFeed t feed → (feed ≡ true → DecodesToLines t) × (DecodesToLines t → feed ≡ true)
+pub tells_lines : (t : List ℕ) (feed : Bool) → TestsFeed t feed → (feed ≡ true → DecodesToLines t) × (DecodesToLines t → feed ≡ true)
 tells_lines t feed h =
     (λ e. (h.0, h.1, sym h.2 ∙ e), λ k. h.2 ∙ same_feed t h.0 k.0 h.1 k.1 ∙ k.2)
 

@@ -11,7 +11,7 @@ use Rattle.git_reads.specs.Internal.{CutsText, LacksTextCut, StripsSlashes}
 use Rattle.git_syntax.proofs.Texts.CutLemmas.{cut_unique, free-append, free_head_tail, free_of_all, free_or_cut, free_parts, not_free}
 use Rattle.git_reads.proofs.Reading.CredentialUniqueLemmas.{one_of_pieces}
 use Rattle.git_modules.specs.SubmoduleUrls.{FindsHost, FindsParts, IsForCurl, LacksHost, has_feed, part_has_feed, parts_have_feed}
-use Rattle.git_modules.specs.SubmoduleInternal.{TellsAuthority, TellsFeed, TellsHost, TellsInformation, TellsPieces}
+use Rattle.git_modules.specs.SubmoduleInternal.{TestsAuthority, TestsFeed, TestsHost, TestsInformation, TestsPieces}
 use Rattle.git_modules.proofs.Urls.CurlLemmas.{curl_unique}
 use Rattle.git_modules.proofs.Urls.FeedLemmas.{clash, kept_plain}
 
@@ -63,11 +63,11 @@ decode_empty (b ∷ high ∷ low ∷ rest) =
 -- so is a piece
 piece_empty : (piece decoded : List ℕ) → CredentialDecodes piece decoded → (length decoded == 0) ≡ (length piece == 0)
 piece_empty piece decoded (CredentialDecodes.whole free e) = ap (λ x. length x == 0) e ∙ decode_empty piece
-piece_empty piece decoded (CredentialDecodes.behind [] rest free e e') = ap (λ x. length x == 0) e' ∙ not_empty colon (git_decode rest) ∙ sym (ap (λ x. length x == 0) e ∙ not_empty colon rest)
-piece_empty piece decoded (CredentialDecodes.behind (b ∷ front) rest free e e') = ap (λ x. length x == 0) e' ∙ not_empty b (front ++ colon ∷ git_decode rest) ∙ sym (ap (λ x. length x == 0) e ∙ not_empty b (front ++ colon ∷ rest))
+piece_empty piece decoded (CredentialDecodes.suffix [] rest free e e') = ap (λ x. length x == 0) e' ∙ not_empty colon (git_decode rest) ∙ sym (ap (λ x. length x == 0) e ∙ not_empty colon rest)
+piece_empty piece decoded (CredentialDecodes.suffix (b ∷ front) rest free e e') = ap (λ x. length x == 0) e' ∙ not_empty b (front ++ colon ∷ git_decode rest) ∙ sym (ap (λ x. length x == 0) e ∙ not_empty b (front ++ colon ∷ rest))
 
 -- the host and the line feeds in it
-pub host_tells : (named : List ℕ) (feed : Bool) → TellsFeed named feed → TellsHost named (not (length named == 0) && not feed)
+pub host_tells : (named : List ℕ) (feed : Bool) → TestsFeed named feed → TestsHost named (not (length named == 0) && not feed)
 host_tells named feed h =
     (h.0, h.1, ap (λ x. not x && not feed) (sym (piece_empty named h.0 h.1)) ∙ ap (λ x. not (length h.0 == 0) && not x) h.2)
 
@@ -98,11 +98,11 @@ slashes_feed (b ∷ bs) rest h =
     ap (λ x. x || has_feed (bs ++ rest)) (subst (λ x. (x == newline) ≡ false) (sym (eqb-true b slash parts.0)) refl) ∙ slashes_feed bs rest parts.1
 
 -- the text after the slashes decodes to the text after them in the decoding
-behind_decodes : (t rest decoded : List ℕ) (h : StripsSlashes t rest) → CredentialDecodes t decoded → (other : List ℕ) × CredentialDecodes rest other × (decoded ≡ h.slashes ++ other)
-behind_decodes t rest decoded h (CredentialDecodes.whole free e) =
+after_decodes : (t rest decoded : List ℕ) (h : StripsSlashes t rest) → CredentialDecodes t decoded → (other : List ℕ) × CredentialDecodes rest other × (decoded ≡ h.slashes ++ other)
+after_decodes t rest decoded h (CredentialDecodes.whole free e) =
     let parts = free_parts colon h.slashes rest (subst (λ x. FreeOf colon x) h.joined free) in
     (git_decode rest, CredentialDecodes.whole parts.1 refl, e ∙ ap git_decode h.joined ∙ slashes_decode h.slashes rest h.front)
-behind_decodes t rest decoded h (CredentialDecodes.behind front more free e e') =
+after_decodes t rest decoded h (CredentialDecodes.suffix front more free e e') =
     elim (free_or_cut colon rest) [
       | inl none ↦
           let plain = free-append colon h.slashes rest (free_of_all (λ b. b == slash) colon h.slashes h.front refl) none in
@@ -110,7 +110,7 @@ behind_decodes t rest decoded h (CredentialDecodes.behind front more free e e') 
       | inr (x, y, none, whole) ↦
           let plain = free-append colon h.slashes x (free_of_all (λ b. b == slash) colon h.slashes h.front refl) none in
           let same = cut_unique colon front (h.slashes ++ x) more y free plain (sym e ∙ h.joined ∙ ap (λ z. h.slashes ++ z) whole ∙ sym (append_assoc h.slashes x (colon ∷ y))) in
-          (x ++ colon ∷ git_decode y, CredentialDecodes.behind x y none whole refl, e' ∙ ap (λ z. z ++ colon ∷ git_decode more) same.0 ∙ ap (λ z. (h.slashes ++ x) ++ colon ∷ git_decode z) same.1 ∙ append_assoc h.slashes x (colon ∷ git_decode y))
+          (x ++ colon ∷ git_decode y, CredentialDecodes.suffix x y none whole refl, e' ∙ ap (λ z. z ++ colon ∷ git_decode more) same.0 ∙ ap (λ z. (h.slashes ++ x) ++ colon ∷ git_decode z) same.1 ∙ append_assoc h.slashes x (colon ∷ git_decode y))
     ]
 
 -- slashes at the end have no line feed
@@ -129,10 +129,10 @@ trimmed_feed [] = refl
 trimmed_feed (b ∷ bs) = ap (λ x. (b == newline) || x) (last_feed bs)
 
 -- the path, and the line feeds in it
-path_tells : (behind : List ℕ) (feed : Bool) → TellsFeed behind feed → (path : Option (List ℕ)) × CredentialPath behind path × (feed ≡ part_has_feed path)
-path_tells behind feed h =
-    let stripped = strip behind in
-    let rest = behind_decodes behind stripped.0 h.0 stripped.1 h.1 in (
+path_tells : (suffix : List ℕ) (feed : Bool) → TestsFeed suffix feed → (path : Option (List ℕ)) × CredentialPath suffix path × (feed ≡ part_has_feed path)
+path_tells suffix feed h =
+    let stripped = strip suffix in
+    let rest = after_decodes suffix stripped.0 h.0 stripped.1 h.1 in (
       trimmed_path rest.0,
       record {
         slashes = stripped.1.slashes;
@@ -150,7 +150,7 @@ path_tells behind feed h =
 -- ---- authorities
 
 -- a host alone
-pub alone_tells : (authority : List ℕ) (taken : Bool) → FreeOf at_sign authority → TellsHost authority taken → TellsAuthority authority taken
+pub alone_tells : (authority : List ℕ) (taken : Bool) → FreeOf at_sign authority → TestsHost authority taken → TestsAuthority authority taken
 alone_tells authority taken free h = record {
   user = None;
   password = None;
@@ -158,21 +158,21 @@ alone_tells authority taken free h = record {
   host = h.0;
   cut = CredentialCut.host_alone free refl refl refl;
   decodes = h.1;
-  tells = h.2 ∙ sym (and_true _);
+  tests = h.2 ∙ sym (and_true _);
 }
 
 -- a host after a user, or after a user and a password
-pub cut_tells : (authority information named : List ℕ) (feed taken : Bool) → FreeOf at_sign information → authority ≡ information ++ at_sign ∷ named → TellsInformation information feed → TellsHost named taken → TellsAuthority authority (taken && not feed)
-cut_tells authority information named feed taken free e (TellsInformation.user_alone plain u) h = record {
+pub cut_tells : (authority information named : List ℕ) (feed taken : Bool) → FreeOf at_sign information → authority ≡ information ++ at_sign ∷ named → TestsInformation information feed → TestsHost named taken → TestsAuthority authority (taken && not feed)
+cut_tells authority information named feed taken free e (TestsInformation.user_alone plain u) h = record {
   user = Some u.0;
   password = None;
   named = named;
   host = h.0;
   cut = CredentialCut.user_alone information u.0 free plain e u.1 refl refl;
   decodes = h.1;
-  tells = ap (λ x. x && not feed) h.2 ∙ ap (λ x. (not (length h.0 == 0) && not (has_feed h.0)) && not x) (u.2 ∙ sym (or-false _));
+  tests = ap (λ x. x && not feed) h.2 ∙ ap (λ x. (not (length h.0 == 0) && not (has_feed h.0)) && not x) (u.2 ∙ sym (or-false _));
 }
-cut_tells authority information named feed taken free e (TellsInformation.with_password u w first second plain joined d c both) h =
+cut_tells authority information named feed taken free e (TestsInformation.with_password u w first second plain joined d c both) h =
     let parts = free_parts at_sign u (colon ∷ w) (subst (λ t. FreeOf at_sign t) joined free) in
     let rest = free_head_tail at_sign colon w parts.1 in
     record {
@@ -182,27 +182,27 @@ cut_tells authority information named feed taken free e (TellsInformation.with_p
       host = h.0;
       cut = CredentialCut.with_password u w d.0 c.0 parts.0 rest.1 plain (e ∙ ap (λ t. t ++ at_sign ∷ named) joined ∙ append_assoc u (colon ∷ w) (at_sign ∷ named)) d.1 c.1 refl refl;
       decodes = h.1;
-      tells = ap (λ x. x && not feed) h.2 ∙ ap (λ x. (not (length h.0 == 0) && not (has_feed h.0)) && not x) (both ∙ ap (λ x. x || second) d.2 ∙ ap (λ x. has_feed d.0 || x) c.2);
+      tests = ap (λ x. x && not feed) h.2 ∙ ap (λ x. (not (length h.0 == 0) && not (has_feed h.0)) && not x) (both ∙ ap (λ x. x || second) d.2 ∙ ap (λ x. has_feed d.0 || x) c.2);
     }
 
 -- ---- texts
 
 -- the pieces of a text
-pub pieces_tell : (protocol authority behind : List ℕ) (line taken feed : Bool) → line ≡ not (has_feed protocol) → TellsAuthority authority taken → TellsFeed behind feed → TellsPieces protocol authority behind ((line && taken) && not feed)
-pieces_tell protocol authority behind line taken feed e a h =
-    let path = path_tells behind feed h in
+pub pieces_tell : (protocol authority suffix : List ℕ) (line taken feed : Bool) → line ≡ not (has_feed protocol) → TestsAuthority authority taken → TestsFeed suffix feed → TestsPieces protocol authority suffix ((line && taken) && not feed)
+pieces_tell protocol authority suffix line taken feed e a h =
+    let path = path_tells suffix feed h in
     record {
       parts = record { protocol = protocol; user = a.user; password = a.password; host = a.host; path = path.0 };
       same = refl;
       reads = record { named = a.named; cut = a.cut; host = a.decodes; path = path.1 };
-      tells = ap (λ x. (x && taken) && not feed) e
-          ∙ ap (λ x. (not (has_feed protocol) && x) && not feed) a.tells
+      tests = ap (λ x. (x && taken) && not feed) e
+          ∙ ap (λ x. (not (has_feed protocol) && x) && not feed) a.tests
           ∙ ap (λ x. (not (has_feed protocol) && ((not (length a.host == 0) && not (has_feed a.host)) && not (part_has_feed a.user || part_has_feed a.password))) && not x) path.2
           ∙ ordered (has_feed protocol) (length a.host == 0) (has_feed a.host) (part_has_feed a.user) (part_has_feed a.password) (part_has_feed path.0);
     }
 
 -- how a text is cut in which parts are found
-found_cut : (t : List ℕ) (r : CredentialReading) (h : FindsParts t r) → CutsText t r.protocol h.authority h.behind
+found_cut : (t : List ℕ) (r : CredentialReading) (h : FindsParts t r) → CutsText t r.protocol h.authority h.suffix
 found_cut t r h = record {
   whole = h.whole;
   some = h.protocol;
@@ -220,16 +220,16 @@ no_bytes : (host : List ℕ) → 0 < length host → not (length host == 0) ≡ 
 no_bytes host h = grind (arith, nat_tests)
 
 -- a host is found if the pieces have one
-pub finds_host : (t protocol authority behind : List ℕ) (taken : Bool) → CutsText t protocol authority behind → TellsPieces protocol authority behind taken → (taken ≡ true → FindsHost t) × (FindsHost t → taken ≡ true)
-finds_host t protocol authority behind taken cut h =
-    let own : CutsText t h.parts.protocol authority behind = subst (λ p. CutsText t p authority behind) (sym h.same) cut in (
+pub finds_host : (t protocol authority suffix : List ℕ) (taken : Bool) → CutsText t protocol authority suffix → TestsPieces protocol authority suffix taken → (taken ≡ true → FindsHost t) × (FindsHost t → taken ≡ true)
+finds_host t protocol authority suffix taken cut h =
+    let own : CutsText t h.parts.protocol authority suffix = subst (λ p. CutsText t p authority suffix) (sym h.same) cut in (
       λ e.
-          let both = and_parts (not (parts_have_feed h.parts)) (not (length h.parts.host == 0)) (sym h.tells ∙ e) in
+          let both = and_parts (not (parts_have_feed h.parts)) (not (length h.parts.host == 0)) (sym h.tests ∙ e) in
           record {
             parts = h.parts;
             found = record {
               authority = authority;
-              behind = behind;
+              suffix = suffix;
               whole = own.whole;
               protocol = own.some;
               no_mark = own.no_mark;
@@ -242,19 +242,19 @@ finds_host t protocol authority behind taken cut h =
             host = some_bytes h.parts.host both.1;
           },
       λ k.
-          let one = one_of_pieces t k.found.authority k.found.behind authority behind k.parts h.parts (found_cut t k.parts k.found) k.found.pieces own h.reads in
+          let one = one_of_pieces t k.found.authority k.found.suffix authority suffix k.parts h.parts (found_cut t k.parts k.found) k.found.pieces own h.reads in
           let good : (not (parts_have_feed k.parts) && not (length k.parts.host == 0)) ≡ true = and_from _ _ (ap not k.lines) (no_bytes k.parts.host k.host) in
-          h.tells ∙ ap (λ (r : CredentialReading). not (parts_have_feed r) && not (length r.host == 0)) (sym one) ∙ good,
+          h.tests ∙ ap (λ (r : CredentialReading). not (parts_have_feed r) && not (length r.host == 0)) (sym one) ∙ good,
     )
 
 -- ---- URLs for curl
 
 -- there is a host, or none, in the URL that curl would get
 pub lacks_host : (t text : List ℕ) (found : Bool) → IsForCurl t text → (found ≡ true → FindsHost text) × (FindsHost text → found ≡ true) → (not found ≡ true → LacksHost t) × (LacksHost t → not found ≡ true)
-lacks_host t text found given tells = (
-  λ e. (text, given, λ h. clash found (tells.1 h) (not-true found e)),
+lacks_host t text found given tests = (
+  λ e. (text, given, λ h. clash found (tests.1 h) (not-true found e)),
   λ h. elim (cases_Bool found) [
-    | inl so_it_is ↦ absurd (h.2 (subst FindsHost (curl_unique t text h.0 given h.1) (tells.0 so_it_is)))
+    | inl so_it_is ↦ absurd (h.2 (subst FindsHost (curl_unique t text h.0 given h.1) (tests.0 so_it_is)))
     | inr it_isnt ↦ ap not it_isnt
   ],
 )

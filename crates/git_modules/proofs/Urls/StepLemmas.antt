@@ -113,24 +113,24 @@ steps_same (s ∷ steps) (other ∷ others) x y h k none begins e =
     (ap (λ a. a ∷ steps) one.0 ∙ ap (λ a. other ∷ a) rest.0, rest.1)
 
 -- a step of one dot, and the text after it
-pub found_here : (t behind rest : List ℕ) (x : ℕ) → t ≡ dot ∷ behind → is_separator x ≡ true → behind ≡ x ∷ rest → (step : List ℕ) × (is_step step ≡ true) × (false ≡ is_step_up step) × (t ≡ step ++ rest)
-found_here t behind rest x e is e' = (dot ∷ x ∷ [], (step_here x is).0, (step_here x is).1, e ∙ ap (λ u. dot ∷ u) e')
+pub found_here : (t suffix rest : List ℕ) (x : ℕ) → t ≡ dot ∷ suffix → is_separator x ≡ true → suffix ≡ x ∷ rest → (step : List ℕ) × (is_step step ≡ true) × (false ≡ is_step_up step) × (t ≡ step ++ rest)
+found_here t suffix rest x e is e' = (dot ∷ x ∷ [], (step_here x is).0, (step_here x is).1, e ∙ ap (λ u. dot ∷ u) e')
 
 -- a step up, and the text after it
-pub found_up : (t behind more rest : List ℕ) (x : ℕ) → t ≡ dot ∷ behind → behind ≡ dot ∷ more → is_separator x ≡ true → more ≡ x ∷ rest → (step : List ℕ) × (is_step step ≡ true) × (true ≡ is_step_up step) × (t ≡ step ++ rest)
-found_up t behind more rest x e e' is e'' = (dot ∷ dot ∷ x ∷ [], (step_up x is).0, (step_up x is).1, e ∙ ap (λ u. dot ∷ u) (e' ∙ ap (λ u. dot ∷ u) e''))
+pub found_up : (t suffix more rest : List ℕ) (x : ℕ) → t ≡ dot ∷ suffix → suffix ≡ dot ∷ more → is_separator x ≡ true → more ≡ x ∷ rest → (step : List ℕ) × (is_step step ≡ true) × (true ≡ is_step_up step) × (t ≡ step ++ rest)
+found_up t suffix more rest x e e' is e'' = (dot ∷ dot ∷ x ∷ [], (step_up x is).0, (step_up x is).1, e ∙ ap (λ u. dot ∷ u) (e' ∙ ap (λ u. dot ∷ u) e''))
 
 -- a text is steps and a rest, and this is whether one of the steps goes up
 abbrev pub HasSteps : List ℕ → List ℕ → Bool → Type 0
 HasSteps t rest up = (steps : List (List ℕ)) × (list_all is_step steps ≡ true) × (up ≡ list_any is_step_up steps) × (t ≡ concat steps ++ rest)
 
 -- one step more
-pub steps_more : (t rest behind : List ℕ) (up is_up : Bool) → (steps : List (List ℕ)) × (list_all is_step steps ≡ true) × (up ≡ list_any is_step_up steps) × (t ≡ concat steps ++ rest) → (step : List ℕ) × (is_step step ≡ true) × (is_up ≡ is_step_up step) × (rest ≡ step ++ behind) → (steps : List (List ℕ)) × (list_all is_step steps ≡ true) × ((up || is_up) ≡ list_any is_step_up steps) × (t ≡ concat steps ++ behind)
-steps_more t rest behind up is_up (steps, all, some, joined) (step, is, this, here) = (
+pub steps_more : (t rest suffix : List ℕ) (up is_up : Bool) → (steps : List (List ℕ)) × (list_all is_step steps ≡ true) × (up ≡ list_any is_step_up steps) × (t ≡ concat steps ++ rest) → (step : List ℕ) × (is_step step ≡ true) × (is_up ≡ is_step_up step) × (rest ≡ step ++ suffix) → (steps : List (List ℕ)) × (list_all is_step steps ≡ true) × ((up || is_up) ≡ list_any is_step_up steps) × (t ≡ concat steps ++ suffix)
+steps_more t rest suffix up is_up (steps, all, some, joined) (step, is, this, here) = (
   steps ++ step ∷ [],
   all_push steps step all is,
   ap (λ x. x || is_up) some ∙ ap (λ x. list_any is_step_up steps || x) (this ∙ sym (or-false (is_step_up step))) ∙ sym (list_any-append is_step_up steps (step ∷ [])),
-  joined ∙ ap (λ x. concat steps ++ x) here ∙ sym (append_assoc (concat steps) step behind) ∙ ap (λ x. x ++ behind) (sym (concat_push steps step)),
+  joined ∙ ap (λ x. concat steps ++ x) here ∙ sym (append_assoc (concat steps) step suffix) ∙ ap (λ x. x ++ suffix) (sym (concat_push steps step)),
 )
 
 -- whether the steps replace a host

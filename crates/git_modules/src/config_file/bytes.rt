@@ -41,11 +41,11 @@ pub(super) fn past_line(text: &[u8], start: usize) -> usize
     ensures most { result ≤ length text.now }
 {
     let mut at = start;
-    while let Some((byte, behind)) = byte_at(text, at) {
+    while let Some((byte, suffix)) = byte_at(text, at) {
         if byte == b'\n' {
-            return behind;
+            return suffix;
         }
-        at = behind;
+        at = suffix;
     }
     at
 }

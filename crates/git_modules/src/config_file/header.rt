@@ -5,13 +5,13 @@
 ghost use Rattle.std.specs.Prelude.{◌≡◌, ◌+◌, ◌<◌, ◌≤◌, ◌==◌, ◌&&◌, length, take, false, not};
 ghost use Rattle.git_syntax.specs.Bytes.{backslash, newline};
 ghost use Rattle.git_modules.specs.ConfigFileBytes as spec;
-ghost use Rattle.git_modules.specs.ConfigFileFlaws.{behind};
+ghost use Rattle.git_modules.specs.ConfigFileFlaws.{prefixed};
 ghost use Rattle.git_modules.specs.ConfigFileHeaders as header;
 ghost use Rattle.git_modules.specs.ConfigFilePieces as piece;
 
 use crate::config_file::bytes::byte_at;
 use crate::config_file::flaw::Flaw;
-use crate::config_file::place::{Wrong, flaw_at, flaw_behind};
+use crate::config_file::place::{Wrong, flaw_after, flaw_at};
 use crate::config_file::word::{Class, past_word, read_word};
 
 /// Writes the prefix of the keys below a header to the front of the buffer; returns its length, and the offset
@@ -28,11 +28,11 @@ pub(super) fn read_header(
     ensures within { piece.IsWithin text.now start 0 result }
 {
     let (len, at) = read_word(text, start, Class::Section, buffer);
-    read_behind(text, at, len, buffer)
+    read_after(text, at, len, buffer)
 }
 
 /// Reads the rest of a header after its section, which is in the front of the buffer.
-fn read_behind(
+fn read_after(
     text: &[u8],
     start: usize,
     len: usize,
@@ -40,20 +40,20 @@ fn read_behind(
 ) -> Result<(usize, usize), Wrong>
     requires start { start ≤ length text.now }
     requires buffer { len + length text.now ≤ start + length buffer.old }
-    ensures stem { header.behind_section (take len buffer.old) (spec.left_at text.now start)
+    ensures stem { header.after_section (take len buffer.old) (spec.left_at text.now start)
         ≡ piece.read_as text.now buffer.new result }
     ensures within { piece.IsWithin text.now start len result }
 {
     match byte_at(text, start) {
-        None => Err(flaw_behind(Flaw::BadSection, start, text)),
-        Some((b']', behind)) => {
+        None => Err(flaw_after(Flaw::BadSection, start, text)),
+        Some((b']', suffix)) => {
             if len == 0 {
                 return Err(flaw_at(Flaw::NoSection, start));
             }
-            Ok((len, behind))
+            Ok((len, suffix))
         }
         Some((b'\n', _)) => Err(flaw_at(Flaw::NoQuote, start)),
-        Some((b' ' | b'\t' | b'\r', behind)) => read_subsection(text, behind, len, buffer),
+        Some((b' ' | b'\t' | b'\r', suffix)) => read_subsection(text, suffix, len, buffer),
         Some(_) => Err(flaw_at(Flaw::BadSection, start)),
     }
 }
@@ -74,9 +74,9 @@ fn read_subsection(
 {
     let at = past_word(text, start, Class::AfterSection);
     match byte_at(text, at) {
-        Some((b'"', behind)) => {
+        Some((b'"', suffix)) => {
             buffer[len] = b'.';
-            let (len, at) = read_quoted(text, behind, len + 1, buffer)?;
+            let (len, at) = read_quoted(text, suffix, len + 1, buffer)?;
             read_end(text, at, len)
         }
         _ => Err(flaw_at(Flaw::NoQuote, at)),
@@ -89,8 +89,8 @@ fn read_end(text: &[u8], start: usize, len: usize) -> Result<(usize, usize), Wro
     ensures { piece.ReadsEnd text.now start len result }
 {
     match byte_at(text, start) {
-        Some((b']', behind)) => Ok((len, behind)),
-        _ => Err(flaw_behind(Flaw::OpenHeader, start, text)),
+        Some((b']', suffix)) => Ok((len, suffix)),
+        _ => Err(flaw_after(Flaw::OpenHeader, start, text)),
     }
 }
 
@@ -103,7 +103,7 @@ fn read_quoted(
 ) -> Result<(usize, usize), Wrong>
     requires start { start ≤ length text.now }
     requires buffer { front + length text.now ≤ start + length buffer.old }
-    ensures subsection { behind (take front buffer.old)
+    ensures subsection { prefixed (take front buffer.old)
         (header.quoted_text false (spec.left_at text.now start))
         ≡ piece.read_as text.now buffer.new result }
     ensures within { piece.IsWithin text.now start front result }
@@ -111,7 +111,7 @@ fn read_quoted(
     let mut at = start;
     let mut len = front;
     let mut is_escaped = false;
-    while let Some((byte, behind)) = byte_at(text, at) {
+    while let Some((byte, suffix)) = byte_at(text, at) {
         if byte == b'\n' {
             return Err(flaw_at(Flaw::OpenSubsection, at));
         }
@@ -119,10 +119,10 @@ fn read_quoted(
             return Err(flaw_at(Flaw::ZeroByte, at));
         }
         if is_last_quote(byte, is_escaped) {
-            return Ok((len, behind));
+            return Ok((len, suffix));
         }
-        (len, is_escaped) = put_quoted(byte, is_escaped, len, buffer);
-        at = behind;
+        (len, is_escaped) = write_quoted(byte, is_escaped, len, buffer);
+        at = suffix;
     }
     Err(flaw_at(Flaw::OpenSubsection, at))
 }
@@ -136,7 +136,7 @@ fn is_last_quote(byte: u8, is_escaped: bool) -> bool
 
 /// Writes a byte of a subsection, unless it begins an escape. Returns the number of bytes written, and whether an
 /// escape begins.
-fn put_quoted(byte: u8, is_escaped: bool, len: usize, buffer: &mut [u8]) -> (usize, bool)
+fn write_quoted(byte: u8, is_escaped: bool, len: usize, buffer: &mut [u8]) -> (usize, bool)
     requires { len < length buffer.old }
     ensures bytes { piece.PutsQuoted byte is_escaped len buffer.old buffer.new result }
     ensures least { len ≤ result.0 }

@@ -32,7 +32,7 @@ pub(super) fn flaw_at(flaw: Flaw, at: usize) -> Wrong
 }
 
 /// An error at an offset. If a line ends there, Git has already counted it.
-pub(super) fn flaw_behind(flaw: Flaw, at: usize, text: &[u8]) -> Wrong
+pub(super) fn flaw_after(flaw: Flaw, at: usize, text: &[u8]) -> Wrong
     ensures { result
         ≡ record { flaw = flaw; at = at; is_late = piece.ends_line (spec.left_at text.now at) } }
 {
@@ -60,7 +60,7 @@ fn second_place(text: &[u8], at: usize) -> Result<usize, Wrong>
 {
     match byte_at(text, at) {
         Some((0xbb, third)) => third_place(text, third),
-        _ => Err(flaw_behind(Flaw::PartialMark, at, text)),
+        _ => Err(flaw_after(Flaw::PartialMark, at, text)),
     }
 }
 
@@ -70,8 +70,8 @@ fn third_place(text: &[u8], at: usize) -> Result<usize, Wrong>
     ensures { piece.IsReached text.now (mark_end (spec.left_at text.now at)) result }
 {
     match byte_at(text, at) {
-        Some((0xbf, behind)) => Ok(behind),
-        _ => Err(flaw_behind(Flaw::PartialMark, at, text)),
+        Some((0xbf, suffix)) => Ok(suffix),
+        _ => Err(flaw_after(Flaw::PartialMark, at, text)),
     }
 }
 

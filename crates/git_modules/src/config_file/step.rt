@@ -38,13 +38,13 @@ pub(super) fn read_step<'a>(
     ensures item { item.item_of (spec.left_at text.now at) ≡ shown.step_as text.now result }
     ensures within { shown.IsStepWithin text.now at result }
 {
-    let Some((byte, behind)) = byte_at(text, at) else {
+    let Some((byte, suffix)) = byte_at(text, at) else {
         return Ok((Step::Nothing, buffer, text.len()));
     };
     match byte {
-        b' ' | b'\t' | b'\r' | b'\n' => Ok((Step::Nothing, buffer, behind)),
-        b'#' | b';' => Ok((Step::Nothing, buffer, past_line(text, behind))),
-        b'[' => read_stem(text, behind, buffer),
+        b' ' | b'\t' | b'\r' | b'\n' => Ok((Step::Nothing, buffer, suffix)),
+        b'#' | b';' => Ok((Step::Nothing, buffer, past_line(text, suffix))),
+        b'[' => read_stem(text, suffix, buffer),
         _ => {
             if !byte.is_ascii_alphabetic() {
                 return Err(flaw_at(Flaw::NoStart, at));
@@ -88,9 +88,9 @@ fn read_setting<'a>(
     let at = past_word(text, at, Class::AfterName);
     match byte_at(text, at) {
         None => Ok((Step::Setting(name, None), rest, at)),
-        Some((b'\n', behind)) => Ok((Step::Setting(name, None), rest, behind)),
-        Some((b'=', behind)) => {
-            let (len, next) = read_value(text, behind, rest)?;
+        Some((b'\n', suffix)) => Ok((Step::Setting(name, None), rest, suffix)),
+        Some((b'=', suffix)) => {
+            let (len, next) = read_value(text, suffix, rest)?;
             let (value, rest) = rest.split_at_mut(len);
             Ok((Step::Setting(name, Some(value)), rest, next))
         }

@@ -143,14 +143,14 @@ pub(super) fn read_value(
         kept: 0,
         mode: Mode::Plain,
     };
-    while let Some((byte, behind)) = byte_at(text, at) {
+    while let Some((byte, suffix)) = byte_at(text, at) {
         let part = part_of(written.mode, byte);
-        match put_part(written, part, buffer) {
+        match write_part(written, part, buffer) {
             Ok(next) => written = next,
-            Err(Ending::Line) => return Ok((written.kept, behind)),
+            Err(Ending::Line) => return Ok((written.kept, suffix)),
             Err(Ending::Flaw(flaw)) => return Err(flaw_at(flaw, at)),
         }
-        at = behind;
+        at = suffix;
     }
     end_value(written, at)
 }
@@ -171,7 +171,7 @@ fn end_value(written: Written, at: usize) -> Result<(usize, usize), Wrong>
 }
 
 /// Writes the meaning of a byte of a value.
-fn put_part(written: Written, part: Part, buffer: &mut [u8]) -> Result<Written, Ending>
+fn write_part(written: Written, part: Part, buffer: &mut [u8]) -> Result<Written, Ending>
     requires tail { shown.HasTail buffer.old written }
     requires buffer { written.end < length buffer.old }
     ensures { shown.PutsPart part buffer.old written buffer.new result }
@@ -184,7 +184,7 @@ fn put_part(written: Written, part: Part, buffer: &mut [u8]) -> Result<Written, 
             kept: written.kept,
             mode: Mode::Comment,
         }),
-        Part::Blank => Ok(put_blank(written, buffer)),
+        Part::Blank => Ok(write_blank(written, buffer)),
         Part::Mark(mode) => Ok(Written {
             end: written.end,
             kept: written.end,
@@ -202,7 +202,7 @@ fn put_part(written: Written, part: Part, buffer: &mut [u8]) -> Result<Written, 
 }
 
 /// Writes a space, unless nothing precedes it.
-fn put_blank(written: Written, buffer: &mut [u8]) -> Written
+fn write_blank(written: Written, buffer: &mut [u8]) -> Written
     requires tail { shown.HasTail buffer.old written }
     requires buffer { written.end < length buffer.old }
     ensures { shown.PutsBlank buffer.old written buffer.new result }

@@ -51,13 +51,13 @@ pub(super) fn read_word(
 {
     let mut at = start;
     let mut len = 0;
-    while let Some((byte, behind)) = byte_at(text, at) {
+    while let Some((byte, suffix)) = byte_at(text, at) {
         if !is_of(class, byte) {
             return (len, at);
         }
         buffer[len] = byte.to_ascii_lowercase();
         len += 1;
-        at = behind;
+        at = suffix;
     }
     (len, at)
 }
@@ -71,11 +71,11 @@ pub(super) fn past_word(text: &[u8], start: usize, class: Class) -> usize
     ensures most { result ≤ length text.now }
 {
     let mut at = start;
-    while let Some((byte, behind)) = byte_at(text, at) {
+    while let Some((byte, suffix)) = byte_at(text, at) {
         if !is_of(class, byte) {
             return at;
         }
-        at = behind;
+        at = suffix;
     }
     at
 }

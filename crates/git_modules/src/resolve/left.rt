@@ -3,9 +3,9 @@
 ghost use Rattle.std.specs.Prelude.{◌≡◌, MatchOption, None, Some, option_map};
 ghost use Rattle.git_syntax.specs.Bytes.{colon};
 ghost use Rattle.git_modules.specs.ResolveParents.{before_last, chop, chop_element, chopped, form_of, is_remote, left_of, whole_of, without_colon};
-ghost use Rattle.git_modules.specs.ResolveSteps.{behind_steps, ups};
+ghost use Rattle.git_modules.specs.ResolveSteps.{after_steps, ups};
 
-use super::step::{behind_here, behind_up};
+use super::step::{after_here, after_up};
 use super::without_last_slash;
 use git_syntax::bytes::{last_cut, starts_with_byte};
 use std::marker::Model;
@@ -43,7 +43,7 @@ impl<'a> Model for Left<'a> {
 /// Returns the rest of a parent after the steps of a URL, and the rest of the URL, or `None` if Git stops.
 pub fn left_of<'a, 'b>(parent: &'a [u8], url: &'b [u8]) -> Option<(Left<'a>, &'b [u8])>
     ensures { MatchOption result (left_of parent.now (ups url.now) ≡ None)
-        (λ p. (left_of parent.now (ups url.now) ≡ Some p.0) × (p.1.now ≡ behind_steps url.now)) }
+        (λ p. (left_of parent.now (ups url.now) ≡ Some p.0) × (p.1.now ≡ after_steps url.now)) }
 {
     climb(without_last_slash(parent), url)
 }
@@ -52,8 +52,8 @@ pub fn left_of<'a, 'b>(parent: &'a [u8], url: &'b [u8]) -> Option<(Left<'a>, &'b
 fn whole_of(parent: &[u8]) -> Left<'_>
     ensures { result ≡ whole_of parent.now }
 {
-    let text = match behind_here(parent) {
-        Some(behind) => behind,
+    let text = match after_here(parent) {
+        Some(suffix) => suffix,
         None => parent,
     };
     Left {
@@ -68,7 +68,7 @@ fn form_of(parent: &[u8]) -> ParentForm
 {
     if is_remote(parent) || starts_with_byte(parent, b'/') {
         ParentForm::Rooted
-    } else if behind_up(parent).is_some() {
+    } else if after_up(parent).is_some() {
         ParentForm::Upward
     } else {
         ParentForm::Downward
@@ -94,16 +94,16 @@ pub fn is_remote(text: &[u8]) -> bool
 fn climb<'a, 'b>(parent: &'a [u8], url: &'b [u8]) -> Option<(Left<'a>, &'b [u8])>
     ensures { MatchOption result (chopped (form_of parent.now) (ups url.now) (whole_of parent.now) ≡ None)
         (λ p. (chopped (form_of parent.now) (ups url.now) (whole_of parent.now) ≡ Some p.0)
-        × (p.1.now ≡ behind_steps url.now)) }
+        × (p.1.now ≡ after_steps url.now)) }
 {
     let form = form_of(parent);
     let mut left = whole_of(parent);
     let mut rest = url;
     loop {
-        if let Some(next) = behind_up(rest) {
+        if let Some(next) = after_up(rest) {
             left = chop(form, &left)?;
             rest = next;
-        } else if let Some(next) = behind_here(rest) {
+        } else if let Some(next) = after_here(rest) {
             rest = next;
         } else {
             return Some((left, rest));

@@ -5,7 +5,7 @@ ghost use Rattle.git_reads.specs.Internal.{CutsText, LacksTextCut};
 ghost use Rattle.git_syntax.specs.Bytes.{begins_by};
 ghost use Rattle.git_reads.specs.Git.{git_decode};
 ghost use Rattle.git_modules.specs.SubmoduleUrls.{DecodesToLines, FindsHost, IsOwnUrl, IsRefusedUrl, IsRelative, LacksHost, ReplacesHost, has_feed, is_colon_or_slash, is_curl_scheme};
-ghost use Rattle.git_modules.specs.SubmoduleInternal.{TellsAuthority, TellsCurl, TellsFeed, TellsHost, TellsInformation, TellsPieces, TellsSeparator, TellsStep};
+ghost use Rattle.git_modules.specs.SubmoduleInternal.{TestsAuthority, FindsCurl, TestsFeed, TestsHost, TestsInformation, TestsPieces, FindsSeparator, FindsStep};
 
 use crate::submodules::is_separator;
 use git_reads::credential::TextPieces;
@@ -51,20 +51,20 @@ fn is_relative(url: &[u8]) -> bool
 
 /// The step that the URL begins with: whether it goes up, and the text after it.
 fn after_step(url: &[u8]) -> Option<(bool, &[u8])>
-    ensures { TellsStep url.now result }
+    ensures { FindsStep url.now result }
 {
-    let behind = after(url, b'.')?;
-    if let Some(rest) = after(behind, b'.') {
+    let suffix = after(url, b'.')?;
+    if let Some(rest) = after(suffix, b'.') {
         let rest = after_separator(rest)?;
         return Some((true, rest));
     }
-    let rest = after_separator(behind)?;
+    let rest = after_separator(suffix)?;
     Some((false, rest))
 }
 
 /// The text after a leading separator.
 fn after_separator(text: &[u8]) -> Option<&[u8]>
-    ensures { TellsSeparator text.now result }
+    ensures { FindsSeparator text.now result }
 {
     match text {
         [first, rest @ ..] if is_separator(*first) => Some(rest),
@@ -85,9 +85,9 @@ fn replaces_host(url: &[u8]) -> bool
 {
     let mut up = false;
     let mut rest = url;
-    while let Some((is_up, behind)) = after_step(rest) {
+    while let Some((is_up, suffix)) = after_step(rest) {
         up = up || is_up;
-        rest = behind;
+        rest = suffix;
     }
     up && begins_by_colon_or_slash(rest)
 }
@@ -116,16 +116,16 @@ fn lacks_host(url: &[u8]) -> bool
 
 /// The text that Git would pass to the helper for curl.
 fn text_for_curl(url: &[u8]) -> Option<&[u8]>
-    ensures { TellsCurl url.now result }
+    ensures { FindsCurl url.now result }
 {
-    let (scheme, behind) = cut(url, b':')?;
+    let (scheme, suffix) = cut(url, b':')?;
     if !is_curl_scheme(scheme) {
         return None;
     }
-    if let Some(text) = after(behind, b':') {
+    if let Some(text) = after(suffix, b':') {
         return Some(text);
     }
-    let rest = after(behind, b'/')?;
+    let rest = after(suffix, b'/')?;
     if starts_with_byte(rest, b'/') {
         Some(url)
     } else {
@@ -156,7 +156,7 @@ fn finds_host(text: &[u8]) -> bool
 /// The pieces of a text: the first `://` ends its protocol, and the first `/`, `?` or `#` its authority.
 fn cut_text(text: &[u8]) -> Option<TextPieces<'_>>
     ensures { MatchOption result (LacksTextCut text.now)
-        (λ it. CutsText text.now it.protocol.now it.authority.now it.behind.now) }
+        (λ it. CutsText text.now it.protocol.now it.authority.now it.suffix.now) }
 {
     if !is_free_of(text, 0) {
         return None;
@@ -165,22 +165,22 @@ fn cut_text(text: &[u8]) -> Option<TextPieces<'_>>
     if protocol.is_empty() {
         return None;
     }
-    let (authority, behind) = cut_before_path(rest, true);
+    let (authority, suffix) = cut_before_path(rest, true);
     Some(TextPieces {
         protocol,
         authority,
-        behind,
+        suffix,
     })
 }
 
 /// Whether the pieces have a host, and no line feed.
 fn are_pieces_taken(pieces: TextPieces<'_>) -> bool
-    ensures { TellsPieces pieces.entry.protocol.now pieces.entry.authority.now
-        pieces.entry.behind.now result }
+    ensures { TestsPieces pieces.entry.protocol.now pieces.entry.authority.now
+        pieces.entry.suffix.now result }
 {
     let is_line = is_free_of(pieces.protocol, b'\n');
     let is_taken = is_authority_taken(pieces.authority);
-    let has_feed = piece_has_feed(pieces.behind);
+    let has_feed = piece_has_feed(pieces.suffix);
     all_three(is_line, is_taken, !has_feed)
 }
 
@@ -193,7 +193,7 @@ fn all_three(first: bool, second: bool, third: bool) -> bool
 
 /// Whether the authority has a host, and none of its parts has a line feed.
 fn is_authority_taken(authority: &[u8]) -> bool
-    ensures { TellsAuthority authority.now result }
+    ensures { TestsAuthority authority.now result }
 {
     match cut(authority, b'@') {
         Some((information, named)) => {
@@ -206,7 +206,7 @@ fn is_authority_taken(authority: &[u8]) -> bool
 
 /// Whether the host isn't empty, and has no line feed.
 fn is_host_taken(named: &[u8]) -> bool
-    ensures { TellsHost named.now result }
+    ensures { TestsHost named.now result }
 {
     let has_feed = piece_has_feed(named);
     !named.is_empty() && !has_feed
@@ -214,7 +214,7 @@ fn is_host_taken(named: &[u8]) -> bool
 
 /// Whether a user, or a user and a password, has a line feed once decoded.
 fn information_has_feed(information: &[u8]) -> bool
-    ensures { TellsInformation information.now result }
+    ensures { TestsInformation information.now result }
 {
     match cut(information, b':') {
         Some((user, password)) => {
@@ -231,7 +231,7 @@ fn information_has_feed(information: &[u8]) -> bool
 /// Whether the decoded piece has a line feed. The text before its first colon counts as a scheme, and is not
 /// decoded.
 fn piece_has_feed(piece: &[u8]) -> bool
-    ensures { TellsFeed piece.now result }
+    ensures { TestsFeed piece.now result }
 {
     match cut(piece, b':') {
         Some((front, rest)) => {

@@ -14,8 +14,8 @@ use Rattle.git_reads.proofs.Reading.CredentialUniqueLemmas.{one_of_pieces, readi
 
 -- a text that begins with its `://` isn't cut
 pub none_before_mark : (t protocol rest : List ℕ) → ¬ Holds url_mark protocol → t ≡ protocol ++ (url_mark ++ rest) → length protocol ≡ 0 → LacksTextCut t
-none_before_mark t protocol rest plain e empty other authority behind cut =
-    let same = mark_cut_unique protocol other rest (authority ++ behind) plain cut.no_mark (sym e ∙ cut.joined) in
+none_before_mark t protocol rest plain e empty other authority suffix cut =
+    let same = mark_cut_unique protocol other rest (authority ++ suffix) plain cut.no_mark (sym e ∙ cut.joined) in
     absurd (omega (arith, empty, ap length same.0, cut.some))
 
 -- an authority with a user and a password
@@ -28,10 +28,10 @@ cut_with_password authority information named user password free e plain e' =
 -- ---- decoding
 
 -- the text before the first colon, the colon and the text after it, decoded, one after the other
-pub decoded_behind : (piece front rest cleared put marked out : List ℕ) → FreeOf colon front → piece ≡ front ++ colon ∷ rest → cleared ≡ [] → put ≡ cleared ++ front → marked ≡ put ++ colon ∷ [] → out ≡ marked ++ git_decode rest → CredentialDecodes piece out
-decoded_behind piece front rest cleared put marked out free e empty first second third =
+pub decoded_after : (piece front rest cleared put marked out : List ℕ) → FreeOf colon front → piece ≡ front ++ colon ∷ rest → cleared ≡ [] → put ≡ cleared ++ front → marked ≡ put ++ colon ∷ [] → out ≡ marked ++ git_decode rest → CredentialDecodes piece out
+decoded_after piece front rest cleared put marked out free e empty first second third =
     let begun : put ≡ front = first ∙ ap (λ t. t ++ front) empty in
-    CredentialDecodes.behind front rest free e (third ∙ ap (λ t. t ++ git_decode rest) (second ∙ ap (λ t. t ++ colon ∷ []) begun) ∙ append_assoc front (colon ∷ []) (git_decode rest))
+    CredentialDecodes.suffix front rest free e (third ∙ ap (λ t. t ++ git_decode rest) (second ∙ ap (λ t. t ++ colon ∷ []) begun) ∙ append_assoc front (colon ∷ []) (git_decode rest))
 
 -- no piece, no part
 none_decoded : (piece part : Option (List ℕ)) → DecodesPart piece part → piece ≡ None → part ≡ None
@@ -60,12 +60,12 @@ cut_decoded a u w user password named (CutsInformation.with_password name secret
 -- ---- the text
 
 -- the reading of a text whose parts are of one line each
-pub reading_of_pieces : (t protocol authority behind : List ℕ) (r : CredentialReading) → CutsText t protocol authority behind → r.protocol ≡ protocol → ReadsPieces authority behind r → AreOneLine r → CredentialReads t r
-reading_of_pieces t protocol authority behind r cut same pieces lines =
-    let own : CutsText t r.protocol authority behind = subst (λ p. CutsText t p authority behind) (sym same) cut in
+pub reading_of_pieces : (t protocol authority suffix : List ℕ) (r : CredentialReading) → CutsText t protocol authority suffix → r.protocol ≡ protocol → ReadsPieces authority suffix r → AreOneLine r → CredentialReads t r
+reading_of_pieces t protocol authority suffix r cut same pieces lines =
+    let own : CutsText t r.protocol authority suffix = subst (λ p. CutsText t p authority suffix) (sym same) cut in
     record {
       authority = authority;
-      behind = behind;
+      suffix = suffix;
       named = pieces.named;
       whole = own.whole;
       protocol = own.some;
@@ -80,10 +80,10 @@ reading_of_pieces t protocol authority behind r cut same pieces lines =
     }
 
 -- nothing is read in a text of which a part is of several lines
-pub unread_of_pieces : (t protocol authority behind : List ℕ) (r : CredentialReading) → CutsText t protocol authority behind → r.protocol ≡ protocol → ReadsPieces authority behind r → ¬ AreOneLine r → (other : CredentialReading) → ¬ CredentialReads t other
-unread_of_pieces t protocol authority behind r cut same pieces several other h =
-    let own : CutsText t r.protocol authority behind = subst (λ p. CutsText t p authority behind) (sym same) cut in
-    let one = one_of_pieces t h.authority h.behind authority behind other r (reading_cut t other h) (reading_pieces t other h) own pieces in
+pub unread_of_pieces : (t protocol authority suffix : List ℕ) (r : CredentialReading) → CutsText t protocol authority suffix → r.protocol ≡ protocol → ReadsPieces authority suffix r → ¬ AreOneLine r → (other : CredentialReading) → ¬ CredentialReads t other
+unread_of_pieces t protocol authority suffix r cut same pieces several other h =
+    let own : CutsText t r.protocol authority suffix = subst (λ p. CutsText t p authority suffix) (sym same) cut in
+    let one = one_of_pieces t h.authority h.suffix authority suffix other r (reading_cut t other h) (reading_pieces t other h) own pieces in
     several (subst (λ x. AreOneLine x) one h.lines)
 
 -- ---- slashes
@@ -154,5 +154,5 @@ pub trimmed_front : (path rest kept front : List ℕ) (b : ℕ) → path ≡ b �
 trimmed_front path rest kept front b e left is =
     let count : 1 + length kept ≡ suc (length kept) = omega arith in
     let first : trimmed_path path ≡ Some (b ∷ without_last_slashes rest) = ap trimmed_path e in
-    let behind : take (length kept) rest ≡ without_last_slashes rest = ap (λ t. take (length t) rest) left ∙ (left_front rest).1 in
-    ap Some (is ∙ ap (take (1 + length kept)) e ∙ ap (λ n. take n (b ∷ rest)) count ∙ ap (λ t. b ∷ t) behind) ∙ sym first
+    let suffix : take (length kept) rest ≡ without_last_slashes rest = ap (λ t. take (length t) rest) left ∙ (left_front rest).1 in
+    ap Some (is ∙ ap (take (1 + length kept)) e ∙ ap (λ n. take n (b ∷ rest)) count ∙ ap (λ t. b ∷ t) suffix) ∙ sym first

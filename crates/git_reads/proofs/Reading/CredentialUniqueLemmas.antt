@@ -50,45 +50,45 @@ cut_same a user other password secret named name (CredentialCut.with_password u 
 -- ---- the path
 
 -- the text after the slashes is empty or begins with another byte
-behind_slashes : (rest : List ℕ) → begins_with slash rest ≡ false → (rest ≡ []) ⊎ (begins_by (λ b. not (b == slash)) rest ≡ true)
-behind_slashes rest other = grind arith
+past_slashes : (rest : List ℕ) → begins_with slash rest ≡ false → (rest ≡ []) ⊎ (begins_by (λ b. not (b == slash)) rest ≡ true)
+past_slashes rest other = grind arith
 
 -- slashes lack other bytes
 only_slashes : (slashes : List ℕ) → are_slashes slashes ≡ true → Lacks (λ b. not (b == slash)) slashes
 only_slashes slashes all = lacks_of_all (λ b. b == slash) (λ b. not (b == slash)) (λ b is. ap not is) slashes all
 
 -- a path is read in one way
-path_same : (behind : List ℕ) (path other : Option (List ℕ)) → CredentialPath behind path → CredentialPath behind other → path ≡ other
-path_same behind path other h k =
-    let same = class_cut_unique (λ b. not (b == slash)) h.slashes k.slashes h.rest k.rest (only_slashes h.slashes h.front) (only_slashes k.slashes k.front) (behind_slashes h.rest h.begins) (behind_slashes k.rest k.begins) (sym h.joined ∙ k.joined) in
+path_same : (suffix : List ℕ) (path other : Option (List ℕ)) → CredentialPath suffix path → CredentialPath suffix other → path ≡ other
+path_same suffix path other h k =
+    let same = class_cut_unique (λ b. not (b == slash)) h.slashes k.slashes h.rest k.rest (only_slashes h.slashes h.front) (only_slashes k.slashes k.front) (past_slashes h.rest h.begins) (past_slashes k.rest k.begins) (sym h.joined ∙ k.joined) in
     let decoded = decodes_unique k.rest h.decoded k.decoded (subst (λ t. CredentialDecodes t h.decoded) same.1 h.decodes) k.decodes in
     h.value ∙ ap trimmed_path decoded ∙ sym k.value
 
 -- ---- the text
 
 -- a text is cut in one way
-text_same : (t protocol other authority place behind rest : List ℕ) → CutsText t protocol authority behind → CutsText t other place rest → (protocol ≡ other) × (authority ≡ place) × (behind ≡ rest)
-text_same t protocol other authority place behind rest h k =
-    let schemes = mark_cut_unique protocol other (authority ++ behind) (place ++ rest) h.no_mark k.no_mark (sym h.joined ∙ k.joined) in
-    let cut = path_cut_unique true authority place behind rest h.before_path k.before_path h.path_start k.path_start schemes.1 in
+text_same : (t protocol other authority place suffix rest : List ℕ) → CutsText t protocol authority suffix → CutsText t other place rest → (protocol ≡ other) × (authority ≡ place) × (suffix ≡ rest)
+text_same t protocol other authority place suffix rest h k =
+    let schemes = mark_cut_unique protocol other (authority ++ suffix) (place ++ rest) h.no_mark k.no_mark (sym h.joined ∙ k.joined) in
+    let cut = path_cut_unique true authority place suffix rest h.before_path k.before_path h.path_start k.path_start schemes.1 in
     (schemes.0, cut.0, cut.1)
 
 -- the pieces of a text are read in one way
-pieces_same : (authority behind : List ℕ) (r other : CredentialReading) → r.protocol ≡ other.protocol → ReadsPieces authority behind r → ReadsPieces authority behind other → r ≡ other
-pieces_same authority behind r other schemes h k =
+pieces_same : (authority suffix : List ℕ) (r other : CredentialReading) → r.protocol ≡ other.protocol → ReadsPieces authority suffix r → ReadsPieces authority suffix other → r ≡ other
+pieces_same authority suffix r other schemes h k =
     let credentials = cut_same authority r.user other.user r.password other.password h.named k.named h.cut k.cut in
     let hosts = decodes_unique k.named r.host other.host (subst (λ t. CredentialDecodes t r.host) credentials.2 h.host) k.host in
-    let paths = path_same behind r.path other.path h.path k.path in
+    let paths = path_same suffix r.path other.path h.path k.path in
     λ i. record { protocol = schemes i; user = credentials.0 i; password = credentials.1 i; host = hosts i; path = paths i }
 
 -- so a text is read in one way, also if a part is of several lines
-pub one_of_pieces : (t authority behind place rest : List ℕ) (r other : CredentialReading) → CutsText t r.protocol authority behind → ReadsPieces authority behind r → CutsText t other.protocol place rest → ReadsPieces place rest other → r ≡ other
-one_of_pieces t authority behind place rest r other cut h cut' k =
-    let same = text_same t r.protocol other.protocol authority place behind rest cut cut' in
-    pieces_same place rest r other same.0 (subst (λ b. ReadsPieces place b r) same.2 (subst (λ a. ReadsPieces a behind r) same.1 h)) k
+pub one_of_pieces : (t authority suffix place rest : List ℕ) (r other : CredentialReading) → CutsText t r.protocol authority suffix → ReadsPieces authority suffix r → CutsText t other.protocol place rest → ReadsPieces place rest other → r ≡ other
+one_of_pieces t authority suffix place rest r other cut h cut' k =
+    let same = text_same t r.protocol other.protocol authority place suffix rest cut cut' in
+    pieces_same place rest r other same.0 (subst (λ b. ReadsPieces place b r) same.2 (subst (λ a. ReadsPieces a suffix r) same.1 h)) k
 
 -- how a text is cut that is read
-pub reading_cut : (t : List ℕ) (r : CredentialReading) (h : CredentialReads t r) → CutsText t r.protocol h.authority h.behind
+pub reading_cut : (t : List ℕ) (r : CredentialReading) (h : CredentialReads t r) → CutsText t r.protocol h.authority h.suffix
 reading_cut t r h = record {
   whole = h.whole;
   some = h.protocol;
@@ -99,10 +99,10 @@ reading_cut t r h = record {
 }
 
 -- and the reading of its pieces
-pub reading_pieces : (t : List ℕ) (r : CredentialReading) (h : CredentialReads t r) → ReadsPieces h.authority h.behind r
+pub reading_pieces : (t : List ℕ) (r : CredentialReading) (h : CredentialReads t r) → ReadsPieces h.authority h.suffix r
 reading_pieces t r h = record { named = h.named; cut = h.cut; host = h.host; path = h.path }
 
 -- Git's credential code reads one thing in a text
 pub one_credential : OneCredentialReading
 one_credential t r other h k =
-    one_of_pieces t h.authority h.behind k.authority k.behind r other (reading_cut t r h) (reading_pieces t r h) (reading_cut t other k) (reading_pieces t other k)
+    one_of_pieces t h.authority h.suffix k.authority k.suffix r other (reading_cut t r h) (reading_pieces t r h) (reading_cut t other k) (reading_pieces t other k)

@@ -34,8 +34,8 @@ helper_single t name address free e single (inr (more, whole)) =
 -- ---- the scp form and local paths
 
 -- a text whose first colon is after a `/` is a local path
-local_behind : (t front rest x y : List ℕ) → FreeOf colon front → t ≡ front ++ colon ∷ rest → front ≡ x ++ slash ∷ y → IsLocal t
-local_behind t front rest x y free e is =
+local_after : (t front rest x y : List ℕ) → FreeOf colon front → t ≡ front ++ colon ∷ rest → front ≡ x ++ slash ∷ y → IsLocal t
+local_after t front rest x y free e is =
     inr (x, y ++ colon ∷ rest, (free_parts colon x (slash ∷ y) (subst (λ s. FreeOf colon s) is free)).0, e ∙ ap (λ s. s ++ colon ∷ rest) is ∙ append_assoc x (slash ∷ y) (colon ∷ rest))
 
 -- a text has the scp form if its first colon is before any `/`
@@ -44,7 +44,7 @@ remote_decided t front rest b free e decided = (
   λ h. record { front = front; rest = rest; joined = e; no_slash = decided.0 h },
   λ h. elim (free_or_cut slash front) [
     | inl none ↦ decided.1 none
-    | inr (x, y, first, is) ↦ remote_not_local t h (local_behind t front rest x y free e is)
+    | inr (x, y, first, is) ↦ remote_not_local t h (local_after t front rest x y free e is)
   ],
 )
 
@@ -54,7 +54,7 @@ local_decided t other = elim (free_or_cut colon t) [
   | inl free ↦ inl free
   | inr (front, rest, free, e) ↦ elim (free_or_cut slash front) [
     | inl none ↦ absurd (other record { front = front; rest = rest; joined = e; no_slash = none })
-    | inr (x, y, first, is) ↦ local_behind t front rest x y free e is
+    | inr (x, y, first, is) ↦ local_after t front rest x y free e is
   ]
 ]
 
@@ -86,8 +86,8 @@ reached_word : (place path word : List ℕ) (port : Option ℕ) (r : GitReading)
 reached_word place path word port r h k = (gets_unique place h.named k.named h.found k.found word k.word port k.port h.cut h.secure k.cut k.secure).0
 
 -- the word that a place gives is the URL that Secure Shell gets
-url_word : (place path word : List ℕ) (port : Option ℕ) → GivesWord place word port → (k : GetsUrl place path) → word ≡ codes "ssh://" ++ k.behind
-url_word place path word port h k = (gets_unique place h.named k.named h.found k.found word (codes "ssh://" ++ k.behind) port k.port h.cut h.secure k.cut k.word).0
+url_word : (place path word : List ℕ) (port : Option ℕ) → GivesWord place word port → (k : GetsUrl place path) → word ≡ codes "ssh://" ++ k.suffix
+url_word place path word port h k = (gets_unique place h.named k.named h.found k.found word (codes "ssh://" ++ k.suffix) port k.port h.cut h.secure k.cut k.word).0
 
 -- Secure Shell reaches nothing and gets no URL
 abbrev pub IsRefused : List ℕ → List ℕ → Type 0
@@ -97,23 +97,23 @@ IsRefused place path = LacksAny (ReachesSecure place path) × ¬ GetsUrl place p
 pub word_refused : (place path word : List ℕ) (port : Option ℕ) → GivesWord place word port → is_option_like word ≡ true → IsRefused place path
 word_refused place path word port h option = (
   λ r k. both_ways (is_option_like k.word) k.word_safe (ap is_option_like (sym (reached_word place path word port r h k)) ∙ option),
-  λ k. both_ways (is_option_like (codes "ssh://" ++ k.behind)) refl (ap is_option_like (sym (url_word place path word port h k)) ∙ option),
+  λ k. both_ways (is_option_like (codes "ssh://" ++ k.suffix)) refl (ap is_option_like (sym (url_word place path word port h k)) ∙ option),
 )
 
 -- Secure Shell refuses a word that isn't a URL and has an empty user
 pub split_refused : (place path word : List ℕ) (port : Option ℕ) → GivesWord place word port → ¬ BeginsBy (codes "ssh://") word → ((user : Option (List ℕ)) (host : List ℕ) → ¬ UserCut word user host) → IsRefused place path
 split_refused place path word port h other uncut = (
   λ r k. uncut k.user k.host (subst (λ w. UserCut w k.user k.host) (sym (reached_word place path word port r h k)) k.split),
-  λ k. other (k.behind, url_word place path word port h k),
+  λ k. other (k.suffix, url_word place path word port h k),
 )
 
 -- Secure Shell gets a URL if its word begins with `ssh://`
 pub gets_url : (place path word : List ℕ) (port : Option ℕ) → GivesWord place word port → is_option_like path ≡ false → BeginsBy (codes "ssh://") word → GetsUrl place path
-gets_url place path word port h safe (behind, begins) = record {
+gets_url place path word port h safe (suffix, begins) = record {
   named = h.named;
   found = h.found;
   port = port;
-  behind = behind;
+  suffix = suffix;
   cut = h.cut;
   word = subst (λ w. SecurePort h.named h.found w port) begins h.secure;
   path_safe = safe;
@@ -122,8 +122,8 @@ gets_url place path word port h safe (behind, begins) = record {
 -- Secure Shell reaches nothing if it gets a URL
 pub url_lacks : (place path : List ℕ) → GetsUrl place path → LacksAny (ReachesSecure place path)
 url_lacks place path h r k =
-    let word : GivesWord place (codes "ssh://" ++ h.behind) h.port = record { named = h.named; found = h.found; cut = h.cut; secure = h.word } in
-    k.no_url h.behind (sym (reached_word place path (codes "ssh://" ++ h.behind) h.port r word k))
+    let word : GivesWord place (codes "ssh://" ++ h.suffix) h.port = record { named = h.named; found = h.found; cut = h.cut; secure = h.word } in
+    k.no_url h.suffix (sym (reached_word place path (codes "ssh://" ++ h.suffix) h.port r word k))
 
 -- a place that Secure Shell reaches, by its parts
 abbrev secure_of : List ℕ → Option (List ℕ) → Option ℕ → Option (List ℕ) → GitReading

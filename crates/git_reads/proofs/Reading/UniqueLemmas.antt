@@ -31,17 +31,17 @@ both text port = (text, port)
 
 -- the pieces of a text around its first colon make up the text
 abbrev outcome : List ℕ → List ℕ → List ℕ → Option ℕ → List ℕ × Option ℕ
-outcome t front behind (Some number) = (front, Some number)
+outcome t front suffix (Some number) = (front, Some number)
 outcome t front [] None = (front, None)
 outcome t front (b ∷ bs) None = (t, None)
 
 -- the text is cut at its first colon, and this comes of it
 record ComesOfCut (t front : List ℕ) (port : Option ℕ) : Type 0 where
   before : List ℕ
-  behind : List ℕ
+  suffix : List ℕ
   first : FreeOf colon before
-  joined : t ≡ before ++ colon ∷ behind
-  value : both front port ≡ outcome t before behind (git_port behind)
+  joined : t ≡ before ++ colon ∷ suffix
+  value : both front port ≡ outcome t before suffix (git_port suffix)
 
 -- the text has no colon, and is the rest
 record ComesOfNone (t front : List ℕ) (port : Option ℕ) : Type 0 where
@@ -49,7 +49,7 @@ record ComesOfNone (t front : List ℕ) (port : Option ℕ) : Type 0 where
   value : both front port ≡ both t None
 
 -- a text that isn't a port leaves the text unchanged
-unmarked_outcome : (t front behind : List ℕ) → 0 < length behind → outcome t front behind None ≡ both t None
+unmarked_outcome : (t front suffix : List ℕ) → 0 < length suffix → outcome t front suffix None ≡ both t None
 unmarked_outcome t front [] some = absurd (omega arith)
 unmarked_outcome t front (b ∷ bs) some = refl
 
@@ -61,15 +61,15 @@ pair a b p q e f = λ i. (e i, f i)
 before_comes : (t front : List ℕ) (port : Option ℕ) → BeforePort t front port → ComesOfCut t front port ⊎ ComesOfNone t front port
 before_comes t front port (BeforePort.marked digits number first e is p) = inl record {
   before = front;
-  behind = digits;
+  suffix = digits;
   first = first;
   joined = e;
   value = pair front front port (Some number) refl p ∙ ap (outcome t front digits) (sym is);
 }
-before_comes t front port (BeforePort.colon_alone first e p) = inl record { before = front; behind = []; first = first; joined = e; value = pair front front port None refl p }
+before_comes t front port (BeforePort.colon_alone first e p) = inl record { before = front; suffix = []; first = first; joined = e; value = pair front front port None refl p }
 before_comes t front port (BeforePort.unmarked host other first e some is whole p) = inl record {
   before = host;
-  behind = other;
+  suffix = other;
   first = first;
   joined = e;
   value = pair front t port None whole p ∙ sym (unmarked_outcome t host other some) ∙ ap (outcome t host other) (sym is);
@@ -111,7 +111,7 @@ data SecureComes (named : List ℕ) (found : Option ℕ) (word : List ℕ) (port
 
 -- this comes of it
 secure_comes : (named : List ℕ) (found : Option ℕ) (word : List ℕ) (port : Option ℕ) → SecurePort named found word port → SecureComes named found word port
-secure_comes named found word port (SecurePort.behind n is w p) = SecureComes.of_found n is (pair word named port found w p)
+secure_comes named found word port (SecurePort.outside n is w p) = SecureComes.of_found n is (pair word named port found w p)
 secure_comes named found word port (SecurePort.inside d n none first e is p) =
     SecureComes.of_cut word d none first e (pair word word port (Some n) refl p ∙ ap (secure_outcome named word) (sym is))
 secure_comes named found word port (SecurePort.unmarked h o none first e is w p) =

@@ -95,9 +95,9 @@ pub record GetsUrlOf (p : Scheme) (rest : List ℕ) : Type 0 where
 
 -- a URL that Secure Shell gets of a transport's URL is got by this transport
 gets_of : (p : Scheme) (t rest place path : List ℕ) → is_own p ≡ true → OwnUrl p t rest → IsForSecureShell t place path → GetsUrl place path → GetsUrlOf p rest
-gets_of p t rest place path own u (IsForSecureShell.url x behind v c is) h =
-    same_url GetsUrlOf p ssh t rest x own refl u v record { place = place; path = behind; cut = c; gets = subst (λ s. GetsUrl place s) is h }
-gets_of p t rest place path own u (IsForSecureShell.scp_form behind n m c is) h = own_no_other p t rest u n
+gets_of p t rest place path own u (IsForSecureShell.url x suffix v c is) h =
+    same_url GetsUrlOf p ssh t rest x own refl u v record { place = place; path = suffix; cut = c; gets = subst (λ s. GetsUrl place s) is h }
+gets_of p t rest place path own u (IsForSecureShell.scp_form suffix n m c is) h = own_no_other p t rest u n
 
 -- a transport's URL is refused if nothing is reached and no URL is got
 own_refused : (p : Scheme) (t rest : List ℕ) → is_own p ≡ true → OwnUrl p t rest → ((r : GitReading) → ¬ ReachesUrl r p rest) → ¬ GetsUrlOf p rest → Fails t why.Refused
@@ -173,8 +173,8 @@ foreign_lacks scheme spelled none foreign r (ReadsInput.local_path passed path n
 
 -- a URL of none of Git's own transports isn't for Secure Shell
 foreign_gives : (scheme spelled place path : List ℕ) → ¬ Holds url_mark scheme → IsForeign scheme → ¬ IsForSecureShell (url_text scheme spelled) place path
-foreign_gives scheme spelled place path none foreign (IsForSecureShell.url x behind u c is) = foreign.0 (own_scheme ssh scheme spelled x refl none u)
-foreign_gives scheme spelled place path none foreign (IsForSecureShell.scp_form behind n m c is) = n.no_mark (scheme, spelled, refl)
+foreign_gives scheme spelled place path none foreign (IsForSecureShell.url x suffix u c is) = foreign.0 (own_scheme ssh scheme spelled x refl none u)
+foreign_gives scheme spelled place path none foreign (IsForSecureShell.scp_form suffix n m c is) = n.no_mark (scheme, spelled, refl)
 
 -- a URL of none of Git's own transports is for no helper if its scheme names none
 foreign_helper : (scheme spelled : List ℕ) → ¬ Holds url_mark scheme → ¬ NamesHelper (url_text scheme spelled) → IsForeignFor scheme why.Refused → ¬ IsForHelper (url_text scheme spelled)
@@ -233,9 +233,9 @@ unmarked_read t r none (ReadsInput.scp_form place path n m c h) scp path_of = sc
 unmarked_read t r none (ReadsInput.local_path passed path n l e some safe low is) scp path_of = path_of passed path n l e record { some = some; safe = safe; no_home = low }
 
 -- a text without a mark that is for Secure Shell has the scp form
-unmarked_gives : {A : Type 0} (t place path : List ℕ) → ¬ Holds url_mark t → IsForSecureShell t place path → ((behind : List ℕ) → IsNoUrl t → IsRemote t → CutsPlace colon t place behind → path ≡ from_tilde behind → A) → A
-unmarked_gives t place path none (IsForSecureShell.url x behind u c is) scp = unmarked_url ssh t x none u
-unmarked_gives t place path none (IsForSecureShell.scp_form behind n m c is) scp = scp behind n m c is
+unmarked_gives : {A : Type 0} (t place path : List ℕ) → ¬ Holds url_mark t → IsForSecureShell t place path → ((suffix : List ℕ) → IsNoUrl t → IsRemote t → CutsPlace colon t place suffix → path ≡ from_tilde suffix → A) → A
+unmarked_gives t place path none (IsForSecureShell.url x suffix u c is) scp = unmarked_url ssh t x none u
+unmarked_gives t place path none (IsForSecureShell.scp_form suffix n m c is) scp = scp suffix n m c is
 
 -- ---- the scp form
 
@@ -247,7 +247,7 @@ scp_refused t none unnamed remote unreached ungot = (
     unmarked_helper t none unnamed,
     (
       λ h. remote_not_local t remote h.local,
-      λ h. unmarked_gives t h.place h.path none h.secure (λ behind n m c is. ungot h.place behind c (subst (λ s. GetsUrl h.place s) is h.gets)),
+      λ h. unmarked_gives t h.place h.path none h.secure (λ suffix n m c is. ungot h.place suffix c (subst (λ s. GetsUrl h.place s) is h.gets)),
     ),
   ),
 )
@@ -294,7 +294,7 @@ local_fails t passed path why.Refused none unnamed other place e h = (
     unmarked_helper t none unnamed,
     (
       λ k. both_ways (begins_with tilde path) h.1 (ap (begins_with tilde) (sym (host_end_unique t k.passed k.path passed path k.end e).1) ∙ k.tilde_first),
-      λ k. unmarked_gives t k.place k.path none k.secure (λ behind n m c is. remote_not_local t m place),
+      λ k. unmarked_gives t k.place k.path none k.secure (λ suffix n m c is. remote_not_local t m place),
     ),
   ),
 )
@@ -321,14 +321,14 @@ places_lacks t r h k = unmarked_read t r h.no_url.no_mark k (λ place path n m c
 
 -- a text that gives Secure Shell a URL has no reading
 gives_lacks : (t place path : List ℕ) (r : GitReading) → IsForSecureShell t place path → GetsUrl place path → ¬ ReadsInput t r
-gives_lacks t place path r (IsForSecureShell.url x behind u c is) h k =
+gives_lacks t place path r (IsForSecureShell.url x suffix u c is) h k =
     let read = own_reached ssh t x r refl u k in
-    let same = place_unique slash x place behind read.place read.path c read.cut in
-    url_lacks read.place (from_tilde (slash ∷ read.path)) (subst (λ s. GetsUrl read.place (from_tilde (slash ∷ s))) same.1 (subst (λ s. GetsUrl s (from_tilde (slash ∷ behind))) same.0 (subst (λ s. GetsUrl place s) is h))) r read.reaches
-gives_lacks t place path r (IsForSecureShell.scp_form behind n m c is) h k =
+    let same = place_unique slash x place suffix read.place read.path c read.cut in
+    url_lacks read.place (from_tilde (slash ∷ read.path)) (subst (λ s. GetsUrl read.place (from_tilde (slash ∷ s))) same.1 (subst (λ s. GetsUrl s (from_tilde (slash ∷ suffix))) same.0 (subst (λ s. GetsUrl place s) is h))) r read.reaches
+gives_lacks t place path r (IsForSecureShell.scp_form suffix n m c is) h k =
     unmarked_read t r n.no_mark k (λ p q n' m' d s.
-    let same = place_unique colon t place behind p q c d in
-    url_lacks p (from_tilde q) (subst (λ s. GetsUrl p (from_tilde s)) same.1 (subst (λ s. GetsUrl s (from_tilde behind)) same.0 (subst (λ s. GetsUrl place s) is h))) r s) (λ passed q n' l e some. remote_not_local t m l)
+    let same = place_unique colon t place suffix p q c d in
+    url_lacks p (from_tilde q) (subst (λ s. GetsUrl p (from_tilde s)) same.1 (subst (λ s. GetsUrl s (from_tilde suffix)) same.0 (subst (λ s. GetsUrl place s) is h))) r s) (λ passed q n' l e some. remote_not_local t m l)
 
 -- a text that isn't read has no reading, unless memory was refused
 pub fails_lacks : (t : List ℕ) (w : Unread) → Fails t w → ¬ (w ≡ why.Memory) → LacksReading t

@@ -5,7 +5,7 @@ use Rattle.git_reads.specs.Git.{git_decode}
 use Rattle.git_reads.specs.Internal.{LacksEscape}
 
 -- a text that begins with no escape keeps its first byte
-pub first_kept : (t behind : List ℕ) (b : ℕ) → LacksEscape t → t ≡ b ∷ behind → git_decode t ≡ b ∷ git_decode behind
+pub first_kept : (t suffix : List ℕ) (b : ℕ) → LacksEscape t → t ≡ b ∷ suffix → git_decode t ≡ b ∷ git_decode suffix
 first_kept t [] b none e = ap git_decode e
 first_kept t (c ∷ []) b none e = ap git_decode e
 first_kept t (c ∷ d ∷ rest) b none e = ap git_decode e ∙ cond-false _ _ _ (none b c d rest e)
@@ -16,6 +16,6 @@ decoded_some [] some = some
 decoded_some (b ∷ t) some = omega arith
 
 -- one byte more is decoded
-pub one_more : (done more t behind whole : List ℕ) (byte : ℕ) → done ++ git_decode t ≡ whole → git_decode t ≡ byte ∷ git_decode behind → more ≡ done ++ byte ∷ [] → more ++ git_decode behind ≡ whole
-one_more done more t behind whole byte so_far step pushed =
-    ap (λ x. x ++ git_decode behind) pushed ∙ append_assoc done (byte ∷ []) (git_decode behind) ∙ ap (λ x. done ++ x) (sym step) ∙ so_far
+pub one_more : (done more t suffix whole : List ℕ) (byte : ℕ) → done ++ git_decode t ≡ whole → git_decode t ≡ byte ∷ git_decode suffix → more ≡ done ++ byte ∷ [] → more ++ git_decode suffix ≡ whole
+one_more done more t suffix whole byte so_far step pushed =
+    ap (λ x. x ++ git_decode suffix) pushed ∙ append_assoc done (byte ∷ []) (git_decode suffix) ∙ ap (λ x. done ++ x) (sym step) ∙ so_far

@@ -12,14 +12,14 @@ use Rattle.git_reads.specs.Internal.{CutsPlaceAt}
 -- ---- the bracket that opens a host
 
 -- the first mark opens one
-pub opened_behind : (t front rest : List ℕ) (n : ℕ) → FindsNeedle t host_mark 0 (Some n) → front ≡ take (n + 1) t → rest ≡ drop (n + 2) t → OpensHost t front rest
-opened_behind t front rest n h first behind =
+pub opened_after : (t front rest : List ℕ) (n : ℕ) → FindsNeedle t host_mark 0 (Some n) → front ≡ take (n + 1) t → rest ≡ drop (n + 2) t → OpensHost t front rest
+opened_after t front rest n h first suffix =
     let user = take n t in
     let e : t ≡ user ++ (host_mark ++ drop (n + 2) t) = occurs_cut t host_mark n h.1 in
     let joined : t ≡ (user ++ at_sign ∷ []) ++ left_bracket ∷ drop (n + 2) t = e ∙ sym (append_assoc user (at_sign ∷ []) (left_bracket ∷ drop (n + 2) t)) in
     let size : length (user ++ at_sign ∷ []) ≡ n + 1 = omega (arith, length-append user (at_sign ∷ []), length-take-le n t (omega (arith, h.1.fits))) in
     let cut : take (n + 1) t ≡ user ++ at_sign ∷ [] = ap (take (n + 1)) joined ∙ take_at (user ++ at_sign ∷ []) (left_bracket ∷ drop (n + 2) t) (n + 1) size in
-    OpensHost.behind_at user (none_held_before t host_mark n (omega arith) (λ j l. h.0.before j (omega arith) l)) (first ∙ cut) (e ∙ ap (λ x. user ++ (host_mark ++ x)) (sym behind))
+    OpensHost.after_at user (none_held_before t host_mark n (omega arith) (λ j l. h.0.before j (omega arith) l)) (first ∙ cut) (e ∙ ap (λ x. user ++ (host_mark ++ x)) (sym suffix))
 
 -- a text in which the mark is nowhere found doesn't hold it
 pub unopened : (t : List ℕ) → FindsNeedle t host_mark 0 None → ¬ Holds host_mark t
@@ -33,27 +33,27 @@ opened_front t front rest h first e = OpensHost.at_front (unopened t h) first e
 
 -- the bracket is between the two pieces
 opened_joined : (t front rest : List ℕ) → OpensHost t front rest → t ≡ front ++ left_bracket ∷ rest
-opened_joined t front rest (OpensHost.behind_at user none first e) =
+opened_joined t front rest (OpensHost.after_at user none first e) =
     e ∙ sym (append_assoc user (at_sign ∷ []) (left_bracket ∷ rest)) ∙ ap (λ x. x ++ left_bracket ∷ rest) (sym first)
 opened_joined t front rest (OpensHost.at_front none first e) = e ∙ ap (λ x. x ++ left_bracket ∷ rest) (sym first)
 
 -- the text up to the bracket that closes them, and the rest
-brackets_joined : (t front inside behind : List ℕ) → BracketCut t front inside behind → t ≡ (front ++ left_bracket ∷ inside) ++ right_bracket ∷ behind
-brackets_joined t front inside behind h =
-    opened_joined t front (inside ++ right_bracket ∷ behind) h.opened ∙ sym (append_assoc front (left_bracket ∷ inside) (right_bracket ∷ behind))
+brackets_joined : (t front inside suffix : List ℕ) → BracketCut t front inside suffix → t ≡ (front ++ left_bracket ∷ inside) ++ right_bracket ∷ suffix
+brackets_joined t front inside suffix h =
+    opened_joined t front (inside ++ right_bracket ∷ suffix) h.opened ∙ sym (append_assoc front (left_bracket ∷ inside) (right_bracket ∷ suffix))
 
 -- the place of that bracket
 brackets_length : (front inside : List ℕ) → length (front ++ left_bracket ∷ inside) ≡ length front + 1 + length inside
 brackets_length front inside = omega (arith, length-append front (left_bracket ∷ inside))
 
 -- the text is passed over up to there
-pub brackets_end : (t front inside behind passed rest : List ℕ) (n : ℕ) → BracketCut t front inside behind → n ≡ length front + 1 + length inside → passed ≡ take n t → rest ≡ drop n t → HostEnd t passed rest
-brackets_end t front inside behind passed rest n h place first last =
-    let e = brackets_joined t front inside behind h in
+pub brackets_end : (t front inside suffix passed rest : List ℕ) (n : ℕ) → BracketCut t front inside suffix → n ≡ length front + 1 + length inside → passed ≡ take n t → rest ≡ drop n t → HostEnd t passed rest
+brackets_end t front inside suffix passed rest n h place first last =
+    let e = brackets_joined t front inside suffix h in
     let size : length (front ++ left_bracket ∷ inside) ≡ n = brackets_length front inside ∙ sym place in
-    HostEnd.brackets front inside behind h
-    (first ∙ ap (take n) e ∙ take_at (front ++ left_bracket ∷ inside) (right_bracket ∷ behind) n size)
-    (last ∙ ap (drop n) e ∙ drop_at (front ++ left_bracket ∷ inside) (right_bracket ∷ behind) n size)
+    HostEnd.brackets front inside suffix h
+    (first ∙ ap (take n) e ∙ take_at (front ++ left_bracket ∷ inside) (right_bracket ∷ suffix) n size)
+    (last ∙ ap (drop n) e ∙ drop_at (front ++ left_bracket ∷ inside) (right_bracket ∷ suffix) n size)
 
 -- ---- one pair of brackets
 
@@ -65,31 +65,31 @@ mark_no_overlap b (c ∷ bs) x y h e =
 
 -- one bracket opens the host
 opens_unique : (t front rest other more : List ℕ) → OpensHost t front rest → OpensHost t other more → (front ≡ other) × (rest ≡ more)
-opens_unique t front rest other more (OpensHost.behind_at user none is e) (OpensHost.behind_at name none' is' e') =
+opens_unique t front rest other more (OpensHost.after_at user none is e) (OpensHost.after_at name none' is' e') =
     let same = held_cut_unique host_mark mark_no_overlap user name rest more none none' (sym e ∙ e') in
     (is ∙ ap (λ u. u ++ at_sign ∷ []) same.0 ∙ sym is', same.1)
-opens_unique t front rest other more (OpensHost.behind_at user none is e) (OpensHost.at_front none' is' e') = absurd (none' (user, rest, e))
-opens_unique t front rest other more (OpensHost.at_front none is e) (OpensHost.behind_at name none' is' e') = absurd (none (name, more, e'))
+opens_unique t front rest other more (OpensHost.after_at user none is e) (OpensHost.at_front none' is' e') = absurd (none' (user, rest, e))
+opens_unique t front rest other more (OpensHost.at_front none is e) (OpensHost.after_at name none' is' e') = absurd (none (name, more, e'))
 opens_unique t front rest other more (OpensHost.at_front none is e) (OpensHost.at_front none' is' e') = (is ∙ sym is', tails (sym e ∙ e'))
 
 -- and one closes it
-pub brackets_unique : (t front inside behind other within beyond : List ℕ) → BracketCut t front inside behind → BracketCut t other within beyond → (front ≡ other) × (inside ≡ within) × (behind ≡ beyond)
-brackets_unique t front inside behind other within beyond h k =
-    let opened = opens_unique t front (inside ++ right_bracket ∷ behind) other (within ++ right_bracket ∷ beyond) h.opened k.opened in
-    let closed = cut_unique right_bracket inside within behind beyond h.next k.next opened.1 in
+pub brackets_unique : (t front inside suffix other within beyond : List ℕ) → BracketCut t front inside suffix → BracketCut t other within beyond → (front ≡ other) × (inside ≡ within) × (suffix ≡ beyond)
+brackets_unique t front inside suffix other within beyond h k =
+    let opened = opens_unique t front (inside ++ right_bracket ∷ suffix) other (within ++ right_bracket ∷ beyond) h.opened k.opened in
+    let closed = cut_unique right_bracket inside within suffix beyond h.next k.next opened.1 in
     (opened.0, closed.0, closed.1)
 
 -- a bracket that opens a host rules out that none does
 opened_not_lacked : (t front rest : List ℕ) → OpensHost t front rest → ¬ Holds host_mark t → begins_with left_bracket t ≡ false → ⊥
-opened_not_lacked t front rest (OpensHost.behind_at user none is e) lacks begins = lacks (user, rest, e)
+opened_not_lacked t front rest (OpensHost.after_at user none is e) lacks begins = lacks (user, rest, e)
 opened_not_lacked t front rest (OpensHost.at_front none is e) lacks begins = both_ways _ begins (ap (begins_with left_bracket) e)
 
 -- a pair of host brackets rules out that a text lacks one
-pub brackets_not_lacked : (t front inside behind : List ℕ) → BracketCut t front inside behind → LacksHostBrackets t → ⊥
-brackets_not_lacked t front inside behind h (LacksHostBrackets.unopened none begins) = opened_not_lacked t front (inside ++ right_bracket ∷ behind) h.opened none begins
-brackets_not_lacked t front inside behind h (LacksHostBrackets.unclosed other rest opened free) =
-    let same = opens_unique t front (inside ++ right_bracket ∷ behind) other rest h.opened opened in
-    not_free right_bracket inside behind (subst (λ s. FreeOf right_bracket s) (sym same.1) free)
+pub brackets_not_lacked : (t front inside suffix : List ℕ) → BracketCut t front inside suffix → LacksHostBrackets t → ⊥
+brackets_not_lacked t front inside suffix h (LacksHostBrackets.unopened none begins) = opened_not_lacked t front (inside ++ right_bracket ∷ suffix) h.opened none begins
+brackets_not_lacked t front inside suffix h (LacksHostBrackets.unclosed other rest opened free) =
+    let same = opens_unique t front (inside ++ right_bracket ∷ suffix) other rest h.opened opened in
+    not_free right_bracket inside suffix (subst (λ s. FreeOf right_bracket s) (sym same.1) free)
 
 -- one front is passed over
 pub host_end_unique : (t passed rest other more : List ℕ) → HostEnd t passed rest → HostEnd t other more → (passed ≡ other) × (rest ≡ more)
@@ -121,18 +121,18 @@ uncut c t passed rest end free place more h =
     not_free c h.between more (subst (λ s. FreeOf c s) ends.1 free)
 
 -- one with it is cut there
-pub cut_behind : (c : ℕ) (t passed rest between behind place found : List ℕ) (n : ℕ) → HostEnd t passed rest → t ≡ passed ++ rest → FreeOf c between → rest ≡ between ++ c ∷ behind → n ≡ length passed + length between → place ≡ take n t → found ≡ drop n t → CutsPlaceAt c t place found
-cut_behind c t passed rest between behind place found n end whole first e size front back =
-    let joined : t ≡ (passed ++ between) ++ c ∷ behind = whole ∙ ap (λ x. passed ++ x) e ∙ sym (append_assoc passed between (c ∷ behind)) in
+pub cut_after : (c : ℕ) (t passed rest between suffix place found : List ℕ) (n : ℕ) → HostEnd t passed rest → t ≡ passed ++ rest → FreeOf c between → rest ≡ between ++ c ∷ suffix → n ≡ length passed + length between → place ≡ take n t → found ≡ drop n t → CutsPlaceAt c t place found
+cut_after c t passed rest between suffix place found n end whole first e size front back =
+    let joined : t ≡ (passed ++ between) ++ c ∷ suffix = whole ∙ ap (λ x. passed ++ x) e ∙ sym (append_assoc passed between (c ∷ suffix)) in
     let counted : length (passed ++ between) ≡ n = length-append passed between ∙ sym size in
-    let ends : HostEnd t passed (between ++ c ∷ behind) = subst (λ x. HostEnd t passed x) e end in (
-      behind,
-      back ∙ ap (drop n) joined ∙ drop_at (passed ++ between) (c ∷ behind) n counted,
+    let ends : HostEnd t passed (between ++ c ∷ suffix) = subst (λ x. HostEnd t passed x) e end in (
+      suffix,
+      back ∙ ap (drop n) joined ∙ drop_at (passed ++ between) (c ∷ suffix) n counted,
       record {
         passed = passed;
         between = between;
         end = ends;
         first = first;
-        joined = front ∙ ap (take n) joined ∙ take_at (passed ++ between) (c ∷ behind) n counted;
+        joined = front ∙ ap (take n) joined ∙ take_at (passed ++ between) (c ∷ suffix) n counted;
       },
     )

@@ -14,7 +14,7 @@ use Rattle.git_refusals.specs.declared.place.Place.{Place}
 use Rattle.git_refusals.specs.declared.reason.Reason.TheVariants as reason
 use Rattle.git_refusals.specs.Reasons.{Passes, HasBackslash, Then, Undecodable, BadHost, BadUser, BadParts, BadAuthority}
 use Rattle.git_refusals.specs.Internal.Readable.{Checks, HoldsParts, HoldsUser, NamesHost}
-use Rattle.git_refusals.proofs.Refusing.PassLemmas.{behind_passes, found_second, backslash_passes, decoded_passes}
+use Rattle.git_refusals.proofs.Refusing.PassLemmas.{after_passes, found_second, backslash_passes, decoded_passes}
 use Rattle.git_refusals.proofs.Refusing.FlawLemmas.{bad_host_flaw, bad_user_kind, bad_authority_flaw}
 
 -- ---- user information
@@ -35,7 +35,7 @@ password_found text u w p free e h = record {
 pub user_checked : (text u w : List ℕ) (r : Option Place) → FreeOf colon u → text ≡ u ++ colon ∷ w → IsUtf8 (percent_decode w) → Checks u (Undecodable u) (IsUtf8 (percent_decode u)) r → Checks text (BadUser text) (HoldsUser text) r
 user_checked text u w None free e good h = record { found = (_, _, Credentials.with_password u w free e h.found good refl refl); within = h.within }
 user_checked text u w (Some p) free e good h = record {
-  found = BadUser.with_password u w free e (Then.at_second (behind_passes _ _ (decoded_passes w good)) h.found);
+  found = BadUser.with_password u w free e (Then.at_second (after_passes _ _ (decoded_passes w good)) h.found);
   within = omega (arith, h.within, ap length e, length-append u (colon ∷ w));
 }
 
@@ -61,8 +61,8 @@ some_named syntax piece (Some host) port h some = refl
 -- ---- authorities
 
 -- the text after the user information of a text is text
-pub behind_utf8 : (text information piece : List ℕ) → text ≡ information ++ at_sign ∷ piece → IsUtf8 text → IsUtf8 piece
-behind_utf8 text information piece e utf8 = (utf8_parts information piece at_sign (subst IsUtf8 e utf8) (omega arith)).1
+pub after_utf8 : (text information piece : List ℕ) → text ≡ information ++ at_sign ∷ piece → IsUtf8 text → IsUtf8 piece
+after_utf8 text information piece e utf8 = (utf8_parts information piece at_sign (subst IsUtf8 e utf8) (omega arith)).1
 
 -- an authority that names a host, or is empty if none is needed, holds parts
 pub alone_held : (syntax : HostSyntax) (needed : Bool) (text : List ℕ) → FreeOf backslash text → FreeOf at_sign text → NamesHost syntax text → (needed ≡ true → 0 < length text) → HoldsParts syntax needed text
@@ -85,8 +85,8 @@ missing_found syntax needed text free need empty = record {
 }
 
 -- an authority holds parts if its user information does and a host is after that
-pub behind_held : (syntax : HostSyntax) (needed : Bool) (text information piece : List ℕ) → FreeOf backslash text → FreeOf at_sign piece → text ≡ information ++ at_sign ∷ piece → HoldsUser information → NamesHost syntax piece → 0 < length piece → HoldsParts syntax needed text
-behind_held syntax needed text information piece clean free e (user, password, c) (host, port, h) some =
+pub after_held : (syntax : HostSyntax) (needed : Bool) (text information piece : List ℕ) → FreeOf backslash text → FreeOf at_sign piece → text ≡ information ++ at_sign ∷ piece → HoldsUser information → NamesHost syntax piece → 0 < length piece → HoldsParts syntax needed text
+after_held syntax needed text information piece clean free e (user, password, c) (host, port, h) some =
     let has = some_named syntax piece host port h some in
     record {
       user = user;
@@ -118,7 +118,7 @@ pub no_host_found : (syntax : HostSyntax) (needed : Bool) (text information piec
 no_host_found syntax needed text information piece free e user empty = record {
   found =
       BadParts.with_user information piece free e (Then.at_second (user_passes information user)
-      (Then.at_second (behind_passes _ _ (nothing_wrong syntax piece empty))
+      (Then.at_second (after_passes _ _ (nothing_wrong syntax piece empty))
       (record { empty = empty; stands = record { named = refl; start = refl; size = refl } })));
   within = omega arith;
 }

@@ -16,7 +16,7 @@ use Rattle.bstr.proofs.lemmas.LossyLemmas.{utf8_invalid_len-decoded, utf8_valid_
 use Rattle.bstr.proofs.lemmas.PieceLemmas.{piece-bounds}
 use Rattle.bstr.proofs.lemmas.SoundLemmas.{SpellsChar-decoded}
 use Rattle.bstr.proofs.lemmas.UnicodeLemmas.{none_after_valid}
-use Rattle.git_syntax.proofs.Texts.EscapeLemmas.{decode_broken, decode_byte, decode_escape, decoded_window, utf8_behind, utf8_byte}
+use Rattle.git_syntax.proofs.Texts.EscapeLemmas.{decode_broken, decode_byte, decode_escape, decoded_window, utf8_after, utf8_byte}
 use Rattle.git_refusals.specs.Characters.{unit_len, spelled_len, undecodable_at, undecodable_len}
 
 -- ---- a text that spells the bytes of a decoding
@@ -40,9 +40,9 @@ spelled_more zero m text =
     omega (arith, ap (λ k. spelled_len k text) same)
 spelled_more (suc n) m text =
     let whole : suc n + m ≡ suc (n + m) = omega arith in
-    let behind = drop (unit_len text) text in
-    let rest = spelled_more n m behind in
-    let same = ap (spelled_len m) (drop-drop (spelled_len n behind) (unit_len text) text) in
+    let suffix = drop (unit_len text) text in
+    let rest = spelled_more n m suffix in
+    let same = ap (spelled_len m) (drop-drop (spelled_len n suffix) (unit_len text) text) in
     omega (arith, ap (λ k. spelled_len k text) whole, rest, same)
 
 -- they are bytes of the text
@@ -60,9 +60,9 @@ spelled_some (suc n) text some full = omega (arith, unit_some text full)
 pub spelled_decodes : (n : ℕ) (text : List ℕ) → percent_decode (drop (spelled_len n text) text) ≡ drop n (percent_decode text)
 spelled_decodes zero text = refl
 spelled_decodes (suc n) text =
-    let behind = drop (unit_len text) text in
+    let suffix = drop (unit_len text) text in
     let next : 1 + n ≡ suc n = omega arith in
-    ap percent_decode (sym (drop-drop (spelled_len n behind) (unit_len text) text)) ∙ spelled_decodes n behind ∙ ap (drop n) (unit_decodes text) ∙ drop-drop n 1 (percent_decode text) ∙ ap (λ k. drop k (percent_decode text)) next
+    ap percent_decode (sym (drop-drop (spelled_len n suffix) (unit_len text) text)) ∙ spelled_decodes n suffix ∙ ap (drop n) (unit_decodes text) ∙ drop-drop n 1 (percent_decode text) ∙ ap (λ k. drop k (percent_decode text)) next
 
 -- one more byte is left
 pub unit_more : (text rest left : List ℕ) (n : ℕ) → rest ≡ drop (spelled_len n text) text → left ≡ drop (unit_len rest) rest → left ≡ drop (spelled_len (n + 1) text) text
@@ -94,7 +94,7 @@ valid_at bs n not front none =
         let rest = drop n (take m bs) in
         let size : n < length (take m bs) = omega (arith, length-take m bs) in
         let cut : take m bs ≡ take n bs ++ rest = sym (take-append-drop n (take m bs)) ∙ ap (λ t. t ++ rest) (take-take n m bs (omega (arith, above))) in
-        let later = utf8_behind (take n bs) rest (subst IsUtf8 cut utf8) front in
+        let later = utf8_after (take n bs) rest (subst IsUtf8 cut utf8) front in
         let whole : drop n bs ≡ encode_utf8_all later.0 ++ drop m bs = ap (drop n) (sym (take-append-drop m bs)) ∙ drop-append-le n (take m bs) (drop m bs) (omega (arith, size)) ∙ ap (λ t. t ++ drop m bs) (sym later.1.1) in
         let some = begins_character later.0 (drop m bs) (drop n bs) later.1.0 whole (omega (arith, ap length later.1.1, length-drop n (take m bs), size)) in
         true≢false (sym some ∙ ap is_some none)
@@ -188,17 +188,17 @@ at_is text left e =
     omega (arith, ap length e, length-drop (undecodable_at text) text, within)
 
 -- the decoding of the window determines how many bytes are not UTF-8
-pub len_is : (text left window behind : List ℕ) (size : ℕ) → ¬ IsUtf8 (percent_decode text) → left ≡ drop (undecodable_at text) text → window ≡ take 4 (percent_decode left) → size ≡ (decoded window).size → behind ≡ drop (spelled_len size left) left
-    → length left - length behind ≡ undecodable_len (drop (undecodable_at text) text)
-len_is text left window behind size not e whole width step =
+pub len_is : (text left window suffix : List ℕ) (size : ℕ) → ¬ IsUtf8 (percent_decode text) → left ≡ drop (undecodable_at text) text → window ≡ take 4 (percent_decode left) → size ≡ (decoded window).size → suffix ≡ drop (spelled_len size left) left
+    → length left - length suffix ≡ undecodable_len (drop (undecodable_at text) text)
+len_is text left window suffix size not e whole width step =
     let all = percent_decode text in
     let bs = percent_decode left in
     let decodes : bs ≡ drop (utf8_valid_len all) all = ap percent_decode e ∙ spelled_decodes (utf8_valid_len all) text in
     let none : (decoded bs).char ≡ None = ap (λ t. (decoded t).char) decodes ∙ none_at_valid all not in
     let read : size ≡ utf8_invalid_len bs = width ∙ ap (λ (d : Decoded). d.size) (ap decoded whole ∙ decoded_window bs) ∙ sym (utf8_invalid_len-decoded bs none) in
-    let gone : length left - length behind ≡ spelled_len size left = omega (arith, ap length step, length-drop (spelled_len size left) left, spelled_within size left) in
+    let gone : length left - length suffix ≡ spelled_len size left = omega (arith, ap length step, length-drop (spelled_len size left) left, spelled_within size left) in
     gone ∙ ap (λ n. spelled_len n left) read ∙ ap undecodable_len e
 
 -- the place is within the text
-pub place_within : (text left behind : List ℕ) (at : ℕ) → left ≡ drop at text → (length text - length left) + (length left - length behind) ≤ length text
-place_within text left behind at e = omega (arith, ap length e, length-drop at text)
+pub place_within : (text left suffix : List ℕ) (at : ℕ) → left ≡ drop at text → (length text - length left) + (length left - length suffix) ≤ length text
+place_within text left suffix at e = omega (arith, ap length e, length-drop at text)

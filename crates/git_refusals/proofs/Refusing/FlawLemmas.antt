@@ -82,13 +82,13 @@ colons_flaw other_hosts piece p front many none h = flawed fault.BadCharacter (a
 
 -- the flaw of a host and a port
 pub bad_host_flaw : (syntax : HostSyntax) (piece : List ℕ) (p : Place) → BadHost syntax piece p → Flawed (HostPortFlaw syntax piece) p.reason
-bad_host_flaw syntax piece p (BadHost.unclosed behind free e s) = flawed fault.BadCharacter (ap kind_of s.named) (HasBadHost.open_bracket behind free e)
-bad_host_flaw syntax piece p (BadHost.behind_bracket x wrong rest closed free some _ e s) =
+bad_host_flaw syntax piece p (BadHost.unclosed suffix free e s) = flawed fault.BadCharacter (ap kind_of s.named) (HasBadHost.open_bracket suffix free e)
+bad_host_flaw syntax piece p (BadHost.after_bracket x wrong rest closed free some _ e s) =
     flawed fault.BadCharacter (ap kind_of s.named)
-    (HasBadHost.behind_bracket x (wrong ++ rest) closed e (omega (arith, some, length-append wrong rest)) (begins-append colon wrong rest some ∙ free_begins colon wrong free))
+    (HasBadHost.after_bracket x (wrong ++ rest) closed e (omega (arith, some, length-append wrong rest)) (begins-append colon wrong rest some ∙ free_begins colon wrong free))
 bad_host_flaw syntax piece p (BadHost.between x rest around b) =
     let (k, none) = no_inner_kind syntax x b.inside b.found in flawed fault.BadCharacter (ap kind_of b.stands.named ∙ k) (HasBadHost.brackets x rest around none)
-bad_host_flaw syntax piece p (BadHost.port_behind x digits closed _ e b) =
+bad_host_flaw syntax piece p (BadHost.port_after x digits closed _ e b) =
     let (k, none) = port_kind syntax digits b.inside b.found in flawed fault.BadPort (ap kind_of b.stands.named ∙ k) (HasBadPort.bracketed x digits closed e none)
 bad_host_flaw syntax piece p (BadHost.colons front many none h) = colons_flaw syntax piece p front many none h
 bad_host_flaw syntax piece p (BadHost.plain h bad) =
@@ -121,7 +121,7 @@ bad_parts_flaw syntax needed authority p (BadParts.with_user information piece f
     let (none, k) = bad_user_kind information p h in flawed fault.BadCharacter k (bad_user_flaw syntax needed authority information piece free e none)
 bad_parts_flaw syntax needed authority p (BadParts.with_user information piece free e (Then.at_second _ (Then.at_first b))) =
     let h = bad_host_flaw syntax piece b.inside b.found in
-    bad_piece_flaw syntax needed authority piece p.reason (PieceOf.behind information free e) (subst (λ why. Flawed (HostPortFlaw syntax piece) why) (sym b.stands.named) h)
+    bad_piece_flaw syntax needed authority piece p.reason (PieceOf.suffix information free e) (subst (λ why. Flawed (HostPortFlaw syntax piece) why) (sym b.stands.named) h)
 bad_parts_flaw syntax needed authority p (BadParts.with_user information piece free e (Then.at_second _ (Then.at_second _ h))) =
     flawed fault.BadCharacter (ap kind_of h.stands.named) (AuthorityFlaw.no_host information (e ∙ ap (λ t. information ++ at_sign ∷ t) h.empty))
 

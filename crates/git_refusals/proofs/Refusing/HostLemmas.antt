@@ -19,8 +19,8 @@ use Rattle.git_syntax.proofs.Parsing.HostLemmas.{bare_not_strict, http_byte_asci
 use Rattle.git_refusals.specs.declared.place.Place.{Place}
 use Rattle.git_refusals.specs.declared.reason.Reason.TheVariants as reason
 use Rattle.git_refusals.specs.Characters.{is_no_host_character}
-use Rattle.git_refusals.specs.Reasons.{Stands, Passes, Undecodable, HasCharacter, NoHostText, NoInner, WebColons, BadHost}
-use Rattle.git_refusals.specs.Internal.Hosts.{StandsForHost, StandsForInner, IsPortText, IsBeforeColon}
+use Rattle.git_refusals.specs.Reasons.{IsAt, Passes, Undecodable, HasCharacter, NoHostText, NoInner, WebColons, BadHost}
+use Rattle.git_refusals.specs.Internal.Hosts.{DenotesHost, DenotesInner, IsPortText, IsBeforeColon}
 use Rattle.git_refusals.specs.Internal.Readable.{Checks, NamesHost}
 use Rattle.git_refusals.proofs.Refusing.CharacterLemmas.{class_bytes}
 use Rattle.git_refusals.proofs.Refusing.FlawLemmas.{no_host_kind, no_inner_kind}
@@ -45,7 +45,7 @@ too_large digits each some fails =
 -- ---- texts outside brackets
 
 -- in HTTP a text whose characters it takes denotes a host
-pub web_host : (syntax : HostSyntax) (text : List ℕ) → syntax ≡ http_hosts → IsUtf8 text → list_any is_no_host_character (chars text) ≡ false → StandsForHost syntax text
+pub web_host : (syntax : HostSyntax) (text : List ℕ) → syntax ≡ http_hosts → IsUtf8 text → list_any is_no_host_character (chars text) ≡ false → DenotesHost syntax text
 web_host http_hosts text e utf8 none = (normal_host text, (class_bytes is_http_host_byte http_byte_ascii text utf8 none, refl))
 web_host git_hosts text e utf8 none = absurd (bare_not_strict e)
 web_host other_hosts text e utf8 none = absurd (loose_not_strict e)
@@ -57,7 +57,7 @@ no_web_host git_hosts text p e h = absurd (bare_not_strict e)
 no_web_host other_hosts text p e h = absurd (loose_not_strict e)
 
 -- outside HTTP a text that decodes denotes a host, and no other does
-pub lax_text : (syntax : HostSyntax) (text : List ℕ) (r : Option Place) → ¬ (syntax ≡ http_hosts) → Checks text (Undecodable text) (IsUtf8 (percent_decode text)) r → Checks text (NoHostText syntax text) (StandsForHost syntax text) r
+pub lax_text : (syntax : HostSyntax) (text : List ℕ) (r : Option Place) → ¬ (syntax ≡ http_hosts) → Checks text (Undecodable text) (IsUtf8 (percent_decode text)) r → Checks text (NoHostText syntax text) (DenotesHost syntax text) r
 lax_text http_hosts text r other h = absurd (other refl)
 lax_text git_hosts text (Some p) other h = record { found = h.found; within = h.within }
 lax_text git_hosts text None other h = record { found = (normal_host (percent_decode text), (h.found, refl)); within = tt }
@@ -65,19 +65,19 @@ lax_text other_hosts text (Some p) other h = record { found = h.found; within = 
 lax_text other_hosts text None other h = record { found = (normal_host (percent_decode text), (h.found, refl)); within = tt }
 
 -- nothing is found wrong with a text that denotes a host
-pub host_passes : (syntax : HostSyntax) (text : List ℕ) → StandsForHost syntax text → Passes (NoHostText syntax text)
+pub host_passes : (syntax : HostSyntax) (text : List ℕ) → DenotesHost syntax text → Passes (NoHostText syntax text)
 host_passes syntax text (host, h) p n = (no_host_kind syntax text p n).1 host h
 
 -- ---- texts between brackets
 
 -- in HTTP a text that isn't a literal denotes nothing
-pub web_inner : (syntax : HostSyntax) (text : List ℕ) (p : Place) → syntax ≡ http_hosts → ¬ IsLiteral text → Stands reason.NotAnAddress 0 (length text) p → NoInner syntax text p
+pub web_inner : (syntax : HostSyntax) (text : List ℕ) (p : Place) → syntax ≡ http_hosts → ¬ IsLiteral text → IsAt reason.NotAnAddress 0 (length text) p → NoInner syntax text p
 web_inner http_hosts text p e none s = record { no_literal = none; no_other = s }
 web_inner git_hosts text p e none s = absurd (bare_not_strict e)
 web_inner other_hosts text p e none s = absurd (loose_not_strict e)
 
 -- elsewhere it denotes its decoding, if that is text
-pub lax_inner : (syntax : HostSyntax) (text : List ℕ) (r : Option Place) → ¬ (syntax ≡ http_hosts) → ¬ IsLiteral text → Checks text (Undecodable text) (IsUtf8 (percent_decode text)) r → Checks text (NoInner syntax text) (StandsForInner syntax text) r
+pub lax_inner : (syntax : HostSyntax) (text : List ℕ) (r : Option Place) → ¬ (syntax ≡ http_hosts) → ¬ IsLiteral text → Checks text (Undecodable text) (IsUtf8 (percent_decode text)) r → Checks text (NoInner syntax text) (DenotesInner syntax text) r
 lax_inner http_hosts text r other none h = absurd (other refl)
 lax_inner git_hosts text (Some p) other none h = record { found = record { no_literal = none; no_other = h.found }; within = h.within }
 lax_inner git_hosts text None other none h = record { found = (percent_decode text, Bracketed.other none refl h.found); within = tt }
@@ -85,7 +85,7 @@ lax_inner other_hosts text (Some p) other none h = record { found = record { no_
 lax_inner other_hosts text None other none h = record { found = (percent_decode text, Bracketed.other none refl h.found); within = tt }
 
 -- nothing is found wrong with a text between brackets that denotes another
-pub inner_passes : (syntax : HostSyntax) (text : List ℕ) → StandsForInner syntax text → Passes (NoInner syntax text)
+pub inner_passes : (syntax : HostSyntax) (text : List ℕ) → DenotesInner syntax text → Passes (NoInner syntax text)
 inner_passes syntax text (inner, h) p n = (no_inner_kind syntax text p n).1 inner h
 
 -- ---- brackets, and the text after them
@@ -96,12 +96,12 @@ ended rest [] none h = subst (λ t. (t ≡ []) ⊎ (begins_with colon t ≡ true
 ended rest (b ∷ wrong) none h = absurd (omega (arith, eqb-true (length (b ∷ wrong)) 0 (sym none)))
 
 -- brackets with nothing after them name a host
-pub closed_alone : (syntax : HostSyntax) (x rest : List ℕ) → FreeOf right_bracket x → StandsForInner syntax x → (rest ≡ []) ⊎ (begins_with colon rest ≡ true) → begins_with colon rest ≡ false → NamesHost syntax (left_bracket ∷ (x ++ right_bracket ∷ rest))
+pub closed_alone : (syntax : HostSyntax) (x rest : List ℕ) → FreeOf right_bracket x → DenotesInner syntax x → (rest ≡ []) ⊎ (begins_with colon rest ≡ true) → begins_with colon rest ≡ false → NamesHost syntax (left_bracket ∷ (x ++ right_bracket ∷ rest))
 closed_alone syntax x rest free (inner, h) (inl none) other = (_, _, SpellsHostPort.bracketed x inner free h (ap (λ t. left_bracket ∷ (x ++ right_bracket ∷ t)) none) refl refl)
 closed_alone syntax x rest free h (inr begins) other = absurd (both_ways _ other begins)
 
 -- brackets with a colon and a port or nothing after them name a host
-pub closed_port : (syntax : HostSyntax) (x rest digits : List ℕ) → FreeOf right_bracket x → StandsForInner syntax x → rest ≡ colon ∷ digits → IsPortText syntax digits → NamesHost syntax (left_bracket ∷ (x ++ right_bracket ∷ rest))
+pub closed_port : (syntax : HostSyntax) (x rest digits : List ℕ) → FreeOf right_bracket x → DenotesInner syntax x → rest ≡ colon ∷ digits → IsPortText syntax digits → NamesHost syntax (left_bracket ∷ (x ++ right_bracket ∷ rest))
 closed_port syntax x rest digits free (inner, h) e (inl none) =
     (_, _, SpellsHostPort.bracketed_colon x inner free h (ap (λ t. left_bracket ∷ (x ++ right_bracket ∷ t)) (e ∙ ap (λ t. colon ∷ t) none)) refl refl)
 closed_port syntax x rest digits free (inner, h) e (inr (port, n)) =
@@ -119,22 +119,22 @@ pub other_front : (piece front : List ℕ) → piece ≡ front ++ colon ∷ [] �
 other_front piece front e none other k h = none (subst IsIpv6Text (same_from_push other front colon colon (sym k ∙ e)).0 h)
 
 -- after a text's only colon no other follows, so none follows after any colon of it
-pub behind_only : (front behind x y : List ℕ) → FreeOf colon front → FreeOf colon behind → front ++ colon ∷ behind ≡ x ++ colon ∷ y → FreeOf colon y
-behind_only front behind x y free lone e =
+pub after_only : (front suffix x y : List ℕ) → FreeOf colon front → FreeOf colon suffix → front ++ colon ∷ suffix ≡ x ++ colon ∷ y → FreeOf colon y
+after_only front suffix x y free lone e =
     elim (free_or_cut colon x) [
-      | inl none ↦ subst (λ t. FreeOf colon t) (cut_unique colon front x behind y free none e).1 lone
+      | inl none ↦ subst (λ t. FreeOf colon t) (cut_unique colon front x suffix y free none e).1 lone
       | inr (u, v, none, is) ↦
-          let whole : front ++ colon ∷ behind ≡ u ++ colon ∷ (v ++ colon ∷ y) = e ∙ ap (λ t. t ++ colon ∷ y) is ∙ append_assoc u (colon ∷ v) (colon ∷ y) in
-          absurd (not_free colon v y (subst (λ t. FreeOf colon t) (cut_unique colon front u behind (v ++ colon ∷ y) free none whole).1 lone))
+          let whole : front ++ colon ∷ suffix ≡ u ++ colon ∷ (v ++ colon ∷ y) = e ∙ ap (λ t. t ++ colon ∷ y) is ∙ append_assoc u (colon ∷ v) (colon ∷ y) in
+          absurd (not_free colon v y (subst (λ t. FreeOf colon t) (cut_unique colon front u suffix (v ++ colon ∷ y) free none whole).1 lone))
     ]
 
 -- an only colon that marks no port is in front
-pub only_in_front : (piece front behind : List ℕ) → IsManyColoned piece → FreeOf colon front → FreeOf colon behind → piece ≡ front ++ colon ∷ behind → piece ≡ colon ∷ behind
-only_in_front piece [] behind many free lone e = e
-only_in_front piece (b ∷ front) behind (inl begins) free lone e =
+pub only_in_front : (piece front suffix : List ℕ) → IsManyColoned piece → FreeOf colon front → FreeOf colon suffix → piece ≡ front ++ colon ∷ suffix → piece ≡ colon ∷ suffix
+only_in_front piece [] suffix many free lone e = e
+only_in_front piece (b ∷ front) suffix (inl begins) free lone e =
     absurd (both_ways _ (free_begins colon (b ∷ front) free) (sym (ap (begins_with colon) e) ∙ begins))
-only_in_front piece (b ∷ front) behind (inr (x, y, z, two)) free lone e =
-    absurd (not_free colon y z (behind_only (b ∷ front) behind x (y ++ colon ∷ z) free lone (sym e ∙ two)))
+only_in_front piece (b ∷ front) suffix (inr (x, y, z, two)) free lone e =
+    absurd (not_free colon y z (after_only (b ∷ front) suffix x (y ++ colon ∷ z) free lone (sym e ∙ two)))
 
 -- in HTTP something is wrong with colons that mark no port
 pub web_many : (syntax : HostSyntax) (piece : List ℕ) (r : Option Place) → syntax ≡ http_hosts → begins_with left_bracket piece ≡ false → IsManyColoned piece → Checks piece (WebColons piece) ⊥ r → Checks piece (BadHost syntax piece) (NamesHost syntax piece) r
@@ -156,11 +156,11 @@ lax_many other_hosts piece None other unread open_front many h =
 -- ---- hosts outside brackets
 
 -- a host alone, without a colon, is wrong or named as its text is
-pub plain_alone : (syntax : HostSyntax) (piece : List ℕ) (r : Option Place) → IsPlainHost piece → Checks piece (NoHostText syntax piece) (StandsForHost syntax piece) r → Checks piece (BadHost syntax piece) (NamesHost syntax piece) r
+pub plain_alone : (syntax : HostSyntax) (piece : List ℕ) (r : Option Place) → IsPlainHost piece → Checks piece (NoHostText syntax piece) (DenotesHost syntax piece) r → Checks piece (BadHost syntax piece) (NamesHost syntax piece) r
 plain_alone syntax piece (Some p) plain h = record { found = BadHost.plain plain h.found; within = h.within }
 plain_alone syntax piece None plain h = record { found = (_, _, SpellsHostPort.plain h.found.0 plain h.found.1 refl refl); within = tt }
 
 -- a host, a colon and a port or nothing name a host
-pub plain_named : (syntax : HostSyntax) (text digits : List ℕ) → IsPlainHost text → StandsForHost syntax text → IsPortText syntax digits → NamesHost syntax (text ++ colon ∷ digits)
+pub plain_named : (syntax : HostSyntax) (text digits : List ℕ) → IsPlainHost text → DenotesHost syntax text → IsPortText syntax digits → NamesHost syntax (text ++ colon ∷ digits)
 plain_named syntax text digits plain (host, h) (inl none) = (_, _, SpellsHostPort.plain_colon text host plain h (ap (λ t. text ++ colon ∷ t) none) refl refl)
 plain_named syntax text digits plain (host, h) (inr (port, n)) = (_, _, SpellsHostPort.plain_port text host digits port plain h n refl refl refl)

@@ -8,8 +8,8 @@ use Rattle.git_syntax.proofs.Texts.CutLemmas.{heads, tails, class_cut_unique, cu
 use Rattle.git_syntax.proofs.Texts.EscapeLemmas.{digits-append, sound_head, sound_tail}
 use Rattle.git_refusals.specs.declared.place.Place.{Place}
 use Rattle.git_refusals.specs.declared.reason.Reason.{Reason}
-use Rattle.git_refusals.specs.Characters.{StandsFirst, StandsBroken, StandsCharacter}
-use Rattle.git_refusals.specs.Reasons.{Stands, Behind, Then, Undecodable, NotText, HasCharacter, HasBackslash, HasBrokenEscape}
+use Rattle.git_refusals.specs.Characters.{IsFirstAt, IsBrokenAt, IsCharacterAt}
+use Rattle.git_refusals.specs.Reasons.{IsAt, Shifted, Then, Undecodable, NotText, HasCharacter, HasBackslash, HasBrokenEscape}
 
 -- ---- checks one after the other
 
@@ -22,11 +22,11 @@ pub same_place : (p q : Place) → p.reason ≡ q.reason → p.at ≡ q.at → p
 same_place p q e f g = λ i. record { reason = e i; at = f i; len = g i }
 
 -- one reason at equal places is one
-pub stands_alike : {why : Reason} {at start len size : ℕ} (p q : Place) → at ≡ start → len ≡ size → Stands why at len p → Stands why start size q → p ≡ q
+pub stands_alike : {why : Reason} {at start len size : ℕ} (p q : Place) → at ≡ start → len ≡ size → IsAt why at len p → IsAt why start size q → p ≡ q
 stands_alike p q e f h k = same_place p q (h.named ∙ sym k.named) (h.start ∙ e ∙ sym k.start) (h.size ∙ f ∙ sym k.size)
 
 -- a reason has one place
-pub one_stands : (why : Reason) (at len : ℕ) → One (Stands why at len)
+pub one_stands : (why : Reason) (at len : ℕ) → One (IsAt why at len)
 one_stands why at len p q h k = stands_alike p q refl refl h k
 
 -- a check of equal pieces finds one place at most
@@ -38,8 +38,8 @@ pub one_at_both : (check : List ℕ → List ℕ → Place → Type 0) → ((x y
 one_at_both check one x y u w p q e f h k = one u w p q (subst (λ z. check u z p) f (subst (λ z. check z y p) e h)) k
 
 -- the flaw that a check finds in a piece is at one place of the whole
-pub one_behind : (before : ℕ) (check : Place → Type 0) → One check → One (Behind before check)
-one_behind before check one p q h k =
+pub one_after : (before : ℕ) (check : Place → Type 0) → One check → One (Shifted before check)
+one_after before check one p q h k =
     let same : h.inside ≡ k.inside = one h.inside k.inside h.found k.found in
     same_place p q
     (h.stands.named ∙ ap (λ (z : Place). z.reason) same ∙ sym k.stands.named)
@@ -68,9 +68,9 @@ pub one_not_text : (text : List ℕ) → One (NotText text)
 one_not_text text p q h k = stands_alike p q refl refl h.stands k.stands
 
 -- a text has one first character that passes a test
-pub character_unique : (wrong : ℕ → Bool) (text : List ℕ) (at len start size : ℕ) → StandsCharacter wrong text at len → StandsCharacter wrong text start size → (at ≡ start) × (len ≡ size)
+pub character_unique : (wrong : ℕ → Bool) (text : List ℕ) (at len start size : ℕ) → IsCharacterAt wrong text at len → IsCharacterAt wrong text start size → (at ≡ start) × (len ≡ size)
 character_unique wrong text at len start size h k =
-    let cut = class_cut_unique wrong h.before k.before (h.character ∷ h.behind) (k.character ∷ k.behind) h.first k.first (inr h.found) (inr k.found) (sym h.joined ∙ k.joined) in
+    let cut = class_cut_unique wrong h.before k.before (h.character ∷ h.suffix) (k.character ∷ k.suffix) h.first k.first (inr h.found) (inr k.found) (sym h.joined ∙ k.joined) in
     (h.offset ∙ ap (λ x. length (encode_utf8_all x)) cut.0 ∙ sym k.offset, h.size ∙ ap (λ c. length (encode_utf8 c)) (heads cut.1) ∙ sym k.size)
 
 -- so it is found at one place
@@ -80,9 +80,9 @@ one_character why wrong text p q h k =
     same_place p q (h.named ∙ sym k.named) same.0 same.1
 
 -- a text has one first place of a byte
-pub first_unique : (c : ℕ) (text : List ℕ) (at start : ℕ) → StandsFirst c text at → StandsFirst c text start → at ≡ start
+pub first_unique : (c : ℕ) (text : List ℕ) (at start : ℕ) → IsFirstAt c text at → IsFirstAt c text start → at ≡ start
 first_unique c text at start h k =
-    let cut = cut_unique c h.before k.before h.behind k.behind h.first k.first (sym h.joined ∙ k.joined) in
+    let cut = cut_unique c h.before k.before h.suffix k.suffix h.first k.first (sym h.joined ∙ k.joined) in
     h.offset ∙ ap length cut.0 ∙ sym k.offset
 
 -- so a backslash is found at one place
@@ -106,9 +106,9 @@ broken_cut_unique (c ∷ a) (d ∷ b) x y f g h k e =
     cc
 
 -- so a text has one first broken escape
-pub broken_unique : (text : List ℕ) (at start : ℕ) → StandsBroken text at → StandsBroken text start → at ≡ start
+pub broken_unique : (text : List ℕ) (at start : ℕ) → IsBrokenAt text at → IsBrokenAt text start → at ≡ start
 broken_unique text at start h k =
-    h.offset ∙ ap length (broken_cut_unique h.before k.before h.behind k.behind h.first k.first h.broken k.broken (sym h.joined ∙ k.joined)) ∙ sym k.offset
+    h.offset ∙ ap length (broken_cut_unique h.before k.before h.suffix k.suffix h.first k.first h.broken k.broken (sym h.joined ∙ k.joined)) ∙ sym k.offset
 
 -- which is found at one place
 pub one_broken : (text : List ℕ) → One (HasBrokenEscape text)

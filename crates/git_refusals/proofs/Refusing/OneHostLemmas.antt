@@ -8,9 +8,9 @@ use Rattle.git_syntax.proofs.Texts.CutLemmas.{tails, class_cut_unique, cut_uniqu
 use Rattle.git_refusals.specs.declared.place.Place.{Place}
 use Rattle.git_refusals.specs.declared.reason.Reason.TheVariants as reason
 use Rattle.git_refusals.specs.Characters.{is_no_host_character}
-use Rattle.git_refusals.specs.Reasons.{Stands, Behind, Passes, Then, NoHostText, NoOther, NoInner, NoDigits, PortOutside, WebColons, BadColons, BadHost}
-use Rattle.git_refusals.proofs.Refusing.HostLemmas.{behind_only}
-use Rattle.git_refusals.proofs.Refusing.OneCheckLemmas.{One, stands_alike, one_stands, one_at, one_at_both, one_behind, one_then, one_undecodable, one_character}
+use Rattle.git_refusals.specs.Reasons.{IsAt, Shifted, Passes, Then, NoHostText, NoOther, NoInner, NoDigits, PortOutside, WebColons, BadColons, BadHost}
+use Rattle.git_refusals.proofs.Refusing.HostLemmas.{after_only}
+use Rattle.git_refusals.proofs.Refusing.OneCheckLemmas.{One, stands_alike, one_stands, one_at, one_at_both, one_after, one_then, one_undecodable, one_character}
 
 -- ---- the pieces of a host and a port
 
@@ -92,20 +92,20 @@ port_not_many : (piece text digits : List ℕ) → IsPlainHost text → FreeOf c
 port_not_many piece text digits t g e (inl h) =
     both_ways (begins_with colon text) (free_begins colon text t.no_colon) (sym (begins-append colon text (colon ∷ digits) t.nonempty) ∙ ap (begins_with colon) (sym e) ∙ h)
 port_not_many piece text digits t g e (inr (x, y, z, f)) =
-    not_free colon y z (behind_only text digits x (y ++ colon ∷ z) t.no_colon g (sym e ∙ f))
+    not_free colon y z (after_only text digits x (y ++ colon ∷ z) t.no_colon g (sym e ∙ f))
 
 -- ---- outside brackets
 
 -- the flaw of `host:port`
 abbrev pub BadPair : HostSyntax → List ℕ → List ℕ → Place → Type 0
-BadPair syntax text digits = Then (Behind (length text + 1) (NoDigits digits)) (Then (NoHostText syntax text) (Behind (length text + 1) (PortOutside syntax digits)))
+BadPair syntax text digits = Then (Shifted (length text + 1) (NoDigits digits)) (Then (NoHostText syntax text) (Shifted (length text + 1) (PortOutside syntax digits)))
 
 -- it has one flaw at most that is found first
 one_pair : (syntax : HostSyntax) (text digits : List ℕ) → One (BadPair syntax text digits)
 one_pair syntax text digits =
-    one_then (Behind (length text + 1) (NoDigits digits)) (Then (NoHostText syntax text) (Behind (length text + 1) (PortOutside syntax digits)))
-    (one_behind (length text + 1) (NoDigits digits) (one_no_digits digits))
-    (one_then (NoHostText syntax text) (Behind (length text + 1) (PortOutside syntax digits)) (one_no_host_text syntax text) (one_behind (length text + 1) (PortOutside syntax digits) (one_outside syntax digits)))
+    one_then (Shifted (length text + 1) (NoDigits digits)) (Then (NoHostText syntax text) (Shifted (length text + 1) (PortOutside syntax digits)))
+    (one_after (length text + 1) (NoDigits digits) (one_no_digits digits))
+    (one_then (NoHostText syntax text) (Shifted (length text + 1) (PortOutside syntax digits)) (one_no_host_text syntax text) (one_after (length text + 1) (PortOutside syntax digits) (one_outside syntax digits)))
 
 -- the flaw of a piece that begins with no bracket
 data BadOutside (syntax : HostSyntax) (piece : List ℕ) (p : Place) : Type 0 where
@@ -132,64 +132,64 @@ one_bad_outside syntax piece p q (BadOutside.with_port x d t f e h) (BadOutside.
 -- ---- in brackets
 
 -- the flaw of brackets and the text after them
-data BadBrackets (syntax : HostSyntax) (x behind : List ℕ) (p : Place) : Type 0 where
-  followed : (wrong rest : List ℕ) → FreeOf colon wrong → 0 < length wrong → (rest ≡ []) ⊎ (begins_with colon rest ≡ true) → behind ≡ wrong ++ rest
-      → Stands reason.BehindBracket (length x + 2) (length wrong) p → BadBrackets syntax x behind p
-  between : (behind ≡ []) ⊎ (begins_with colon behind ≡ true) → Behind 1 (NoInner syntax x) p → BadBrackets syntax x behind p
-  port : (digits : List ℕ) → Passes (NoInner syntax x) → behind ≡ colon ∷ digits → Behind (length x + 3) (Then (NoDigits digits) (PortOutside syntax digits)) p → BadBrackets syntax x behind p
+data BadBrackets (syntax : HostSyntax) (x suffix : List ℕ) (p : Place) : Type 0 where
+  followed : (wrong rest : List ℕ) → FreeOf colon wrong → 0 < length wrong → (rest ≡ []) ⊎ (begins_with colon rest ≡ true) → suffix ≡ wrong ++ rest
+      → IsAt reason.BehindBracket (length x + 2) (length wrong) p → BadBrackets syntax x suffix p
+  between : (suffix ≡ []) ⊎ (begins_with colon suffix ≡ true) → Shifted 1 (NoInner syntax x) p → BadBrackets syntax x suffix p
+  port : (digits : List ℕ) → Passes (NoInner syntax x) → suffix ≡ colon ∷ digits → Shifted (length x + 3) (Then (NoDigits digits) (PortOutside syntax digits)) p → BadBrackets syntax x suffix p
 
 -- the text after brackets doesn't both begin with a colon, or the end, and with another byte
-followed_apart : (behind wrong rest : List ℕ) → FreeOf colon wrong → 0 < length wrong → behind ≡ wrong ++ rest → (behind ≡ []) ⊎ (begins_with colon behind ≡ true) → ⊥
-followed_apart behind [] rest f some e h = omega (arith, some)
-followed_apart behind (b ∷ wrong) rest f some e (inl none) = let clash : [] ≡ b ∷ (wrong ++ rest) = sym none ∙ e in cc
-followed_apart behind (b ∷ wrong) rest f some e (inr begins) = both_ways (b == colon) (free_begins colon (b ∷ wrong) f) (ap (begins_with colon) (sym e) ∙ begins)
+followed_apart : (suffix wrong rest : List ℕ) → FreeOf colon wrong → 0 < length wrong → suffix ≡ wrong ++ rest → (suffix ≡ []) ⊎ (begins_with colon suffix ≡ true) → ⊥
+followed_apart suffix [] rest f some e h = omega (arith, some)
+followed_apart suffix (b ∷ wrong) rest f some e (inl none) = let clash : [] ≡ b ∷ (wrong ++ rest) = sym none ∙ e in cc
+followed_apart suffix (b ∷ wrong) rest f some e (inr begins) = both_ways (b == colon) (free_begins colon (b ∷ wrong) f) (ap (begins_with colon) (sym e) ∙ begins)
 
 -- a colon and a port's place begin with a colon
-begins_port : (behind digits : List ℕ) → behind ≡ colon ∷ digits → (behind ≡ []) ⊎ (begins_with colon behind ≡ true)
-begins_port behind digits e = inr (ap (begins_with colon) e)
+begins_port : (suffix digits : List ℕ) → suffix ≡ colon ∷ digits → (suffix ≡ []) ⊎ (begins_with colon suffix ≡ true)
+begins_port suffix digits e = inr (ap (begins_with colon) e)
 
 -- they have one flaw at most that is found first
-one_bad_brackets : (syntax : HostSyntax) (x behind : List ℕ) → One (BadBrackets syntax x behind)
-one_bad_brackets syntax x behind p q (BadBrackets.followed v r f n o e h) (BadBrackets.followed w s g m t i k) =
+one_bad_brackets : (syntax : HostSyntax) (x suffix : List ℕ) → One (BadBrackets syntax x suffix)
+one_bad_brackets syntax x suffix p q (BadBrackets.followed v r f n o e h) (BadBrackets.followed w s g m t i k) =
     stands_alike p q refl (ap length (class_cut_unique (λ b. b == colon) v w r s f g o t (sym e ∙ i)).0) h k
-one_bad_brackets syntax x behind p q (BadBrackets.followed v r f n o e h) (BadBrackets.between t k) = absurd (followed_apart behind v r f n e t)
-one_bad_brackets syntax x behind p q (BadBrackets.followed v r f n o e h) (BadBrackets.port d m i k) = absurd (followed_apart behind v r f n e (begins_port behind d i))
-one_bad_brackets syntax x behind p q (BadBrackets.between o h) (BadBrackets.followed w s g m t i k) = absurd (followed_apart behind w s g m i o)
-one_bad_brackets syntax x behind p q (BadBrackets.between o h) (BadBrackets.between t k) = one_behind 1 (NoInner syntax x) (one_no_inner syntax x) p q h k
-one_bad_brackets syntax x behind p q (BadBrackets.between o h) (BadBrackets.port d m i k) = absurd (m h.inside h.found)
-one_bad_brackets syntax x behind p q (BadBrackets.port c n e h) (BadBrackets.followed w s g m t i k) = absurd (followed_apart behind w s g m i (begins_port behind c e))
-one_bad_brackets syntax x behind p q (BadBrackets.port c n e h) (BadBrackets.between t k) = absurd (n k.inside k.found)
-one_bad_brackets syntax x behind p q (BadBrackets.port c n e h) (BadBrackets.port d m i k) =
-    one_at (λ (digits : List ℕ). Behind (length x + 3) (Then (NoDigits digits) (PortOutside syntax digits)))
-    (λ digits. one_behind (length x + 3) (Then (NoDigits digits) (PortOutside syntax digits)) (one_port syntax digits))
+one_bad_brackets syntax x suffix p q (BadBrackets.followed v r f n o e h) (BadBrackets.between t k) = absurd (followed_apart suffix v r f n e t)
+one_bad_brackets syntax x suffix p q (BadBrackets.followed v r f n o e h) (BadBrackets.port d m i k) = absurd (followed_apart suffix v r f n e (begins_port suffix d i))
+one_bad_brackets syntax x suffix p q (BadBrackets.between o h) (BadBrackets.followed w s g m t i k) = absurd (followed_apart suffix w s g m i o)
+one_bad_brackets syntax x suffix p q (BadBrackets.between o h) (BadBrackets.between t k) = one_after 1 (NoInner syntax x) (one_no_inner syntax x) p q h k
+one_bad_brackets syntax x suffix p q (BadBrackets.between o h) (BadBrackets.port d m i k) = absurd (m h.inside h.found)
+one_bad_brackets syntax x suffix p q (BadBrackets.port c n e h) (BadBrackets.followed w s g m t i k) = absurd (followed_apart suffix w s g m i (begins_port suffix c e))
+one_bad_brackets syntax x suffix p q (BadBrackets.port c n e h) (BadBrackets.between t k) = absurd (n k.inside k.found)
+one_bad_brackets syntax x suffix p q (BadBrackets.port c n e h) (BadBrackets.port d m i k) =
+    one_at (λ (digits : List ℕ). Shifted (length x + 3) (Then (NoDigits digits) (PortOutside syntax digits)))
+    (λ digits. one_after (length x + 3) (Then (NoDigits digits) (PortOutside syntax digits)) (one_port syntax digits))
     c d p q (tails (sym e ∙ i)) h k
 
 -- ---- all pieces
 
 -- the flaw of a piece, by the byte at its front
 data BadPiece (syntax : HostSyntax) (piece : List ℕ) (p : Place) : Type 0 where
-  unclosed : (behind : List ℕ) → FreeOf right_bracket behind → piece ≡ left_bracket ∷ behind → Stands reason.UnclosedBracket 0 1 p → BadPiece syntax piece p
-  closed : (x behind : List ℕ) → FreeOf right_bracket x → piece ≡ left_bracket ∷ (x ++ right_bracket ∷ behind) → BadBrackets syntax x behind p → BadPiece syntax piece p
+  unclosed : (suffix : List ℕ) → FreeOf right_bracket suffix → piece ≡ left_bracket ∷ suffix → IsAt reason.UnclosedBracket 0 1 p → BadPiece syntax piece p
+  closed : (x suffix : List ℕ) → FreeOf right_bracket x → piece ≡ left_bracket ∷ (x ++ right_bracket ∷ suffix) → BadBrackets syntax x suffix p → BadPiece syntax piece p
   outside : begins_with left_bracket piece ≡ false → BadOutside syntax piece p → BadPiece syntax piece p
 
 -- every flaw is one of these
 piece_flaw : (syntax : HostSyntax) (piece : List ℕ) (p : Place) → BadHost syntax piece p → BadPiece syntax piece p
-piece_flaw syntax piece p (BadHost.unclosed behind f e h) = BadPiece.unclosed behind f e h
-piece_flaw syntax piece p (BadHost.behind_bracket x wrong rest f g n o e h) = BadPiece.closed x (wrong ++ rest) f e (BadBrackets.followed wrong rest g n o refl h)
+piece_flaw syntax piece p (BadHost.unclosed suffix f e h) = BadPiece.unclosed suffix f e h
+piece_flaw syntax piece p (BadHost.after_bracket x wrong rest f g n o e h) = BadPiece.closed x (wrong ++ rest) f e (BadBrackets.followed wrong rest g n o refl h)
 piece_flaw syntax piece p (BadHost.between x rest a h) = BadPiece.closed x rest a.closed a.joined (BadBrackets.between a.followed h)
-piece_flaw syntax piece p (BadHost.port_behind x digits f n e h) = BadPiece.closed x (colon ∷ digits) f e (BadBrackets.port digits n refl h)
+piece_flaw syntax piece p (BadHost.port_after x digits f n e h) = BadPiece.closed x (colon ∷ digits) f e (BadBrackets.port digits n refl h)
 piece_flaw syntax piece p (BadHost.colons b m r h) = BadPiece.outside b (BadOutside.colons m h)
 piece_flaw syntax piece p (BadHost.plain t h) = BadPiece.outside t.no_bracket (BadOutside.plain t h)
 piece_flaw syntax piece p (BadHost.with_port text digits t f e h) =
     BadPiece.outside (ap (begins_with left_bracket) e ∙ begins-append left_bracket text (colon ∷ digits) t.nonempty ∙ t.no_bracket) (BadOutside.with_port text digits t f e h)
 
 -- a bracket at the front is not another byte
-pub bracket_apart : (piece behind : List ℕ) → piece ≡ left_bracket ∷ behind → begins_with left_bracket piece ≡ false → ⊥
-bracket_apart piece behind e h = false≢true (sym h ∙ ap (begins_with left_bracket) e)
+pub bracket_apart : (piece suffix : List ℕ) → piece ≡ left_bracket ∷ suffix → begins_with left_bracket piece ≡ false → ⊥
+bracket_apart piece suffix e h = false≢true (sym h ∙ ap (begins_with left_bracket) e)
 
 -- a bracket isn't both closed and not
-pub closed_apart : (piece open_behind x behind : List ℕ) → FreeOf right_bracket open_behind → piece ≡ left_bracket ∷ open_behind → piece ≡ left_bracket ∷ (x ++ right_bracket ∷ behind) → ⊥
-closed_apart piece open_behind x behind f e i = not_free right_bracket x behind (subst (λ z. FreeOf right_bracket z) (tails (sym e ∙ i)) f)
+pub closed_apart : (piece open_after x suffix : List ℕ) → FreeOf right_bracket open_after → piece ≡ left_bracket ∷ open_after → piece ≡ left_bracket ∷ (x ++ right_bracket ∷ suffix) → ⊥
+closed_apart piece open_after x suffix f e i = not_free right_bracket x suffix (subst (λ z. FreeOf right_bracket z) (tails (sym e ∙ i)) f)
 
 -- it has one flaw at most that is found first
 one_bad_piece : (syntax : HostSyntax) (piece : List ℕ) → One (BadPiece syntax piece)

@@ -18,20 +18,20 @@ use Rattle.git_refusals.specs.declared.refusal.Refusal.{Refusal}
 use Rattle.git_refusals.specs.Kinds.{refusal_of}
 use Rattle.git_refusals.specs.Characters.{is_no_scheme_character}
 use Rattle.git_refusals.specs.Laws.{OneRefusal}
-use Rattle.git_refusals.specs.Reasons.{Behind, Then, Undecodable, BadHost, BadUser, NoHostBehind, NoHostAtAll, BadParts, BadAuthority, TooLong, BadScheme, NoPath, BadRest, BadUrl, NoFilePath, BadFile, NoScpPath, NoScpHost, BadScpName, BadScpHost, BadFront, BadScp, BadAddressed, Refused}
-use Rattle.git_refusals.proofs.Refusing.UrlLemmas.{FoundBehind}
-use Rattle.git_refusals.proofs.Refusing.OneCheckLemmas.{One, free_apart, stands_alike, character_unique, one_at, one_at_both, one_behind, one_then, one_undecodable, one_not_text, one_character, one_backslash, one_broken}
+use Rattle.git_refusals.specs.Reasons.{Shifted, Then, Undecodable, BadHost, BadUser, NoHostAfter, NoHostAtAll, BadParts, BadAuthority, TooLong, BadScheme, NoPath, BadRest, BadUrl, NoFilePath, BadFile, NoScpPath, NoScpHost, BadScpName, BadScpHost, BadFront, BadScp, BadAddressed, Refused}
+use Rattle.git_refusals.proofs.Refusing.UrlLemmas.{FoundAfter}
+use Rattle.git_refusals.proofs.Refusing.OneCheckLemmas.{One, free_apart, stands_alike, character_unique, one_at, one_at_both, one_after, one_then, one_undecodable, one_not_text, one_character, one_backslash, one_broken}
 use Rattle.git_refusals.proofs.Refusing.OneHostLemmas.{closed_apart, one_host}
 
 -- ---- authorities
 
 -- the flaw of a user and a password
 abbrev BadPassword : List ℕ → List ℕ → Place → Type 0
-BadPassword u w = Then (Behind (length u + 1) (Undecodable w)) (Undecodable u)
+BadPassword u w = Then (Shifted (length u + 1) (Undecodable w)) (Undecodable u)
 
 -- they have one flaw at most that is found first
 one_password : (u w : List ℕ) → One (BadPassword u w)
-one_password u w = one_then _ _ (one_behind _ _ (one_undecodable w)) (one_undecodable u)
+one_password u w = one_then _ _ (one_after _ _ (one_undecodable w)) (one_undecodable u)
 
 -- so has user information
 one_user : (information : List ℕ) → One (BadUser information)
@@ -43,8 +43,8 @@ one_user information p q (BadUser.with_password u w f e h) (BadUser.with_passwor
     one_at_both BadPassword one_password u w v z p q cut.0 cut.1 h k
 
 -- nothing after user information is one flaw
-one_no_host_behind : (authority piece : List ℕ) → One (NoHostBehind authority piece)
-one_no_host_behind authority piece p q h k = stands_alike p q refl refl h.stands k.stands
+one_no_host_after : (authority piece : List ℕ) → One (NoHostAfter authority piece)
+one_no_host_after authority piece p q h k = stands_alike p q refl refl h.stands k.stands
 
 -- so is a host that is missing
 one_no_host_at_all : (needed : Bool) (authority : List ℕ) → One (NoHostAtAll needed authority)
@@ -53,12 +53,12 @@ one_no_host_at_all needed authority p q h k = stands_alike p q refl refl h.stand
 -- the flaw of user information and the text after it
 abbrev BadUserHost : HostSyntax → List ℕ → List ℕ → List ℕ → Place → Type 0
 BadUserHost syntax authority information piece = Then (BadUser information)
-    (Then (Behind (length information + 1) (BadHost syntax piece)) (NoHostBehind authority piece))
+    (Then (Shifted (length information + 1) (BadHost syntax piece)) (NoHostAfter authority piece))
 
 -- they have one flaw at most that is found first
 one_user_host : (syntax : HostSyntax) (authority information piece : List ℕ) → One (BadUserHost syntax authority information piece)
 one_user_host syntax authority information piece =
-    one_then _ _ (one_user information) (one_then _ _ (one_behind _ _ (one_host syntax piece)) (one_no_host_behind authority piece))
+    one_then _ _ (one_user information) (one_then _ _ (one_after _ _ (one_host syntax piece)) (one_no_host_after authority piece))
 
 -- so has an authority without a backslash
 one_parts : (syntax : HostSyntax) (needed : Bool) (authority : List ℕ) → One (BadParts syntax needed authority)
@@ -110,16 +110,16 @@ one_no_path : (scheme b path : List ℕ) → One (NoPath scheme b path)
 one_no_path scheme b path p q h k = stands_alike p q refl refl h.stands k.stands
 
 -- an authority and a path have one flaw at most that is found first
-one_rest_parts : (b scheme authority path : List ℕ) → One (FoundBehind b scheme authority path)
+one_rest_parts : (b scheme authority path : List ℕ) → One (FoundAfter b scheme authority path)
 one_rest_parts b scheme authority path =
-    one_then _ _ (one_behind _ _ (one_undecodable path))
-    (one_then _ _ (one_behind _ _ (one_authority (host_syntax_of scheme) (requires_host scheme) authority)) (one_no_path scheme b path))
+    one_then _ _ (one_after _ _ (one_undecodable path))
+    (one_then _ _ (one_after _ _ (one_authority (host_syntax_of scheme) (requires_host scheme) authority)) (one_no_path scheme b path))
 
 -- so has the text after `://`
 one_rest : (b scheme rest : List ℕ) → One (BadRest b scheme rest)
 one_rest b scheme rest p q h k =
     let cut = path_cut_unique (is_web_scheme scheme) h.authority k.authority h.path k.path h.before_path k.before_path h.path_starts k.path_starts (sym h.joined ∙ k.joined) in
-    one_at_both (FoundBehind b scheme) (one_rest_parts b scheme) h.authority h.path k.authority k.path p q cut.0 cut.1 h.found k.found
+    one_at_both (FoundAfter b scheme) (one_rest_parts b scheme) h.authority h.path k.authority k.path p q cut.0 cut.1 h.found k.found
 
 -- and a URL that isn't a file URL
 one_url : (b scheme rest : List ℕ) → One (BadUrl b scheme rest)
@@ -149,22 +149,22 @@ one_no_scp_host : (host : List ℕ) → One (NoScpHost host)
 one_no_scp_host host p q h k = stands_alike p q refl refl h.stands k.stands
 
 -- a host with a bracket at its front isn't a plain one and a port's place
-plain_apart : (host behind text digits : List ℕ) → host ≡ left_bracket ∷ behind → IsPlainHost text → host ≡ text ++ colon ∷ digits → ⊥
-plain_apart host behind text digits e t i = begins_apart behind text digits colon t.no_bracket (sym e ∙ i) refl
+plain_apart : (host suffix text digits : List ℕ) → host ≡ left_bracket ∷ suffix → IsPlainHost text → host ≡ text ++ colon ∷ digits → ⊥
+plain_apart host suffix text digits e t i = begins_apart suffix text digits colon t.no_bracket (sym e ∙ i) refl
 
 -- brackets or a port's place are one flaw
 one_scp_name : (host : List ℕ) → One (BadScpName host)
 one_scp_name host p q (BadScpName.unclosed a f e h) (BadScpName.unclosed b g i k) = stands_alike p q refl refl h k
-one_scp_name host p q (BadScpName.unclosed a f e h) (BadScpName.behind_bracket y s g m i k) = absurd (closed_apart host a y s f e i)
+one_scp_name host p q (BadScpName.unclosed a f e h) (BadScpName.after_bracket y s g m i k) = absurd (closed_apart host a y s f e i)
 one_scp_name host p q (BadScpName.unclosed a f e h) (BadScpName.port_place v d u g i k) = absurd (plain_apart host a v d e u i)
-one_scp_name host p q (BadScpName.behind_bracket x r f n e h) (BadScpName.unclosed b g i k) = absurd (closed_apart host b x r g i e)
-one_scp_name host p q (BadScpName.behind_bracket x r f n e h) (BadScpName.behind_bracket y s g m i k) =
+one_scp_name host p q (BadScpName.after_bracket x r f n e h) (BadScpName.unclosed b g i k) = absurd (closed_apart host b x r g i e)
+one_scp_name host p q (BadScpName.after_bracket x r f n e h) (BadScpName.after_bracket y s g m i k) =
     let cut = cut_unique right_bracket x y r s f g (tails (sym e ∙ i)) in
     stands_alike p q (ap (λ (z : List ℕ). length z + 2) cut.0) (ap length cut.1) h k
-one_scp_name host p q (BadScpName.behind_bracket x r f n e h) (BadScpName.port_place v d u g i k) =
+one_scp_name host p q (BadScpName.after_bracket x r f n e h) (BadScpName.port_place v d u g i k) =
     absurd (plain_apart host (x ++ right_bracket ∷ r) v d e u i)
 one_scp_name host p q (BadScpName.port_place w c t f e h) (BadScpName.unclosed b g i k) = absurd (plain_apart host b w c i t e)
-one_scp_name host p q (BadScpName.port_place w c t f e h) (BadScpName.behind_bracket y s g m i k) =
+one_scp_name host p q (BadScpName.port_place w c t f e h) (BadScpName.after_bracket y s g m i k) =
     absurd (plain_apart host (y ++ right_bracket ∷ s) w c i t e)
 one_scp_name host p q (BadScpName.port_place w c t f e h) (BadScpName.port_place v d u g i k) =
     let cut = cut_unique colon w v c d t.no_colon u.no_colon (sym e ∙ i) in
@@ -183,7 +183,7 @@ one_front front p q (BadFront.alone f h) (BadFront.with_user v z g i k) = absurd
 one_front front p q (BadFront.with_user u w f e h) (BadFront.alone g k) = absurd (free_apart at_sign front u w g e)
 one_front front p q (BadFront.with_user u w f e h) (BadFront.with_user v z g i k) =
     let cut = last_cut_unique at_sign u v w z f g (sym e ∙ i) in
-    one_at_both (λ (user host : List ℕ). Behind (length user + 1) (BadScpHost host)) (λ user host. one_behind _ _ (one_scp_host host)) u w v z p q cut.0 cut.1 h k
+    one_at_both (λ (user host : List ℕ). Shifted (length user + 1) (BadScpHost host)) (λ user host. one_after _ _ (one_scp_host host)) u w v z p q cut.0 cut.1 h k
 
 -- and the whole
 one_scp : (b front path : List ℕ) → One (BadScp b front path)

@@ -85,9 +85,9 @@ nothing_many piece (inl h) none = both_ways (begins_with colon piece) (ap (begin
 nothing_many piece (inr (x, y, z, e)) none = omega (arith, length-append x (colon ∷ (y ++ colon ∷ z)), ap length (sym e ∙ none))
 
 -- a host outside brackets doesn't begin with one
-bracket_plain : (piece behind text rest : List ℕ) → IsPlainHost text → piece ≡ left_bracket ∷ behind → piece ≡ text ++ rest → ⊥
-bracket_plain piece behind text rest t e k =
-    bracket_apart piece behind e (ap (begins_with left_bracket) k ∙ begins-append left_bracket text rest t.nonempty ∙ t.no_bracket)
+bracket_plain : (piece suffix text rest : List ℕ) → IsPlainHost text → piece ≡ left_bracket ∷ suffix → piece ≡ text ++ rest → ⊥
+bracket_plain piece suffix text rest t e k =
+    bracket_apart piece suffix e (ap (begins_with left_bracket) k ∙ begins-append left_bracket text rest t.nonempty ∙ t.no_bracket)
 
 -- the colon of a host's port is not another colon
 plain_many : (piece text rest : List ℕ) → IsPlainHost text → IsPortPlace rest → piece ≡ text ++ rest → IsManyColoned piece → ⊥
@@ -468,8 +468,8 @@ port_place syntax start piece host port name place h k =
     record { front = ends.front; digits = digits; joined = ends.joined; value = value; reported = (host_spans_unique start piece name _ place _ k spans).1 }
 
 -- after user information
-port_behind : (start : ℕ) (information piece : List ℕ) (place : Option Span) (port : ℕ) → PortIn (start + (length information + 1)) piece place port → PortIn start (information ++ at_sign ∷ piece) place port
-port_behind start information piece place port h = record {
+port_after : (start : ℕ) (information piece : List ℕ) (place : Option Span) (port : ℕ) → PortIn (start + (length information + 1)) piece place port → PortIn start (information ++ at_sign ∷ piece) place port
+port_after start information piece place port h = record {
   front = information ++ at_sign ∷ h.front;
   digits = h.digits;
   joined = ap (λ t. information ++ at_sign ∷ t) h.joined ∙ sym (append_assoc information (at_sign ∷ h.front) h.digits);
@@ -488,7 +488,7 @@ authority_port syntax start authority user password host port first second name 
 authority_port syntax start authority user password host port first second name place (Authority.with_user u w f e c n s) (AuthoritySpans.with_user v z g i t k) =
     let same = (last_cut_unique at_sign u v w z f g (sym e ∙ i)).1 in
     let found = port_place syntax (start + (length v + 1)) z host port name place (subst (λ x. SpellsHostPort syntax x host (Some port)) same n) k in
-    subst (λ x. PortIn start x place port) (sym i) (port_behind start v z place port found)
+    subst (λ x. PortIn start x place port) (sym i) (port_after start v z place port found)
 
 -- ---- the location of a text
 
@@ -509,8 +509,8 @@ record MeantUrl (b : List ℕ) (v : Location) : Type 0 where
   pub not_ext : ¬ (scheme ≡ codes "ext")
 
 -- a URL is one of these, or its location has neither
-url_meant : (b : List ℕ) (v : Location) → SpellsUrl b v → IsBare v ⊎ MeantUrl b v
-url_meant b v h =
+url_denoted : (b : List ℕ) (v : Location) → SpellsUrl b v → IsBare v ⊎ MeantUrl b v
+url_denoted b v h =
     let syntax = host_syntax_of h.parts.scheme in
     elim (means_cases (scheme_of h.parts.scheme) b h.parts v h.means) [
       | inl (e, value) ↦ inl (ap (λ (w : Location). w.password) value, ap (λ (w : Location). w.port) value)
@@ -536,13 +536,13 @@ bare_value : (v w : Location) → v ≡ w → w.password ≡ None → w.port ≡
 bare_value v w e p q = (ap (λ (x : Location). x.password) e ∙ p, ap (λ (x : Location). x.port) e ∙ q)
 
 -- a location has neither, or its text is such a URL
-spelled_meant : (b : List ℕ) (v : Location) → Spells b v → IsBare v ⊎ MeantUrl b v
-spelled_meant b v (Spells.url h) = url_meant b v h
-spelled_meant b v (Spells.file_url h) = inl (bare_value v _ h.value refl refl)
-spelled_meant b v (Spells.remote_helper h) = inl (bare_value v _ h.value refl refl)
-spelled_meant b v (Spells.scp_form (inl h)) = inl (bare_value v _ h.value refl refl)
-spelled_meant b v (Spells.scp_form (inr h)) = inl (bare_value v _ h.value refl refl)
-spelled_meant b v (Spells.local_path h) = inl (bare_value v _ h.value refl refl)
+spelled_denoted : (b : List ℕ) (v : Location) → Spells b v → IsBare v ⊎ MeantUrl b v
+spelled_denoted b v (Spells.url h) = url_denoted b v h
+spelled_denoted b v (Spells.file_url h) = inl (bare_value v _ h.value refl refl)
+spelled_denoted b v (Spells.remote_helper h) = inl (bare_value v _ h.value refl refl)
+spelled_denoted b v (Spells.scp_form (inl h)) = inl (bare_value v _ h.value refl refl)
+spelled_denoted b v (Spells.scp_form (inr h)) = inl (bare_value v _ h.value refl refl)
+spelled_denoted b v (Spells.local_path h) = inl (bare_value v _ h.value refl refl)
 
 -- the parts of a URL, except those of `ext` and of files, are those of its authority
 url_parts_spans : (b scheme authority path : List ℕ) (parts : Parts) → UrlCut b scheme authority path → ¬ (scheme ≡ codes "ext") → UrlParts b scheme (authority ++ path) parts
@@ -585,7 +585,7 @@ url_password b parts v password m h e =
 
 -- the password of a location is the part of that name
 pub password_is_part : PasswordIsPart
-password_is_part b parts v password h s e = elim (spelled_meant b v s) [
+password_is_part b parts v password h s e = elim (spelled_denoted b v s) [
   | inl bare ↦ absurd (none-some password (sym bare.0 ∙ e))
   | inr m ↦ url_password b parts v password m h e
 ]
@@ -608,7 +608,7 @@ url_port b parts v port m h e =
 
 -- the port of a location is the part of that name
 pub port_is_part : PortIsPart
-port_is_part b parts v port h s e = elim (spelled_meant b v s) [
+port_is_part b parts v port h s e = elim (spelled_denoted b v s) [
   | inl bare ↦ absurd (none-some port (sym bare.1 ∙ e))
   | inr m ↦ url_port b parts v port m h e
 ]

@@ -35,42 +35,42 @@ address_unbracketed piece (inr (a, h, e)) =
     free_begins left_bracket piece (subst (λ t. FreeOf left_bracket t) (sym e) (free-append left_bracket a (colon ∷ []) (address_free left_bracket a refl h) refl))
 
 -- the text after a bracket in front of a host: another one closes it, and the end or a colon follows
-pub record Closes (behind : List ℕ) : Type 0 where
+pub record Closes (suffix : List ℕ) : Type 0 where
   pub inner : List ℕ
   pub rest : List ℕ
   pub closed : FreeOf right_bracket inner
-  pub joined : behind ≡ inner ++ right_bracket ∷ rest
+  pub joined : suffix ≡ inner ++ right_bracket ∷ rest
   pub followed : (rest ≡ []) ⊎ (begins_with colon rest ≡ true)
 
 -- the bracket in front of a host is closed
-named_closes : (syntax : HostSyntax) (behind : List ℕ) (host : Option (List ℕ)) (port : Option ℕ) → SpellsHostPort syntax (left_bracket ∷ behind) host port → Closes behind
-named_closes syntax behind host port (SpellsHostPort.nothing e h p) = let wrong : left_bracket ∷ behind ≡ [] = e in cc
-named_closes syntax behind host port (SpellsHostPort.bracketed x inner f i e h p) =
+named_closes : (syntax : HostSyntax) (suffix : List ℕ) (host : Option (List ℕ)) (port : Option ℕ) → SpellsHostPort syntax (left_bracket ∷ suffix) host port → Closes suffix
+named_closes syntax suffix host port (SpellsHostPort.nothing e h p) = let wrong : left_bracket ∷ suffix ≡ [] = e in cc
+named_closes syntax suffix host port (SpellsHostPort.bracketed x inner f i e h p) =
     record { inner = x; rest = []; closed = f; joined = tails e; followed = inl refl }
-named_closes syntax behind host port (SpellsHostPort.bracketed_colon x inner f i e h p) =
+named_closes syntax suffix host port (SpellsHostPort.bracketed_colon x inner f i e h p) =
     record { inner = x; rest = colon ∷ []; closed = f; joined = tails e; followed = inr refl }
-named_closes syntax behind host port (SpellsHostPort.bracketed_port x inner digits n f i k e h p) =
+named_closes syntax suffix host port (SpellsHostPort.bracketed_port x inner digits n f i k e h p) =
     record { inner = x; rest = colon ∷ digits; closed = f; joined = tails e; followed = inr refl }
-named_closes syntax behind host port (SpellsHostPort.unbracketed r h p) = absurd (false≢true (sym (address_unbracketed (left_bracket ∷ behind) r.1)))
-named_closes syntax behind host port (SpellsHostPort.plain named t i h p) = absurd (false≢true (sym t.no_bracket))
-named_closes syntax behind host port (SpellsHostPort.plain_colon text named t i e h p) = absurd (begins_apart behind text [] colon t.no_bracket e refl)
-named_closes syntax behind host port (SpellsHostPort.plain_port text named digits n t i k e h p) = absurd (begins_apart behind text digits colon t.no_bracket e refl)
-named_closes syntax behind host port (SpellsHostPort.colons named s r b m t h p) = absurd (false≢true (sym b))
+named_closes syntax suffix host port (SpellsHostPort.unbracketed r h p) = absurd (false≢true (sym (address_unbracketed (left_bracket ∷ suffix) r.1)))
+named_closes syntax suffix host port (SpellsHostPort.plain named t i h p) = absurd (false≢true (sym t.no_bracket))
+named_closes syntax suffix host port (SpellsHostPort.plain_colon text named t i e h p) = absurd (begins_apart suffix text [] colon t.no_bracket e refl)
+named_closes syntax suffix host port (SpellsHostPort.plain_port text named digits n t i k e h p) = absurd (begins_apart suffix text digits colon t.no_bracket e refl)
+named_closes syntax suffix host port (SpellsHostPort.colons named s r b m t h p) = absurd (false≢true (sym b))
 
 -- the same of a piece that names some host
-pub piece_closes : (behind : List ℕ) → IsHostPiece (left_bracket ∷ behind) → Closes behind
-piece_closes behind (syntax, (host, port, h)) = named_closes syntax behind host port h
+pub piece_closes : (suffix : List ℕ) → IsHostPiece (left_bracket ∷ suffix) → Closes suffix
+piece_closes suffix (syntax, (host, port, h)) = named_closes syntax suffix host port h
 
 -- no bracket in front of a host is open
-pub never_open : {A : Type 0} (behind : List ℕ) → IsHostPiece (left_bracket ∷ behind) → FreeOf right_bracket behind → A
-never_open behind named free =
-    let h = piece_closes behind named in
+pub never_open : {A : Type 0} (suffix : List ℕ) → IsHostPiece (left_bracket ∷ suffix) → FreeOf right_bracket suffix → A
+never_open suffix named free =
+    let h = piece_closes suffix named in
     absurd (not_free right_bracket h.inner h.rest (subst (λ t. FreeOf right_bracket t) h.joined free))
 
 -- if no colon follows the brackets, the host is the whole
-pub brackets_alone : (behind x rest : List ℕ) → IsHostPiece (left_bracket ∷ behind) → FreeOf right_bracket x → behind ≡ x ++ right_bracket ∷ rest → begins_with colon rest ≡ false → IsHostAlone (left_bracket ∷ behind)
-brackets_alone behind x rest named free e other start =
-    let h = piece_closes behind named in
+pub brackets_alone : (suffix x rest : List ℕ) → IsHostPiece (left_bracket ∷ suffix) → FreeOf right_bracket x → suffix ≡ x ++ right_bracket ∷ rest → begins_with colon rest ≡ false → IsHostAlone (left_bracket ∷ suffix)
+brackets_alone suffix x rest named free e other start =
+    let h = piece_closes suffix named in
     let cut = cut_unique right_bracket h.inner x h.rest rest h.closed free (sym h.joined ∙ e) in
     elim h.followed [
       | inl none ↦ HostSpans.bracketed x free (ap (λ t. left_bracket ∷ t) (e ∙ ap (λ t. x ++ right_bracket ∷ t) (sym cut.1 ∙ none))) refl refl
@@ -78,13 +78,13 @@ brackets_alone behind x rest named free e other start =
     ]
 
 -- a colon alone after the brackets stays with the host
-pub brackets_colon : (behind x rest digits : List ℕ) → FreeOf right_bracket x → behind ≡ x ++ right_bracket ∷ rest → rest ≡ colon ∷ digits → digits ≡ [] → IsHostAlone (left_bracket ∷ behind)
-brackets_colon behind x rest digits free e begins none start =
+pub brackets_colon : (suffix x rest digits : List ℕ) → FreeOf right_bracket x → suffix ≡ x ++ right_bracket ∷ rest → rest ≡ colon ∷ digits → digits ≡ [] → IsHostAlone (left_bracket ∷ suffix)
+brackets_colon suffix x rest digits free e begins none start =
     HostSpans.bracketed_colon x free (ap (λ t. left_bracket ∷ t) (e ∙ ap (λ t. x ++ right_bracket ∷ t) (begins ∙ ap (λ t. colon ∷ t) none))) refl refl
 
 -- the text after that colon is the port
-pub brackets_port : (behind x rest digits : List ℕ) → FreeOf right_bracket x → behind ≡ x ++ right_bracket ∷ rest → rest ≡ colon ∷ digits → 0 < length digits → HasPort (left_bracket ∷ behind) digits
-brackets_port behind x rest digits free e begins some =
+pub brackets_port : (suffix x rest digits : List ℕ) → FreeOf right_bracket x → suffix ≡ x ++ right_bracket ∷ rest → rest ≡ colon ∷ digits → 0 < length digits → HasPort (left_bracket ∷ suffix) digits
+brackets_port suffix x rest digits free e begins some =
     HasPort.bracketed x free some (ap (λ t. left_bracket ∷ t) (e ∙ ap (λ t. x ++ right_bracket ∷ t) begins))
 
 -- ---- outside brackets
@@ -142,8 +142,8 @@ pub authority_names : (text : List ℕ) → FreeOf at_sign text → IsAuthority 
 authority_names text free (syntax, user, password, host, port, h) = (syntax, (host, port, authority_alone syntax text user password host port free h))
 
 -- so does the piece after user information
-pub behind_names : (text information piece : List ℕ) → FreeOf at_sign piece → text ≡ information ++ at_sign ∷ piece → IsAuthority text → IsHostPiece piece
-behind_names text information piece free e (syntax, user, password, host, port, h) =
+pub after_names : (text information piece : List ℕ) → FreeOf at_sign piece → text ≡ information ++ at_sign ∷ piece → IsAuthority text → IsHostPiece piece
+after_names text information piece free e (syntax, user, password, host, port, h) =
     (syntax, (host, port, (authority_cut syntax text information piece user password host port free e h).1))
 
 -- ---- URLs

@@ -17,7 +17,7 @@ use Rattle.git_syntax.proofs.Parsing.ClassifierLemmas.{name_byte_ascii}
 use Rattle.git_refusals.specs.declared.place.Place.{Place}
 use Rattle.git_refusals.specs.declared.reason.Reason.{Reason}
 use Rattle.git_refusals.specs.declared.reason.Reason.TheVariants as reason
-use Rattle.git_refusals.specs.Reasons.{Behind, Passes, Then, Undecodable, NotText, HasCharacter, HasBackslash, HasBrokenEscape, NoDigits, TooLong, BadScheme, NoScpPath, NoScpHost}
+use Rattle.git_refusals.specs.Reasons.{Shifted, Passes, Then, Undecodable, NotText, HasCharacter, HasBackslash, HasBrokenEscape, NoDigits, TooLong, BadScheme, NoScpPath, NoScpHost}
 use Rattle.git_refusals.specs.Internal.Readable.{Checks}
 use Rattle.git_refusals.proofs.Refusing.CharacterLemmas.{no_character_stands, class_stands}
 use Rattle.git_refusals.proofs.Refusing.PlaceLemmas.{stands_not_free}
@@ -25,8 +25,8 @@ use Rattle.git_refusals.proofs.Refusing.PlaceLemmas.{stands_not_free}
 -- ---- the order of checks
 
 -- a check that finds nothing in a piece finds nothing after another
-pub behind_passes : (before : ℕ) (check : Place → Type 0) → Passes check → Passes (Behind before check)
-behind_passes before check none p h = none h.inside h.found
+pub after_passes : (before : ℕ) (check : Place → Type 0) → Passes check → Passes (Shifted before check)
+after_passes before check none p h = none h.inside h.found
 
 -- if the first check finds nothing, the second one answers
 pub found_second : (piece : List ℕ) (first second : Place → Type 0) (before after : Type 0) (r : Option Place) → Passes first → (before → after) → Checks piece second before r → Checks piece (Then first second) after r
@@ -59,8 +59,8 @@ backslash_passes why text free p h = stands_not_free backslash text p.at h.first
 -- a sound text has no broken escape
 pub sound_passes : (text : List ℕ) → is_sound text ≡ true → Passes (HasBrokenEscape text)
 sound_passes text sound p h =
-    let (_, tail) = sound_parts h.first.before h.first.behind percent_sign refl (ap is_sound (sym h.first.joined) ∙ sound) in
-    both_ways _ h.first.broken (sound_head percent_sign h.first.behind tail)
+    let (_, tail) = sound_parts h.first.before h.first.suffix percent_sign refl (ap is_sound (sym h.first.joined) ∙ sound) in
+    both_ways _ h.first.broken (sound_head percent_sign h.first.suffix tail)
 
 -- a piece that decodes to text has nothing that doesn't
 pub decoded_passes : (text : List ℕ) → IsUtf8 (percent_decode text) → Passes (Undecodable text)

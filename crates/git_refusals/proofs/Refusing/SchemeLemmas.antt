@@ -14,7 +14,7 @@ use Rattle.git_syntax.specs.Authority.{unless_empty}
 use Rattle.git_syntax.specs.Flaws.{UrlForm}
 use Rattle.git_syntax.proofs.Texts.CutLemmas.{free_or_cut}
 use Rattle.git_syntax.proofs.Parsing.ClassifierLemmas.{file_found, name_byte_ascii}
-use Rattle.git_refusals.specs.Characters.{StandsCharacter, is_no_scheme_character}
+use Rattle.git_refusals.specs.Characters.{IsCharacterAt, is_no_scheme_character}
 use Rattle.git_refusals.specs.Internal.Readable.{IsFileUrl, IsScheme}
 use Rattle.git_refusals.proofs.Refusing.CharacterLemmas.{class_bytes}
 
@@ -25,8 +25,8 @@ pub file_read : (b rest : List ℕ) → UrlForm b (codes "file") rest → IsUtf8
 file_read b rest form text held =
     elim (free_or_cut slash rest) [
       | inl free ↦ absurd (held free)
-      | inr (host, behind, free, e) ↦
-          let path = slash ∷ behind in
+      | inr (host, suffix, free, e) ↦
+          let path = slash ∷ suffix in
           (record (path_alone file false path) { host = unless_empty host }, file_found b rest host path _ form text free e refl refl)
     ]
 
@@ -58,5 +58,5 @@ pub no_character : (text : List ℕ) → IsUtf8 text → list_any (λ _. true) (
 no_character text utf8 none = sym (encodes-chars text utf8) ∙ ap encodes (none_any (chars text) none)
 
 -- the first of all characters is at the front
-pub first_at_front : (text : List ℕ) (at len : ℕ) → StandsCharacter (λ _. true) text at len → at ≡ 0
+pub first_at_front : (text : List ℕ) (at len : ℕ) → IsCharacterAt (λ _. true) text at len → at ≡ 0
 first_at_front text at len h = h.offset ∙ ap (λ t. length (encodes t)) (none_any h.before h.first)

@@ -19,7 +19,7 @@ use Rattle.git_syntax.proofs.Parsing.ScpLemmas.{colons_found, inner_kept, litera
 use Rattle.git_refusals.specs.declared.place.Place.{Place}
 use Rattle.git_refusals.specs.declared.reason.Reason.TheVariants as reason
 use Rattle.git_refusals.specs.Reasons.{Then, HasCharacter, HasBackslash, NoScpHost, BadScpName, BadScpHost, BadFront, BadScp, BadAddressed}
-use Rattle.git_refusals.specs.Internal.Readable.{Checks, IsAddressedScp, IsScp, IsScpFront, NamesScpHost, StandsForScpHost}
+use Rattle.git_refusals.specs.Internal.Readable.{Checks, IsAddressedScp, IsScp, IsScpFront, NamesScpHost, DenotesScpHost}
 use Rattle.git_refusals.proofs.Refusing.PassLemmas.{found_second, text_passes, character_passes, backslash_passes, scp_path_passes, scp_host_passes}
 
 -- ---- the name of a host
@@ -29,26 +29,26 @@ pub name_read : (host : List ℕ) → 0 < length host → begins_with left_brack
 name_read host some open_front text free = record { found = (_, name_found host some open_front text free); within = tt }
 
 -- so does one whose colons mark no port
-pub colons_read : (host front behind : List ℕ) → begins_with left_bracket host ≡ false → IsUtf8 host → ColonsInside host → host ≡ front ++ colon ∷ behind → (true ≡ (length front == 0)) ⊎ (¬ FreeOf colon behind) → Checks host (BadScpName host) (NamesScpHost host) None
-colons_read host front behind open_front text colons e many = record { found = (_, colons_found host front behind open_front text colons e many); within = tt }
+pub colons_read : (host front suffix : List ℕ) → begins_with left_bracket host ≡ false → IsUtf8 host → ColonsInside host → host ≡ front ++ colon ∷ suffix → (true ≡ (length front == 0)) ⊎ (¬ FreeOf colon suffix) → Checks host (BadScpName host) (NamesScpHost host) None
+colons_read host front suffix open_front text colons e many = record { found = (_, colons_found host front suffix open_front text colons e many); within = tt }
 
 -- the text before a colon in a host without a bracket in front has none there either
-front_open : (host front behind : List ℕ) → begins_with left_bracket host ≡ false → host ≡ front ++ colon ∷ behind → false ≡ (length front == 0) → begins_with left_bracket front ≡ false
-front_open host [] behind open_front e some = absurd (false≢true some)
-front_open host (b ∷ front) behind open_front e some = sym (ap (begins_with left_bracket) e) ∙ open_front
+front_open : (host front suffix : List ℕ) → begins_with left_bracket host ≡ false → host ≡ front ++ colon ∷ suffix → false ≡ (length front == 0) → begins_with left_bracket front ≡ false
+front_open host [] suffix open_front e some = absurd (false≢true some)
+front_open host (b ∷ front) suffix open_front e some = sym (ap (begins_with left_bracket) e) ∙ open_front
 
 -- the text after the only colon is in a port's place, if no number may be
-pub port_place_found : (host front behind : List ℕ) → begins_with left_bracket host ≡ false → FreeOf colon front → host ≡ front ++ colon ∷ behind → false ≡ (length front == 0) → FreeOf colon behind → Checks host (BadScpName host) (NamesScpHost host) (Some (record { reason = reason.PortNotANumber; at = length front + 1; len = length behind }))
-port_place_found host front behind open_front first e some last = record {
+pub port_place_found : (host front suffix : List ℕ) → begins_with left_bracket host ≡ false → FreeOf colon front → host ≡ front ++ colon ∷ suffix → false ≡ (length front == 0) → FreeOf colon suffix → Checks host (BadScpName host) (NamesScpHost host) (Some (record { reason = reason.PortNotANumber; at = length front + 1; len = length suffix }))
+port_place_found host front suffix open_front first e some last = record {
   found =
-      BadScpName.port_place front behind (record { nonempty = some_tested front some; no_colon = first; no_bracket = front_open host front behind open_front e some }) last e (record { named = refl; start = refl; size = refl });
-  within = omega (arith, ap length e, length-append front (colon ∷ behind));
+      BadScpName.port_place front suffix (record { nonempty = some_tested front some; no_colon = first; no_bracket = front_open host front suffix open_front e some }) last e (record { named = refl; start = refl; size = refl });
+  within = omega (arith, ap length e, length-append front (colon ∷ suffix));
 }
 
 -- a bracket in front that isn't closed is wrong
-pub unclosed_found : (host behind : List ℕ) → FreeOf right_bracket behind → host ≡ left_bracket ∷ behind → Checks host (BadScpName host) (NamesScpHost host) (Some (record { reason = reason.UnclosedBracket; at = 0; len = 1 }))
-unclosed_found host behind free e = record {
-  found = BadScpName.unclosed behind free e (record { named = refl; start = refl; size = refl });
+pub unclosed_found : (host suffix : List ℕ) → FreeOf right_bracket suffix → host ≡ left_bracket ∷ suffix → Checks host (BadScpName host) (NamesScpHost host) (Some (record { reason = reason.UnclosedBracket; at = 0; len = 1 }))
+unclosed_found host suffix free e = record {
+  found = BadScpName.unclosed suffix free e (record { named = refl; start = refl; size = refl });
   within = omega (arith, ap length e);
 }
 
@@ -91,41 +91,41 @@ literal_or_not t =
     ]
 
 -- a text between brackets is named by them, as a literal or as it is
-brackets_named : (behind inner rest : List ℕ) → IsUtf8 (left_bracket ∷ behind) → FreeOf right_bracket inner → behind ≡ inner ++ right_bracket ∷ rest → true ≡ (length rest == 0) → NamesScpHost (left_bracket ∷ behind)
-brackets_named behind inner rest text closed e none =
+brackets_named : (suffix inner rest : List ℕ) → IsUtf8 (left_bracket ∷ suffix) → FreeOf right_bracket inner → suffix ≡ inner ++ right_bracket ∷ rest → true ≡ (length rest == 0) → NamesScpHost (left_bracket ∷ suffix)
+brackets_named suffix inner rest text closed e none =
     elim (literal_or_not inner) [
-      | inl h ↦ (_, literal_found behind inner rest closed e none h)
-      | inr other ↦ (_, inner_kept behind inner rest text closed e none other)
+      | inl h ↦ (_, literal_found suffix inner rest closed e none h)
+      | inr other ↦ (_, inner_kept suffix inner rest text closed e none other)
     ]
 
 -- so brackets around the whole host name one
-pub brackets_read : (host behind inner rest : List ℕ) → IsUtf8 host → host ≡ left_bracket ∷ behind → FreeOf right_bracket inner → behind ≡ inner ++ right_bracket ∷ rest → true ≡ (length rest == 0) → Checks host (BadScpName host) (NamesScpHost host) None
-brackets_read host behind inner rest text front closed e none = record {
-  found = subst NamesScpHost (sym front) (brackets_named behind inner rest (subst IsUtf8 front text) closed e none);
+pub brackets_read : (host suffix inner rest : List ℕ) → IsUtf8 host → host ≡ left_bracket ∷ suffix → FreeOf right_bracket inner → suffix ≡ inner ++ right_bracket ∷ rest → true ≡ (length rest == 0) → Checks host (BadScpName host) (NamesScpHost host) None
+brackets_read host suffix inner rest text front closed e none = record {
+  found = subst NamesScpHost (sym front) (brackets_named suffix inner rest (subst IsUtf8 front text) closed e none);
   within = tt;
 }
 
 -- the text after a closed bracket is wrong
-pub behind_bracket_found : (host behind inner rest : List ℕ) → host ≡ left_bracket ∷ behind → FreeOf right_bracket inner → behind ≡ inner ++ right_bracket ∷ rest → false ≡ (length rest == 0) → Checks host (BadScpName host) (NamesScpHost host) (Some (record { reason = reason.BehindBracket; at = length inner + 2; len = length rest }))
-behind_bracket_found host behind inner rest front closed e some = record {
+pub after_bracket_found : (host suffix inner rest : List ℕ) → host ≡ left_bracket ∷ suffix → FreeOf right_bracket inner → suffix ≡ inner ++ right_bracket ∷ rest → false ≡ (length rest == 0) → Checks host (BadScpName host) (NamesScpHost host) (Some (record { reason = reason.BehindBracket; at = length inner + 2; len = length rest }))
+after_bracket_found host suffix inner rest front closed e some = record {
   found =
-      BadScpName.behind_bracket inner rest closed (some_tested rest some) (front ∙ ap (λ t. left_bracket ∷ t) e) (record { named = refl; start = refl; size = refl });
+      BadScpName.after_bracket inner rest closed (some_tested rest some) (front ∙ ap (λ t. left_bracket ∷ t) e) (record { named = refl; start = refl; size = refl });
   within = omega (arith, ap length front, ap length e, length-append inner (right_bracket ∷ rest));
 }
 
 -- ---- the host
 
 -- without white space and backslashes, the flaw that is found in its name is found in the host
-pub name_checked : (host : List ℕ) (r : Option Place) → FreeOf at_sign host → LacksWhiteSpace host → FreeOf backslash host → 0 < length host → Checks host (BadScpName host) (NamesScpHost host) r → Checks host (BadScpHost host) (StandsForScpHost host) r
+pub name_checked : (host : List ℕ) (r : Option Place) → FreeOf at_sign host → LacksWhiteSpace host → FreeOf backslash host → 0 < length host → Checks host (BadScpName host) (NamesScpHost host) r → Checks host (BadScpHost host) (DenotesScpHost host) r
 name_checked host r at white back some h =
-    found_second host (HasCharacter reason.WhiteSpaceInHost is_whitespace host) (Then (HasBackslash reason.BackslashInHost host) (Then (NoScpHost host) (BadScpName host))) (StandsForScpHost host) (StandsForScpHost host) r (character_passes reason.WhiteSpaceInHost is_whitespace host white) (λ k. k)
-    (found_second host (HasBackslash reason.BackslashInHost host) (Then (NoScpHost host) (BadScpName host)) (StandsForScpHost host) (StandsForScpHost host) r (backslash_passes reason.BackslashInHost host back) (λ k. k)
-    (found_second host (NoScpHost host) (BadScpName host) (NamesScpHost host) (StandsForScpHost host) r (scp_host_passes host some) (λ k. (k.0, scp_host_found host (escaped_percents host) k.0 at back white refl k.1)) h))
+    found_second host (HasCharacter reason.WhiteSpaceInHost is_whitespace host) (Then (HasBackslash reason.BackslashInHost host) (Then (NoScpHost host) (BadScpName host))) (DenotesScpHost host) (DenotesScpHost host) r (character_passes reason.WhiteSpaceInHost is_whitespace host white) (λ k. k)
+    (found_second host (HasBackslash reason.BackslashInHost host) (Then (NoScpHost host) (BadScpName host)) (DenotesScpHost host) (DenotesScpHost host) r (backslash_passes reason.BackslashInHost host back) (λ k. k)
+    (found_second host (NoScpHost host) (BadScpName host) (NamesScpHost host) (DenotesScpHost host) r (scp_host_passes host some) (λ k. (k.0, scp_host_found host (escaped_percents host) k.0 at back white refl k.1)) h))
 
 -- ---- the front
 
 -- the flaw that is found in a front without an `@` is the flaw that is found in a host
-pub front_alone : (front : List ℕ) (r : Option Place) → FreeOf at_sign front → Checks front (BadScpHost front) (StandsForScpHost front) r → Checks front (BadFront front) (IsScpFront front) r
+pub front_alone : (front : List ℕ) (r : Option Place) → FreeOf at_sign front → Checks front (BadScpHost front) (DenotesScpHost front) r → Checks front (BadFront front) (IsScpFront front) r
 front_alone front None at h = record {
   found = record { user = None; host = front; split = ScpUser.host_alone refl refl; hosted = h.found };
   within = tt;
@@ -133,14 +133,14 @@ front_alone front None at h = record {
 front_alone front (Some p) at h = record { found = BadFront.alone at h.found; within = h.within }
 
 -- a user and a host that denotes one are a front
-pub front_with_user : (front user host : List ℕ) → front ≡ user ++ at_sign ∷ host → Checks host (BadScpHost host) (StandsForScpHost host) None → Checks front (BadFront front) (IsScpFront front) None
+pub front_with_user : (front user host : List ℕ) → front ≡ user ++ at_sign ∷ host → Checks host (BadScpHost host) (DenotesScpHost host) None → Checks front (BadFront front) (IsScpFront front) None
 front_with_user front user host e h = record {
   found = record { user = Some user; host = host; split = ScpUser.with_user user e refl; hosted = h.found };
   within = tt;
 }
 
 -- a flaw of the host after a user is one of the front
-pub front_flawed : (front user host : List ℕ) (p : Place) → FreeOf at_sign host → front ≡ user ++ at_sign ∷ host → Checks host (BadScpHost host) (StandsForScpHost host) (Some p) → Checks front (BadFront front) (IsScpFront front) (Some (record { reason = p.reason; at = length user + 1 + p.at; len = p.len }))
+pub front_flawed : (front user host : List ℕ) (p : Place) → FreeOf at_sign host → front ≡ user ++ at_sign ∷ host → Checks host (BadScpHost host) (DenotesScpHost host) (Some p) → Checks front (BadFront front) (IsScpFront front) (Some (record { reason = p.reason; at = length user + 1 + p.at; len = p.len }))
 front_flawed front user host p at e h = record {
   found = BadFront.with_user user host at e (record { inside = p; found = h.found; stands = record { named = refl; start = refl; size = refl } });
   within = omega (arith, h.within, ap length e, length-append user (at_sign ∷ host));

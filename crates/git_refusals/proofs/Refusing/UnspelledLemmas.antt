@@ -27,7 +27,7 @@ use Rattle.git_refusals.specs.declared.reason.Reason.TheVariants as reason
 use Rattle.git_refusals.specs.declared.reason.RefusalKind.{RefusalKind}
 use Rattle.git_refusals.specs.declared.reason.RefusalKind.TheVariants as kind
 use Rattle.git_refusals.specs.Kinds.{kind_of}
-use Rattle.git_refusals.specs.Characters.{StandsCharacter, is_no_scheme_character}
+use Rattle.git_refusals.specs.Characters.{IsCharacterAt, is_no_scheme_character}
 use Rattle.git_refusals.specs.Reasons.{Passes, Then, TooLong, BadScheme, BadRest, BadUrl, BadFile, BadScpName, BadScpHost, BadFront, BadScp, BadAddressed, Refused}
 use Rattle.git_refusals.specs.Promised.{IsOfKind, NamesKind}
 use Rattle.git_refusals.specs.Laws.{RefusedFlaw, RefusedUnspelled}
@@ -36,7 +36,7 @@ use Rattle.git_refusals.proofs.Refusing.PlaceLemmas.{stands_not_free}
 use Rattle.git_refusals.proofs.Refusing.PassLemmas.{passes_text, sound_passes, fits_passes, scheme_passes}
 use Rattle.git_refusals.proofs.Refusing.FlawLemmas.{Flawed, flawed, bad_authority_flaw}
 use Rattle.git_refusals.proofs.Refusing.SchemeLemmas.{scheme_read, no_character, first_at_front}
-use Rattle.git_refusals.proofs.Refusing.UrlLemmas.{url_pieces_utf8, FoundBehind}
+use Rattle.git_refusals.proofs.Refusing.UrlLemmas.{url_pieces_utf8, FoundAfter}
 
 -- ---- schemes
 
@@ -65,7 +65,7 @@ passes_scheme (c ∷ rest) utf8 passes =
             let (at, len, first) = character_stands (λ _. true) (c ∷ rest) some in
             let place : Place = record { reason = reason.SchemeStart; at = at; len = len } in
             let front = first_at_front (c ∷ rest) at len first in
-            absurd (passes place (BadScheme.bad_start c rest len refl other (subst (λ n. StandsCharacter (λ _. true) (c ∷ rest) n len) front first) (record { named = refl; start = front; size = refl })))
+            absurd (passes place (BadScheme.bad_start c rest len refl other (subst (λ n. IsCharacterAt (λ _. true) (c ∷ rest) n len) front first) (record { named = refl; start = front; size = refl })))
         | inr none ↦ absurd (omega (arith, ap length (no_character (c ∷ rest) utf8 none)))
       ]
     ]
@@ -94,7 +94,7 @@ bad_rest_of b scheme rest p form is h = found h.found
     cut : UrlCut b scheme h.authority h.path
     cut = record { form = subst (λ t. OtherUrlForm b scheme t) h.joined form; scheme_text = is; before_path = h.before_path; path_starts = h.path_starts }
 
-    found : FoundBehind b scheme h.authority h.path p → IsOfKind b Url (kind_of p.reason)
+    found : FoundAfter b scheme h.authority h.path p → IsOfKind b Url (kind_of p.reason)
     found (Then.at_first k) =
         of_kind b Url p.reason (kind.BadUrl fault.BadCharacter) (ap kind_of k.stands.named ∙ ap kind_of k.found.stands.named)
         (UrlFlaw.bad_path scheme h.authority h.path cut k.found.undecodable)
@@ -137,9 +137,9 @@ some_length t h = grind (arith, nat_tests)
 
 -- brackets, or the text in the place of a port
 bad_scp_name_flaw : (host : List ℕ) (p : Place) → ColonsInside host → BadScpName host p → Flawed (ScpHostFlaw host) p.reason
-bad_scp_name_flaw host p colons (BadScpName.unclosed behind free e s) =
-    flawed fault.BadCharacter (ap kind_of s.named) (ScpHostFlaw.bad_name fault.BadCharacter (subst (λ t. ScpNameFlaw t fault.BadCharacter) (sym e) (open_found behind free)))
-bad_scp_name_flaw host p colons (BadScpName.behind_bracket x rest free some e s) =
+bad_scp_name_flaw host p colons (BadScpName.unclosed suffix free e s) =
+    flawed fault.BadCharacter (ap kind_of s.named) (ScpHostFlaw.bad_name fault.BadCharacter (subst (λ t. ScpNameFlaw t fault.BadCharacter) (sym e) (open_found suffix free)))
+bad_scp_name_flaw host p colons (BadScpName.after_bracket x rest free some e s) =
     flawed fault.BadCharacter (ap kind_of s.named)
     (ScpHostFlaw.bad_name fault.BadCharacter (subst (λ t. ScpNameFlaw t fault.BadCharacter) (sym e) (rest_found (x ++ right_bracket ∷ rest) x rest (subst ColonsInside e colons) free refl (some_length rest some))))
 bad_scp_name_flaw host p colons (BadScpName.port_place text digits h free e s) =
@@ -191,7 +191,7 @@ bad_addressed_of : (b user address path : List ℕ) (p : Place) → AddressedFor
 bad_addressed_of b user address path p form (Then.at_first h) =
     of_kind b Scp p.reason kind.NotUtf8 (ap kind_of h.stands.named) (h.no_text, inr (user, address, path, form))
 bad_addressed_of b user address path p form (Then.at_second _ h) =
-    of_kind b Scp p.reason kind.MissingPath (ap kind_of h.stands.named) (MissesPath.behind_address user address (subst (λ t. AddressedForm b user address t) h.empty form))
+    of_kind b Scp p.reason kind.MissingPath (ap kind_of h.stands.named) (MissesPath.after_address user address (subst (λ t. AddressedForm b user address t) h.empty form))
 
 -- ---- all texts
 

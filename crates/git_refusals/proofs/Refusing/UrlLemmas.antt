@@ -17,14 +17,14 @@ use Rattle.git_syntax.specs.Internal.HostPieces.{host_syntax}
 use Rattle.git_syntax.specs.Internal.SchemeRules.{AreRulesOf}
 use Rattle.git_syntax.specs.Internal.FoundPieces.{url_location}
 use Rattle.git_syntax.specs.Internal.UrlPieces.{CutsRest}
-use Rattle.git_syntax.proofs.Texts.EscapeLemmas.{utf8_behind, utf8_byte, utf8_parts}
+use Rattle.git_syntax.proofs.Texts.EscapeLemmas.{utf8_after, utf8_byte, utf8_parts}
 use Rattle.git_syntax.proofs.Parsing.UrlLemmas.{spelled, url_cut}
 use Rattle.git_syntax.proofs.Parsing.FoundLemmas.{means_location}
 use Rattle.git_refusals.specs.declared.place.Place.{Place}
 use Rattle.git_refusals.specs.declared.reason.Reason.TheVariants as reason
-use Rattle.git_refusals.specs.Reasons.{Behind, Then, Undecodable, BadAuthority, BadScheme, NoPath, BadRest, BadUrl}
+use Rattle.git_refusals.specs.Reasons.{Shifted, Then, Undecodable, BadAuthority, BadScheme, NoPath, BadRest, BadUrl}
 use Rattle.git_refusals.specs.Internal.Readable.{Checks, HoldsParts, HoldsRest, IsUrl}
-use Rattle.git_refusals.proofs.Refusing.PassLemmas.{behind_passes, text_passes, character_passes, sound_passes, decoded_passes, fits_passes, scheme_passes}
+use Rattle.git_refusals.proofs.Refusing.PassLemmas.{after_passes, text_passes, character_passes, sound_passes, decoded_passes, fits_passes, scheme_passes}
 use Rattle.git_refusals.proofs.Refusing.AuthorityLemmas.{parts_pass}
 
 -- ---- pieces of a text
@@ -33,8 +33,8 @@ use Rattle.git_refusals.proofs.Refusing.AuthorityLemmas.{parts_pass}
 pub url_pieces_utf8 : (b scheme rest : List ℕ) → b ≡ scheme ++ (codes "://" ++ rest) → IsUtf8 b → IsUtf8 scheme × IsUtf8 rest
 url_pieces_utf8 b scheme rest e text =
     let parts = utf8_parts scheme (slash ∷ (slash ∷ rest)) colon (subst IsUtf8 e text) (omega arith) in
-    let behind = utf8_behind (slash ∷ []) (slash ∷ rest) parts.1 (utf8_byte slash (omega arith)) in
-    (parts.0, utf8_behind (slash ∷ []) rest behind (utf8_byte slash (omega arith)))
+    let suffix = utf8_after (slash ∷ []) (slash ∷ rest) parts.1 (utf8_byte slash (omega arith)) in
+    (parts.0, utf8_after (slash ∷ []) rest suffix (utf8_byte slash (omega arith)))
 
 -- a byte that a path may start at is ASCII
 path_start_ascii : (web : Bool) (c : ℕ) → is_path_start web c ≡ true → c < 128
@@ -56,9 +56,9 @@ by_rules {scheme} {authority} {rules} {r} are h =
     (subst (λ s. Checks authority (BadAuthority s rules.needs_host authority) (HoldsParts s rules.needs_host authority) r) are.syntax h)
 
 -- the flaw that is found after a scheme, in the text after it cut before its path
-abbrev pub FoundBehind : List ℕ → List ℕ → List ℕ → List ℕ → Place → Type 0
-FoundBehind b scheme authority path = Then (Behind (length scheme + 3 + length authority) (Undecodable path))
-    (Then (Behind (length scheme + 3) (BadAuthority (host_syntax_of scheme) (requires_host scheme) authority)) (NoPath scheme b path))
+abbrev pub FoundAfter : List ℕ → List ℕ → List ℕ → List ℕ → Place → Type 0
+FoundAfter b scheme authority path = Then (Shifted (length scheme + 3 + length authority) (Undecodable path))
+    (Then (Shifted (length scheme + 3) (BadAuthority (host_syntax_of scheme) (requires_host scheme) authority)) (NoPath scheme b path))
 
 -- the length of a URL is that of its pieces
 pub url_length : (b scheme rest authority path : List ℕ) → OtherUrlForm b scheme rest → CutsRest scheme rest authority path → length b ≡ length scheme + 3 + length authority + length path
@@ -66,8 +66,8 @@ url_length b scheme rest authority path form cut =
     omega (arith, ap length form.form.joined, length-append scheme (codes "://" ++ rest), ap length cut.joined, length-append authority path)
 
 -- the flaw that is found after a scheme is one of the text there
-pub found_behind : {b scheme rest authority path : List ℕ} {p : Place} → CutsRest scheme rest authority path → FoundBehind b scheme authority path p → p.at + p.len ≤ length b → Checks b (BadRest b scheme rest) (HoldsRest scheme rest) (Some p)
-found_behind {b} {scheme} {rest} {authority} {path} {p} cut h within = record {
+pub found_after : {b scheme rest authority path : List ℕ} {p : Place} → CutsRest scheme rest authority path → FoundAfter b scheme authority path p → p.at + p.len ≤ length b → Checks b (BadRest b scheme rest) (HoldsRest scheme rest) (Some p)
+found_after {b} {scheme} {rest} {authority} {path} {p} cut h within = record {
   found = record { authority = authority; path = path; joined = cut.joined; before_path = cut.before_path; path_starts = cut.path_starts; found = h };
   within = within;
 }
@@ -76,7 +76,7 @@ found_behind {b} {scheme} {rest} {authority} {path} {p} cut h within = record {
 pub bad_path : (b scheme rest authority path : List ℕ) (p : Place) → OtherUrlForm b scheme rest → CutsRest scheme rest authority path → Checks path (Undecodable path) (IsUtf8 (percent_decode path)) (Some p)
     → Checks b (BadRest b scheme rest) (HoldsRest scheme rest) (Some (record { reason = p.reason; at = length scheme + 3 + length authority + p.at; len = p.len }))
 bad_path b scheme rest authority path p form cut h =
-    found_behind cut (Then.at_first (record { inside = p; found = h.found; stands = record { named = refl; start = refl; size = refl } }))
+    found_after cut (Then.at_first (record { inside = p; found = h.found; stands = record { named = refl; start = refl; size = refl } }))
     (omega (arith, url_length b scheme rest authority path form cut, h.within))
 
 -- an authority in which something is wrong
@@ -84,14 +84,14 @@ pub bad_authority : (b scheme rest authority path : List ℕ) (p : Place) → Ot
     → Checks authority (BadAuthority (host_syntax_of scheme) (requires_host scheme) authority) (HoldsParts (host_syntax_of scheme) (requires_host scheme) authority) (Some p)
     → Checks b (BadRest b scheme rest) (HoldsRest scheme rest) (Some (record { reason = p.reason; at = length scheme + 3 + p.at; len = p.len }))
 bad_authority b scheme rest authority path p form cut text h =
-    found_behind cut (Then.at_second (behind_passes _ _ (decoded_passes path text)) (Then.at_first (record { inside = p; found = h.found; stands = record { named = refl; start = refl; size = refl } })))
+    found_after cut (Then.at_second (after_passes _ _ (decoded_passes path text)) (Then.at_first (record { inside = p; found = h.found; stands = record { named = refl; start = refl; size = refl } })))
     (omega (arith, url_length b scheme rest authority path form cut, h.within))
 
 -- a path that is missing
 pub no_path : (b scheme rest authority path : List ℕ) → CutsRest scheme rest authority path → IsUtf8 (percent_decode path) → HoldsParts (host_syntax_of scheme) (requires_host scheme) authority
     → requires_path (scheme_of scheme) ≡ true → path ≡ [] → Checks b (BadRest b scheme rest) (HoldsRest scheme rest) (Some (record { reason = reason.PathMissing; at = length b; len = 0 }))
 no_path b scheme rest authority path cut text held wanted empty =
-    found_behind cut (Then.at_second (behind_passes _ _ (decoded_passes path text)) (Then.at_second (behind_passes _ _ (parts_pass _ _ authority held))
+    found_after cut (Then.at_second (after_passes _ _ (decoded_passes path text)) (Then.at_second (after_passes _ _ (parts_pass _ _ authority held))
     (record { wanted = wanted; empty = empty; stands = record { named = refl; start = refl; size = refl } })))
     (omega arith)
 

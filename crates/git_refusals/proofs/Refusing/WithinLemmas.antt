@@ -13,14 +13,14 @@ use Rattle.git_syntax.proofs.Texts.EscapeLemmas.{utf8_parts}
 use Rattle.git_syntax.proofs.Parsing.ScpLemmas.{scp_host_utf8}
 use Rattle.git_refusals.specs.declared.place.Place.{Place}
 use Rattle.git_refusals.specs.declared.reason.Reason.{Reason}
-use Rattle.git_refusals.specs.Characters.{StandsCharacter, undecodable_at, undecodable_len}
-use Rattle.git_refusals.specs.Reasons.{Stands, Then, Undecodable, NotText, HasBackslash, HasBrokenEscape, NoHostText, NoOther, NoDigits, PortOutside, WebColons, BadColons, BadHost, BadUser, BadParts, BadAuthority, TooLong, BadScheme, BadRest, BadUrl, BadFile, BadScpName, BadScpHost, BadFront, BadScp, BadAddressed, Refused}
+use Rattle.git_refusals.specs.Characters.{IsCharacterAt, undecodable_at, undecodable_len}
+use Rattle.git_refusals.specs.Reasons.{IsAt, Then, Undecodable, NotText, HasBackslash, HasBrokenEscape, NoHostText, NoOther, NoDigits, PortOutside, WebColons, BadColons, BadHost, BadUser, BadParts, BadAuthority, TooLong, BadScheme, BadRest, BadUrl, BadFile, BadScpName, BadScpHost, BadFront, BadScp, BadAddressed, Refused}
 use Rattle.git_refusals.specs.Laws.{RefusedWithin}
 use Rattle.git_refusals.proofs.Refusing.CharacterLemmas.{character_within}
 use Rattle.git_refusals.proofs.Refusing.EscapeLemmas.{spelled_within}
 use Rattle.git_refusals.proofs.Refusing.PlaceLemmas.{stands_within}
 use Rattle.git_refusals.proofs.Refusing.PassLemmas.{passes_text}
-use Rattle.git_refusals.proofs.Refusing.UrlLemmas.{url_pieces_utf8, authority_utf8, FoundBehind}
+use Rattle.git_refusals.proofs.Refusing.UrlLemmas.{url_pieces_utf8, authority_utf8, FoundAfter}
 
 -- ---- places
 
@@ -29,8 +29,8 @@ abbrev pub IsWithin : List ℕ → Place → Type 0
 IsWithin piece p = p.at + p.len ≤ length piece
 
 -- a place in a piece after others is in a whole that reaches so far
-behind_inside : (why : Reason) (before : ℕ) (inside p : Place) (piece whole : List ℕ) → Stands why (before + inside.at) inside.len p → IsWithin piece inside → before + length piece ≤ length whole → IsWithin whole p
-behind_inside why before inside p piece whole s h long = omega (arith, s.start, s.size, h, long)
+after_inside : (why : Reason) (before : ℕ) (inside p : Place) (piece whole : List ℕ) → IsAt why (before + inside.at) inside.len p → IsWithin piece inside → before + length piece ≤ length whole → IsWithin whole p
+after_inside why before inside p piece whole s h long = omega (arith, s.start, s.size, h, long)
 
 -- ---- characters
 
@@ -54,9 +54,9 @@ undecodable_within text p h =
     omega (arith, h.stands.start, h.stands.size, start, size, length-drop (undecodable_at text) text)
 
 -- a character of a text
-character_inside : (wrong : ℕ → Bool) (text : List ℕ) (at len : ℕ) → IsUtf8 text → StandsCharacter wrong text at len → at + len ≤ length text
+character_inside : (wrong : ℕ → Bool) (text : List ℕ) (at len : ℕ) → IsUtf8 text → IsCharacterAt wrong text at len → at + len ≤ length text
 character_inside wrong text at len utf8 h =
-    character_within text h.before (encode_utf8_all h.behind) h.character at len (sym (encodes-chars text utf8) ∙ ap encode_utf8_all h.joined ∙ encodes-append h.before (h.character ∷ h.behind)) h.offset h.size
+    character_within text h.before (encode_utf8_all h.suffix) h.character at len (sym (encodes-chars text utf8) ∙ ap encode_utf8_all h.joined ∙ encodes-append h.before (h.character ∷ h.suffix)) h.offset h.size
 
 -- the first backslash
 backslash_within : (why : Reason) (text : List ℕ) (p : Place) → HasBackslash why text p → IsWithin text p
@@ -64,7 +64,7 @@ backslash_within why text p h = omega (arith, h.stands.size, stands_within _ tex
 
 -- a broken escape
 broken_within : (text : List ℕ) (p : Place) → HasBrokenEscape text p → IsWithin text p
-broken_within text p h = omega (arith, h.stands.size, h.first.offset, ap length h.first.joined, length-append h.first.before (37 ∷ h.first.behind))
+broken_within text p h = omega (arith, h.stands.size, h.first.offset, ap length h.first.joined, length-append h.first.before (37 ∷ h.first.suffix))
 
 -- ---- hosts and ports
 
@@ -110,24 +110,24 @@ colons_within other_hosts piece p h = undecodable_within piece p h
 
 -- a host and a port
 bad_host_within : (syntax : HostSyntax) (piece : List ℕ) (p : Place) → IsUtf8 piece → BadHost syntax piece p → IsWithin piece p
-bad_host_within syntax piece p utf8 (BadHost.unclosed behind _ e s) = omega (arith, s.start, s.size, ap length e)
-bad_host_within syntax piece p utf8 (BadHost.behind_bracket x wrong rest _ _ _ _ e s) =
+bad_host_within syntax piece p utf8 (BadHost.unclosed suffix _ e s) = omega (arith, s.start, s.size, ap length e)
+bad_host_within syntax piece p utf8 (BadHost.after_bracket x wrong rest _ _ _ _ e s) =
     omega (arith, s.start, s.size, ap length e, length-append x (right_bracket ∷ (wrong ++ rest)), length-append wrong rest)
 bad_host_within syntax piece p utf8 (BadHost.between x rest around b) =
-    behind_inside _ 1 b.inside p x piece b.stands (no_other_within syntax x b.inside b.found.no_other)
+    after_inside _ 1 b.inside p x piece b.stands (no_other_within syntax x b.inside b.found.no_other)
     (omega (arith, ap length around.joined, length-append x (right_bracket ∷ rest)))
-bad_host_within syntax piece p utf8 (BadHost.port_behind x digits _ _ e b) =
-    behind_inside _ (length x + 3) b.inside p digits piece b.stands (port_within syntax digits b.inside b.found)
+bad_host_within syntax piece p utf8 (BadHost.port_after x digits _ _ e b) =
+    after_inside _ (length x + 3) b.inside p digits piece b.stands (port_within syntax digits b.inside b.found)
     (omega (arith, ap length e, length-append x (right_bracket ∷ (colon ∷ digits))))
 bad_host_within syntax piece p utf8 (BadHost.colons _ _ _ h) = colons_within syntax piece p h
 bad_host_within syntax piece p utf8 (BadHost.plain _ h) = no_host_within syntax piece p utf8 h
 bad_host_within syntax piece p utf8 (BadHost.with_port text digits _ _ e (Then.at_first b)) =
-    behind_inside _ (length text + 1) b.inside p digits piece b.stands (no_digits_within digits b.inside b.found) (omega (arith, ap length e, length-append text (colon ∷ digits)))
+    after_inside _ (length text + 1) b.inside p digits piece b.stands (no_digits_within digits b.inside b.found) (omega (arith, ap length e, length-append text (colon ∷ digits)))
 bad_host_within syntax piece p utf8 (BadHost.with_port text digits _ _ e (Then.at_second _ (Then.at_first h))) =
     let front = no_host_within syntax text p (utf8_parts text digits colon (subst IsUtf8 e utf8) (omega arith)).0 h in
     omega (arith, front, ap length e, length-append text (colon ∷ digits))
 bad_host_within syntax piece p utf8 (BadHost.with_port text digits _ _ e (Then.at_second _ (Then.at_second _ b))) =
-    behind_inside _ (length text + 1) b.inside p digits piece b.stands (outside_within syntax digits b.inside b.found) (omega (arith, ap length e, length-append text (colon ∷ digits)))
+    after_inside _ (length text + 1) b.inside p digits piece b.stands (outside_within syntax digits b.inside b.found) (omega (arith, ap length e, length-append text (colon ∷ digits)))
 
 -- ---- authorities
 
@@ -135,7 +135,7 @@ bad_host_within syntax piece p utf8 (BadHost.with_port text digits _ _ e (Then.a
 bad_user_within : (information : List ℕ) (p : Place) → BadUser information p → IsWithin information p
 bad_user_within information p (BadUser.alone _ h) = undecodable_within information p h
 bad_user_within information p (BadUser.with_password u w _ e (Then.at_first b)) =
-    behind_inside _ (length u + 1) b.inside p w information b.stands (undecodable_within w b.inside b.found) (omega (arith, ap length e, length-append u (colon ∷ w)))
+    after_inside _ (length u + 1) b.inside p w information b.stands (undecodable_within w b.inside b.found) (omega (arith, ap length e, length-append u (colon ∷ w)))
 bad_user_within information p (BadUser.with_password u w _ e (Then.at_second _ h)) = omega (arith, undecodable_within u p h, ap length e, length-append u (colon ∷ w))
 
 -- an authority without a backslash
@@ -145,7 +145,7 @@ bad_parts_within syntax needed authority p utf8 (BadParts.alone _ (Then.at_secon
 bad_parts_within syntax needed authority p utf8 (BadParts.with_user information piece _ e (Then.at_first h)) =
     omega (arith, bad_user_within information p h, ap length e, length-append information (at_sign ∷ piece))
 bad_parts_within syntax needed authority p utf8 (BadParts.with_user information piece _ e (Then.at_second _ (Then.at_first b))) =
-    behind_inside _ (length information + 1) b.inside p piece authority b.stands (bad_host_within syntax piece b.inside (utf8_parts information piece at_sign (subst IsUtf8 e utf8) (omega arith)).1 b.found)
+    after_inside _ (length information + 1) b.inside p piece authority b.stands (bad_host_within syntax piece b.inside (utf8_parts information piece at_sign (subst IsUtf8 e utf8) (omega arith)).1 b.found)
     (omega (arith, ap length e, length-append information (at_sign ∷ piece)))
 bad_parts_within syntax needed authority p utf8 (BadParts.with_user information piece _ e (Then.at_second _ (Then.at_second _ h))) = omega (arith, h.stands.start, h.stands.size)
 
@@ -175,12 +175,12 @@ bad_rest_within b scheme rest p e utf8 h = found h.found
     whole : length b ≡ length scheme + 3 + length h.authority + length h.path
     whole = omega (arith, ap length e, length-append scheme (codes "://" ++ rest), length-append (codes "://") rest, ap length h.joined, length-append h.authority h.path)
 
-    found : FoundBehind b scheme h.authority h.path p → IsWithin b p
+    found : FoundAfter b scheme h.authority h.path p → IsWithin b p
     found (Then.at_first k) =
-        behind_inside _ (length scheme + 3 + length h.authority) k.inside p h.path b k.stands (undecodable_within h.path k.inside k.found) (omega (arith, whole))
+        after_inside _ (length scheme + 3 + length h.authority) k.inside p h.path b k.stands (undecodable_within h.path k.inside k.found) (omega (arith, whole))
     found (Then.at_second _ (Then.at_first k)) =
         let text = authority_utf8 (is_web_scheme scheme) h.authority h.path h.path_starts (subst IsUtf8 h.joined utf8) in
-        behind_inside _ (length scheme + 3) k.inside p h.authority b k.stands (bad_authority_within (host_syntax_of scheme) (requires_host scheme) h.authority k.inside text k.found) (omega (arith, whole))
+        after_inside _ (length scheme + 3) k.inside p h.authority b k.stands (bad_authority_within (host_syntax_of scheme) (requires_host scheme) h.authority k.inside text k.found) (omega (arith, whole))
     found (Then.at_second _ (Then.at_second _ k)) = omega (arith, k.stands.start, k.stands.size)
 
 -- a URL that isn't a file URL
@@ -203,8 +203,8 @@ bad_file_within b rest p (Then.at_second _ h) = omega (arith, h.stands.start, h.
 
 -- the brackets of a host, or the text in the place of a port
 bad_scp_name_within : (host : List ℕ) (p : Place) → BadScpName host p → IsWithin host p
-bad_scp_name_within host p (BadScpName.unclosed behind _ e s) = omega (arith, s.start, s.size, ap length e)
-bad_scp_name_within host p (BadScpName.behind_bracket x rest _ _ e s) = omega (arith, s.start, s.size, ap length e, length-append x (right_bracket ∷ rest))
+bad_scp_name_within host p (BadScpName.unclosed suffix _ e s) = omega (arith, s.start, s.size, ap length e)
+bad_scp_name_within host p (BadScpName.after_bracket x rest _ _ e s) = omega (arith, s.start, s.size, ap length e, length-append x (right_bracket ∷ rest))
 bad_scp_name_within host p (BadScpName.port_place text digits _ _ e s) = omega (arith, s.start, s.size, ap length e, length-append text (colon ∷ digits))
 
 -- a host
@@ -219,7 +219,7 @@ bad_front_within : (b front path : List ℕ) (p : Place) → ScpForm b front pat
 bad_front_within b front path p form text (BadFront.alone _ h) =
     bad_scp_host_within front p (scp_host_utf8 b front path None front form text (ScpUser.host_alone refl refl)) h
 bad_front_within b front path p form text (BadFront.with_user user host _ e k) =
-    behind_inside _ (length user + 1) k.inside p host front k.stands (bad_scp_host_within host k.inside (scp_host_utf8 b front path (Some user) host form text (ScpUser.with_user user e refl)) k.found)
+    after_inside _ (length user + 1) k.inside p host front k.stands (bad_scp_host_within host k.inside (scp_host_utf8 b front path (Some user) host form text (ScpUser.with_user user e refl)) k.found)
     (omega (arith, ap length e, length-append user (at_sign ∷ host)))
 
 -- the scp form

@@ -5,12 +5,12 @@ use Rattle.git_syntax.specs.Hosts.{HostSyntax, HostText, Inner, Number}
 use Rattle.std.specs.Prelude.{true}
 
 -- a text outside brackets denotes a host
-abbrev pub StandsForHost : HostSyntax → List ℕ → Type 0
-StandsForHost syntax text = (host : List ℕ) × HostText syntax text host
+abbrev pub DenotesHost : HostSyntax → List ℕ → Type 0
+DenotesHost syntax text = (host : List ℕ) × HostText syntax text host
 
 -- a text in brackets denotes another
-abbrev pub StandsForInner : HostSyntax → List ℕ → Type 0
-StandsForInner syntax text = (inner : List ℕ) × Inner syntax text inner
+abbrev pub DenotesInner : HostSyntax → List ℕ → Type 0
+DenotesInner syntax text = (inner : List ℕ) × Inner syntax text inner
 
 -- the text after the colon of a port: empty, or a port
 abbrev pub IsPortText : HostSyntax → List ℕ → Type 0

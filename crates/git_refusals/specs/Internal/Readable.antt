@@ -51,8 +51,8 @@ abbrev pub IsAddressedScp : List ℕ → Type 0
 IsAddressedScp b = (v : Location) × SpellsScpAddressed b v
 
 -- a host of the scp form denotes one
-abbrev pub StandsForScpHost : List ℕ → Type 0
-StandsForScpHost host = (denoted : List ℕ) × ScpHost host denoted
+abbrev pub DenotesScpHost : List ℕ → Type 0
+DenotesScpHost host = (denoted : List ℕ) × ScpHost host denoted
 
 -- a host of the scp form that isn't empty spells one
 abbrev pub NamesScpHost : List ℕ → Type 0
@@ -63,7 +63,7 @@ pub record IsScpFront (front : List ℕ) : Type 0 where
   pub user : Option (List ℕ)
   pub host : List ℕ
   pub split : ScpUser front user host
-  pub hosted : StandsForScpHost host
+  pub hosted : DenotesScpHost host
 
 -- the text is a scheme
 abbrev pub IsScheme : List ℕ → Type 0

@@ -106,18 +106,18 @@ fn port_digits(piece: &[u8]) -> Option<&[u8]>
     ensures { MatchOption result (IsHostAlone piece.now) (λ digits. HasPort piece.now digits.now) }
 {
     match after(piece, b'[') {
-        Some(behind) => digits_behind_brackets(behind),
-        None => digits_behind_host(piece),
+        Some(suffix) => digits_after_brackets(suffix),
+        None => digits_after_host(piece),
     }
 }
 
 /// The digits of the port in a piece that begins with a bracket, from the text after it.
-fn digits_behind_brackets(behind: &[u8]) -> Option<&[u8]>
-    requires { IsHostPiece (left_bracket ∷ behind.now) }
-    ensures { MatchOption result (IsHostAlone (left_bracket ∷ behind.now))
-        (λ digits. HasPort (left_bracket ∷ behind.now) digits.now) }
+fn digits_after_brackets(suffix: &[u8]) -> Option<&[u8]>
+    requires { IsHostPiece (left_bracket ∷ suffix.now) }
+    ensures { MatchOption result (IsHostAlone (left_bracket ∷ suffix.now))
+        (λ digits. HasPort (left_bracket ∷ suffix.now) digits.now) }
 {
-    let (_, rest) = cut(behind, b']')?;
+    let (_, rest) = cut(suffix, b']')?;
     let digits = after(rest, b':')?;
     if digits.is_empty() {
         return None;
@@ -126,7 +126,7 @@ fn digits_behind_brackets(behind: &[u8]) -> Option<&[u8]>
 }
 
 /// The digits of the port in a piece that doesn't begin with a bracket: only a single colon begins a port.
-fn digits_behind_host(piece: &[u8]) -> Option<&[u8]>
+fn digits_after_host(piece: &[u8]) -> Option<&[u8]>
     requires { begins_with left_bracket piece.now ≡ false }
     ensures { MatchOption result (IsHostAlone piece.now) (λ digits. HasPort piece.now digits.now) }
 {

@@ -16,25 +16,25 @@ module _ (P : ConfigEntry → Type 0) where
   lacked (b ∷ before) after e none = lacked before after e (All-tail Lacks b (before ++ e ∷ after) none)
 
   -- two that are the last in one list are one
-  ends_alike : (before after front behind : List ConfigEntry) (e f : ConfigEntry) → before ++ e ∷ after ≡ front ++ f ∷ behind → P e → P f → All Lacks after → All Lacks behind → e ≡ f
-  ends_alike [] after [] behind e f same has holds none no_other = cc
-  ends_alike [] after (g ∷ front) behind e f same has holds none no_other =
-      let tail : after ≡ front ++ f ∷ behind = cc in
-      absurd (lacked front behind f (subst (λ l. All Lacks l) tail none) holds)
-  ends_alike (b ∷ before) after [] behind e f same has holds none no_other =
-      let tail : behind ≡ before ++ e ∷ after = cc in
+  ends_alike : (before after front suffix : List ConfigEntry) (e f : ConfigEntry) → before ++ e ∷ after ≡ front ++ f ∷ suffix → P e → P f → All Lacks after → All Lacks suffix → e ≡ f
+  ends_alike [] after [] suffix e f same has holds none no_other = cc
+  ends_alike [] after (g ∷ front) suffix e f same has holds none no_other =
+      let tail : after ≡ front ++ f ∷ suffix = cc in
+      absurd (lacked front suffix f (subst (λ l. All Lacks l) tail none) holds)
+  ends_alike (b ∷ before) after [] suffix e f same has holds none no_other =
+      let tail : suffix ≡ before ++ e ∷ after = cc in
       absurd (lacked before after e (subst (λ l. All Lacks l) tail no_other) has)
-  ends_alike (b ∷ before) after (g ∷ front) behind e f same has holds none no_other =
-      let tail : before ++ e ∷ after ≡ front ++ f ∷ behind = cc in
-      ends_alike before after front behind e f tail has holds none no_other
+  ends_alike (b ∷ before) after (g ∷ front) suffix e f same has holds none no_other =
+      let tail : before ++ e ∷ after ≡ front ++ f ∷ suffix = cc in
+      ends_alike before after front suffix e f tail has holds none no_other
 
   -- a list has one last entry with the property, or none
   pub one_last : (entries : List ConfigEntry) (o q : Option ConfigEntry) → IsLastOf P entries o → IsLastOf P entries q → o ≡ q
   one_last entries None None none no_other = refl
-  one_last entries None (Some f) none (front, behind, same, holds, no_other) = absurd (lacked front behind f (subst (λ l. All Lacks l) same none) holds)
+  one_last entries None (Some f) none (front, suffix, same, holds, no_other) = absurd (lacked front suffix f (subst (λ l. All Lacks l) same none) holds)
   one_last entries (Some e) None (before, after, is, has, none) no_other = absurd (lacked before after e (subst (λ l. All Lacks l) is no_other) has)
-  one_last entries (Some e) (Some f) (before, after, is, has, none) (front, behind, same, holds, no_other) =
-      ap Some (ends_alike before after front behind e f (sym is ∙ same) has holds none no_other)
+  one_last entries (Some e) (Some f) (before, after, is, has, none) (front, suffix, same, holds, no_other) =
+      ap Some (ends_alike before after front suffix e f (sym is ∙ same) has holds none no_other)
 
 -- one entry counts for a transport, or none
 pub one_counts : (entries : List ConfigEntry) (name : List ℕ) (o q : Option ConfigEntry) → Counts entries name o → Counts entries name q → o ≡ q

@@ -213,10 +213,10 @@ own_located known v t e h = subst (λ s. HasTransport t (scheme_text s)) e (tran
 web_located : (known : Scheme) (v : Location) (t : List ℕ) → v.scheme ≡ known → IsOwnName known (scheme_text known) → ((rest : List ℕ) → is_option_like (scheme_text known ++ (url_mark ++ rest)) ≡ false) → ReadsOwnOverWeb t v → HasTransport t (scheme_text known)
 web_located known v t e own plain h =
     let asked = h.credential in
-    let joined : t ≡ scheme_text known ++ (url_mark ++ (asked.authority ++ asked.behind)) = asked.joined ∙ ap (λ s. scheme_text s ++ (url_mark ++ (asked.authority ++ asked.behind))) e in
+    let joined : t ≡ scheme_text known ++ (url_mark ++ (asked.authority ++ asked.suffix)) = asked.joined ∙ ap (λ s. scheme_text s ++ (url_mark ++ (asked.authority ++ asked.suffix))) e in
     record {
-      input = record { whole = asked.whole; no_option = ap is_option_like joined ∙ plain (asked.authority ++ asked.behind) };
-      uses = UsesTransport.url (scheme_text known) (asked.authority ++ asked.behind) joined own.named own.other own.name;
+      input = record { whole = asked.whole; no_option = ap is_option_like joined ∙ plain (asked.authority ++ asked.suffix) };
+      uses = UsesTransport.url (scheme_text known) (asked.authority ++ asked.suffix) joined own.named own.other own.name;
     }
 
 -- a scheme that Git's class doesn't have

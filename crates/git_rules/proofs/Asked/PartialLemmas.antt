@@ -18,8 +18,8 @@ protocol_same t p q x y (inr (plain, joined)) (inr (plain', joined')) = mark_cut
 rest_whole : (t p x : List ℕ) → FreeOf 0 t → CutsProtocol t p x → FreeOf 0 x
 rest_whole t p x whole (inl (none, empty, is)) = subst (λ z. FreeOf 0 z) (sym is) whole
 rest_whole t p x whole (inr (plain, joined)) =
-    let behind = (free_parts 0 p (codes "://" ++ x) (subst (λ z. FreeOf 0 z) joined whole)).1 in
-    (free_parts 0 (codes "://") x behind).1
+    let suffix = (free_parts 0 p (codes "://" ++ x) (subst (λ z. FreeOf 0 z) joined whole)).1 in
+    (free_parts 0 (codes "://") x suffix).1
 
 -- a protocol, of no meaning here, before a rest makes it a text
 abbrev before_rest : List ℕ → List ℕ
@@ -30,8 +30,8 @@ abbrev Named : CredentialReading → CredentialReading
 Named r = record r { protocol = codes "x" }
 
 -- how that text is cut
-named_cut : (rest authority behind : List ℕ) → FreeOf 0 rest → rest ≡ authority ++ behind → Lacks (is_path_start true) authority → StartsPath true behind → CutsText (before_rest rest) (codes "x") authority behind
-named_cut rest authority behind whole is before start = record {
+named_cut : (rest authority suffix : List ℕ) → FreeOf 0 rest → rest ≡ authority ++ suffix → Lacks (is_path_start true) authority → StartsPath true suffix → CutsText (before_rest rest) (codes "x") authority suffix
+named_cut rest authority suffix whole is before start = record {
   whole = free-append 0 (codes "x://") rest refl whole;
   some = omega arith;
   no_mark = held_free (codes "x") refl;
@@ -41,16 +41,16 @@ named_cut rest authority behind whole is before start = record {
 }
 
 -- the reading in pieces doesn't depend on the protocol
-named_pieces : (authority behind : List ℕ) (r : CredentialReading) → ReadsPieces authority behind r → ReadsPieces authority behind (Named r)
-named_pieces authority behind r h = record { named = h.named; cut = h.cut; host = h.host; path = h.path }
+named_pieces : (authority suffix : List ℕ) (r : CredentialReading) → ReadsPieces authority suffix r → ReadsPieces authority suffix (Named r)
+named_pieces authority suffix r h = record { named = h.named; cut = h.cut; host = h.host; path = h.path }
 
 -- a text that may lack parts is read in one way
 pub partly_unique : (t : List ℕ) (r other : CredentialReading) → ReadsPartly t r → ReadsPartly t other → r ≡ other
 partly_unique t r other h k =
-    let rest = h.authority ++ h.behind in
-    let cuts = protocol_same t r.protocol other.protocol rest (k.authority ++ k.behind) h.cut.protocol_cut k.cut.protocol_cut in
+    let rest = h.authority ++ h.suffix in
+    let cuts = protocol_same t r.protocol other.protocol rest (k.authority ++ k.suffix) h.cut.protocol_cut k.cut.protocol_cut in
     let whole = rest_whole t r.protocol rest h.whole h.cut.protocol_cut in
-    let same : Named r ≡ Named other = one_of_pieces (before_rest rest) h.authority h.behind k.authority k.behind (Named r) (Named other) (named_cut rest h.authority h.behind whole refl h.cut.before_path h.cut.path_start) (named_pieces h.authority h.behind r h.pieces) (named_cut rest k.authority k.behind whole cuts.1 k.cut.before_path k.cut.path_start) (named_pieces k.authority k.behind other k.pieces) in
+    let same : Named r ≡ Named other = one_of_pieces (before_rest rest) h.authority h.suffix k.authority k.suffix (Named r) (Named other) (named_cut rest h.authority h.suffix whole refl h.cut.before_path h.cut.path_start) (named_pieces h.authority h.suffix r h.pieces) (named_cut rest k.authority k.suffix whole cuts.1 k.cut.before_path k.cut.path_start) (named_pieces k.authority k.suffix other k.pieces) in
     λ i. record {
       protocol = cuts.0 i;
       user = ap (λ (z : CredentialReading). z.user) same i;
@@ -66,12 +66,12 @@ fits_read t wanted own user reads (other, also, lines, parts) =
     (subst LackNewlines same lines, subst (λ z. HasParts z own user) same parts)
 
 -- the reading in the pieces of a text
-pub reads_partly : (t protocol authority behind : List ℕ) (wanted : CredentialReading) → FreeOf 0 t → CutsPartly t protocol authority behind → wanted.protocol ≡ protocol → ReadsPieces authority behind wanted → ReadsPartly t wanted
-reads_partly t protocol authority behind wanted whole cut same pieces = record {
+pub reads_partly : (t protocol authority suffix : List ℕ) (wanted : CredentialReading) → FreeOf 0 t → CutsPartly t protocol authority suffix → wanted.protocol ≡ protocol → ReadsPieces authority suffix wanted → ReadsPartly t wanted
+reads_partly t protocol authority suffix wanted whole cut same pieces = record {
   authority = authority;
-  behind = behind;
+  suffix = suffix;
   whole = whole;
-  cut = subst (λ p. CutsPartly t p authority behind) (sym same) cut;
+  cut = subst (λ p. CutsPartly t p authority suffix) (sym same) cut;
   pieces = pieces;
 }
 

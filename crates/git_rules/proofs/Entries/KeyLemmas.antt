@@ -31,8 +31,8 @@ no_section key a b s sub n free e empty (k, f) =
 -- a key that ends in a dot is none
 pub no_name : (key a b s : List ℕ) (found sub : Option (List ℕ)) (m n : List ℕ) → FreeOf dot a → key ≡ a ++ dot ∷ b → FreeOf dot m → b ≡ name_text found m → m ≡ [] → ¬ SpellsKey key s sub n
 no_name key a b s found sub m n free e last is empty (k, f) =
-    let behind = (section_is key a b s sub n free e (k, f)).1 in
-    k.3 (sym (name_unique found sub m n last k.2 (sym is ∙ behind)).1 ∙ empty)
+    let suffix = (section_is key a b s sub n free e (k, f)).1 in
+    k.3 (sym (name_unique found sub m n last k.2 (sym is ∙ suffix)).1 ∙ empty)
 
 -- the text after a key is nothing, or begins with a line feed
 pub value_begins : (v : Option (List ℕ)) → (value_text v ≡ []) ⊎ (begins_by (λ d. d == newline) (value_text v) ≡ true)

@@ -9,7 +9,7 @@ use Rattle.git_rules.specs.Config.{ConfigEntry, sets}
 use Rattle.git_rules.specs.Normal.{NormalPlace, IsNormalOf}
 use Rattle.git_rules.specs.NormalFlaws.{NormalizesIn}
 use Rattle.git_rules.specs.Patterns.{HasRank, RanksFor}
-use Rattle.git_rules.specs.PatternEntries.{BufferSuffices, LacksRoomFirst, RanksIn, RanksSubsection, RanksUrlIn}
+use Rattle.git_rules.specs.PatternEntries.{BufferSuffices, LacksBufferFirst, RanksIn, RanksSubsection, RanksUrlIn}
 use Rattle.git_rules.proofs.NormalForms.NormalUnique.{normal_unique}
 use Rattle.git_rules.proofs.Rules.RankLemmas.{cut_here}
 
@@ -90,7 +90,7 @@ pub all_of : {T : Type 0} (P : T → Type 0) (items : List T) (n : ℕ) → leng
 all_of P items n whole h = subst (All P) (take_all n items whole) h
 
 -- the entry after a front for which the buffer sufficed
-pub first_short : (section name : List ℕ) (place : Option NormalPlace) (buffer_len : ℕ) (entries : List ConfigEntry) (i : ℕ) (e : ConfigEntry) → i < length entries → e ≡ get_or entries i e → All (BufferSuffices section name place buffer_len) (take i entries) → ¬ BufferSuffices section name place buffer_len e → LacksRoomFirst section name place buffer_len entries
+pub first_short : (section name : List ℕ) (place : Option NormalPlace) (buffer_len : ℕ) (entries : List ConfigEntry) (i : ℕ) (e : ConfigEntry) → i < length entries → e ≡ get_or entries i e → All (BufferSuffices section name place buffer_len) (take i entries) → ¬ BufferSuffices section name place buffer_len e → LacksBufferFirst section name place buffer_len entries
 first_short section name place buffer_len entries i e within is enough short = record {
   before = take i entries;
   entry = e;

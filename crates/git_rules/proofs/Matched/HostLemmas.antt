@@ -83,15 +83,15 @@ abbrev AreAlike : List ℕ → List ℕ → Type 0
 AreAlike own host = (own ≡ host) ⊎ ((own ≡ host ++ dot ∷ []) ⊎ (host ≡ own ++ dot ∷ []))
 
 -- one byte more before both
-own_behind : (b c : ℕ) (bs cs : List ℕ) → b ≡ c → AreAlike bs cs → AreAlike (b ∷ bs) (c ∷ cs)
-own_behind b c bs cs same (inl h) = inl (cc)
-own_behind b c bs cs same (inr (inl h)) = inr (inl (cc))
-own_behind b c bs cs same (inr (inr h)) = inr (inr (cc))
+own_after : (b c : ℕ) (bs cs : List ℕ) → b ≡ c → AreAlike bs cs → AreAlike (b ∷ bs) (c ∷ cs)
+own_after b c bs cs same (inl h) = inl (cc)
+own_after b c bs cs same (inr (inl h)) = inr (inl (cc))
+own_after b c bs cs same (inr (inr h)) = inr (inr (cc))
 
 -- the bytes of first labels
 first_bytes : (b c : ℕ) (bs cs : List ℕ) (l m : List (List ℕ)) → labels_of bs ≡ l → labels_of cs ≡ m → in_first_label b l ≡ in_first_label c m → (l ≡ m → AreAlike bs cs) → AreAlike (b ∷ bs) (c ∷ cs)
 first_bytes b c bs cs [] [] own other e rest =
-    let first : b ≡ c = cc in own_behind b c bs cs first (rest refl)
+    let first : b ≡ c = cc in own_after b c bs cs first (rest refl)
 first_bytes b c bs cs [] (m ∷ ms) own other e rest =
     let first : b ≡ c = cc in
     let empty : m ∷ ms ≡ [] ∷ [] = cc in
@@ -107,7 +107,7 @@ first_bytes b c bs cs (l ∷ ls) [] own other e rest =
 first_bytes b c bs cs (l ∷ ls) (m ∷ ms) own other e rest =
     let first : b ≡ c = cc in
     let same : l ∷ ls ≡ m ∷ ms = cc in
-    own_behind b c bs cs first (rest same)
+    own_after b c bs cs first (rest same)
 
 -- hosts with the same labels
 own_by_labels : (own host : List ℕ) → labels_of own ≡ labels_of host → AreAlike own host
@@ -120,7 +120,7 @@ own_by_labels (b ∷ bs) (c ∷ cs) e =
         | inl two ↦ let heads : b ≡ c = eqb-true b dot one ∙ sym (eqb-true c dot two) in
             let whole : [] ∷ labels_of bs ≡ [] ∷ labels_of cs = sym (labels_dot b bs one) ∙ e ∙ labels_dot c cs two in
             let rest : labels_of bs ≡ labels_of cs = cc in
-            own_behind b c bs cs heads (own_by_labels bs cs rest)
+            own_after b c bs cs heads (own_by_labels bs cs rest)
         | inr two ↦ absurd (not_empty_first c (labels_of cs) (labels_of bs) (sym (labels_byte c cs two) ∙ sym e ∙ labels_dot b bs one))
       ]
       | inr one ↦ elim (cases_Bool (c == dot)) [

@@ -45,8 +45,8 @@ nothing_left [] h = refl
 nothing_left (b ∷ bs) h = absurd (labels_some b bs (none_match (labels_of (b ∷ bs)) h))
 
 -- the rest of a host after a `.` is shorter
-pub shorter_behind : (host label rest : List ℕ) → host ≡ label ++ dot ∷ rest → length rest < length host
-shorter_behind host label rest whole = omega (arith, ap length whole, length-append label (dot ∷ rest))
+pub shorter_after : (host label rest : List ℕ) → host ≡ label ++ dot ∷ rest → length rest < length host
+shorter_after host label rest whole = omega (arith, ap length whole, length-append label (dot ∷ rest))
 
 -- a host without a `.`, if it is its only label
 pub only : (host : List ℕ) (r : Option (Bor (List ℕ) × Bor (List ℕ))) → FreeOf dot host

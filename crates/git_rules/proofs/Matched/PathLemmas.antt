@@ -34,7 +34,7 @@ pub below_rest : (front path rest : List ℕ) → path ≡ front ++ rest → IsB
 below_rest front path rest joined = (
   λ below. elim below [
     | inl same ↦ inl (append_cancel_left front rest [] (sym joined ∙ same ∙ sym (append-nil front)))
-    | inr (behind, cut) ↦ inr (ap (begins_with slash) (append_cancel_left front rest (slash ∷ behind) (sym joined ∙ cut)))
+    | inr (suffix, cut) ↦ inr (ap (begins_with slash) (append_cancel_left front rest (slash ∷ suffix) (sym joined ∙ cut)))
   ],
   λ ends. elim ends [
     | inl none ↦ inl (joined ∙ ap (λ z. front ++ z) none ∙ append-nil front)

@@ -47,23 +47,23 @@ port_off text host name ds digits whole all (CutsPort.at_colon joined free close
     last_cut_unique colon name host digits ds free (free_of_all is_ascii_digit colon ds all refl) (sym joined ∙ whole)
 
 -- a host is in brackets, or free of colons
-host_form : (named host behind : List ℕ) → UriHost named host behind → ((inside : List ℕ) × (host ≡ left_bracket ∷ (inside ++ right_bracket ∷ []))) ⊎ FreeOf colon host
-host_form named host behind (UriHost.bracketed inside address is joined) = inl (inside, is)
-host_form named host behind (UriHost.unbracketed free begins joined) = inr free
+host_form : (named host suffix : List ℕ) → UriHost named host suffix → ((inside : List ℕ) × (host ≡ left_bracket ∷ (inside ++ right_bracket ∷ []))) ⊎ FreeOf colon host
+host_form named host suffix (UriHost.bracketed inside address is joined) = inl (inside, is)
+host_form named host suffix (UriHost.unbracketed free begins joined) = inr free
 
 -- a host and the text after it are the whole
-host_joined : (named host behind : List ℕ) → UriHost named host behind → named ≡ host ++ behind
-host_joined named host behind (UriHost.bracketed inside address is joined) = joined
-host_joined named host behind (UriHost.unbracketed free begins joined) = joined
+host_joined : (named host suffix : List ℕ) → UriHost named host suffix → named ≡ host ++ suffix
+host_joined named host suffix (UriHost.bracketed inside address is joined) = joined
+host_joined named host suffix (UriHost.unbracketed free begins joined) = joined
 
 -- both cut the same port off the same host
-cut_same : (named host behind name digits : List ℕ) (port : Option (List ℕ)) → UriHost named host behind → UriPort behind port → CutsPort named name digits → (name ≡ host) × (digits ≡ unwrap_or port [])
-cut_same named host behind name digits port h (UriPort.absent none no_digits) cut =
-    let whole : named ≡ host = host_joined named host behind h ∙ ap (λ z. host ++ z) none ∙ append-nil host in
-    let alone = no_port host name digits (host_form named host behind h) (subst (λ n. CutsPort n name digits) whole cut) in
+cut_same : (named host suffix name digits : List ℕ) (port : Option (List ℕ)) → UriHost named host suffix → UriPort suffix port → CutsPort named name digits → (name ≡ host) × (digits ≡ unwrap_or port [])
+cut_same named host suffix name digits port h (UriPort.absent none no_digits) cut =
+    let whole : named ≡ host = host_joined named host suffix h ∙ ap (λ z. host ++ z) none ∙ append-nil host in
+    let alone = no_port host name digits (host_form named host suffix h) (subst (λ n. CutsPort n name digits) whole cut) in
     (alone.0, alone.1 ∙ sym (ap (λ p. unwrap_or p []) no_digits))
-cut_same named host behind name digits port h (UriPort.there ds is all some_digits) cut =
-    let whole : named ≡ host ++ colon ∷ ds = host_joined named host behind h ∙ ap (λ z. host ++ z) is in
+cut_same named host suffix name digits port h (UriPort.there ds is all some_digits) cut =
+    let whole : named ≡ host ++ colon ∷ ds = host_joined named host suffix h ∙ ap (λ z. host ++ z) is in
     let both = port_off named host name ds digits whole all cut in
     (both.0, both.1 ∙ sym (ap (λ p. unwrap_or p []) some_digits))
 
@@ -73,9 +73,9 @@ host_named scheme text name digits host other (HostFor.named there same) = same
 host_named scheme text name digits host other (HostFor.missing lacking is none empty) = absurd (other is)
 
 -- host and port are the same
-host_same : (scheme named own behind host : List ℕ) (port : Option (List ℕ)) (number : Option ℕ) → UriHost named own behind → UriPort behind port → IsLowercase own → ¬ (scheme ≡ codes "file") → HostPort false scheme named host number → (host ≡ own) × PortFor scheme (unwrap_or port []) number
-host_same scheme named own behind host port number h p lower other n =
-    let cut = cut_same named own behind n.name n.digits port h p n.cut in (
+host_same : (scheme named own suffix host : List ℕ) (port : Option (List ℕ)) (number : Option ℕ) → UriHost named own suffix → UriPort suffix port → IsLowercase own → ¬ (scheme ≡ codes "file") → HostPort false scheme named host number → (host ≡ own) × PortFor scheme (unwrap_or port []) number
+host_same scheme named own suffix host port number h p lower other n =
+    let cut = cut_same named own suffix n.name n.digits port h p n.cut in (
       host_named scheme named n.name n.digits host other n.host_form ∙ ap lowercase cut.0 ∙ lower,
       subst (λ d. PortFor scheme d number) cut.1 n.port_form,
     )
@@ -89,8 +89,8 @@ pub record SamePlace (r : UriReading) (n : NormalPlace) : Type 0 where
 -- so it is with each text
 pub place_same : (t : List ℕ) (r : UriReading) (n : NormalPlace) → UriReads t r → IsNormalUri r → ¬ (r.scheme ≡ codes "file") → IsNormalOf false t n → SamePlace r n
 place_same t r n reads normal other h =
-    let first = cut_unique colon r.scheme h.scheme (slash ∷ slash ∷ (reads.authority ++ reads.behind)) (slash ∷ slash ∷ (h.authority ++ h.behind)) (scheme_text_free r.scheme colon reads.bytes.scheme refl) (scheme_text_free h.scheme colon h.cut.scheme_text refl) (sym reads.joined ∙ h.cut.joined) in
-    let second = path_cut_unique true reads.authority h.authority reads.behind h.behind reads.before_path h.cut.before_path reads.path_start h.cut.path_starts (tails (tails first.1)) in
+    let first = cut_unique colon r.scheme h.scheme (slash ∷ slash ∷ (reads.authority ++ reads.suffix)) (slash ∷ slash ∷ (h.authority ++ h.suffix)) (scheme_text_free r.scheme colon reads.bytes.scheme refl) (scheme_text_free h.scheme colon h.cut.scheme_text refl) (sym reads.joined ∙ h.cut.joined) in
+    let second = path_cut_unique true reads.authority h.authority reads.suffix h.suffix reads.before_path h.cut.before_path reads.path_start h.cut.path_starts (tails (tails first.1)) in
     let lower : lowercase h.scheme ≡ r.scheme = ap lowercase (sym first.0) ∙ normal.scheme in
     let authority : NormalAuthority false r.scheme reads.authority n.user n.host n.port = subst (λ s. NormalAuthority false s reads.authority n.user n.host n.port) lower (subst (λ a. NormalAuthority false (lowercase h.scheme) a n.user n.host n.port) (sym second.0) h.authority_form) in
     let named = named_same r.scheme reads.authority reads.named n.host r.information n.user n.port reads.cut authority in

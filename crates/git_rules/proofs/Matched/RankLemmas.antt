@@ -67,13 +67,13 @@ step_none Ranks done t (Some (i, rank)) (best, same) none = (
   record {
     before = best.before;
     best = best.best;
-    behind = best.behind ++ t ∷ [];
+    suffix = best.suffix ++ t ∷ [];
     rank = best.rank;
-    joined = ap (λ z. z ++ t ∷ []) best.joined ∙ append_assoc best.before (best.best ∷ best.behind) (t ∷ []);
+    joined = ap (λ z. z ++ t ∷ []) best.joined ∙ append_assoc best.before (best.best ∷ best.suffix) (t ∷ []);
     index = best.index;
     ranks = best.ranks;
     not_higher = best.not_higher;
-    lower = All-push (RanksLower Ranks best.rank) best.behind t best.lower (λ k ranked. absurd (none k ranked));
+    lower = All-push (RanksLower Ranks best.rank) best.suffix t best.lower (λ k ranked. absurd (none k ranked));
   },
   same,
 )
@@ -84,13 +84,13 @@ step_lower Ranks done t i highest rank (best, same) one low = (
   record {
     before = best.before;
     best = best.best;
-    behind = best.behind ++ t ∷ [];
+    suffix = best.suffix ++ t ∷ [];
     rank = best.rank;
-    joined = ap (λ z. z ++ t ∷ []) best.joined ∙ append_assoc best.before (best.best ∷ best.behind) (t ∷ []);
+    joined = ap (λ z. z ++ t ∷ []) best.joined ∙ append_assoc best.before (best.best ∷ best.suffix) (t ∷ []);
     index = best.index;
     ranks = best.ranks;
     not_higher = best.not_higher;
-    lower = All-push (RanksLower Ranks best.rank) best.behind t best.lower (λ k ranked. subst (λ z. IsLower z best.rank) (sym (one k ranked)) (subst (λ z. IsLower rank z) (sym same) low));
+    lower = All-push (RanksLower Ranks best.rank) best.suffix t best.lower (λ k ranked. subst (λ z. IsLower z best.rank) (sym (one k ranked)) (subst (λ z. IsLower rank z) (sym same) low));
   },
   same,
 )
@@ -101,7 +101,7 @@ step_first Ranks done t next rank h place ranked = (
   record {
     before = done;
     best = t;
-    behind = [];
+    suffix = [];
     rank = rank;
     joined = refl;
     index = place;
@@ -127,8 +127,8 @@ none_higher Ranks done i best rank high =
     let P = RanksNoHigher Ranks rank in
     let own : P best.best = λ k ranked low. high (subst (λ z. IsLower rank z) (best.ranks.1 k ranked) low) in
     let front : All P best.before = All-weaker (RanksNoHigher Ranks best.rank) P (not_above Ranks best.rank rank high) best.before best.not_higher in
-    let back : All P best.behind = All-weaker (RanksLower Ranks best.rank) P (not_above_lower Ranks best.rank rank high) best.behind best.lower in
-    All-same P done (best.before ++ best.best ∷ best.behind) best.joined (All-append P best.before (best.best ∷ best.behind) front (All-cons P best.best best.behind own back))
+    let back : All P best.suffix = All-weaker (RanksLower Ranks best.rank) P (not_above_lower Ranks best.rank rank high) best.suffix best.lower in
+    All-same P done (best.before ++ best.best ∷ best.suffix) best.joined (All-append P best.before (best.best ∷ best.suffix) front (All-cons P best.best best.suffix own back))
 
 -- an item whose rank isn't lower is the best
 step_higher : {T : Type 0} (Ranks : T → Rank → Type 0) (done : List T) (t : T) (i next : ℕ) (highest rank : Rank) → IsBestSoFar Ranks done (Some (i, highest)) → length done ≡ next → HasRank Ranks t (Some rank) → ¬ IsLower rank highest → IsBestSoFar Ranks (done ++ t ∷ []) (Some (next, rank))
@@ -136,7 +136,7 @@ step_higher Ranks done t i next highest rank (best, same) place ranked high = (
   record {
     before = done;
     best = t;
-    behind = [];
+    suffix = [];
     rank = rank;
     joined = refl;
     index = place;

@@ -14,7 +14,7 @@ use Rattle.git_syntax.specs.Bytes.{slash, percent_sign, FreeOf, begins_by}
 use Rattle.git_syntax.specs.Escapes.{is_sound}
 use Rattle.git_syntax.proofs.Texts.EscapeLemmas.{sound_parts, sound_tail}
 use Rattle.git_syntax.proofs.Texts.CutLemmas.{free-append, free-cons, free_head_tail, last_cut_unique}
-use Rattle.git_rules.specs.Normal.{is_unsafe, is_reserved, normal_byte, normal_text, escaped_byte, stacked_path, without_top, put_segment, put_segments, normal_segments, is_rest_start, unrooted}
+use Rattle.git_rules.specs.Normal.{is_unsafe, is_reserved, normal_byte, normal_text, escaped_byte, stacked_path, without_top, write_segment, write_segments, normal_segments, is_rest_start, unrooted}
 use Rattle.git_rules.specs.NormalPieces.{ShowsStack, ShowsFront, CutsBefore}
 
 -- ---- no segment gets a `/`
@@ -71,24 +71,24 @@ pub segments_alone : (segment : List ℕ) → FreeOf slash segment → normal_se
 segments_alone segment free = ap (map normal_text) (slice_split_none (λ b. b == slash) segment (fails_each segment free))
 
 -- the outcome after a segment
-put_step : (segment : List ℕ) (rest stack : List (List ℕ)) (outcome : Option (List (List ℕ))) → put_segment stack segment ≡ outcome → put_segments (segment ∷ rest) stack ≡ option_and_then (λ left. put_segments rest left) outcome
-put_step segment rest stack outcome e = ap (option_and_then (λ left. put_segments rest left)) e
+write_step : (segment : List ℕ) (rest stack : List (List ℕ)) (outcome : Option (List (List ℕ))) → write_segment stack segment ≡ outcome → write_segments (segment ∷ rest) stack ≡ option_and_then (λ left. write_segments rest left) outcome
+write_step segment rest stack outcome e = ap (option_and_then (λ left. write_segments rest left)) e
 
 -- if a segment is put, the rest is put on the resulting stack
-pub put_first : (segment rest : List ℕ) (stack left : List (List ℕ)) → FreeOf slash segment → put_segment stack (normal_text segment) ≡ Some left → put_segments (normal_segments (segment ++ slash ∷ rest)) stack ≡ put_segments (normal_segments rest) left
-put_first segment rest stack left free e = ap (λ s. put_segments s stack) (segments_at segment rest free) ∙ put_step (normal_text segment) (normal_segments rest) stack (Some left) e
+pub write_first : (segment rest : List ℕ) (stack left : List (List ℕ)) → FreeOf slash segment → write_segment stack (normal_text segment) ≡ Some left → write_segments (normal_segments (segment ++ slash ∷ rest)) stack ≡ write_segments (normal_segments rest) left
+write_first segment rest stack left free e = ap (λ s. write_segments s stack) (segments_at segment rest free) ∙ write_step (normal_text segment) (normal_segments rest) stack (Some left) e
 
 -- if it can't be put, there is no outcome
-pub put_none : (segment rest : List ℕ) (stack : List (List ℕ)) → FreeOf slash segment → put_segment stack (normal_text segment) ≡ None → put_segments (normal_segments (segment ++ slash ∷ rest)) stack ≡ None
-put_none segment rest stack free e = ap (λ s. put_segments s stack) (segments_at segment rest free) ∙ put_step (normal_text segment) (normal_segments rest) stack None e
+pub write_none : (segment rest : List ℕ) (stack : List (List ℕ)) → FreeOf slash segment → write_segment stack (normal_text segment) ≡ None → write_segments (normal_segments (segment ++ slash ∷ rest)) stack ≡ None
+write_none segment rest stack free e = ap (λ s. write_segments s stack) (segments_at segment rest free) ∙ write_step (normal_text segment) (normal_segments rest) stack None e
 
 option_back : (o : Option (List (List ℕ))) → option_and_then (λ left. Some left) o ≡ o
 option_back None = refl
 option_back (Some x) = refl
 
 -- the last segment's outcome is that of all
-pub put_last : (segment : List ℕ) (stack : List (List ℕ)) → FreeOf slash segment → put_segments (normal_segments segment) stack ≡ put_segment stack (normal_text segment)
-put_last segment stack free = ap (λ s. put_segments s stack) (segments_alone segment free) ∙ option_back (put_segment stack (normal_text segment))
+pub write_last : (segment : List ℕ) (stack : List (List ℕ)) → FreeOf slash segment → write_segments (normal_segments segment) stack ≡ write_segment stack (normal_text segment)
+write_last segment stack free = ap (λ s. write_segments s stack) (segments_alone segment free) ∙ option_back (write_segment stack (normal_text segment))
 
 -- ---- the path of a stack is cut at its last `/`
 
@@ -120,41 +120,41 @@ pub front_length : (buffer : List ℕ) (at : ℕ) → at ≤ length buffer → l
 front_length buffer at within = omega (arith, length-take at buffer, within)
 
 -- a segment `.` leaves the stack
-put_dot : (stack : List (List ℕ)) (segment : List ℕ) → bytes_eq segment (codes ".") ≡ true → put_segment stack segment ≡ Some stack
-put_dot stack segment e = ap (λ v. cond v (Some stack) (cond (bytes_eq segment (codes "..")) (without_top stack) (Some (segment ∷ stack)))) e
+write_dot : (stack : List (List ℕ)) (segment : List ℕ) → bytes_eq segment (codes ".") ≡ true → write_segment stack segment ≡ Some stack
+write_dot stack segment e = ap (λ v. cond v (Some stack) (cond (bytes_eq segment (codes "..")) (without_top stack) (Some (segment ∷ stack)))) e
 
 -- a segment `..` takes its top off
-put_dots : (stack : List (List ℕ)) (segment : List ℕ) → bytes_eq segment (codes ".") ≡ false → bytes_eq segment (codes "..") ≡ true → put_segment stack segment ≡ without_top stack
-put_dots stack segment one two =
+write_dots : (stack : List (List ℕ)) (segment : List ℕ) → bytes_eq segment (codes ".") ≡ false → bytes_eq segment (codes "..") ≡ true → write_segment stack segment ≡ without_top stack
+write_dots stack segment one two =
     ap (λ v. cond v (Some stack) (cond (bytes_eq segment (codes "..")) (without_top stack) (Some (segment ∷ stack)))) one ∙ ap (λ v. cond v (without_top stack) (Some (segment ∷ stack))) two
 
 -- any other goes on top
-put_other : (stack : List (List ℕ)) (segment : List ℕ) → bytes_eq segment (codes ".") ≡ false → bytes_eq segment (codes "..") ≡ false → put_segment stack segment ≡ Some (segment ∷ stack)
-put_other stack segment one two =
+write_other : (stack : List (List ℕ)) (segment : List ℕ) → bytes_eq segment (codes ".") ≡ false → bytes_eq segment (codes "..") ≡ false → write_segment stack segment ≡ Some (segment ∷ stack)
+write_other stack segment one two =
     ap (λ v. cond v (Some stack) (cond (bytes_eq segment (codes "..")) (without_top stack) (Some (segment ∷ stack)))) one ∙ ap (λ v. cond v (without_top stack) (Some (segment ∷ stack))) two
 
 -- a segment was written after the path of a stack
-pub record WritesBehind (front form new : List ℕ) (at start end : ℕ) : Type 0 where
+pub record WritesAfter (front form new : List ℕ) (at start end : ℕ) : Type 0 where
   pub whole : take end new ≡ (front ++ slash ∷ []) ++ form
   pub place : length front ≡ at
   pub start_is : start ≡ at + 1
   pub order : start ≤ end
   pub within : end ≤ length new
 
-written_form : (front form new : List ℕ) (at start end : ℕ) → WritesBehind front form new at start end → take (end - start) (drop start new) ≡ form
+written_form : (front form new : List ℕ) (at start end : ℕ) → WritesAfter front form new at start end → take (end - start) (drop start new) ≡ form
 written_form front form new at start end w =
     let long : length (front ++ slash ∷ []) ≡ start = omega (arith, length-append front (slash ∷ []), w.place, w.start_is) in
     written_between new (front ++ slash ∷ []) form start end w.whole long w.order w.within
 
-written_front : (front form new : List ℕ) (at start end : ℕ) → WritesBehind front form new at start end → take at new ≡ front
+written_front : (front form new : List ℕ) (at start end : ℕ) → WritesAfter front form new at start end → take at new ≡ front
 written_front front form new at start end w =
     front_kept new front (slash ∷ [] ++ form) at end (w.whole ∙ append_assoc front (slash ∷ []) form) w.place (omega (arith, w.order, w.start_is))
 
 -- if it is `.`, the path is that of before
-pub after_dot : (front form new : List ℕ) (at start end : ℕ) (stack : List (List ℕ)) → WritesBehind front form new at start end → ShowsStack front stack → bytes_eq (take (end - start) (drop start new)) (codes ".") ≡ true → ShowsFront (put_segment stack form) new (Some at)
+pub after_dot : (front form new : List ℕ) (at start end : ℕ) (stack : List (List ℕ)) → WritesAfter front form new at start end → ShowsStack front stack → bytes_eq (take (end - start) (drop start new)) (codes ".") ≡ true → ShowsFront (write_segment stack form) new (Some at)
 after_dot front form new at start end stack w shows dot =
     let is = written_form front form new at start end w in
-    (stack, put_dot stack form (ap (λ x. bytes_eq x (codes ".")) (sym is) ∙ dot), (written_front front form new at start end w ∙ shows.0, shows.1))
+    (stack, write_dot stack form (ap (λ x. bytes_eq x (codes ".")) (sym is) ∙ dot), (written_front front form new at start end w ∙ shows.0, shows.1))
 
 outcome_within : (outcome : Option (List (List ℕ))) (new : List ℕ) (at : ℕ) (r : Option ℕ) → IfSome r (λ n. n ≤ at) → ShowsFront outcome (take at new) r → ShowsFront outcome new r
 outcome_within outcome new at None small shows = shows
@@ -165,23 +165,23 @@ small_in_front None new at small = tt
 small_in_front (Some n) new at small = omega (arith, length-take at new, small)
 
 -- if it is `..`, the path is that without the top
-pub after_dots : (front form new : List ℕ) (at start end : ℕ) (stack : List (List ℕ)) (r : Option ℕ) → WritesBehind front form new at start end → ShowsStack front stack → bytes_eq (take (end - start) (drop start new)) (codes ".") ≡ false → bytes_eq (take (end - start) (drop start new)) (codes "..") ≡ true
-    → ((below : List (List ℕ)) → ShowsStack (take at new) below → ShowsFront (without_top below) (take at new) r) → IfSome r (λ n. n ≤ length (take at new)) → ShowsFront (put_segment stack form) new r
+pub after_dots : (front form new : List ℕ) (at start end : ℕ) (stack : List (List ℕ)) (r : Option ℕ) → WritesAfter front form new at start end → ShowsStack front stack → bytes_eq (take (end - start) (drop start new)) (codes ".") ≡ false → bytes_eq (take (end - start) (drop start new)) (codes "..") ≡ true
+    → ((below : List (List ℕ)) → ShowsStack (take at new) below → ShowsFront (without_top below) (take at new) r) → IfSome r (λ n. n ≤ length (take at new)) → ShowsFront (write_segment stack form) new r
 after_dots front form new at start end stack r w shows one two cut small =
     let is = written_form front form new at start end w in
     let first = ap (λ x. bytes_eq x (codes ".")) (sym is) ∙ one in
     let second = ap (λ x. bytes_eq x (codes "..")) (sym is) ∙ two in
     let below = outcome_within (without_top stack) new at r (small_in_front r new at small) (cut stack (written_front front form new at start end w ∙ shows.0, shows.1)) in
-    subst (λ o. ShowsFront o new r) (sym (put_dots stack form first second)) below
+    subst (λ o. ShowsFront o new r) (sym (write_dots stack form first second)) below
 
 -- if it is neither, it is on top
-pub after_other : (front form new : List ℕ) (at start end : ℕ) (stack : List (List ℕ)) → WritesBehind front form new at start end → ShowsStack front stack → FreeOf slash form → bytes_eq (take (end - start) (drop start new)) (codes ".") ≡ false → bytes_eq (take (end - start) (drop start new)) (codes "..") ≡ false
-    → ShowsFront (put_segment stack form) new (Some end)
+pub after_other : (front form new : List ℕ) (at start end : ℕ) (stack : List (List ℕ)) → WritesAfter front form new at start end → ShowsStack front stack → FreeOf slash form → bytes_eq (take (end - start) (drop start new)) (codes ".") ≡ false → bytes_eq (take (end - start) (drop start new)) (codes "..") ≡ false
+    → ShowsFront (write_segment stack form) new (Some end)
 after_other front form new at start end stack w shows flat one two =
     let is = written_form front form new at start end w in
     let first = ap (λ x. bytes_eq x (codes ".")) (sym is) ∙ one in
     let second = ap (λ x. bytes_eq x (codes "..")) (sym is) ∙ two in
-    (form ∷ stack, put_other stack form first second, (w.whole ∙ append_assoc front (slash ∷ []) form ∙ ap (λ x. x ++ slash ∷ form) shows.0, (flat, shows.1)))
+    (form ∷ stack, write_other stack form first second, (w.whole ∙ append_assoc front (slash ∷ []) form ∙ ap (λ x. x ++ slash ∷ form) shows.0, (flat, shows.1)))
 
 -- ---- the whole path
 
@@ -211,5 +211,5 @@ pub length-cut : (text front back : List ℕ) → CutsBefore is_rest_start text 
 length-cut text front back cut = ap length cut.joined ∙ length-append front back
 
 -- the text after the authority is cut into pieces that are no longer
-pub length-pieces : (behind text front back : List ℕ) → text ≡ unrooted behind → CutsBefore is_rest_start text front back → length front + length back ≤ length behind
-length-pieces behind text front back is cut = omega (arith, length-cut text front back cut, ap length is, length-unrooted behind)
+pub length-pieces : (suffix text front back : List ℕ) → text ≡ unrooted suffix → CutsBefore is_rest_start text front back → length front + length back ≤ length suffix
+length-pieces suffix text front back is cut = omega (arith, length-cut text front back cut, ap length is, length-unrooted suffix)

@@ -24,10 +24,10 @@ unfolding normal_text
 normal_escape high low rest = refl
 
 -- a first byte that isn't `%`
-pub splits_kept : (text behind : List ℕ) (b : ℕ) → text ≡ b ∷ behind → (b == percent_sign) ≡ false → is_sound text ≡ true → SplitsNormal text b false behind
-splits_kept text behind b e other sound = record {
-  joined = ap normal_text e ∙ normal_kept b behind other;
-  sound = sound_tail b behind (sym (ap is_sound e) ∙ sound);
+pub splits_kept : (text suffix : List ℕ) (b : ℕ) → text ≡ b ∷ suffix → (b == percent_sign) ≡ false → is_sound text ≡ true → SplitsNormal text b false suffix
+splits_kept text suffix b e other sound = record {
+  joined = ap normal_text e ∙ normal_kept b suffix other;
+  sound = sound_tail b suffix (sym (ap is_sound e) ∙ sound);
   shorter = omega (arith, ap length e);
 }
 
@@ -39,14 +39,14 @@ sound_escape high low rest sound =
     (one.0, two.0, two.1)
 
 -- the text after a `%` of a sound text has two bytes
-pub sound_long : (behind : List ℕ) → is_sound (percent_sign ∷ behind) ≡ true → 2 ≤ length behind
+pub sound_long : (suffix : List ℕ) → is_sound (percent_sign ∷ suffix) ≡ true → 2 ≤ length suffix
 sound_long [] sound = grind (arith, nat_tests)
 sound_long (b ∷ []) sound = grind (arith, nat_tests)
 sound_long (b ∷ c ∷ rest) sound = omega arith
 
 -- the escape that a sound text begins with
-pub splits_escape : (behind : List ℕ) (high low : ℕ) → is_sound (percent_sign ∷ behind) ≡ true → high ≡ digit_value (get_or behind 0 0) → low ≡ digit_value (get_or behind 1 0)
-    → SplitsNormal (percent_sign ∷ behind) (high * 16 + low) true (take (length behind - 2) (drop 2 behind))
+pub splits_escape : (suffix : List ℕ) (high low : ℕ) → is_sound (percent_sign ∷ suffix) ≡ true → high ≡ digit_value (get_or suffix 0 0) → low ≡ digit_value (get_or suffix 1 0)
+    → SplitsNormal (percent_sign ∷ suffix) (high * 16 + low) true (take (length suffix - 2) (drop 2 suffix))
 splits_escape [] high low sound one two = absurd (let long = sound_long [] sound in omega (arith, long))
 splits_escape (b ∷ []) high low sound one two = absurd (let long = sound_long (b ∷ []) sound in omega (arith, long))
 splits_escape (b ∷ c ∷ rest) high low sound one two =

@@ -14,7 +14,7 @@ use Rattle.git_syntax.proofs.Texts.CutLemmas.{class_cut_unique, path_cut_unique,
 use Rattle.git_syntax.proofs.Parsing.FormLemmas.{scheme_cut_unique}
 use Rattle.git_rules.specs.declared.normal.NormalError.{NormalError}
 use Rattle.git_rules.specs.declared.normal.NormalError.TheVariants.{NoRoom, NoUrl, BrokenEscape, NoHost, BadHost, BadPort, AboveRoot}
-use Rattle.git_rules.specs.Normal.{NormalPlace, CutsPort, HostFor, PortFor, HostPort, IsUserOf, NormalAuthority, NormalPath, UrlCut, IsNormalOf, is_own_port, is_host_byte, is_rest_start, lacks_host, normal_text, normal_segments, put_segments, stacked_path}
+use Rattle.git_rules.specs.Normal.{NormalPlace, CutsPort, HostFor, PortFor, HostPort, IsUserOf, NormalAuthority, NormalPath, UrlCut, IsNormalOf, is_own_port, is_host_byte, is_rest_start, lacks_host, normal_text, normal_segments, write_segments, stacked_path}
 use Rattle.git_rules.specs.NormalPieces.{HoldsParts, ReadsAuthority}
 use Rattle.git_rules.specs.NormalFlaws.{IsBadPort, IsBroken, HostFlaw, AuthorityFlaw, PartFlaw, PathFlaw, NormalizesIn}
 
@@ -88,29 +88,29 @@ authority_unique globs scheme text user person host other port last (NormalAutho
 -- ---- paths
 
 -- the text after an authority has one path
-path_unique : (behind path other : List ℕ) → NormalPath behind path → NormalPath behind other → path ≡ other
-path_unique behind path other h k =
+path_unique : (suffix path other : List ℕ) → NormalPath suffix path → NormalPath suffix other → path ≡ other
+path_unique suffix path other h k =
     let pieces = class_cut_unique is_rest_start h.segments k.segments h.rest k.rest h.before_rest k.before_rest h.rest_starts k.rest_starts (sym h.joined ∙ k.joined) in
-    let stack = same_Some h.stack k.stack (sym (subst (λ z. put_segments (normal_segments z) [] ≡ Some h.stack) pieces.0 h.put) ∙ k.put) in
+    let stack = same_Some h.stack k.stack (sym (subst (λ z. write_segments (normal_segments z) [] ≡ Some h.stack) pieces.0 h.put) ∙ k.put) in
     h.form ∙ ap (λ z. or_root (stacked_path z) ++ normal_text h.rest) stack ∙ ap (λ z. or_root (stacked_path k.stack) ++ normal_text z) pieces.1 ∙ sym k.form
 
 -- ---- URLs
 
 -- a URL is cut in one way
-pub url_cut_unique : (text scheme other authority second behind rest : List ℕ) → UrlCut text scheme authority behind → UrlCut text other second rest → (scheme ≡ other) × (authority ≡ second) × (behind ≡ rest)
-url_cut_unique text scheme other authority second behind rest h k =
-    let cut = scheme_cut_unique scheme other (authority ++ behind) (second ++ rest) (scheme_text_free scheme colon h.scheme_text refl) (scheme_text_free other colon k.scheme_text refl) (sym h.joined ∙ k.joined) in
-    let pieces = path_cut_unique true authority second behind rest h.before_path k.before_path h.path_starts k.path_starts cut.1 in
+pub url_cut_unique : (text scheme other authority second suffix rest : List ℕ) → UrlCut text scheme authority suffix → UrlCut text other second rest → (scheme ≡ other) × (authority ≡ second) × (suffix ≡ rest)
+url_cut_unique text scheme other authority second suffix rest h k =
+    let cut = scheme_cut_unique scheme other (authority ++ suffix) (second ++ rest) (scheme_text_free scheme colon h.scheme_text refl) (scheme_text_free other colon k.scheme_text refl) (sym h.joined ∙ k.joined) in
+    let pieces = path_cut_unique true authority second suffix rest h.before_path k.before_path h.path_starts k.path_starts cut.1 in
     (cut.0, pieces.0, pieces.1)
 
 -- a text has one normal form
 pub normal_unique : (globs : Bool) (text : List ℕ) (n m : NormalPlace) → IsNormalOf globs text n → IsNormalOf globs text m → n ≡ m
 normal_unique globs text n m h k =
-    let cut = url_cut_unique text h.scheme k.scheme h.authority k.authority h.behind k.behind h.cut k.cut in
+    let cut = url_cut_unique text h.scheme k.scheme h.authority k.authority h.suffix k.suffix h.cut k.cut in
     let scheme = h.scheme_form ∙ ap lowercase cut.0 ∙ sym k.scheme_form in
     let first = subst (λ z. NormalAuthority globs (lowercase z) h.authority n.user n.host n.port) cut.0 h.authority_form in
     let same = authority_unique globs (lowercase k.scheme) k.authority n.user m.user n.host m.host n.port m.port (subst (λ z. NormalAuthority globs (lowercase k.scheme) z n.user n.host n.port) cut.1 first) k.authority_form in
-    let path = path_unique k.behind n.path m.path (subst (λ z. NormalPath z n.path) cut.2 h.path_form) k.path_form in
+    let path = path_unique k.suffix n.path m.path (subst (λ z. NormalPath z n.path) cut.2 h.path_form) k.path_form in
     λ i. record { scheme = scheme i; user = same.0 i; host = same.1 i; port = same.2 i; path = path i }
 
 -- ---- flaws
@@ -168,41 +168,41 @@ no_outcome : (o : Option (List (List ℕ))) (x : List (List ℕ)) → o ≡ None
 no_outcome o x none some = false≢true (ap is_some (sym none ∙ some))
 
 -- the text after an authority has no path if it has a flaw
-path_refused : (behind path : List ℕ) (e : NormalError) → PathFlaw behind e → NormalPath behind path → ⊥
-path_refused behind path NoRoom flaw h = flaw
-path_refused behind path NoUrl flaw h = flaw
-path_refused behind path BrokenEscape flaw h = false≢true (sym flaw ∙ h.sound)
-path_refused behind path NoHost flaw h = flaw
-path_refused behind path BadHost flaw h = flaw
-path_refused behind path BadPort flaw h = flaw
-path_refused behind path AboveRoot flaw h =
+path_refused : (suffix path : List ℕ) (e : NormalError) → PathFlaw suffix e → NormalPath suffix path → ⊥
+path_refused suffix path NoRoom flaw h = flaw
+path_refused suffix path NoUrl flaw h = flaw
+path_refused suffix path BrokenEscape flaw h = false≢true (sym flaw ∙ h.sound)
+path_refused suffix path NoHost flaw h = flaw
+path_refused suffix path BadHost flaw h = flaw
+path_refused suffix path BadPort flaw h = flaw
+path_refused suffix path AboveRoot flaw h =
     let pieces = class_cut_unique is_rest_start flaw.0 h.segments flaw.1 h.rest flaw.2.lacks h.before_rest flaw.2.begins h.rest_starts (sym flaw.2.joined ∙ h.joined) in
-    no_outcome (put_segments (normal_segments h.segments) []) h.stack (ap (λ z. put_segments (normal_segments z) []) (sym pieces.0) ∙ flaw.3) h.put
+    no_outcome (write_segments (normal_segments h.segments) []) h.stack (ap (λ z. write_segments (normal_segments z) []) (sym pieces.0) ∙ flaw.3) h.put
 
 -- a URL whose authority or path has a flaw has no normal form
-cut_refused : (globs : Bool) (text scheme authority behind : List ℕ) (e : NormalError) → UrlCut text scheme authority behind → PartFlaw globs (lowercase scheme) authority behind e → (n : NormalPlace) → IsNormalOf globs text n → ⊥
-cut_refused globs text scheme authority behind e cut (inl flaw) n h =
-    let same = url_cut_unique text scheme h.scheme authority h.authority behind h.behind cut h.cut in
+cut_refused : (globs : Bool) (text scheme authority suffix : List ℕ) (e : NormalError) → UrlCut text scheme authority suffix → PartFlaw globs (lowercase scheme) authority suffix e → (n : NormalPlace) → IsNormalOf globs text n → ⊥
+cut_refused globs text scheme authority suffix e cut (inl flaw) n h =
+    let same = url_cut_unique text scheme h.scheme authority h.authority suffix h.suffix cut h.cut in
     let moved = subst (λ z. AuthorityFlaw globs (lowercase z) authority e) same.0 flaw in
     authority_refused globs (lowercase h.scheme) h.authority n.user n.host n.port e (subst (λ z. AuthorityFlaw globs (lowercase h.scheme) z e) same.1 moved) h.authority_form
-cut_refused globs text scheme authority behind e cut (inr flaw) n h =
-    let same = url_cut_unique text scheme h.scheme authority h.authority behind h.behind cut h.cut in
-    path_refused h.behind n.path e (subst (λ z. PathFlaw z e) same.2 flaw.1) h.path_form
+cut_refused globs text scheme authority suffix e cut (inr flaw) n h =
+    let same = url_cut_unique text scheme h.scheme authority h.authority suffix h.suffix cut h.cut in
+    path_refused h.suffix n.path e (subst (λ z. PathFlaw z e) same.2 flaw.1) h.path_form
 
 -- a flaw of a part is neither that of the buffer nor that of the text
-room_no_flaw : (globs : Bool) (scheme text behind : List ℕ) → PartFlaw globs scheme text behind NoRoom → ⊥
-room_no_flaw globs scheme text behind (inl (inl flaw)) = flaw.1
-room_no_flaw globs scheme text behind (inl (inr flaw)) = ⊎_elim (λ b. b) (λ b. b.1) flaw.4
-room_no_flaw globs scheme text behind (inr flaw) = flaw.1
+buffer_no_flaw : (globs : Bool) (scheme text suffix : List ℕ) → PartFlaw globs scheme text suffix NoRoom → ⊥
+buffer_no_flaw globs scheme text suffix (inl (inl flaw)) = flaw.1
+buffer_no_flaw globs scheme text suffix (inl (inr flaw)) = ⊎_elim (λ b. b) (λ b. b.1) flaw.4
+buffer_no_flaw globs scheme text suffix (inr flaw) = flaw.1
 
-url_no_flaw : (globs : Bool) (scheme text behind : List ℕ) → PartFlaw globs scheme text behind NoUrl → ⊥
-url_no_flaw globs scheme text behind (inl (inl flaw)) = flaw.1
-url_no_flaw globs scheme text behind (inl (inr flaw)) = ⊎_elim (λ b. b) (λ b. b.1) flaw.4
-url_no_flaw globs scheme text behind (inr flaw) = flaw.1
+url_no_flaw : (globs : Bool) (scheme text suffix : List ℕ) → PartFlaw globs scheme text suffix NoUrl → ⊥
+url_no_flaw globs scheme text suffix (inl (inl flaw)) = flaw.1
+url_no_flaw globs scheme text suffix (inl (inr flaw)) = ⊎_elim (λ b. b) (λ b. b.1) flaw.4
+url_no_flaw globs scheme text suffix (inr flaw) = flaw.1
 
 -- a text whose authority or path has a flaw is refused for that
-pub part_flawed : (globs : Bool) (text scheme authority behind : List ℕ) (buffer_len : ℕ) (e : NormalError) → 3 * length text + 1 ≤ buffer_len → UrlCut text scheme authority behind → PartFlaw globs (lowercase scheme) authority behind e → NormalizesIn globs text buffer_len (Err e)
-part_flawed globs text s a b buffer_len NoRoom enough cut flaw = absurd (room_no_flaw globs (lowercase s) a b flaw)
+pub part_flawed : (globs : Bool) (text scheme authority suffix : List ℕ) (buffer_len : ℕ) (e : NormalError) → 3 * length text + 1 ≤ buffer_len → UrlCut text scheme authority suffix → PartFlaw globs (lowercase scheme) authority suffix e → NormalizesIn globs text buffer_len (Err e)
+part_flawed globs text s a b buffer_len NoRoom enough cut flaw = absurd (buffer_no_flaw globs (lowercase s) a b flaw)
 part_flawed globs text s a b buffer_len NoUrl enough cut flaw = absurd (url_no_flaw globs (lowercase s) a b flaw)
 part_flawed globs text s a b buffer_len BrokenEscape enough cut flaw = (enough, (s, a, b, cut, flaw), cut_refused globs text s a b BrokenEscape cut flaw)
 part_flawed globs text s a b buffer_len NoHost enough cut flaw = (enough, (s, a, b, cut, flaw), cut_refused globs text s a b NoHost cut flaw)
@@ -211,15 +211,15 @@ part_flawed globs text s a b buffer_len BadPort enough cut flaw = (enough, (s, a
 part_flawed globs text s a b buffer_len AboveRoot enough cut flaw = (enough, (s, a, b, cut, flaw), cut_refused globs text s a b AboveRoot cut flaw)
 
 -- the text written for the parts is the normal form, or the path has a flaw
-pub parts_normalize : (globs : Bool) (text scheme lowered authority behind : List ℕ) (user : Option (List ℕ)) (host : List ℕ) (port : Option ℕ) (buffer_len : ℕ) (r : Result NormalPlace NormalError) → 3 * length text + 1 ≤ buffer_len → UrlCut text scheme authority behind → lowered ≡ lowercase scheme → ReadsAuthority globs lowered authority user host port
-    → MatchResult r (λ n. HoldsParts lowered user host port behind n) (λ e. PathFlaw behind e) → NormalizesIn globs text buffer_len r
-parts_normalize globs text scheme lowered authority behind user host port buffer_len (Ok n) enough cut low read holds =
+pub parts_normalize : (globs : Bool) (text scheme lowered authority suffix : List ℕ) (user : Option (List ℕ)) (host : List ℕ) (port : Option ℕ) (buffer_len : ℕ) (r : Result NormalPlace NormalError) → 3 * length text + 1 ≤ buffer_len → UrlCut text scheme authority suffix → lowered ≡ lowercase scheme → ReadsAuthority globs lowered authority user host port
+    → MatchResult r (λ n. HoldsParts lowered user host port suffix n) (λ e. PathFlaw suffix e) → NormalizesIn globs text buffer_len r
+parts_normalize globs text scheme lowered authority suffix user host port buffer_len (Ok n) enough cut low read holds =
     let form = read.form in
     let one = subst (λ z. NormalAuthority globs z authority (option_map normal_text user) (lowercase host) port) low form in
     let two = subst (λ z. NormalAuthority globs (lowercase scheme) authority z (lowercase host) port) (sym holds.user_is) one in
     let three = subst (λ z. NormalAuthority globs (lowercase scheme) authority n.user z port) (sym holds.host_is) two in
     let four = subst (λ z. NormalAuthority globs (lowercase scheme) authority n.user n.host z) (sym holds.port_is) three in
-    (enough, record { scheme = scheme; authority = authority; behind = behind; cut = cut; scheme_form = holds.scheme_is ∙ low; authority_form = four; path_form = holds.path_is })
-parts_normalize globs text scheme lowered authority behind user host port buffer_len (Err e) enough cut low read flaw =
+    (enough, record { scheme = scheme; authority = authority; suffix = suffix; cut = cut; scheme_form = holds.scheme_is ∙ low; authority_form = four; path_form = holds.path_is })
+parts_normalize globs text scheme lowered authority suffix user host port buffer_len (Err e) enough cut low read flaw =
     let form = subst (λ z. NormalAuthority globs z authority (option_map normal_text user) (lowercase host) port) low read.form in
-    part_flawed globs text scheme authority behind buffer_len e enough cut (inr ((option_map normal_text user, lowercase host, port, form), flaw))
+    part_flawed globs text scheme authority suffix buffer_len e enough cut (inr ((option_map normal_text user, lowercase host, port, form), flaw))

@@ -83,12 +83,12 @@ authority_own globs scheme (Some u) password named host port free h =
 record IsOwnHost (globs : Bool) (host : List ℕ) : Type 0 where
   bytes : list_all (is_host_byte globs) host ≡ true
   lower : IsLowercase host
-  there : (behind : List ℕ) → lacks_host (host ++ behind) ≡ false
+  there : (suffix : List ℕ) → lacks_host (host ++ suffix) ≡ false
   ends : CutsPort host host []
 
-plain_there : (host behind : List ℕ) → 0 < length host → list_all is_plain_host_byte host ≡ true → lacks_host (host ++ behind) ≡ false
-plain_there [] behind some h = absurd (omega (arith, some))
-plain_there (b ∷ bs) behind some h = grind (arith, nat_tests)
+plain_there : (host suffix : List ℕ) → 0 < length host → list_all is_plain_host_byte host ≡ true → lacks_host (host ++ suffix) ≡ false
+plain_there [] suffix some h = absurd (omega (arith, some))
+plain_there (b ∷ bs) suffix some h = grind (arith, nat_tests)
 
 plain_byte : (globs : Bool) (b : ℕ) → is_plain_host_byte b ≡ true → is_host_byte globs b ≡ true
 plain_byte globs b h = grind (arith, nat_tests)
@@ -97,15 +97,15 @@ plain_own : (globs : Bool) (host : List ℕ) → 0 < length host → list_all is
 plain_own globs host some h = record {
   bytes = all_weaker is_plain_host_byte (is_host_byte globs) (plain_byte globs) host h;
   lower = plain_lowercase host h;
-  there = λ behind. plain_there host behind some h;
+  there = λ suffix. plain_there host suffix some h;
   ends = CutsPort.no_colon (free_of_all is_plain_host_byte colon host h refl) refl refl;
 }
 
 -- a bracket that ends a text follows each colon in it
-bracket_behind : (x y z : List ℕ) → x ++ colon ∷ y ≡ z ++ right_bracket ∷ [] → FreeOf right_bracket (colon ∷ y) → ⊥
-bracket_behind [] y z e free = not_free right_bracket z [] (subst (λ t. FreeOf right_bracket t) e free)
-bracket_behind (d ∷ x) y [] e free = let long = ap length (tails e) in let more = length-append x (colon ∷ y) in omega (arith, long, more)
-bracket_behind (d ∷ x) y (c ∷ z) e free = bracket_behind x y z (tails e) free
+bracket_after : (x y z : List ℕ) → x ++ colon ∷ y ≡ z ++ right_bracket ∷ [] → FreeOf right_bracket (colon ∷ y) → ⊥
+bracket_after [] y z e free = not_free right_bracket z [] (subst (λ t. FreeOf right_bracket t) e free)
+bracket_after (d ∷ x) y [] e free = let long = ap length (tails e) in let more = length-append x (colon ∷ y) in omega (arith, long, more)
+bracket_after (d ∷ x) y (c ∷ z) e free = bracket_after x y z (tails e) free
 
 -- the last colon of a text, if it has one
 last_colon : (text : List ℕ) → FreeOf colon text ⊎ ((x : List ℕ) × (y : List ℕ) × FreeOf colon y × (text ≡ x ++ colon ∷ y))
@@ -119,7 +119,7 @@ last_colon (b ∷ bs) = elim (last_colon bs) [
 bracketed_ends : (host front : List ℕ) → host ≡ front ++ right_bracket ∷ [] → CutsPort host host []
 bracketed_ends host front e = elim (last_colon host) [
   | inl free ↦ CutsPort.no_colon free refl refl
-  | inr (x, y, free, joined) ↦ CutsPort.in_brackets x y joined free (λ none. bracket_behind x y front (sym joined ∙ e) (free-cons right_bracket colon y refl none)) refl refl
+  | inr (x, y, free, joined) ↦ CutsPort.in_brackets x y joined free (λ none. bracket_after x y front (sym joined ∙ e) (free-cons right_bracket colon y refl none)) refl refl
 ]
 
 address_byte : (globs : Bool) (b : ℕ) → is_address_byte b ≡ true → is_host_byte globs b ≡ true
@@ -132,7 +132,7 @@ bracketed_own : (globs : Bool) (host : List ℕ) → IsBracketedAddress host →
 bracketed_own globs host (address, normal, e) = record {
   bytes = ap (list_all (is_host_byte globs)) e ∙ bracket_bytes globs address (all_weaker is_address_byte (is_host_byte globs) (address_byte globs) address (address_bytes address normal.address));
   lower = subst (λ h. IsLowercase h) (sym e) (ap (λ t. left_bracket ∷ t) (map-append to_ascii_lowercase address (right_bracket ∷ []) ∙ ap (λ t. t ++ right_bracket ∷ []) normal.lower));
-  there = λ behind. ap (λ h. lacks_host (h ++ behind)) e;
+  there = λ suffix. ap (λ h. lacks_host (h ++ suffix)) e;
   ends = bracketed_ends host (left_bracket ∷ address) e;
 }
 
@@ -195,7 +195,7 @@ place_kept globs v t n web is a written h =
       before_path = authority.before_path;
       path_starts = starts_alike true (canonical_path v) v.path path.front (inr w.path);
     } in
-    let same = url_cut_unique t h.scheme scheme h.authority (authority_text v) h.behind (canonical_path v) h.cut cut in
+    let same = url_cut_unique t h.scheme scheme h.authority (authority_text v) h.suffix (canonical_path v) h.cut cut in
     let lower : lowercase h.scheme ≡ scheme = ap lowercase same.0 ∙ (web_scheme v web).lower in
     let text_is : h.authority ≡ user_information v.user v.password ++ (host ++ port_part v.port) = same.1 ∙ authority.written in
     let own = authority_own globs scheme v.user v.password (host ++ port_part v.port) host (own_port scheme v.port) authority.no_at (host_port_own globs scheme host v.port (unambiguous_own globs host unambiguous) is.port w.port) in

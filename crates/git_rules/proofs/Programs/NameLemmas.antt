@@ -69,8 +69,8 @@ kept_first n (x ∷ bytes) b some h = sym (take_all n (b ∷ []) h)
 -- ---- a byte more
 
 -- after a slash
-pub put_first : (n : BaseName) (path : List ℕ) (b : ℕ) → n.is_ended ≡ true → (b ≡ 47 → ⊥) → IsNameOf n path → IsNameOf (record { bytes = slice_set n.bytes 0 b; len = 1; is_ended = false }) (path ++ b ∷ [])
-put_first n path b ended other h =
+pub write_first : (n : BaseName) (path : List ℕ) (b : ℕ) → n.is_ended ≡ true → (b ≡ 47 → ⊥) → IsNameOf n path → IsNameOf (record { bytes = slice_set n.bytes 0 b; len = 1; is_ended = false }) (path ++ b ∷ [])
+write_first n path b ended other h =
     let no_slash : (b == slash) ≡ false = ne_eqb b 47 other in
     record {
       whole = length-set n.bytes 0 b ∙ h.whole;
@@ -80,21 +80,21 @@ put_first n path b ended other h =
     }
 
 -- in a name of which not too many bytes are kept
-pub put_more : (n : BaseName) (path : List ℕ) (b : ℕ) → n.is_ended ≡ false → (b ≡ 47 → ⊥) → n.len < 18 → IsNameOf n path → IsNameOf (record { bytes = slice_set n.bytes n.len b; len = n.len + 1; is_ended = n.is_ended }) (path ++ b ∷ [])
-put_more n path b going other few h =
+pub write_more : (n : BaseName) (path : List ℕ) (b : ℕ) → n.is_ended ≡ false → (b ≡ 47 → ⊥) → n.len < 18 → IsNameOf n path → IsNameOf (record { bytes = slice_set n.bytes n.len b; len = n.len + 1; is_ended = n.is_ended }) (path ++ b ∷ [])
+write_more n path b going other few h =
     let no_slash : (b == slash) ≡ false = ne_eqb b 47 other in
-    let room : n.len < length n.bytes = omega (arith, h.whole) in
+    let fits : n.len < length n.bytes = omega (arith, h.whole) in
     let short : length (take n.len n.bytes) < 18 = omega (arith, length-take n.len n.bytes) in
     record {
       whole = length-set n.bytes n.len b ∙ h.whole;
       within = omega arith;
-      kept = take_more_set n.bytes n.len b room ∙ kept_more 18 (take n.len n.bytes) (base_name path) b h.kept short ∙ ap (λ t. take 18 t) (sym (name_more path b (sym h.ended ∙ going) no_slash));
+      kept = take_more_set n.bytes n.len b fits ∙ kept_more 18 (take n.len n.bytes) (base_name path) b h.kept short ∙ ap (λ t. take 18 t) (sym (name_more path b (sym h.ended ∙ going) no_slash));
       ended = going ∙ sym (ended-push path b ∙ no_slash);
     }
 
 -- and in one of which as many are kept as may be
-pub put_over : (n : BaseName) (path : List ℕ) (b : ℕ) → n.is_ended ≡ false → (b ≡ 47 → ⊥) → 18 ≤ n.len → IsNameOf n path → IsNameOf n (path ++ b ∷ [])
-put_over n path b going other many h =
+pub write_over : (n : BaseName) (path : List ℕ) (b : ℕ) → n.is_ended ≡ false → (b ≡ 47 → ⊥) → 18 ≤ n.len → IsNameOf n path → IsNameOf n (path ++ b ∷ [])
+write_over n path b going other many h =
     let no_slash : (b == slash) ≡ false = ne_eqb b 47 other in
     let long : 18 ≤ length (take n.len n.bytes) = omega (arith, length-take n.len n.bytes, h.whole) in
     record {

@@ -9,7 +9,7 @@ use Rattle.git_rules.specs.declared.pattern.settings.SettingsError.{SettingsErro
 use Rattle.git_rules.specs.declared.pattern.settings.SettingsError.TheVariants.{Memory, NoRoom, NoValue}
 use Rattle.git_rules.specs.Config.{ConfigEntry}
 use Rattle.git_rules.specs.Normal.{NormalPlace}
-use Rattle.git_rules.specs.PatternEntries.{BufferSuffices, LacksRoomFirst}
+use Rattle.git_rules.specs.PatternEntries.{BufferSuffices, LacksBufferFirst}
 use Rattle.git_rules.specs.Patterns.{HasRank, IsBestAt, IsBetter}
 use Rattle.git_rules.specs.Settings.{AddsBest, AddsValue, AreFlawless, AreSettings, AreUsed, EntryFails, FirstTakenLacks, IsListName, IsOfFirst, IsTakenAt, RanksSetting, RefusesSettings}
 use Rattle.git_rules.proofs.Matched.RankLemmas.{step}
@@ -103,8 +103,8 @@ first_refused name place buffer_len entries i e best r rank old new error list w
     first_here name place buffer_len entries i e old error within is h.used enough fails
 
 -- the first error of a name that isn't a list is that of the buffer
-pub first_of_room : (name : List ℕ) (place : Option NormalPlace) (buffer_len : ℕ) (entries : List ConfigEntry) → ¬ IsListName name → LacksRoomFirst (codes "http") name place buffer_len entries → IsOfFirst name place buffer_len entries NoRoom
-first_of_room name place buffer_len entries single h = record {
+pub first_of_buffer : (name : List ℕ) (place : Option NormalPlace) (buffer_len : ℕ) (entries : List ConfigEntry) → ¬ IsListName name → LacksBufferFirst (codes "http") name place buffer_len entries → IsOfFirst name place buffer_len entries NoRoom
+first_of_buffer name place buffer_len entries single h = record {
   before = h.before;
   entry = h.entry;
   others = h.others;
@@ -117,18 +117,18 @@ first_of_room name place buffer_len entries single h = record {
 pub first_of_memory : (name : List ℕ) (place : Option NormalPlace) (buffer_len : ℕ) (entries : List ConfigEntry) (i : ℕ) → ¬ IsListName name → All (BufferSuffices (codes "http") name place buffer_len) entries → IsBestAt (RanksSetting name place) entries i → IsOfFirst name place buffer_len entries Memory
 first_of_memory name place buffer_len entries i single enough best =
     let Fits = BufferSuffices (codes "http") name place buffer_len in
-    let all : All Fits (best.before ++ best.best ∷ best.behind) = subst (All Fits) best.joined enough in
+    let all : All Fits (best.before ++ best.best ∷ best.suffix) = subst (All Fits) best.joined enough in
     record {
       before = best.before;
       entry = best.best;
-      others = best.behind;
+      others = best.suffix;
       joined = best.joined;
       flawless = record {
-        enough = subst (All Fits) (take-append_seam best.before (best.best ∷ best.behind)) (All-take Fits (length best.before) (best.before ++ best.best ∷ best.behind) all);
+        enough = subst (All Fits) (take-append_seam best.before (best.best ∷ best.suffix)) (All-take Fits (length best.before) (best.before ++ best.best ∷ best.suffix) all);
         values = λ list i e taken. absurd (single list);
       };
       fails = (
-        All-contains Fits (best.before ++ best.best ∷ best.behind) best.best all (at_cut best.before best.best best.behind),
+        All-contains Fits (best.before ++ best.best ∷ best.suffix) best.best all (at_cut best.before best.best best.suffix),
         record { before = best.before; others = []; rank = best.rank; joined = refl; index = refl; ranks = best.ranks.0; not_higher = best.not_higher },
         λ list. absurd (single list),
       );

@@ -65,7 +65,7 @@ taken_cases name place done t i e h = elim (cases_lt i (length done)) [
 -- an entry that is the best so far is taken
 pub taken_here : (name : List ℕ) (place : Option NormalPlace) (done : List ConfigEntry) (t : ConfigEntry) (rank : Rank) → IsBestSoFar (RanksSetting name place) (done ++ t ∷ []) (Some (length done, rank)) → IsTakenAt name place (done ++ t ∷ []) (length done) t
 taken_here name place done t rank (best, same) =
-    let seam = at_seam best.before best.behind done [] best.best t best.joined best.index in
+    let seam = at_seam best.before best.suffix done [] best.best t best.joined best.index in
     record {
       before = done;
       others = [];
@@ -92,8 +92,8 @@ untaken_lower name place done t e j best rank one low h =
     let seam = at_seam h.before h.others done [] e t h.joined h.index in
     let own : h.rank ≡ rank = one h.rank (subst (λ z. RanksSetting name place z h.rank) seam.1 h.ranks) in
     let P = RanksNoHigher (RanksSetting name place) h.rank in
-    let all : All P (best.before ++ best.best ∷ best.behind) = subst (All P) (seam.0 ∙ best.joined) h.not_higher in
-    All-contains P _ best.best all (at_cut best.before best.best best.behind) best.rank best.ranks.0 (subst (λ z. IsLower z best.rank) (sym own) low)
+    let all : All P (best.before ++ best.best ∷ best.suffix) = subst (All P) (seam.0 ∙ best.joined) h.not_higher in
+    All-contains P _ best.best all (at_cut best.before best.best best.suffix) best.rank best.ranks.0 (subst (λ z. IsLower z best.rank) (sym own) low)
 
 -- an entry that isn't the best so far isn't taken
 pub untaken : (name : List ℕ) (place : Option NormalPlace) (done : List ConfigEntry) (t : ConfigEntry) (best r : Option (ℕ × Rank)) (rank : Option Rank) → IsBestSoFar (RanksSetting name place) done best → HasRank (RanksSetting name place) t rank → IsBetter best (length done) rank r → ¬ IsBestIndex r (length done) → (e : ConfigEntry) → ¬ IsTakenAt name place (done ++ t ∷ []) (length done) e
@@ -111,10 +111,10 @@ not_after name place entries i j e best after h =
     let R = RanksSetting name place in
     let at : length h.before ≡ j = h.index in
     let own : length best.before ≡ i = best.index in
-    let cut = in_front best.before best.behind h.before (e ∷ h.others) best.best (sym h.joined ∙ best.joined) (omega (arith, at, own, after)) in
-    let behind : cut.0 ++ e ∷ h.others ≡ best.behind =
+    let cut = in_front best.before best.suffix h.before (e ∷ h.others) best.best (sym h.joined ∙ best.joined) (omega (arith, at, own, after)) in
+    let suffix : cut.0 ++ e ∷ h.others ≡ best.suffix =
     tail_same best.best best.best _ _ (append_cancel_left best.before _ _ (sym (append_assoc best.before (best.best ∷ cut.0) (e ∷ h.others)) ∙ ap (λ z. z ++ e ∷ h.others) (sym cut.1) ∙ sym h.joined ∙ best.joined)) in
-    let lower : IsLower h.rank best.rank = All-contains (RanksLower R best.rank) best.behind e best.lower (subst (λ z. Contains z e) behind (at_cut cut.0 e h.others)) h.rank h.ranks in
+    let lower : IsLower h.rank best.rank = All-contains (RanksLower R best.rank) best.suffix e best.lower (subst (λ z. Contains z e) suffix (at_cut cut.0 e h.others)) h.rank h.ranks in
     let all : All (RanksNoHigher R h.rank) (best.before ++ best.best ∷ cut.0) = subst (All (RanksNoHigher R h.rank)) cut.1 h.not_higher in
     All-contains (RanksNoHigher R h.rank) _ best.best all (at_cut best.before best.best cut.0) best.rank best.ranks.0 lower
 
@@ -124,7 +124,7 @@ best_is_last name place entries i best = record {
   entry = best.best;
   taken = record {
     before = best.before;
-    others = best.behind;
+    others = best.suffix;
     rank = best.rank;
     joined = best.joined;
     index = best.index;

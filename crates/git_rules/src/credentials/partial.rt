@@ -37,14 +37,14 @@ fn is_met(wanted: &Request<'_>, own: &Request<'_>, user: Option<&[u8]>) -> bool
 
 /// The pieces of a text whose protocol may be missing.
 fn cut_partly(text: &[u8]) -> TextPieces<'_>
-    ensures { CutsPartly text.now result.protocol.now result.authority.now result.behind.now }
+    ensures { CutsPartly text.now result.protocol.now result.authority.now result.suffix.now }
 {
     let (protocol, rest) = cut_protocol(text);
-    let (authority, behind) = cut_before_path(rest, true);
+    let (authority, suffix) = cut_before_path(rest, true);
     TextPieces {
         protocol,
         authority,
-        behind,
+        suffix,
     }
 }
 

@@ -14,14 +14,14 @@ pub(super) fn cut_url(text: &[u8]) -> Option<(&[u8], &[u8], &[u8])>
     ensures { MatchOption result ((s a b : List ℕ) → ¬ UrlCut text.now s a b)
         (λ p. UrlCut text.now p.0.now p.1.now p.2.now) }
 {
-    let (scheme, behind) = cut(text, b':')?;
+    let (scheme, suffix) = cut(text, b':')?;
     if !is_scheme_text(scheme) {
         return None;
     }
-    let more = after(behind, b'/')?;
+    let more = after(suffix, b'/')?;
     let rest = after(more, b'/')?;
-    let (authority, behind) = cut_before_path(rest);
-    Some((scheme, authority, behind))
+    let (authority, suffix) = cut_before_path(rest);
+    Some((scheme, authority, suffix))
 }
 
 /// Splits a text before the first byte that ends an authority.

@@ -17,13 +17,13 @@ pub(super) fn normal_in<'a>(text: &[u8], buffer: &'a mut [u8]) -> (&'a [u8], &'a
     ensures text { result.0.now ≡ spec.normal_text text.now }
     ensures left { length buffer.old ≤ length result.1.now + 3 * length text.now }
 {
-    let size = put_normal(buffer, 0, text);
+    let size = write_normal(buffer, 0, text);
     let (form, left) = buffer.split_at_mut(size);
     (form, left)
 }
 
 /// Writes the normal form of a text to the buffer from index `start` on, and returns the index after it.
-pub(super) fn put_normal(buffer: &mut [u8], start: usize, text: &[u8]) -> usize
+pub(super) fn write_normal(buffer: &mut [u8], start: usize, text: &[u8]) -> usize
     requires sound { is_sound text.now ≡ true }
     requires buffer { start + 3 * length text.now ≤ length buffer.old }
     ensures bytes { take result buffer.new ≡ take start buffer.old ++ spec.normal_text text.now }
@@ -32,9 +32,9 @@ pub(super) fn put_normal(buffer: &mut [u8], start: usize, text: &[u8]) -> usize
 {
     let mut at = start;
     let mut rest = text;
-    while let Some((byte, escaped, behind)) = split_normal(rest) {
-        at = put_byte(buffer, at, byte, escaped);
-        rest = behind;
+    while let Some((byte, escaped, suffix)) = split_normal(rest) {
+        at = write_byte(buffer, at, byte, escaped);
+        rest = suffix;
     }
     at
 }
@@ -44,20 +44,20 @@ fn split_normal(text: &[u8]) -> Option<(u8, bool, &[u8])>
     requires { is_sound text.now ≡ true }
     ensures { MatchOption result (text.now ≡ []) (λ p. SplitsNormal text.now p.0 p.1 p.2.now) }
 {
-    let (first, behind) = text.split_first()?;
+    let (first, suffix) = text.split_first()?;
     if *first == b'%' {
-        let (byte, rest) = split_digits(behind);
+        let (byte, rest) = split_digits(suffix);
         return Some((byte, true, rest));
     }
-    Some((*first, false, behind))
+    Some((*first, false, suffix))
 }
 
 /// The byte that the two digits after a `%` spell, and the text after them.
-fn split_digits(behind: &[u8]) -> (u8, &[u8])
-    requires { is_sound (percent_sign ∷ behind.now) ≡ true }
-    ensures { SplitsNormal (percent_sign ∷ behind.now) result.0 true result.1.now }
+fn split_digits(suffix: &[u8]) -> (u8, &[u8])
+    requires { is_sound (percent_sign ∷ suffix.now) ≡ true }
+    ensures { SplitsNormal (percent_sign ∷ suffix.now) result.0 true result.1.now }
 {
-    match behind {
+    match suffix {
         [high, low, rest @ ..] => (digit(*high) * 16 + digit(*low), rest),
         _ => unreachable!(),
     }
@@ -78,7 +78,7 @@ fn digit(byte: u8) -> u8
 }
 
 /// Writes the normal form of a byte to the buffer from index `at` on, and returns the index after it.
-fn put_byte(buffer: &mut [u8], at: usize, byte: u8, escaped: bool) -> usize
+fn write_byte(buffer: &mut [u8], at: usize, byte: u8, escaped: bool) -> usize
     requires { at + 3 ≤ length buffer.old }
     ensures bytes { take result buffer.new ≡ take at buffer.old ++ spec.normal_byte escaped byte }
     ensures least { at ≤ result }

@@ -18,20 +18,20 @@ use git_syntax::bytes::is_lowercase;
 pub(super) fn write_parts<'a>(
     scheme: &'a [u8],
     authority: Authority<'a>,
-    behind: &[u8],
+    suffix: &[u8],
     buffer: &'a mut [u8],
 ) -> Result<NormalUrl<'a>, NormalError>
     requires sound { HasSoundUser (option_copied authority.user) }
     requires buffer { 3 * user_length (option_copied authority.user) + length authority.host.now
-        + 3 * length behind.now + 1 ≤ length buffer.old }
+        + 3 * length suffix.now + 1 ≤ length buffer.old }
     ensures { MatchResult result
         (λ n. HoldsParts scheme.now (option_copied authority.entry.user) authority.entry.host.now
-        authority.entry.port behind.now n)
-        (λ e. PathFlaw behind.now e) }
+        authority.entry.port suffix.now n)
+        (λ e. PathFlaw suffix.now e) }
 {
     let (user, buffer) = user_in(authority.user, buffer);
     let (host, buffer) = lowered_in(authority.host, buffer);
-    let path = path_in(behind, buffer)?;
+    let path = path_in(suffix, buffer)?;
     Ok(NormalUrl {
         scheme,
         user,

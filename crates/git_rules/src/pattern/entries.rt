@@ -3,7 +3,7 @@
 //! The caller supplies one buffer, into which each URL is read in turn.
 
 ghost use Rattle.std.specs.Prelude.{◌≡◌, ◌≤◌, ◌+◌, ◌*◌, ◌↔◌, All, IsTrue, OnErr, OnOk, Some, length, option_copied};
-ghost use Rattle.git_rules.specs.PatternEntries.{BufferSuffices, IsBestIn, LacksRoomFirst, RanksIn, RanksUrlIn};
+ghost use Rattle.git_rules.specs.PatternEntries.{BufferSuffices, IsBestIn, LacksBufferFirst, RanksIn, RanksUrlIn};
 
 use crate::config::Entry;
 use crate::normal::{NormalError, NormalUrl};
@@ -169,7 +169,7 @@ pub(crate) fn best_in(
     ensures buffer { OnOk result
         (All (BufferSuffices section.now name.now (option_copied place.entry) (length buffer.old)) entries.now) }
     ensures first { OnErr result
-        (LacksRoomFirst section.now name.now (option_copied place.entry) (length buffer.old) entries.now) }
+        (LacksBufferFirst section.now name.now (option_copied place.entry) (length buffer.old) entries.now) }
 {
     let mut best = None;
     for (i, entry) in entries.iter().enumerate() {

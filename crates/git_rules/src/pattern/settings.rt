@@ -58,7 +58,7 @@ pub enum SettingsError {
     #[error("out of memory")]
     Memory,
     /// The buffer is shorter than three times the URL of one of the entries plus one byte.
-    #[error("the room is too short")]
+    #[error("the buffer is too short")]
     NoRoom,
     /// An entry of a list has no value. Git stops there.
     #[error("the setting at byte {at} has no value")]

@@ -84,7 +84,7 @@ pub(super) fn destination(
     match user {
         None => BString::from_slice(alloc, host),
         Some(user) => {
-            let mut text = with_room(alloc, user.len() as u128 + host.len() as u128 + 1)?;
+            let mut text = of_capacity(alloc, user.len() as u128 + host.len() as u128 + 1)?;
             text.extend_from_slice(user.as_bytes())?;
             text.push(b'@')?;
             text.extend_from_slice(host.as_bytes())?;
@@ -101,7 +101,7 @@ pub(super) fn remote_command(
 ) -> Result<BString, AllocError>
     ensures { IfOk result (λ t. bstring_bytes t ≡ spec.remote_command program.now path.now) }
 {
-    let mut text = with_room(alloc, program.len() as u128 + 3 + quoted_len(path))?;
+    let mut text = of_capacity(alloc, program.len() as u128 + 3 + quoted_len(path))?;
     text.extend_from_slice(program)?;
     text.extend_from_slice(b" '")?;
     push_quoted(&mut text, path)?;
@@ -110,7 +110,7 @@ pub(super) fn remote_command(
 }
 
 /// Returns an empty text with this capacity. A capacity that overflows counts as a failed allocation.
-fn with_room(alloc: Global, len: u128) -> Result<Vec<u8>, AllocError>
+fn of_capacity(alloc: Global, len: u128) -> Result<Vec<u8>, AllocError>
     ensures { IfOk result (λ text. text.items ≡ []) }
 {
     match usize::try_from(len) {

@@ -17,40 +17,40 @@ use Rattle.git_syntax.proofs.Addresses.AddressLemmas.{digits_pass, passing_digit
 -- ---- the searches
 
 -- the text is two texts around the byte that pass the tests
-record Cut (c : ℕ) (before behind : List ℕ → Bool) (t : List ℕ) : Type 0 where
+record Cut (c : ℕ) (before suffix : List ℕ → Bool) (t : List ℕ) : Type 0 where
   front : List ℕ
   back : List ℕ
   front_passes : before front ≡ true
-  back_passes : behind back ≡ true
+  back_passes : suffix back ≡ true
   joined : t ≡ front ++ c ∷ back
 
 -- a cut in front of all bytes
-cut_here : (c : ℕ) (before behind : List ℕ → Bool) (b : ℕ) (bs : List ℕ) → (b == c && (before [] && behind bs)) ≡ true → Cut c before behind (b ∷ bs)
-cut_here c before behind b bs e = grind arith
+cut_here : (c : ℕ) (before suffix : List ℕ → Bool) (b : ℕ) (bs : List ℕ) → (b == c && (before [] && suffix bs)) ≡ true → Cut c before suffix (b ∷ bs)
+cut_here c before suffix b bs e = grind arith
 
 -- a cut further on
-cut_later : (c : ℕ) (before behind : List ℕ → Bool) (b : ℕ) (bs : List ℕ) → Cut c (λ x. before (b ∷ x)) behind bs → Cut c before behind (b ∷ bs)
-cut_later c before behind b bs r = grind arith
+cut_later : (c : ℕ) (before suffix : List ℕ → Bool) (b : ℕ) (bs : List ℕ) → Cut c (λ x. before (b ∷ x)) suffix bs → Cut c before suffix (b ∷ bs)
+cut_later c before suffix b bs r = grind arith
 
 -- each result of the search is a cut
-any_cut_from : (c : ℕ) (before behind : List ℕ → Bool) (t : List ℕ) → any_cut c before behind t ≡ true → Cut c before behind t
-any_cut_from c before behind [] e = cc
-any_cut_from c before behind (b ∷ bs) e =
-    ⊎_elim (cut_here c before behind b bs) (λ h. cut_later c before behind b bs (any_cut_from c (λ x. before (b ∷ x)) behind bs h))
-    (or_cases (b == c && (before [] && behind bs)) (any_cut c (λ x. before (b ∷ x)) behind bs) e)
+any_cut_from : (c : ℕ) (before suffix : List ℕ → Bool) (t : List ℕ) → any_cut c before suffix t ≡ true → Cut c before suffix t
+any_cut_from c before suffix [] e = cc
+any_cut_from c before suffix (b ∷ bs) e =
+    ⊎_elim (cut_here c before suffix b bs) (λ h. cut_later c before suffix b bs (any_cut_from c (λ x. before (b ∷ x)) suffix bs h))
+    (or_cases (b == c && (before [] && suffix bs)) (any_cut c (λ x. before (b ∷ x)) suffix bs) e)
 
 -- the search finds each cut
-any_cut_to : (c : ℕ) (before behind : List ℕ → Bool) (x y : List ℕ) → before x ≡ true → behind y ≡ true → any_cut c before behind (x ++ c ∷ y) ≡ true
-any_cut_to c before behind [] y e f = or_left _ _ (and_from _ _ (eq-eqb c c refl) (and_from _ _ e f))
-any_cut_to c before behind (b ∷ x) y e f = or_right _ _ (any_cut_to c (λ z. before (b ∷ z)) behind x y e f)
+any_cut_to : (c : ℕ) (before suffix : List ℕ → Bool) (x y : List ℕ) → before x ≡ true → suffix y ≡ true → any_cut c before suffix (x ++ c ∷ y) ≡ true
+any_cut_to c before suffix [] y e f = or_left _ _ (and_from _ _ (eq-eqb c c refl) (and_from _ _ e f))
+any_cut_to c before suffix (b ∷ x) y e f = or_right _ _ (any_cut_to c (λ z. before (b ∷ z)) suffix x y e f)
 
 -- the byte and the text after it
-follows_byte_from : (c : ℕ) (behind : List ℕ → Bool) (t : List ℕ) → follows_byte c behind t ≡ true → (y : List ℕ) × (behind y ≡ true) × (t ≡ c ∷ y)
-follows_byte_from c behind t e = grind arith
+follows_byte_from : (c : ℕ) (suffix : List ℕ → Bool) (t : List ℕ) → follows_byte c suffix t ≡ true → (y : List ℕ) × (suffix y ≡ true) × (t ≡ c ∷ y)
+follows_byte_from c suffix t e = grind arith
 
 -- the same, back
-follows_byte_to : (c : ℕ) (behind : List ℕ → Bool) (y : List ℕ) → behind y ≡ true → follows_byte c behind (c ∷ y) ≡ true
-follows_byte_to c behind y e = and_from _ _ (eq-eqb c c refl) e
+follows_byte_to : (c : ℕ) (suffix : List ℕ → Bool) (y : List ℕ) → suffix y ≡ true → follows_byte c suffix (c ∷ y) ≡ true
+follows_byte_to c suffix y e = and_from _ _ (eq-eqb c c refl) e
 
 -- a number that the search finds
 any_up_to_from : (test : ℕ → Bool) (last : ℕ) → any_up_to test last ≡ true → (m : ℕ) × (m ≤ last) × (test m ≡ true)
@@ -210,16 +210,16 @@ short_from t e =
     let rest = follows_byte_from colon (back_test count.0) cut.back cut.back_passes in
     let more = any_up_to_from (λ n. are_items true n rest.0) (7 - count.0) rest.1 in
     let before = items_from false count.0 cut.front cut.front_passes in
-    let behind = items_from true more.0 rest.0 more.2 in
+    let suffix = items_from true more.0 rest.0 more.2 in
     record {
       front = before.0;
-      back = behind.0;
+      back = suffix.0;
       front_count = count.0;
       back_count = more.0;
       front_items = before.1;
-      back_items = behind.1;
+      back_items = suffix.1;
       short = omega (arith, count.1, more.1);
-      joined = short_joined t cut.front rest.0 cut.back (join_with_byte colon before.0) (join_with_byte colon behind.0) cut.joined rest.2 before.2 behind.2;
+      joined = short_joined t cut.front rest.0 cut.back (join_with_byte colon before.0) (join_with_byte colon suffix.0) cut.joined rest.2 before.2 suffix.2;
     }
 
 -- the same, back
@@ -232,11 +232,11 @@ short_to t h = subst (λ x. is_short_address x ≡ true) (sym h.joined) passes
     back : List ℕ
     back = join_with_byte colon h.back
 
-    behind : back_test h.front_count back ≡ true
-    behind = any_up_to_to (λ n. are_items true n back) (7 - h.front_count) h.back_count (omega (arith, h.short)) (items_to true h.back h.back_count h.back_items)
+    suffix : back_test h.front_count back ≡ true
+    suffix = any_up_to_to (λ n. are_items true n back) (7 - h.front_count) h.back_count (omega (arith, h.short)) (items_to true h.back h.back_count h.back_items)
 
     cut : any_cut colon (are_items false h.front_count) (follows_byte colon (back_test h.front_count)) (front ++ colon ∷ (colon ∷ back)) ≡ true
-    cut = any_cut_to colon (are_items false h.front_count) (follows_byte colon (back_test h.front_count)) front (colon ∷ back) (items_to false h.front h.front_count h.front_items) (follows_byte_to colon (back_test h.front_count) back behind)
+    cut = any_cut_to colon (are_items false h.front_count) (follows_byte colon (back_test h.front_count)) front (colon ∷ back) (items_to false h.front h.front_count h.front_items) (follows_byte_to colon (back_test h.front_count) back suffix)
 
     passes : is_short_address (front ++ colon ∷ (colon ∷ back)) ≡ true
     passes = any_up_to_to (λ m. any_cut colon (are_items false m) (follows_byte colon (back_test m)) (front ++ colon ∷ (colon ∷ back))) 7 h.front_count (omega (arith, h.short)) cut

@@ -60,11 +60,11 @@ common_around t x y c common joined =
     (parts.0, (and_parts (is_common_byte c) (is_common y) parts.1).1)
 
 -- so are the authority and the path of a URL
-pub common_behind : (b scheme rest authority path : List ℕ) → OtherUrlForm b scheme rest → is_common b ≡ true → rest ≡ authority ++ path
+pub common_after : (b scheme rest authority path : List ℕ) → OtherUrlForm b scheme rest → is_common b ≡ true → rest ≡ authority ++ path
     → (is_common authority ≡ true) × (is_common path ≡ true)
-common_behind b scheme rest authority path form common joined =
-    let behind = (common_parts scheme (codes "://" ++ rest) (subst (λ s. is_common s ≡ true) form.form.joined common)).1 in
-    let after_mark = (common_parts (codes "://") rest behind).1 in
+common_after b scheme rest authority path form common joined =
+    let suffix = (common_parts scheme (codes "://" ++ rest) (subst (λ s. is_common s ≡ true) form.form.joined common)).1 in
+    let after_mark = (common_parts (codes "://") rest suffix).1 in
     common_parts authority path (subst (λ s. is_common s ≡ true) joined after_mark)
 
 -- ---- the scp form and local paths
@@ -75,7 +75,7 @@ not_addressed b common (user, address, path, cut) =
     false≢true (sym (free_parts left_bracket user _ (subst (λ t. FreeOf left_bracket t) cut.joined (common_free_of_bracket b common))).1)
 
 -- a text whose first colon is its last, and doesn't begin `://`, is neither a remote helper nor a URL
-pub neither_by_colon : (b front rest : List ℕ) → ColonCut b front rest → ((behind : List ℕ) → ¬ (rest ≡ slash ∷ (slash ∷ behind))) → FreeOf colon rest → IsNeither b
+pub neither_by_colon : (b front rest : List ℕ) → ColonCut b front rest → ((suffix : List ℕ) → ¬ (rest ≡ slash ∷ (slash ∷ suffix))) → FreeOf colon rest → IsNeither b
 neither_by_colon b front rest cut no_mark free = record {
   no_helper = no_helper_alone b front rest cut.no_colon cut.joined (free_begins colon rest free);
   no_mark = no_mark_at_colon b front rest cut no_mark free;
@@ -127,7 +127,7 @@ pub url_of_common : (b scheme rest authority path : List ℕ) (user password hos
     → HoldsHosted (host_syntax_of scheme) (requires_host scheme) authority user password host port
     → HasUrlSyntax b (record { scheme = scheme; user = user; password = password; host = host; port = port; path = path })
 url_of_common b scheme rest authority path user password host port web form ruled common short named joined free starts held =
-    let pieces = common_behind b scheme rest authority path form common joined in
+    let pieces = common_after b scheme rest authority path form common joined in
     let cut = url_cut form named (rest_cut ruled joined (lacks_starts web authority pieces.0 free) (starts_path web path starts)) in
     let fits = short_fits b scheme rest form.form.joined short in
     let plain_text = common_plain b common in

@@ -84,7 +84,7 @@ overlap test xs ys zs =
 -- a front of a text, and 16 bytes of it at a place
 pub joined : (test : ℕ → Bool) (text : List ℕ) (done at : ℕ) → at ≤ done → done ≤ at + 16 → at + 16 ≤ length text → length text ≤ 64
     → bit_or (mask_of test (take done text)) (mask_of test (take 16 (drop at text)) * 2 ^ at % 2 ^ 64) ≡ mask_of test (take (at + 16) text)
-joined test text done at behind near buffer short =
+joined test text done at suffix near buffer short =
     let xs = take at text in
     let ys = take (done - at) (drop at text) in
     let zs = take (at + 16 - done) (drop done text) in

@@ -19,7 +19,7 @@ use Rattle.git_syntax.proofs.Parsing.FormLemmas.{not_scp}
 use Rattle.git_syntax.proofs.Texts.CutLemmas.{held_free, not_free}
 
 -- a text with a slash before its only colon is a local path
-pub slashed_local : (b front rest : List ℕ) → is_common b ≡ true → ColonCut b front rest → ((behind : List ℕ) → ¬ (rest ≡ slash ∷ (slash ∷ behind)))
+pub slashed_local : (b front rest : List ℕ) → is_common b ≡ true → ColonCut b front rest → ((suffix : List ℕ) → ¬ (rest ≡ slash ∷ (slash ∷ suffix)))
     → FreeOf colon rest → ¬ FreeOf slash front → SpellsLocal b (path_alone file true b)
 slashed_local b front rest common cut no_mark free slashed =
     let neither = neither_by_colon b front rest cut no_mark free in
@@ -28,7 +28,7 @@ slashed_local b front rest common cut no_mark free slashed =
     record { nonempty = form.nonempty; neither = form.neither; no_scp = form.no_scp; value = refl }
 
 -- a simple host before the only colon makes the scp form
-pub simple_scp : (b front rest : List ℕ) (user : Option (List ℕ)) (host : List ℕ) → is_common b ≡ true → ColonCut b front rest → ((behind : List ℕ) → ¬ (rest ≡ slash ∷ (slash ∷ behind)))
+pub simple_scp : (b front rest : List ℕ) (user : Option (List ℕ)) (host : List ℕ) → is_common b ≡ true → ColonCut b front rest → ((suffix : List ℕ) → ¬ (rest ≡ slash ∷ (slash ∷ suffix)))
     → FreeOf colon rest → 0 < length rest → begins_at_home rest ≡ false → CutsSimpleUser front user host → IsSimpleHost host
     → IsSimpleText b (record (path_alone ssh true rest) { user = user; host = Some host })
 simple_scp b front rest user host common cut no_mark free some not_home split simple =

@@ -184,8 +184,8 @@ remote_spelled b rest authority path p user password host port remote joined com
   where
     path_common : (scheme : List ℕ) → b ≡ scheme ++ (codes "://" ++ rest) → is_common path ≡ true
     path_common scheme e =
-        let behind = (common_parts scheme (codes "://" ++ rest) (subst (λ s. is_common s ≡ true) e common)).1 in
-        let after_mark = (common_parts (codes "://") rest behind).1 in
+        let suffix = (common_parts scheme (codes "://" ++ rest) (subst (λ s. is_common s ≡ true) e common)).1 in
+        let after_mark = (common_parts (codes "://") rest suffix).1 in
         (common_parts authority path (subst (λ s. is_common s ≡ true) cut after_mark)).1
 
     syntax : (scheme : List ℕ) → FreeOf colon scheme → bytes_eq scheme (codes "file") ≡ false → true ≡ is_scheme_text scheme → b ≡ scheme ++ (codes "://" ++ rest)

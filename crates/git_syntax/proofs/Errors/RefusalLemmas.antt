@@ -22,7 +22,7 @@ use Rattle.git_syntax.proofs.Texts.CutLemmas.{not_free}
 use Rattle.git_syntax.proofs.Parsing.HostLemmas.{flawed_unnamed}
 use Rattle.git_syntax.proofs.Parsing.FormLemmas.{address_cut, addressed_joined}
 use Rattle.git_syntax.proofs.Parsing.ClassifierLemmas.{empty_unspelled, url_has_form, no_file_path, unfit_url, spelled_as_file, spelled_as_url, spelled_as_scp, spelled_as_addressed, url_pieces}
-use Rattle.git_syntax.proofs.Parsing.UrlLemmas.{empty_names_nothing, none_not_some, no_name_alone, no_name_behind, no_text_before, no_host_behind, no_host_alone, no_scheme_refutes, bad_path_refutes, parts_cut, no_authority_refutes}
+use Rattle.git_syntax.proofs.Parsing.UrlLemmas.{empty_names_nothing, none_not_some, no_name_alone, no_name_after, no_text_before, no_host_after, no_host_alone, no_scheme_refutes, bad_path_refutes, parts_cut, no_authority_refutes}
 use Rattle.git_syntax.proofs.Parsing.SchemeLemmas.{transport}
 use Rattle.git_syntax.proofs.Parsing.UrlLocationLemmas.{no_path_refutes}
 use Rattle.git_syntax.proofs.Parsing.ScpLemmas.{scp_no_path, scp_no_host, addressed_no_path}
@@ -42,15 +42,15 @@ bad_user_refutes syntax needed authority (HasBadUser.password u w piece f g e ba
 bad_name_refutes : (syntax : HostSyntax) (needed : Bool) (authority piece : List ℕ) (named : UrlFault) → PieceOf authority piece → HostPortFlaw syntax piece named → IsNoAuthority syntax needed authority
 bad_name_refutes syntax needed authority piece named (PieceOf.whole free e) h =
     no_name_alone syntax needed authority free (subst (λ t. (host : Option (List ℕ)) (port : Option ℕ) → ¬ SpellsHostPort syntax t host port) e (flawed_unnamed syntax piece named h))
-bad_name_refutes syntax needed authority piece named (PieceOf.behind information free e) h =
-    no_name_behind syntax needed authority information piece free e (flawed_unnamed syntax piece named h)
+bad_name_refutes syntax needed authority piece named (PieceOf.suffix information free e) h =
+    no_name_after syntax needed authority information piece free e (flawed_unnamed syntax piece named h)
 
 -- a flawed authority without a backslash holds nothing, or not the host that is needed
 pub flawed_authority : (syntax : HostSyntax) (needed : Bool) (authority : List ℕ) (named : UrlFault) → FreeOf backslash authority → AuthorityFlaw syntax needed authority named → IsNoAuthority syntax needed authority
 flawed_authority syntax needed authority named free (AuthorityFlaw.holds_backslash held) = absurd (held free)
 flawed_authority syntax needed authority named free (AuthorityFlaw.bad_user bad) = bad_user_refutes syntax needed authority bad
 flawed_authority syntax needed authority named free (AuthorityFlaw.bad_name piece n of bad) = bad_name_refutes syntax needed authority piece n of bad
-flawed_authority syntax needed authority named free (AuthorityFlaw.no_host information e) = no_host_behind syntax needed authority information [] refl e refl
+flawed_authority syntax needed authority named free (AuthorityFlaw.no_host information e) = no_host_after syntax needed authority information [] refl e refl
 flawed_authority syntax needed authority named free (AuthorityFlaw.host_required need e) =
     no_host_alone syntax needed authority need (ap (λ t. list_any (λ c. c == at_sign) t) e) e
 
@@ -114,15 +114,15 @@ url_misses_path b scheme authority v need free e k =
     ]
 
 -- a colon with nothing after it is not that of an address with a path after it
-scp_path_behind : (b front user address path : List ℕ) → ScpForm b front [] → AddressedForm b user address path → path ≡ []
-scp_path_behind b front user address path form k =
+scp_path_after : (b front user address path : List ℕ) → ScpForm b front [] → AddressedForm b user address path → path ≡ []
+scp_path_after b front user address path form k =
     let (x, y, free, e) = address_cut address k.cut.addressed in
     elim (front_of_addressed b user address path x y front [] k free e form.joined form.form) [
       | inl within ↦
           let whole : front ++ colon ∷ [] ≡ front ++ colon ∷ (y ++ right_bracket ∷ (colon ∷ path)) =
           sym form.joined ∙ k.cut.joined ∙ addressed_joined user address path x y e ∙ ap (λ t. t ++ colon ∷ (y ++ right_bracket ∷ (colon ∷ path))) (sym within) in
           absurd (omega (arith, ap length (append_cancel_left front (colon ∷ []) (colon ∷ (y ++ right_bracket ∷ (colon ∷ path))) whole), length-append y (right_bracket ∷ (colon ∷ path))))
-      | inr behind ↦ sym behind.1
+      | inr suffix ↦ sym suffix.1
     ]
 
 -- no path after the colon of the scp form
@@ -130,7 +130,7 @@ scp_misses_path : (b front : List ℕ) (v : Location) → ScpForm b front [] →
 scp_misses_path b front v form k =
     elim (spelled_as_scp b form.neither (inl (front, [], form)) v k) [
       | inl s ↦ scp_no_path b front form v s
-      | inr s ↦ absurd (omega (arith, ap length (scp_path_behind b front s.user s.address s.path form s.form), s.pathed))
+      | inr s ↦ absurd (omega (arith, ap length (scp_path_after b front s.user s.address s.path form s.form), s.pathed))
     ]
 
 -- bytes without a path that is needed spell nothing
@@ -139,7 +139,7 @@ no_path_spelled b k v (MissesPath.in_file host free e) s =
     let form = url_has_form b (codes "file") host refl e in no_file_path b host form free v (spelled_as_file b host form v s)
 no_path_spelled b k v (MissesPath.in_url scheme authority need free e) s = url_misses_path b scheme authority v need free e s
 no_path_spelled b k v (MissesPath.in_scp front form) s = scp_misses_path b front v form s
-no_path_spelled b k v (MissesPath.behind_address user address form) s =
+no_path_spelled b k v (MissesPath.after_address user address form) s =
     addressed_no_path b user address form v (spelled_as_addressed b user address [] form v s)
 
 -- ---- all errors

@@ -20,7 +20,7 @@ use Rattle.git_syntax.specs.Flaws.MissesPath.{in_file}
 use Rattle.git_syntax.specs.Internal.Forms.{ColonCut, FrontCut, HasFrontCut, ScpCut, HasScpCut, AddressedFront, HasAddressedCut, LacksBrackets, PlainScp}
 use Rattle.git_syntax.proofs.Texts.CutLemmas.{tails, different_bytes, begins_cut, free_or_cut, not_free, free-cons, free_parts, cut_unique, last_cut_unique, mark_cut_unique, held_free, helper_name_bytes, helper_name_free, scheme_text_free}
 use Rattle.git_syntax.proofs.Addresses.AddressLemmas.{address_free}
-use Rattle.git_syntax.proofs.Texts.EscapeLemmas.{utf8_behind, utf8_class, utf8_parts}
+use Rattle.git_syntax.proofs.Texts.EscapeLemmas.{utf8_after, utf8_class, utf8_parts}
 use Rattle.git_syntax.proofs.Parsing.FormLemmas.{address_cut, addressed_joined, addressed_front_free, address_front_free, mark_no_helper, url_scheme_free, url_not_neither, file_not_neither, scp_neither, scp_has_form}
 
 -- ---- remote helpers
@@ -46,17 +46,17 @@ no_helper_unnamed b name rest free e other (n, a, h) =
 -- ---- URLs
 
 -- two slashes after the first colon are the first mark
-pub mark_at_colon : (b front rest behind : List ℕ) → ColonCut b front rest → rest ≡ slash ∷ (slash ∷ behind) → (¬ Holds (codes "://") front) × (b ≡ front ++ (codes "://" ++ behind))
-mark_at_colon b front rest behind cut is = (held_free front cut.no_colon, cut.joined ∙ ap (λ t. front ++ colon ∷ t) is)
+pub mark_at_colon : (b front rest suffix : List ℕ) → ColonCut b front rest → rest ≡ slash ∷ (slash ∷ suffix) → (¬ Holds (codes "://") front) × (b ≡ front ++ (codes "://" ++ suffix))
+mark_at_colon b front rest suffix cut is = (held_free front cut.no_colon, cut.joined ∙ ap (λ t. front ++ colon ∷ t) is)
 
 -- no mark if the only colon has no two slashes after it
-pub no_mark_at_colon : (b front rest : List ℕ) → ColonCut b front rest → ((behind : List ℕ) → ¬ (rest ≡ slash ∷ (slash ∷ behind))) → FreeOf colon rest → ¬ Holds (codes "://") b
+pub no_mark_at_colon : (b front rest : List ℕ) → ColonCut b front rest → ((suffix : List ℕ) → ¬ (rest ≡ slash ∷ (slash ∷ suffix))) → FreeOf colon rest → ¬ Holds (codes "://") b
 no_mark_at_colon b front rest cut other none (f, r, e) = elim (free_or_cut colon f) [
   | inl free ↦ other r (cut_unique colon front f rest (slash ∷ (slash ∷ r)) cut.no_colon free (sym cut.joined ∙ e)).1
   | inr (x, y, free, is) ↦
-      let behind = y ++ colon ∷ (slash ∷ (slash ∷ r)) in
+      let suffix = y ++ colon ∷ (slash ∷ (slash ∷ r)) in
       let whole = sym cut.joined ∙ e ∙ ap (λ t. t ++ (codes "://" ++ r)) is ∙ append_assoc x (colon ∷ y) (codes "://" ++ r) in
-      not_free colon y (slash ∷ (slash ∷ r)) (subst (λ t. FreeOf colon t) (cut_unique colon front x rest behind cut.no_colon free whole).1 none)
+      not_free colon y (slash ∷ (slash ∷ r)) (subst (λ t. FreeOf colon t) (cut_unique colon front x rest suffix cut.no_colon free whole).1 none)
 ]
 
 -- ---- the colon of the scp form
@@ -81,8 +81,8 @@ same_front b f p g q e k (bracketed i a free none m) (bracketed j c free' none' 
     (m ∙ ap (λ x. left_bracket ∷ (x ++ right_bracket ∷ a)) parts.0 ∙ ap (λ x. left_bracket ∷ (j ++ right_bracket ∷ x)) rest.0 ∙ sym n, rest.1)
 
 -- the first colon after brackets at the front, which is cut by its place
-pub front_taken : (b inside behind rest path : List ℕ) → FreeOf right_bracket inside → FreeOf colon rest → b ≡ left_bracket ∷ (inside ++ right_bracket ∷ behind) → behind ≡ rest ++ colon ∷ path → FrontCut b (take (length inside + length rest + 2) b) path
-front_taken b inside behind rest path free none e f =
+pub front_taken : (b inside suffix rest path : List ℕ) → FreeOf right_bracket inside → FreeOf colon rest → b ≡ left_bracket ∷ (inside ++ right_bracket ∷ suffix) → suffix ≡ rest ++ colon ∷ path → FrontCut b (take (length inside + length rest + 2) b) path
+front_taken b inside suffix rest path free none e f =
     let front = left_bracket ∷ (inside ++ right_bracket ∷ rest) in
     let place = length inside + length rest + 2 in
     let joined : b ≡ front ++ colon ∷ path = e ∙ ap (λ x. left_bracket ∷ (inside ++ right_bracket ∷ x)) f ∙ ap (λ x. left_bracket ∷ x) (sym (append_assoc inside (right_bracket ∷ rest) (colon ∷ path))) in
@@ -90,16 +90,16 @@ front_taken b inside behind rest path free none e f =
     subst (λ x. FrontCut b x path) (sym same) record { joined = joined; form = bracketed inside rest free none refl }
 
 -- no front if no colon follows the brackets
-no_front : (b inside behind front path : List ℕ) → FreeOf right_bracket inside → b ≡ left_bracket ∷ (inside ++ right_bracket ∷ behind) → FreeOf colon behind → b ≡ front ++ colon ∷ path → ScpFront b front → ⊥
-no_front b inside behind front path free e none k (plain _ h) = plain_apart b front path inside behind k h e
-no_front b inside behind front path free e none k (bracketed i a free' _ m) =
+no_front : (b inside suffix front path : List ℕ) → FreeOf right_bracket inside → b ≡ left_bracket ∷ (inside ++ right_bracket ∷ suffix) → FreeOf colon suffix → b ≡ front ++ colon ∷ path → ScpFront b front → ⊥
+no_front b inside suffix front path free e none k (plain _ h) = plain_apart b front path inside suffix k h e
+no_front b inside suffix front path free e none k (bracketed i a free' _ m) =
     let whole = sym e ∙ bracketed_joined b front path i a k m in
-    let parts = cut_unique right_bracket inside i behind (a ++ colon ∷ path) free free' (tails whole) in
+    let parts = cut_unique right_bracket inside i suffix (a ++ colon ∷ path) free free' (tails whole) in
     not_free colon a path (subst (λ x. FreeOf colon x) parts.1 none)
 
 -- no colon after brackets at the front
-pub front_unbracketed : (b inside behind : List ℕ) → FreeOf right_bracket inside → b ≡ left_bracket ∷ (inside ++ right_bracket ∷ behind) → FreeOf colon behind → ¬ HasFrontCut b
-front_unbracketed b inside behind free e none (front, path, h) = no_front b inside behind front path free e none h.joined h.form
+pub front_unbracketed : (b inside suffix : List ℕ) → FreeOf right_bracket inside → b ≡ left_bracket ∷ (inside ++ right_bracket ∷ suffix) → FreeOf colon suffix → ¬ HasFrontCut b
+front_unbracketed b inside suffix free e none (front, path, h) = no_front b inside suffix front path free e none h.joined h.form
 
 -- a `/` before that colon
 pub no_scp_cut : (b front path : List ℕ) → FrontCut b front path → ¬ FreeOf slash front → ¬ HasScpCut b
@@ -144,9 +144,9 @@ addressed_unbracketed b front rest user last cut none f other (u, a, p, h) =
     false≢true (sym other ∙ ap (begins_with left_bracket) (sym same))
 
 -- the user and the bracket, as they were cut one after the other
-addressed_cut_front : (b front rest user last behind : List ℕ) → FreeOf colon front → b ≡ front ++ colon ∷ rest → FreeOf at_sign last → front ≡ user ++ at_sign ∷ last
-    → drop (length user) b ≡ at_sign ∷ (left_bracket ∷ behind) → AddressedFront b user behind
-addressed_cut_front b front rest user last behind free e none f tail =
+addressed_cut_front : (b front rest user last suffix : List ℕ) → FreeOf colon front → b ≡ front ++ colon ∷ rest → FreeOf at_sign last → front ≡ user ++ at_sign ∷ last
+    → drop (length user) b ≡ at_sign ∷ (left_bracket ∷ suffix) → AddressedFront b user suffix
+addressed_cut_front b front rest user last suffix free e none f tail =
     let whole : b ≡ user ++ (at_sign ∷ last ++ colon ∷ rest) = e ∙ ap (λ t. t ++ colon ∷ rest) f ∙ append_assoc user (at_sign ∷ last) (colon ∷ rest) in
     let same : at_sign ∷ last ++ colon ∷ rest ≡ drop (length user) b = sym (ap (drop (length user)) whole ∙ drop_at user (at_sign ∷ last ++ colon ∷ rest) (length user) refl) in
     record {
@@ -161,26 +161,26 @@ addressed_cut_front b front rest user last behind free e none f tail =
 pub addressed_bracketed : (b front rest user last : List ℕ) → ColonCut b front rest → FreeOf at_sign last → front ≡ user ++ at_sign ∷ last → begins_with left_bracket last ≡ true → AddressedFront b user (drop (length user + 2) b)
 addressed_bracketed b front rest user last cut none f begins =
     let (tail, is) = begins_cut left_bracket last begins in
-    let behind = at_sign ∷ (left_bracket ∷ (tail ++ colon ∷ rest)) in
-    let whole : b ≡ user ++ behind = cut.joined ∙ ap (λ t. t ++ colon ∷ rest) (f ∙ ap (λ t. user ++ at_sign ∷ t) is) ∙ append_assoc user (at_sign ∷ (left_bracket ∷ tail)) (colon ∷ rest) in
-    let second : drop (length user + 2) b ≡ tail ++ colon ∷ rest = ap (drop (length user + 2)) whole ∙ drop-append-add user behind 2 in
-    let first : drop (length user) b ≡ at_sign ∷ (left_bracket ∷ drop (length user + 2) b) = ap (drop (length user)) whole ∙ drop_at user behind (length user) refl ∙ ap (λ t. at_sign ∷ (left_bracket ∷ t)) (sym second) in
+    let suffix = at_sign ∷ (left_bracket ∷ (tail ++ colon ∷ rest)) in
+    let whole : b ≡ user ++ suffix = cut.joined ∙ ap (λ t. t ++ colon ∷ rest) (f ∙ ap (λ t. user ++ at_sign ∷ t) is) ∙ append_assoc user (at_sign ∷ (left_bracket ∷ tail)) (colon ∷ rest) in
+    let second : drop (length user + 2) b ≡ tail ++ colon ∷ rest = ap (drop (length user + 2)) whole ∙ drop-append-add user suffix 2 in
+    let first : drop (length user) b ≡ at_sign ∷ (left_bracket ∷ drop (length user + 2) b) = ap (drop (length user)) whole ∙ drop_at user suffix (length user) refl ∙ ap (λ t. at_sign ∷ (left_bracket ∷ t)) (sym second) in
     addressed_cut_front b front rest user last _ cut.no_colon cut.joined none f first
 
 -- the address and the text after it
-addressed_pieces : (b user behind address path u a p : List ℕ) → AddressedFront b user behind → FreeOf right_bracket address → behind ≡ address ++ right_bracket ∷ path → AddressedCut b u a p → (a ≡ address) × (colon ∷ p ≡ path)
-addressed_pieces b user behind address path u a p s free e h =
+addressed_pieces : (b user suffix address path u a p : List ℕ) → AddressedFront b user suffix → FreeOf right_bracket address → suffix ≡ address ++ right_bracket ∷ path → AddressedCut b u a p → (a ≡ address) × (colon ∷ p ≡ path)
+addressed_pieces b user suffix address path u a p s free e h =
     cut_unique right_bracket a address (colon ∷ p) path (address_free right_bracket a refl h.addressed) free (sym (s.only u a p h).1 ∙ e)
 
 -- no colon after the bracket
-pub addressed_no_path : (b user behind address path : List ℕ) → AddressedFront b user behind → FreeOf right_bracket address → behind ≡ address ++ right_bracket ∷ path → begins_with colon path ≡ false → ¬ HasAddressedCut b
-addressed_no_path b user behind address path s free e other (u, a, p, h) =
-    false≢true (sym other ∙ ap (begins_with colon) (sym (addressed_pieces b user behind address path u a p s free e h).1))
+pub addressed_no_path : (b user suffix address path : List ℕ) → AddressedFront b user suffix → FreeOf right_bracket address → suffix ≡ address ++ right_bracket ∷ path → begins_with colon path ≡ false → ¬ HasAddressedCut b
+addressed_no_path b user suffix address path s free e other (u, a, p, h) =
+    false≢true (sym other ∙ ap (begins_with colon) (sym (addressed_pieces b user suffix address path u a p s free e h).1))
 
 -- a `/` in the user, or no address
-pub addressed_other : (b user behind address path : List ℕ) → AddressedFront b user behind → FreeOf right_bracket address → behind ≡ address ++ right_bracket ∷ path → (FreeOf slash user → ¬ IsIpv6Text address) → ¬ HasAddressedCut b
-addressed_other b user behind address path s free e other (u, a, p, h) =
-    let same = addressed_pieces b user behind address path u a p s free e h in
+pub addressed_other : (b user suffix address path : List ℕ) → AddressedFront b user suffix → FreeOf right_bracket address → suffix ≡ address ++ right_bracket ∷ path → (FreeOf slash user → ¬ IsIpv6Text address) → ¬ HasAddressedCut b
+addressed_other b user suffix address path s free e other (u, a, p, h) =
+    let same = addressed_pieces b user suffix address path u a p s free e h in
     other (subst (λ t. FreeOf slash t) (s.only u a p h).0 h.no_slash) (subst IsIpv6Text same.0 h.addressed)
 
 -- a front of a text without brackets has none
@@ -245,7 +245,7 @@ file_mark_utf8 = (codes "file://", (refl, refl))
 -- the host is UTF-8
 pub file_host_utf8 : (b rest host path : List ℕ) → UrlForm b (codes "file") rest → IsUtf8 b → rest ≡ host ++ path → begins_with slash path ≡ true → IsUtf8 host
 file_host_utf8 b rest host path s text e rooted =
-    let tail = utf8_behind (codes "file://") rest (subst IsUtf8 s.joined text) file_mark_utf8 in
+    let tail = utf8_after (codes "file://") rest (subst IsUtf8 s.joined text) file_mark_utf8 in
     let cut = begins_cut slash path rooted in
     (utf8_parts host cut.0 slash (subst IsUtf8 (e ∙ ap (λ x. host ++ x) cut.1) tail) (omega arith)).0
 

@@ -91,8 +91,8 @@ within_form b user address path x y h e form = record {
 }
 
 -- a front that ends after the bracket
-behind_form : (b user address path : List ℕ) → AddressedForm b user address path → ScpFront b (user ++ at_sign ∷ (left_bracket ∷ (address ++ right_bracket ∷ []))) → ScpForm b (user ++ at_sign ∷ (left_bracket ∷ (address ++ right_bracket ∷ []))) path
-behind_form b user address path h form = record {
+after_form : (b user address path : List ℕ) → AddressedForm b user address path → ScpFront b (user ++ at_sign ∷ (left_bracket ∷ (address ++ right_bracket ∷ []))) → ScpForm b (user ++ at_sign ∷ (left_bracket ∷ (address ++ right_bracket ∷ []))) path
+after_form b user address path h form = record {
   joined =
       h.cut.joined
       ∙ ap (λ s. user ++ at_sign ∷ (left_bracket ∷ s)) (sym (append_assoc address (right_bracket ∷ []) (colon ∷ path)))
@@ -106,8 +106,8 @@ behind_form b user address path h form = record {
 closed_user_front : (b user x s t : List ℕ) → user ≡ left_bracket ∷ (s ++ right_bracket ∷ t) → FreeOf right_bracket s → FreeOf colon user → FreeOf colon x → ScpFront b (user ++ at_sign ∷ (left_bracket ∷ x))
 closed_user_front b user x s t cut g u f =
     let whole : FreeOf colon (left_bracket ∷ (s ++ right_bracket ∷ t)) = subst (λ z. FreeOf colon z) cut u in
-    let behind : FreeOf colon t = (free_head_tail colon right_bracket t (free_parts colon s (right_bracket ∷ t) (free_head_tail colon left_bracket (s ++ right_bracket ∷ t) whole).1).1).1 in
-    ScpFront.bracketed s (t ++ at_sign ∷ (left_bracket ∷ x)) g (addressed_front_free t x behind f) (ap (λ z. z ++ at_sign ∷ (left_bracket ∷ x)) cut ∙ ap (λ z. left_bracket ∷ z) (append_assoc s (right_bracket ∷ t) (at_sign ∷ (left_bracket ∷ x))))
+    let suffix : FreeOf colon t = (free_head_tail colon right_bracket t (free_parts colon s (right_bracket ∷ t) (free_head_tail colon left_bracket (s ++ right_bracket ∷ t) whole).1).1).1 in
+    ScpFront.bracketed s (t ++ at_sign ∷ (left_bracket ∷ x)) g (addressed_front_free t x suffix f) (ap (λ z. z ++ at_sign ∷ (left_bracket ∷ x)) cut ∙ ap (λ z. left_bracket ∷ z) (append_assoc s (right_bracket ∷ t) (at_sign ∷ (left_bracket ∷ x))))
 
 -- or they end after the address
 open_user_front : (b user address r : List ℕ) → user ≡ left_bracket ∷ r → FreeOf right_bracket r → FreeOf right_bracket address → ScpFront b (user ++ at_sign ∷ (left_bracket ∷ (address ++ right_bracket ∷ [])))
@@ -122,7 +122,7 @@ HadScpForm b = (front : List ℕ) × (path : List ℕ) × ScpForm b front path
 bracket_user_form : (b user address path x y r : List ℕ) → AddressedForm b user address path → FreeOf colon x → address ≡ x ++ colon ∷ y → user ≡ left_bracket ∷ r → HadScpForm b
 bracket_user_form b user address path x y r h f e begins = elim (free_or_cut right_bracket r) [
   | inl g ↦
-      (user ++ at_sign ∷ (left_bracket ∷ (address ++ right_bracket ∷ [])), path, behind_form b user address path h (open_user_front b user address r begins g (address_free right_bracket address refl h.cut.addressed)))
+      (user ++ at_sign ∷ (left_bracket ∷ (address ++ right_bracket ∷ [])), path, after_form b user address path h (open_user_front b user address r begins g (address_free right_bracket address refl h.cut.addressed)))
   | inr (s, t, g, cut) ↦
       (user ++ at_sign ∷ (left_bracket ∷ x), y ++ right_bracket ∷ (colon ∷ path), within_form b user address path x y h e (closed_user_front b user x s t (begins ∙ ap (λ z. left_bracket ∷ z) cut) g h.cut.no_colon f))
 ]

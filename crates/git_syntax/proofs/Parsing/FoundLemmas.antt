@@ -59,18 +59,18 @@ front_reported c (b ∷ d ∷ bs) = front_of_more c b d bs (text_before_last c (
 -- ---- the host that Secure Shell takes
 
 -- a host with a bracket in front that ends in no bracket, with or without a colon after it
-kept_bracket : (behind : List ℕ) → EndsNot right_bracket behind → ((front : List ℕ) → ¬ (behind ≡ front ++ right_bracket ∷ (colon ∷ []))) → IsSshHost (left_bracket ∷ behind) (left_bracket ∷ behind)
-kept_bracket behind closed marked = grind arith
+kept_bracket : (suffix : List ℕ) → EndsNot right_bracket suffix → ((front : List ℕ) → ¬ (suffix ≡ front ++ right_bracket ∷ (colon ∷ []))) → IsSshHost (left_bracket ∷ suffix) (left_bracket ∷ suffix)
+kept_bracket suffix closed marked = grind arith
 
 -- a host with a bracket in front
-ssh_host_bracket : (behind : List ℕ) (whole inside : Option (List ℕ)) → ReportsFront colon behind whole → ReportsFront right_bracket (unwrap_or whole behind) inside → IsSshHost (left_bracket ∷ behind) (unwrap_or inside (left_bracket ∷ behind))
-ssh_host_bracket behind None (Some inside) other e = IsSshHost.brackets (ap (λ t. left_bracket ∷ t) e)
-ssh_host_bracket behind (Some whole) (Some inside) e k =
+ssh_host_bracket : (suffix : List ℕ) (whole inside : Option (List ℕ)) → ReportsFront colon suffix whole → ReportsFront right_bracket (unwrap_or whole suffix) inside → IsSshHost (left_bracket ∷ suffix) (unwrap_or inside (left_bracket ∷ suffix))
+ssh_host_bracket suffix None (Some inside) other e = IsSshHost.brackets (ap (λ t. left_bracket ∷ t) e)
+ssh_host_bracket suffix (Some whole) (Some inside) e k =
     IsSshHost.brackets_colon (ap (λ t. left_bracket ∷ t) (e ∙ ap (λ t. t ++ colon ∷ []) k ∙ append_assoc inside (right_bracket ∷ []) (colon ∷ [])))
-ssh_host_bracket behind None None other closed =
-    kept_bracket behind closed (λ front e. other (front ++ right_bracket ∷ []) (e ∙ sym (append_assoc front (right_bracket ∷ []) (colon ∷ []))))
-ssh_host_bracket behind (Some whole) None e closed =
-    kept_bracket behind (λ front k. both_ways (58 == 93) refl (eq-eqb 58 93 (same_from_push whole front colon right_bracket (sym e ∙ k)).1))
+ssh_host_bracket suffix None None other closed =
+    kept_bracket suffix closed (λ front e. other (front ++ right_bracket ∷ []) (e ∙ sym (append_assoc front (right_bracket ∷ []) (colon ∷ []))))
+ssh_host_bracket suffix (Some whole) None e closed =
+    kept_bracket suffix (λ front k. both_ways (58 == 93) refl (eq-eqb 58 93 (same_from_push whole front colon right_bracket (sym e ∙ k)).1))
     (λ front k. closed front (same_from_push whole (front ++ right_bracket ∷ []) colon colon (sym e ∙ k ∙ sym (append_assoc front (right_bracket ∷ []) (colon ∷ [])))).0)
 
 -- a host without a bracket in front is in no brackets, so it is taken without the colon after it

@@ -93,9 +93,9 @@ lowercase_address_before (b ∷ a) z h =
 pub lowercase_address_cut : (t a z : List ℕ) → FreeOf percent_sign a → t ≡ a ++ percent_sign ∷ z → lowercase_address t ≡ lowercase (take (length a) t) ++ drop (length a) t
 lowercase_address_cut t a z free e =
     let front : take (length a) t ≡ a = ap (λ x. take (length a) x) e ∙ take-append_seam a (percent_sign ∷ z) in
-    let behind : drop (length a) t ≡ percent_sign ∷ z = ap (λ x. drop (length a) x) e ∙ drop-append_seam a (percent_sign ∷ z) in
+    let suffix : drop (length a) t ≡ percent_sign ∷ z = ap (λ x. drop (length a) x) e ∙ drop-append_seam a (percent_sign ∷ z) in
     ap lowercase_address e ∙ lowercase_address_before a z free
-    ∙ sym (ap (λ x. lowercase x ++ drop (length a) t) front ∙ ap (λ x. lowercase a ++ x) behind)
+    ∙ sym (ap (λ x. lowercase x ++ drop (length a) t) front ∙ ap (λ x. lowercase a ++ x) suffix)
 
 pub lowercase_address_whole : (t : List ℕ) → FreeOf percent_sign t → lowercase_address t ≡ lowercase (take (length t) t) ++ drop (length t) t
 lowercase_address_whole t free = grind (arith, nat_tests, lowercase_address_alone, append-nil, drop_all, take_all)
@@ -161,24 +161,24 @@ many_some piece (inl h) none = absurd (both_ways (begins_with colon piece) (ap (
 many_some piece (inr (x, y, z, e)) none = absurd (omega (arith, length-append x (colon ∷ (y ++ colon ∷ z)), ap length (sym e ∙ none)))
 
 -- a bracket in front
-bracket_begins : (piece behind : List ℕ) → piece ≡ left_bracket ∷ behind → begins_with left_bracket piece ≡ true
-bracket_begins piece behind e = ap (begins_with left_bracket) e
+bracket_begins : (piece suffix : List ℕ) → piece ≡ left_bracket ∷ suffix → begins_with left_bracket piece ≡ true
+bracket_begins piece suffix e = ap (begins_with left_bracket) e
 
 -- no colon follows the only colon of a text
-behind_colon_free : (text digits x y : List ℕ) → FreeOf colon text → FreeOf colon digits → text ++ colon ∷ digits ≡ x ++ colon ∷ y → FreeOf colon y
-behind_colon_free [] digits [] y f g e = subst (λ t. FreeOf colon t) (tails e) g
-behind_colon_free [] digits (c ∷ x) y f g e = absurd (not_free colon x y (subst (λ t. FreeOf colon t) (tails e) g))
-behind_colon_free (b ∷ text) digits [] y f g e =
+after_colon_free : (text digits x y : List ℕ) → FreeOf colon text → FreeOf colon digits → text ++ colon ∷ digits ≡ x ++ colon ∷ y → FreeOf colon y
+after_colon_free [] digits [] y f g e = subst (λ t. FreeOf colon t) (tails e) g
+after_colon_free [] digits (c ∷ x) y f g e = absurd (not_free colon x y (subst (λ t. FreeOf colon t) (tails e) g))
+after_colon_free (b ∷ text) digits [] y f g e =
     let other = (free_head_tail colon b text f).0 in
     absurd (both_ways (b == colon) other (ap (λ a. a == colon) (heads e)))
-behind_colon_free (b ∷ text) digits (c ∷ x) y f g e = behind_colon_free text digits x y (free_head_tail colon b text f).1 g (tails e)
+after_colon_free (b ∷ text) digits (c ∷ x) y f g e = after_colon_free text digits x y (free_head_tail colon b text f).1 g (tails e)
 
 -- a host and a port's place have no two colons
 plain_one_colon : (text rest : List ℕ) → FreeOf colon text → IsPortPlace rest → HoldsTwoColons (text ++ rest) → ⊥
 plain_one_colon text rest f (inl e) (x, y, z, is) =
     not_free colon x (y ++ colon ∷ z) (subst (λ t. FreeOf colon t) (sym (ap (λ t. text ++ t) e ∙ append-nil text) ∙ is) f)
 plain_one_colon text rest f (inr (digits, g, e)) (x, y, z, is) =
-    not_free colon y z (behind_colon_free text digits x (y ++ colon ∷ z) f g (sym (ap (λ t. text ++ t) e) ∙ is))
+    not_free colon y z (after_colon_free text digits x (y ++ colon ∷ z) f g (sym (ap (λ t. text ++ t) e) ∙ is))
 
 -- their colon, if there is one, marks a port's place
 plain_not_many : {A : Type 0} (piece : List ℕ) → IsPlainPiece piece → IsManyColoned piece → A
@@ -362,10 +362,10 @@ bad_host_unnamed syntax piece host port (HasBadHost.colons w r b m none) s =
       | ManyNames.unbracketed q h ↦ r q
       | ManyNames.other_host n v q t h ↦ none n t
     ]
-bad_host_unnamed syntax piece host port (HasBadHost.open_bracket behind free e) s =
-    let n = named_in_brackets syntax piece host port (bracket_begins piece behind e) s in
+bad_host_unnamed syntax piece host port (HasBadHost.open_bracket suffix free e) s =
+    let n = named_in_brackets syntax piece host port (bracket_begins piece suffix e) s in
     not_free right_bracket n.x n.rest (subst (λ t. FreeOf right_bracket t) (tails (sym e ∙ n.around.joined)) free)
-bad_host_unnamed syntax piece host port (HasBadHost.behind_bracket x rest free e some other) s =
+bad_host_unnamed syntax piece host port (HasBadHost.after_bracket x rest free e some other) s =
     let n = named_in_brackets syntax piece host port (bracket_begins piece _ e) s in
     let ends = (bracket_cut n.x x n.rest rest piece n.around.closed free n.around.joined e).1 in
     elim n.around.followed [
@@ -471,12 +471,12 @@ not_digits syntax [] e = absurd (false≢true e)
 not_digits syntax (b ∷ digits) e = (omega arith, λ port n. both_ways _ (sym e) n.digits.1)
 
 -- a host in brackets, and the rest
-pub bracketed_name : (syntax : HostSyntax) (behind x rest shown : List ℕ) (host : Option (List ℕ)) (port : Option ℕ) → FreeOf right_bracket x → behind ≡ x ++ right_bracket ∷ rest → IsInner syntax x shown → Follows syntax shown rest host port → SpellsHostPort syntax (left_bracket ∷ behind) host port
-bracketed_name syntax behind x rest shown host port free e (inner, stands, is) (Follows.nothing f h p) =
+pub bracketed_name : (syntax : HostSyntax) (suffix x rest shown : List ℕ) (host : Option (List ℕ)) (port : Option ℕ) → FreeOf right_bracket x → suffix ≡ x ++ right_bracket ∷ rest → IsInner syntax x shown → Follows syntax shown rest host port → SpellsHostPort syntax (left_bracket ∷ suffix) host port
+bracketed_name syntax suffix x rest shown host port free e (inner, stands, is) (Follows.nothing f h p) =
     SpellsHostPort.bracketed x inner free stands (ap (λ t. left_bracket ∷ t) (e ∙ ap (λ t. x ++ right_bracket ∷ t) f)) (h ∙ ap Some is) p
-bracketed_name syntax behind x rest shown host port free e (inner, stands, is) (Follows.lone_colon f h p) =
+bracketed_name syntax suffix x rest shown host port free e (inner, stands, is) (Follows.lone_colon f h p) =
     SpellsHostPort.bracketed_colon x inner free stands (ap (λ t. left_bracket ∷ t) (e ∙ ap (λ t. x ++ right_bracket ∷ t) f)) (h ∙ ap (λ t. Some (t ++ colon ∷ [])) is ∙ ap Some (brackets_colon inner)) p
-bracketed_name syntax behind x rest shown host port free e (inner, stands, is) (Follows.number d n k f h p) =
+bracketed_name syntax suffix x rest shown host port free e (inner, stands, is) (Follows.number d n k f h p) =
     SpellsHostPort.bracketed_port x inner d n free stands k (ap (λ t. left_bracket ∷ t) (e ∙ ap (λ t. x ++ right_bracket ∷ t) f)) (h ∙ ap Some is) p
 
 -- a host outside them, and a colon and the rest
@@ -490,16 +490,16 @@ no_end_begins : (rest : List ℕ) → ¬ EndsHost rest → (0 < length rest) × 
 no_end_begins rest h = grind arith
 
 -- a closing bracket that another byte than a colon follows
-pub not_ended : (syntax : HostSyntax) (behind x rest : List ℕ) → FreeOf right_bracket x → behind ≡ x ++ right_bracket ∷ rest → ¬ EndsHost rest → HasBadHost syntax (left_bracket ∷ behind)
-not_ended syntax behind x rest free e open_end = let ends = no_end_begins rest open_end in HasBadHost.behind_bracket x rest free (ap (λ t. left_bracket ∷ t) e) ends.0 ends.1
+pub not_ended : (syntax : HostSyntax) (suffix x rest : List ℕ) → FreeOf right_bracket x → suffix ≡ x ++ right_bracket ∷ rest → ¬ EndsHost rest → HasBadHost syntax (left_bracket ∷ suffix)
+not_ended syntax suffix x rest free e open_end = let ends = no_end_begins rest open_end in HasBadHost.after_bracket x rest free (ap (λ t. left_bracket ∷ t) e) ends.0 ends.1
 
 -- brackets around a text that denotes nothing
-pub not_inner : (syntax : HostSyntax) (behind x rest : List ℕ) → FreeOf right_bracket x → behind ≡ x ++ right_bracket ∷ rest → EndsHost rest → IsNoInner syntax x → HasBadHost syntax (left_bracket ∷ behind)
-not_inner syntax behind x rest free e ended none = HasBadHost.brackets x rest record { closed = free; joined = ap (λ t. left_bracket ∷ t) e; followed = ended } none
+pub not_inner : (syntax : HostSyntax) (suffix x rest : List ℕ) → FreeOf right_bracket x → suffix ≡ x ++ right_bracket ∷ rest → EndsHost rest → IsNoInner syntax x → HasBadHost syntax (left_bracket ∷ suffix)
+not_inner syntax suffix x rest free e ended none = HasBadHost.brackets x rest record { closed = free; joined = ap (λ t. left_bracket ∷ t) e; followed = ended } none
 
 -- brackets with a colon and no port after them
-pub no_port_behind : (syntax : HostSyntax) (behind x rest digits : List ℕ) → FreeOf right_bracket x → behind ≡ x ++ right_bracket ∷ rest → rest ≡ colon ∷ digits → IsNoPort syntax digits → HasBadPort syntax (left_bracket ∷ behind)
-no_port_behind syntax behind x rest digits free e f none = HasBadPort.bracketed x digits free (ap (λ t. left_bracket ∷ t) (e ∙ ap (λ t. x ++ right_bracket ∷ t) f)) none
+pub no_port_after : (syntax : HostSyntax) (suffix x rest digits : List ℕ) → FreeOf right_bracket x → suffix ≡ x ++ right_bracket ∷ rest → rest ≡ colon ∷ digits → IsNoPort syntax digits → HasBadPort syntax (left_bracket ∷ suffix)
+no_port_after syntax suffix x rest digits free e f none = HasBadPort.bracketed x digits free (ap (λ t. left_bracket ∷ t) (e ∙ ap (λ t. x ++ right_bracket ∷ t) f)) none
 
 -- ---- hosts are text
 

@@ -89,13 +89,13 @@ white_space_searched bs three two lacking first_three first_two none is =
 -- ---- a path among the first bytes
 
 -- a front in which no path starts leaves fewer bytes among which one may start
-starts_behind : (web : Bool) (n : ℕ) (front y : List ℕ) → Lacks (is_path_start web) front → starts_within web n (front ++ y) ≡ starts_within web (n - length front) y
-starts_behind web n [] y lacks = let e : n ≡ n - 0 = omega arith in ap (λ m. starts_within web m y) e
-starts_behind web zero (b ∷ front) y lacks = let e : zero ≡ zero - length (b ∷ front) = omega arith in ap (λ m. starts_within web m y) e
-starts_behind web (suc n) (b ∷ front) y lacks =
+starts_after : (web : Bool) (n : ℕ) (front y : List ℕ) → Lacks (is_path_start web) front → starts_within web n (front ++ y) ≡ starts_within web (n - length front) y
+starts_after web n [] y lacks = let e : n ≡ n - 0 = omega arith in ap (λ m. starts_within web m y) e
+starts_after web zero (b ∷ front) y lacks = let e : zero ≡ zero - length (b ∷ front) = omega arith in ap (λ m. starts_within web m y) e
+starts_after web (suc n) (b ∷ front) y lacks =
     let parts = lacks_head_tail (is_path_start web) b front lacks in
     let e : n - length front ≡ suc n - length (b ∷ front) = omega arith in
-    rw parts.0 (starts_behind web n front y parts.1 ∙ ap (λ m. starts_within web m y) e)
+    rw parts.0 (starts_after web n front y parts.1 ∙ ap (λ m. starts_within web m y) e)
 
 -- a path that starts at the first byte starts among any
 starts_now : (web : Bool) (n b : ℕ) (bs : List ℕ) → is_path_start web b ≡ true → starts_within web (suc n) (b ∷ bs) ≡ true
@@ -124,7 +124,7 @@ slashes_left_out (b ∷ slashes) bs all reached =
 -- a front in which no path starts is counted
 front_counted : (web : Bool) (within : ℕ) (front y : List ℕ) → Lacks (is_path_start web) front → is_in_time web (Front within) (front ++ y) ≡ is_in_time web (Front (within - count_by (λ b. not (is_ascii_whitespace b)) front)) y
 front_counted web within front y lacks =
-    ap (starts_within web within) (filter-append _ front y) ∙ starts_behind web within (without_white_space front) (without_white_space y) (lacks_without web front lacks)
+    ap (starts_within web within) (filter-append _ front y) ∙ starts_after web within (without_white_space front) (without_white_space y) (lacks_without web front lacks)
     ∙ ap (λ n. starts_within web (within - n) (without_white_space y)) (length-filter (λ b. not (is_ascii_whitespace b)) front)
 
 -- a window is tested in two pieces
@@ -143,9 +143,9 @@ pub starts_in_time : (web : Bool) (left : ℕ) (path y : List ℕ) → 0 < left 
 starts_in_time web left path y some starts there = grind arith
 
 -- if no path starts in the window, the text after it is left
-pub window_behind : (web : Bool) (left : ℕ) (path y : List ℕ) → (length path == 0) ≡ true → is_in_time web (Front left) y ≡ is_in_time web (Front left) (path ++ y)
-window_behind web left [] y there = refl
-window_behind web left (b ∷ path) y there = let none = eqb-true (length (b ∷ path)) 0 there in absurd (omega (arith, none))
+pub window_after : (web : Bool) (left : ℕ) (path y : List ℕ) → (length path == 0) ≡ true → is_in_time web (Front left) y ≡ is_in_time web (Front left) (path ++ y)
+window_after web left [] y there = refl
+window_after web left (b ∷ path) y there = let none = eqb-true (length (b ∷ path)) 0 there in absurd (omega (arith, none))
 
 -- a front that is longer than a text is left out of it and of the rest
 pub drop_joined : (n : ℕ) (x y : List ℕ) → length x ≤ n → drop n (x ++ y) ≡ drop (n - length x) y
@@ -198,12 +198,12 @@ limit_by_lengths front back whole short all = grind arith
 -- and if a path starts in time
 limit_by_start : (web : Bool) (front back whole : List ℕ) → Lacks (is_path_start web) front → starts_within web 1025 (front ++ back) ≡ true → IsWithinLimit front back whole
 limit_by_start web front [] whole lacks found =
-    absurd (false≢true (sym (ap (list_any (is_path_start web)) (take-nil (1025 - length front))) ∙ sym (starts_behind web 1025 front [] lacks) ∙ found))
+    absurd (false≢true (sym (ap (list_any (is_path_start web)) (take-nil (1025 - length front))) ∙ sym (starts_after web 1025 front [] lacks) ∙ found))
 limit_by_start web front (b ∷ back) whole lacks found =
     elim (cases_lt 1024 (length front)) [
       | inl long ↦
           let none : 1025 - length front ≡ 0 = omega arith in
-          absurd (false≢true (sym (ap (λ n. starts_within web n (b ∷ back)) none) ∙ sym (starts_behind web 1025 front (b ∷ back) lacks) ∙ found))
+          absurd (false≢true (sym (ap (λ n. starts_within web n (b ∷ back)) none) ∙ sym (starts_after web 1025 front (b ∷ back) lacks) ∙ found))
       | inr short ↦ short
     ]
 
@@ -213,7 +213,7 @@ start_by_limit web front [] whole lacks starts short = or_left _ _ (le-leb _ 102
 start_by_limit web front (b ∷ back) whole lacks (inl e) short = let wrong : b ∷ back ≡ [] = e in cc
 start_by_limit web front (b ∷ back) whole lacks (inr starts) short =
     let some : 1025 - length front ≡ suc (1024 - length front) = omega arith in
-    or_right _ _ (starts_behind web 1025 front (b ∷ back) lacks ∙ ap (λ n. starts_within web n (b ∷ back)) some ∙ starts_now web (1024 - length front) b back starts)
+    or_right _ _ (starts_after web 1025 front (b ∷ back) lacks ∙ ap (λ n. starts_within web n (b ∷ back)) some ∙ starts_now web (1024 - length front) b back starts)
 
 -- a scheme and the text after it fit if the test says so
 fits_from_test : (scheme rest : List ℕ) → length scheme ≤ 1024 → is_rest_short (is_web_scheme scheme) rest ≡ true → Fits scheme rest

@@ -93,8 +93,8 @@ inner_front user x y z rest inside after front second cut f u c i n e whole =
     ∙ ap (λ s. s ++ colon ∷ rest) (append_assoc y (right_bracket ∷ z) (at_sign ∷ (left_bracket ∷ x)))
     ∙ append_assoc y (right_bracket ∷ (z ++ at_sign ∷ (left_bracket ∷ x))) (colon ∷ rest) in
     let outer = cut_unique right_bracket (left_bracket ∷ inside) y (after ++ colon ∷ second) ((z ++ at_sign ∷ (left_bracket ∷ x)) ++ colon ∷ rest) i f (whole ∙ moved) in
-    let behind : FreeOf colon z = (free_head_tail colon right_bracket z (free_parts colon y (right_bracket ∷ z) (subst (λ s. FreeOf colon s) cut u)).1).1 in
-    let inner = cut_unique colon after (z ++ at_sign ∷ (left_bracket ∷ x)) second rest n (addressed_front_free z x behind c) outer.1 in
+    let suffix : FreeOf colon z = (free_head_tail colon right_bracket z (free_parts colon y (right_bracket ∷ z) (subst (λ s. FreeOf colon s) cut u)).1).1 in
+    let inner = cut_unique colon after (z ++ at_sign ∷ (left_bracket ∷ x)) second rest n (addressed_front_free z x suffix c) outer.1 in
     e ∙ (λ j. outer.0 j ++ right_bracket ∷ inner.0 j) ∙ sym (append_assoc y (right_bracket ∷ z) (at_sign ∷ (left_bracket ∷ x))) ∙ ap (λ s. s ++ at_sign ∷ (left_bracket ∷ x)) (sym cut)
 
 -- the fronts of the scp form in a text with the shape

@@ -31,11 +31,11 @@ use Rattle.git_syntax.proofs.Parsing.ScpFrontLemmas.{scp_user_unique, addressed_
 -- ---- the colons of the front
 
 -- around two different bytes: one follows the other
-pub either_behind : (c d : ℕ) (a x y n : List ℕ) → (c == d) ≡ false → a ++ c ∷ x ≡ y ++ d ∷ n → ((z : List ℕ) × (x ≡ z ++ d ∷ n) × (y ≡ a ++ c ∷ z)) ⊎ ((z : List ℕ) × (n ≡ z ++ c ∷ x))
-either_behind c d [] x [] n h e = absurd (both_ways (c == d) h (eq-eqb c d (heads e)))
-either_behind c d [] x (b ∷ y) n h e = inl (y, tails e, ap (λ t. t ∷ y) (sym (heads e)))
-either_behind c d (b ∷ a) x [] n h e = inr (a, sym (tails e))
-either_behind c d (b ∷ a) x (k ∷ y) n h e = elim (either_behind c d a x y n h (tails e)) [
+pub either_after : (c d : ℕ) (a x y n : List ℕ) → (c == d) ≡ false → a ++ c ∷ x ≡ y ++ d ∷ n → ((z : List ℕ) × (x ≡ z ++ d ∷ n) × (y ≡ a ++ c ∷ z)) ⊎ ((z : List ℕ) × (n ≡ z ++ c ∷ x))
+either_after c d [] x [] n h e = absurd (both_ways (c == d) h (eq-eqb c d (heads e)))
+either_after c d [] x (b ∷ y) n h e = inl (y, tails e, ap (λ t. t ∷ y) (sym (heads e)))
+either_after c d (b ∷ a) x [] n h e = inr (a, sym (tails e))
+either_after c d (b ∷ a) x (k ∷ y) n h e = elim (either_after c d a x y n h (tails e)) [
   | inl (z, is, front) ↦ inl (z, is, ap (λ t. t ∷ y) (sym (heads e)) ∙ ap (λ t. b ∷ t) front)
   | inr found ↦ inr found
 ]
@@ -46,10 +46,10 @@ colons_inside_front b front (plain free h) = inl free
 colons_inside_front b front (bracketed inside after h free e) = inr (left_bracket ∷ inside, after, h, free, e)
 
 -- so do those of the text after an `@`
-colons_inside_behind : (user host : List ℕ) → ColonsInside (user ++ at_sign ∷ host) → ColonsInside host
-colons_inside_behind user host (inl free) = inl (free_head_tail colon at_sign host (free_parts colon user (at_sign ∷ host) free).1).1
-colons_inside_behind user host (inr (inside, rest, closed, free, e)) =
-    elim (either_behind at_sign right_bracket user host inside rest refl e) [
+colons_inside_after : (user host : List ℕ) → ColonsInside (user ++ at_sign ∷ host) → ColonsInside host
+colons_inside_after user host (inl free) = inl (free_head_tail colon at_sign host (free_parts colon user (at_sign ∷ host) free).1).1
+colons_inside_after user host (inr (inside, rest, closed, free, e)) =
+    elim (either_after at_sign right_bracket user host inside rest refl e) [
       | inl (z, is, front) ↦
           inr (z, rest, (free_head_tail right_bracket at_sign z (free_parts right_bracket user (at_sign ∷ z) (subst (λ t. FreeOf right_bracket t) front closed)).1).1, free, is)
       | inr (z, is) ↦ inl (free_head_tail colon at_sign host (free_parts colon z (at_sign ∷ host) (subst (λ t. FreeOf colon t) is free)).1).1
@@ -57,7 +57,7 @@ colons_inside_behind user host (inr (inside, rest, closed, free, e)) =
 
 -- so do those of the host
 pub colons_inside_host : (front : List ℕ) (user : Option (List ℕ)) (host : List ℕ) → ScpUser front user host → ColonsInside front → ColonsInside host
-colons_inside_host front user host k h = grind (arith, nat_tests, colons_inside_behind)
+colons_inside_host front user host k h = grind (arith, nat_tests, colons_inside_after)
 
 -- ---- the piece that a host is read from
 
@@ -109,7 +109,7 @@ addressed_no_path_before b user address k v h =
       | inl within ↦
           let pieces = scp_user_unique h.front h.user (Some user) h.host (left_bracket ∷ x) h.hosted.no_at (address_front_free at_sign address x y refl k.cut.addressed e) h.split (with_user user within refl) in
           open_bracket_no_host h.host x h.denoted pieces.1 (address_front_free right_bracket address x y refl k.cut.addressed e) h.hosted
-      | inr (behind, none) ↦ absurd (omega (arith, ap length none, h.pathed))
+      | inr (suffix, none) ↦ absurd (omega (arith, ap length none, h.pathed))
     ]
 
 -- nor does the shape
@@ -160,18 +160,18 @@ name_found host some open_front text free = record {
 }
 
 -- if the text holds a colon, a bracket closes after it
-colon_enclosed : (host front behind : List ℕ) → host ≡ front ++ colon ∷ behind → ColonsInside host → (z : List ℕ) × (rest : List ℕ) × (behind ≡ z ++ right_bracket ∷ rest)
-colon_enclosed host front behind e (inl free) = absurd (not_free colon front behind (subst (λ t. FreeOf colon t) e free))
-colon_enclosed host front behind e (inr (inside, rest, closed, free, k)) =
-    elim (either_behind colon right_bracket front behind inside rest refl (sym e ∙ k)) [
+colon_enclosed : (host front suffix : List ℕ) → host ≡ front ++ colon ∷ suffix → ColonsInside host → (z : List ℕ) × (rest : List ℕ) × (suffix ≡ z ++ right_bracket ∷ rest)
+colon_enclosed host front suffix e (inl free) = absurd (not_free colon front suffix (subst (λ t. FreeOf colon t) e free))
+colon_enclosed host front suffix e (inr (inside, rest, closed, free, k)) =
+    elim (either_after colon right_bracket front suffix inside rest refl (sym e ∙ k)) [
       | inl (z, is, _) ↦ (z, rest, is)
-      | inr (z, is) ↦ absurd (not_free colon z behind (subst (λ t. FreeOf colon t) is free))
+      | inr (z, is) ↦ absurd (not_free colon z suffix (subst (λ t. FreeOf colon t) is free))
     ]
 
 -- so the host isn't an address without brackets
-no_address : (host front behind : List ℕ) → host ≡ front ++ colon ∷ behind → ColonsInside host → ¬ ReadsAddress git_hosts (escaped_percents host)
-no_address host front behind e colons (_, address) =
-    let (z, rest, is) = colon_enclosed host front behind e colons in
+no_address : (host front suffix : List ℕ) → host ≡ front ++ colon ∷ suffix → ColonsInside host → ¬ ReadsAddress git_hosts (escaped_percents host)
+no_address host front suffix e colons (_, address) =
+    let (z, rest, is) = colon_enclosed host front suffix e colons in
     let whole : host ≡ (front ++ colon ∷ z) ++ right_bracket ∷ rest = e ∙ ap (λ t. front ++ colon ∷ t) is ∙ sym (append_assoc front (colon ∷ z) (right_bracket ∷ rest)) in
     let escaped = ap escaped_percents whole ∙ escaped_percents-append (front ++ colon ∷ z) (right_bracket ∷ rest) in
     not_free right_bracket (escaped_percents (front ++ colon ∷ z)) (escaped_percents rest) (subst (λ t. FreeOf right_bracket t) escaped (free_piece address))
@@ -181,92 +181,92 @@ no_address host front behind e colons (_, address) =
     free_piece (inr (a, h, k)) = subst (λ t. FreeOf right_bracket t) (sym k) (free-append right_bracket a (colon ∷ []) (address_free right_bracket a refl h) refl)
 
 -- a host whose colons mark no port
-pub colons_found : (host front behind : List ℕ) → begins_with left_bracket host ≡ false → IsUtf8 host → ColonsInside host → host ≡ front ++ colon ∷ behind → (true ≡ (length front == 0)) ⊎ (¬ FreeOf colon behind) → SpellsHost (escaped_percents host) (normal_host host)
-colons_found host front behind open_front text colons e many = record {
+pub colons_found : (host front suffix : List ℕ) → begins_with left_bracket host ≡ false → IsUtf8 host → ColonsInside host → host ≡ front ++ colon ∷ suffix → (true ≡ (length front == 0)) ⊎ (¬ FreeOf colon suffix) → SpellsHost (escaped_percents host) (normal_host host)
+colons_found host front suffix open_front text colons e many = record {
   named = normal_host host;
   names =
-      SpellsHostPort.colons (normal_host host) bare_not_strict (no_address host front behind e colons) (escaped_front left_bracket host refl open_front) (many_coloned many) (name_text host text) refl refl;
+      SpellsHostPort.colons (normal_host host) bare_not_strict (no_address host front suffix e colons) (escaped_front left_bracket host refl open_front) (many_coloned many) (name_text host text) refl refl;
   unbracketed = Unbrackets.same (not_in_brackets (normal_host host) (normal_front host open_front)) refl;
 }
   where
-    escaped : escaped_percents host ≡ escaped_percents front ++ colon ∷ escaped_percents behind
-    escaped = ap escaped_percents e ∙ escaped_percents-append front (colon ∷ behind)
+    escaped : escaped_percents host ≡ escaped_percents front ++ colon ∷ escaped_percents suffix
+    escaped = ap escaped_percents e ∙ escaped_percents-append front (colon ∷ suffix)
 
-    many_coloned : (true ≡ (length front == 0)) ⊎ (¬ FreeOf colon behind) → IsManyColoned (escaped_percents host)
-    many_coloned (inl none) = colon_first (escaped_percents host) (escaped_percents front) (escaped_percents behind) (ap (λ t. length (escaped_percents t) == 0) (sym (nil_tested front none))) escaped
+    many_coloned : (true ≡ (length front == 0)) ⊎ (¬ FreeOf colon suffix) → IsManyColoned (escaped_percents host)
+    many_coloned (inl none) = colon_first (escaped_percents host) (escaped_percents front) (escaped_percents suffix) (ap (λ t. length (escaped_percents t) == 0) (sym (nil_tested front none))) escaped
     many_coloned (inr held) =
-        elim (free_or_cut colon behind) [
+        elim (free_or_cut colon suffix) [
           | inl h ↦ absurd (held h)
           | inr (y, z, _, k) ↦
               inr (escaped_percents front, escaped_percents y, escaped_percents z, escaped ∙ ap (λ t. escaped_percents front ++ colon ∷ t) (ap escaped_percents k ∙ escaped_percents-append y (colon ∷ z)))
         ]
 
 -- the text in the place of a port, after one colon, isn't a port
-pub no_port_found : (host front behind : List ℕ) → begins_with left_bracket host ≡ false → ColonsInside host → FreeOf colon front → host ≡ front ++ colon ∷ behind → false ≡ (length front == 0) → FreeOf colon behind → ScpNameFlaw host fault.BadPort
-no_port_found host front behind open_front colons first e some last =
-    HasBadPort.plain (escaped_percents front) (escaped_percents behind) (record { nonempty = escaped_some front (some_tested front some); no_colon = lacks_escaped_percents (λ b. b == colon) front refl refl refl first; no_bracket = escaped_front left_bracket front refl (front_open front e some) }) (lacks_escaped_percents (λ b. b == colon) behind refl refl refl last)
-    (ap escaped_percents e ∙ escaped_percents-append front (colon ∷ behind)) (not_digits git_hosts (escaped_percents behind) (no_digits (list_all is_ascii_digit (escaped_percents behind)) refl))
+pub no_port_found : (host front suffix : List ℕ) → begins_with left_bracket host ≡ false → ColonsInside host → FreeOf colon front → host ≡ front ++ colon ∷ suffix → false ≡ (length front == 0) → FreeOf colon suffix → ScpNameFlaw host fault.BadPort
+no_port_found host front suffix open_front colons first e some last =
+    HasBadPort.plain (escaped_percents front) (escaped_percents suffix) (record { nonempty = escaped_some front (some_tested front some); no_colon = lacks_escaped_percents (λ b. b == colon) front refl refl refl first; no_bracket = escaped_front left_bracket front refl (front_open front e some) }) (lacks_escaped_percents (λ b. b == colon) suffix refl refl refl last)
+    (ap escaped_percents e ∙ escaped_percents-append front (colon ∷ suffix)) (not_digits git_hosts (escaped_percents suffix) (no_digits (list_all is_ascii_digit (escaped_percents suffix)) refl))
   where
-    front_open : (t : List ℕ) → host ≡ t ++ colon ∷ behind → false ≡ (length t == 0) → begins_with left_bracket t ≡ false
+    front_open : (t : List ℕ) → host ≡ t ++ colon ∷ suffix → false ≡ (length t == 0) → begins_with left_bracket t ≡ false
     front_open [] k none = absurd (false≢true none)
     front_open (b ∷ t) k none = sym (ap (begins_with left_bracket) k) ∙ open_front
 
-    no_digits : (all : Bool) → list_all is_ascii_digit (escaped_percents behind) ≡ all → false ≡ list_all is_ascii_digit (escaped_percents behind)
+    no_digits : (all : Bool) → list_all is_ascii_digit (escaped_percents suffix) ≡ all → false ≡ list_all is_ascii_digit (escaped_percents suffix)
     no_digits false k = sym k
     no_digits true k =
-        let (z, rest, is) = colon_enclosed host front behind e colons in
-        absurd (not_free right_bracket (escaped_percents z) (escaped_percents rest) (subst (λ t. FreeOf right_bracket t) (ap escaped_percents is ∙ escaped_percents-append z (right_bracket ∷ rest)) (free_of_all is_ascii_digit right_bracket (escaped_percents behind) k refl)))
+        let (z, rest, is) = colon_enclosed host front suffix e colons in
+        absurd (not_free right_bracket (escaped_percents z) (escaped_percents rest) (subst (λ t. FreeOf right_bracket t) (ap escaped_percents is ∙ escaped_percents-append z (right_bracket ∷ rest)) (free_of_all is_ascii_digit right_bracket (escaped_percents suffix) k refl)))
 
 -- ---- brackets
 
 -- no bracket closes
-pub open_found : (behind : List ℕ) → FreeOf right_bracket behind → ScpNameFlaw (left_bracket ∷ behind) fault.BadCharacter
-open_found behind free = HasBadHost.open_bracket (escaped_percents behind) (lacks_escaped_percents (λ b. b == right_bracket) behind refl refl refl free) refl
+pub open_found : (suffix : List ℕ) → FreeOf right_bracket suffix → ScpNameFlaw (left_bracket ∷ suffix) fault.BadCharacter
+open_found suffix free = HasBadHost.open_bracket (escaped_percents suffix) (lacks_escaped_percents (λ b. b == right_bracket) suffix refl refl refl free) refl
 
 -- the text between brackets and the text after them, if each `%` is escaped
-brackets_escaped : (behind inner rest : List ℕ) → behind ≡ inner ++ right_bracket ∷ rest → escaped_percents behind ≡ escaped_percents inner ++ right_bracket ∷ escaped_percents rest
-brackets_escaped behind inner rest e = ap escaped_percents e ∙ escaped_percents-append inner (right_bracket ∷ rest)
+brackets_escaped : (suffix inner rest : List ℕ) → suffix ≡ inner ++ right_bracket ∷ rest → escaped_percents suffix ≡ escaped_percents inner ++ right_bracket ∷ escaped_percents rest
+brackets_escaped suffix inner rest e = ap escaped_percents e ∙ escaped_percents-append inner (right_bracket ∷ rest)
 
 -- no colon follows the brackets
-no_colon_behind : (behind inner rest : List ℕ) → ColonsInside (left_bracket ∷ behind) → FreeOf right_bracket inner → behind ≡ inner ++ right_bracket ∷ rest → FreeOf colon rest
-no_colon_behind behind inner rest (inl free) closed e =
+no_colon_after : (suffix inner rest : List ℕ) → ColonsInside (left_bracket ∷ suffix) → FreeOf right_bracket inner → suffix ≡ inner ++ right_bracket ∷ rest → FreeOf colon rest
+no_colon_after suffix inner rest (inl free) closed e =
     let whole : FreeOf colon ((left_bracket ∷ inner) ++ right_bracket ∷ rest) = subst (λ t. FreeOf colon (left_bracket ∷ t)) e free in
     (free_head_tail colon right_bracket rest (free_parts colon (left_bracket ∷ inner) (right_bracket ∷ rest) whole).1).1
-no_colon_behind behind inner rest (inr (inside, last, first, free, k)) closed e =
+no_colon_after suffix inner rest (inr (inside, last, first, free, k)) closed e =
     let pieces = cut_unique right_bracket (left_bracket ∷ inner) inside rest last closed first (sym (ap (λ t. left_bracket ∷ t) e) ∙ k) in
     subst (λ t. FreeOf colon t) (sym pieces.1) free
 
 -- so anything that follows is refused
-pub rest_found : (behind inner rest : List ℕ) → ColonsInside (left_bracket ∷ behind) → FreeOf right_bracket inner → behind ≡ inner ++ right_bracket ∷ rest → false ≡ (length rest == 0) → ScpNameFlaw (left_bracket ∷ behind) fault.BadCharacter
-rest_found behind inner rest colons closed e some =
-    not_ended git_hosts (escaped_percents behind) (escaped_percents inner) (escaped_percents rest) (lacks_escaped_percents (λ b. b == right_bracket) inner refl refl refl closed) (brackets_escaped behind inner rest e)
+pub rest_found : (suffix inner rest : List ℕ) → ColonsInside (left_bracket ∷ suffix) → FreeOf right_bracket inner → suffix ≡ inner ++ right_bracket ∷ rest → false ≡ (length rest == 0) → ScpNameFlaw (left_bracket ∷ suffix) fault.BadCharacter
+rest_found suffix inner rest colons closed e some =
+    not_ended git_hosts (escaped_percents suffix) (escaped_percents inner) (escaped_percents rest) (lacks_escaped_percents (λ b. b == right_bracket) inner refl refl refl closed) (brackets_escaped suffix inner rest e)
     (λ ends. elim ends [
       | inl none ↦ absurd (omega (arith, ap length none, escaped_some rest (some_tested rest some)))
       | inr begins ↦
-          both_ways _ (free_begins colon (escaped_percents rest) (lacks_escaped_percents (λ b. b == colon) rest refl refl refl (no_colon_behind behind inner rest colons closed e))) begins
+          both_ways _ (free_begins colon (escaped_percents rest) (lacks_escaped_percents (λ b. b == colon) rest refl refl refl (no_colon_after suffix inner rest colons closed e))) begins
     ])
 
 -- a host between brackets
-inner_found : (behind inner rest shown : List ℕ) → FreeOf right_bracket inner → behind ≡ inner ++ right_bracket ∷ rest → true ≡ (length rest == 0) → Inner git_hosts (escaped_percents inner) shown → SpellsHost (escaped_percents (left_bracket ∷ behind)) shown
-inner_found behind inner rest shown closed e none h = record {
+inner_found : (suffix inner rest shown : List ℕ) → FreeOf right_bracket inner → suffix ≡ inner ++ right_bracket ∷ rest → true ≡ (length rest == 0) → Inner git_hosts (escaped_percents inner) shown → SpellsHost (escaped_percents (left_bracket ∷ suffix)) shown
+inner_found suffix inner rest shown closed e none h = record {
   named = left_bracket ∷ (shown ++ right_bracket ∷ []);
   names =
       SpellsHostPort.bracketed (escaped_percents inner) shown (lacks_escaped_percents (λ b. b == right_bracket) inner refl refl refl closed) h
-      (ap (λ t. left_bracket ∷ t) (brackets_escaped behind inner rest e ∙ ap (λ t. escaped_percents inner ++ right_bracket ∷ escaped_percents t) (nil_tested rest none))) refl refl;
+      (ap (λ t. left_bracket ∷ t) (brackets_escaped suffix inner rest e ∙ ap (λ t. escaped_percents inner ++ right_bracket ∷ escaped_percents t) (nil_tested rest none))) refl refl;
   unbracketed = Unbrackets.brackets refl;
 }
 
 -- a literal
-pub literal_found : (behind inner rest : List ℕ) → FreeOf right_bracket inner → behind ≡ inner ++ right_bracket ∷ rest → true ≡ (length rest == 0) → IsLiteral (escaped_percents inner) → SpellsHost (escaped_percents (left_bracket ∷ behind)) (lowercase_address inner)
-literal_found behind inner rest closed e none h =
-    inner_found behind inner rest (lowercase_address inner) closed e none (subst (λ t. Inner git_hosts (escaped_percents inner) (lowercase_address t)) (decode_escaped_percents inner) (literal_inner git_hosts (escaped_percents inner) h))
+pub literal_found : (suffix inner rest : List ℕ) → FreeOf right_bracket inner → suffix ≡ inner ++ right_bracket ∷ rest → true ≡ (length rest == 0) → IsLiteral (escaped_percents inner) → SpellsHost (escaped_percents (left_bracket ∷ suffix)) (lowercase_address inner)
+literal_found suffix inner rest closed e none h =
+    inner_found suffix inner rest (lowercase_address inner) closed e none (subst (λ t. Inner git_hosts (escaped_percents inner) (lowercase_address t)) (decode_escaped_percents inner) (literal_inner git_hosts (escaped_percents inner) h))
 
 -- and any other text
-pub inner_kept : (behind inner rest : List ℕ) → IsUtf8 (left_bracket ∷ behind) → FreeOf right_bracket inner → behind ≡ inner ++ right_bracket ∷ rest → true ≡ (length rest == 0) → ¬ IsLiteral (escaped_percents inner) → SpellsHost (escaped_percents (left_bracket ∷ behind)) inner
-inner_kept behind inner rest text closed e none other =
-    let inside = (utf8_parts [] behind left_bracket text (omega arith)).1 in
+pub inner_kept : (suffix inner rest : List ℕ) → IsUtf8 (left_bracket ∷ suffix) → FreeOf right_bracket inner → suffix ≡ inner ++ right_bracket ∷ rest → true ≡ (length rest == 0) → ¬ IsLiteral (escaped_percents inner) → SpellsHost (escaped_percents (left_bracket ∷ suffix)) inner
+inner_kept suffix inner rest text closed e none other =
+    let inside = (utf8_parts [] suffix left_bracket text (omega arith)).1 in
     let is = (utf8_parts inner rest right_bracket (subst IsUtf8 e inside) (omega arith)).0 in
-    inner_found behind inner rest inner closed e none (Bracketed.other other (sym (decode_escaped_percents inner)) is)
+    inner_found suffix inner rest inner closed e none (Bracketed.other other (sym (decode_escaped_percents inner)) is)
 
 -- ---- literals whose `%` is unescaped
 
@@ -330,8 +330,8 @@ unbracketed_utf8 host inner (Unbrackets.brackets e) is =
 unbracketed_utf8 host inner (Unbrackets.same other e) is = subst IsUtf8 (sym e) is
 
 -- so is the host that one of the scp form denotes
-pub scp_meant_utf8 : {host denoted : List ℕ} → ScpHost host denoted → IsUtf8 denoted
-scp_meant_utf8 {host} {denoted} h = unbracketed_utf8 h.named denoted h.unbracketed (names_utf8 git_hosts (escaped_percents host) h.named None h.names)
+pub scp_denoted_utf8 : {host denoted : List ℕ} → ScpHost host denoted → IsUtf8 denoted
+scp_denoted_utf8 {host} {denoted} h = unbracketed_utf8 h.named denoted h.unbracketed (names_utf8 git_hosts (escaped_percents host) h.named None h.names)
 
 -- ---- simple hosts
 

@@ -38,12 +38,12 @@ pub some_kept : (text : List ℕ) → ¬ (text ≡ []) → unless_empty text ≡
 some_kept text some = grind arith
 
 -- an empty text denotes none
-pub nothing_meant : (text : List ℕ) → length text ≡ 0 → None ≡ unless_empty (percent_decode text)
-nothing_meant text e = sym (ap unless_empty (ap percent_decode (nil_from_length text e) ∙ percent_decode-nil))
+pub nothing_denoted : (text : List ℕ) → length text ≡ 0 → None ≡ unless_empty (percent_decode text)
+nothing_denoted text e = sym (ap unless_empty (ap percent_decode (nil_from_length text e) ∙ percent_decode-nil))
 
 -- any other text denotes its decoding
-pub something_meant : (text : List ℕ) → 0 < length text → Some (percent_decode text) ≡ unless_empty (percent_decode text)
-something_meant text some = sym (some_kept (percent_decode text) (λ e. absurd (omega (arith, ap length (decode_empty text e)))))
+pub something_denoted : (text : List ℕ) → 0 < length text → Some (percent_decode text) ≡ unless_empty (percent_decode text)
+something_denoted text some = sym (some_kept (percent_decode text) (λ e. absurd (omega (arith, ap length (decode_empty text e)))))
 
 -- ---- names
 
@@ -89,8 +89,8 @@ no_name_alone syntax needed text free none user password host port h =
     none host port (authority_alone syntax text user password host port free h.named)
 
 -- there is no authority if the piece after the user information names nothing
-pub no_name_behind : (syntax : HostSyntax) (needed : Bool) (text information piece : List ℕ) → FreeOf at_sign piece → text ≡ information ++ at_sign ∷ piece → ((host : Option (List ℕ)) (port : Option ℕ) → ¬ SpellsHostPort syntax piece host port) → IsNoAuthority syntax needed text
-no_name_behind syntax needed text information piece free joined none user password host port h =
+pub no_name_after : (syntax : HostSyntax) (needed : Bool) (text information piece : List ℕ) → FreeOf at_sign piece → text ≡ information ++ at_sign ∷ piece → ((host : Option (List ℕ)) (port : Option ℕ) → ¬ SpellsHostPort syntax piece host port) → IsNoAuthority syntax needed text
+no_name_after syntax needed text information piece free joined none user password host port h =
     none host port (authority_cut syntax text information piece user password host port free joined h.named).1
 
 -- there is no authority if the user information isn't text
@@ -99,8 +99,8 @@ no_text_before syntax needed text information piece free joined bad user passwor
     no_text_refutes information user password bad (authority_cut syntax text information piece user password host port free joined h.named).0
 
 -- there is no authority if nothing follows the user information
-pub no_host_behind : (syntax : HostSyntax) (needed : Bool) (text information piece : List ℕ) → FreeOf at_sign piece → text ≡ information ++ at_sign ∷ piece → piece ≡ [] → IsNoAuthority syntax needed text
-no_host_behind syntax needed text information piece free joined empty user password host port h =
+pub no_host_after : (syntax : HostSyntax) (needed : Bool) (text information piece : List ℕ) → FreeOf at_sign piece → text ≡ information ++ at_sign ∷ piece → piece ≡ [] → IsNoAuthority syntax needed text
+no_host_after syntax needed text information piece free joined empty user password host port h =
     let pieces = authority_cut syntax text information piece user password host port free joined h.named in
     none_not_some host (empty_names_nothing syntax piece host port empty pieces.1) pieces.2
 

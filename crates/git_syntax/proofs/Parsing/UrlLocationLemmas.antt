@@ -27,30 +27,30 @@ use Rattle.git_syntax.proofs.Parsing.UrlLemmas.{scheme_no_mark}
 -- ---- paths
 
 -- `/` denotes an empty path
-pub root_meant : (path : List ℕ) → length path ≡ 0 → percent_decode (slash ∷ []) ≡ or_root (percent_decode path)
-root_meant path empty = grind (arith, nat_tests, decode_byte, nil_from_length, percent_decode-nil)
+pub root_denoted : (path : List ℕ) → length path ≡ 0 → percent_decode (slash ∷ []) ≡ or_root (percent_decode path)
+root_denoted path empty = grind (arith, nat_tests, decode_byte, nil_from_length, percent_decode-nil)
 
 -- any other path denotes itself
-pub path_meant : (path : List ℕ) → 0 < length path → percent_decode path ≡ or_root (percent_decode path)
-path_meant path some = grind (arith, nat_tests, decode_empty)
+pub path_denoted : (path : List ℕ) → 0 < length path → percent_decode path ≡ or_root (percent_decode path)
+path_denoted path some = grind (arith, nat_tests, decode_empty)
 
 -- ---- hosts
 
 -- text after an opening bracket, without a last colon and then without a last bracket, is in brackets
-pub inside_brackets : (host behind closed : List ℕ) (found : Option (Bor (List ℕ))) → host ≡ left_bracket ∷ behind → DropsLast colon behind closed → StripsLast right_bracket closed found → MatchOption found ((inside : List ℕ) → ¬ InBrackets host inside) (λ inside. InBrackets host inside.now)
-inside_brackets host behind closed None e (DropsLast.dropped d) none =
+pub inside_brackets : (host suffix closed : List ℕ) (found : Option (Bor (List ℕ))) → host ≡ left_bracket ∷ suffix → DropsLast colon suffix closed → StripsLast right_bracket closed found → MatchOption found ((inside : List ℕ) → ¬ InBrackets host inside) (λ inside. InBrackets host inside.now)
+inside_brackets host suffix closed None e (DropsLast.dropped d) none =
     λ inside brackets. elim brackets [
       | inl k ↦ both_ways (58 == 93) refl (eq-eqb 58 93 (same_from_push closed inside colon right_bracket (sym d ∙ tails (sym e ∙ k))).1)
       | inr k ↦ none inside (same_from_push closed (inside ++ right_bracket ∷ []) colon colon (sym d ∙ tails (sym e ∙ k) ∙ sym (append_assoc inside (right_bracket ∷ []) (colon ∷ [])))).0
     ]
-inside_brackets host behind closed (Some front) e (DropsLast.dropped d) strip =
+inside_brackets host suffix closed (Some front) e (DropsLast.dropped d) strip =
     inr (e ∙ ap (λ x. left_bracket ∷ x) (d ∙ ap (λ x. x ++ colon ∷ []) strip ∙ append_assoc front.now (right_bracket ∷ []) (colon ∷ [])))
-inside_brackets host behind closed None e (DropsLast.kept ends same) none =
+inside_brackets host suffix closed None e (DropsLast.kept ends same) none =
     λ inside brackets. elim brackets [
       | inl k ↦ none inside (same ∙ tails (sym e ∙ k))
       | inr k ↦ ends (inside ++ right_bracket ∷ []) (tails (sym e ∙ k) ∙ sym (append_assoc inside (right_bracket ∷ []) (colon ∷ [])))
     ]
-inside_brackets host behind closed (Some front) e (DropsLast.kept ends same) strip =
+inside_brackets host suffix closed (Some front) e (DropsLast.kept ends same) strip =
     inl (e ∙ ap (λ x. left_bracket ∷ x) (sym same ∙ strip))
 
 -- the host that Secure Shell takes from a text is text

@@ -39,10 +39,10 @@ printable_parts x y printable = and_parts _ _ (sym (list_all-append is_printable
 -- ---- the first `%`
 
 -- a text is sound if its first `%` has two digits after it and the text after the `%` is sound
-pub sound_at_cut : (front behind : List ℕ) → FreeOf percent_sign front → is_sound (front ++ percent_sign ∷ behind) ≡ (begins_with_digits behind && is_sound behind)
-sound_at_cut [] behind free = sound_step percent_sign behind
-sound_at_cut (b ∷ front) behind free =
-    let (other, more) = free_head_tail percent_sign b front free in sound_kept b (front ++ percent_sign ∷ behind) other ∙ sound_at_cut front behind more
+pub sound_at_cut : (front suffix : List ℕ) → FreeOf percent_sign front → is_sound (front ++ percent_sign ∷ suffix) ≡ (begins_with_digits suffix && is_sound suffix)
+sound_at_cut [] suffix free = sound_step percent_sign suffix
+sound_at_cut (b ∷ front) suffix free =
+    let (other, more) = free_head_tail percent_sign b front free in sound_kept b (front ++ percent_sign ∷ suffix) other ∙ sound_at_cut front suffix more
 
 -- ---- escapes that decode to ASCII
 
@@ -55,7 +55,7 @@ low_escape : (high low : ℕ) → is_digit high 16 ≡ true → is_digit low 16 
 low_escape high low h l below = grind (arith, nat_tests)
 
 -- so does a `%` before such a digit, whether or not it begins an escape
-pub ascii_escape : (behind : List ℕ) → begins_by (λ b. nat_le 56 b) behind ≡ false → IsAscii (percent_decode behind) → IsAscii (percent_decode (percent_sign ∷ behind))
+pub ascii_escape : (suffix : List ℕ) → begins_by (λ b. nat_le 56 b) suffix ≡ false → IsAscii (percent_decode suffix) → IsAscii (percent_decode (percent_sign ∷ suffix))
 ascii_escape [] below h = subst IsAscii (sym (decode_broken percent_sign [] refl)) (ascii_cons percent_sign _ (omega arith) h)
 ascii_escape (high ∷ []) below h = subst IsAscii (sym (decode_broken percent_sign (high ∷ []) refl)) (ascii_cons percent_sign _ (omega arith) h)
 ascii_escape (high ∷ low ∷ rest) below h =

@@ -290,8 +290,8 @@ pub held_free : (bs : List ℕ) → FreeOf colon bs → ¬ Holds url_mark bs
 held_free bs h (front, rest, e) = not_free colon front (47 ∷ 47 ∷ rest) (subst (λ z. FreeOf colon z) e h)
 
 -- the text after the first byte of a text without a mark holds none
-not_held_behind : (mark : List ℕ) (b : ℕ) (bs : List ℕ) → ¬ Holds mark (b ∷ bs) → ¬ Holds mark bs
-not_held_behind mark b bs h (front, rest, e) = h (b ∷ front, rest, ap (λ z. b ∷ z) e)
+not_held_after : (mark : List ℕ) (b : ℕ) (bs : List ℕ) → ¬ Holds mark (b ∷ bs) → ¬ Holds mark bs
+not_held_after mark b bs h (front, rest, e) = h (b ∷ front, rest, ap (λ z. b ∷ z) e)
 
 -- the pieces around a mark that doesn't reach from a text without it
 -- into one that follows: the first doesn't hold it
@@ -300,7 +300,7 @@ held_cut_unique mark apart [] [] x y f g e = (refl, append_cancel_left mark x y 
 held_cut_unique mark apart [] (d ∷ b) x y f g e = absurd (apart d b x y g e)
 held_cut_unique mark apart (d ∷ a) [] x y f g e = absurd (apart d a y x f (sym e))
 held_cut_unique mark apart (c ∷ a) (d ∷ b) x y f g e =
-    let rest : (a ≡ b) × (x ≡ y) = held_cut_unique mark apart a b x y (not_held_behind mark c a f) (not_held_behind mark d b g) (tails e) in
+    let rest : (a ≡ b) × (x ≡ y) = held_cut_unique mark apart a b x y (not_held_after mark c a f) (not_held_after mark d b g) (tails e) in
     let first : c ≡ d = heads e in
     (cc rest.0, rest.1)
 

@@ -14,20 +14,20 @@ use Rattle.git_syntax.proofs.Texts.EscapeLemmas.{decode_broken, decode_escape}
 -- ---- the byte that `%` and the text after begin with
 
 -- a `%` with less than two bytes after it stays
-pub percent_short : (behind : List ℕ) → length behind < 2 → percent_decode (percent_sign ∷ behind) ≡ percent_sign ∷ percent_decode behind
-percent_short behind short = grind (arith, nat_tests, decode_broken)
+pub percent_short : (suffix : List ℕ) → length suffix < 2 → percent_decode (percent_sign ∷ suffix) ≡ percent_sign ∷ percent_decode suffix
+percent_short suffix short = grind (arith, nat_tests, decode_broken)
 
 -- so does one with no digit after it
-pub percent_before_none : (behind : List ℕ) → 2 ≤ length behind → is_hexadecimal (get_or behind 0 0) ≡ false → percent_decode (percent_sign ∷ behind) ≡ percent_sign ∷ percent_decode behind
-percent_before_none behind long none = grind (arith, nat_tests, decode_broken)
+pub percent_before_none : (suffix : List ℕ) → 2 ≤ length suffix → is_hexadecimal (get_or suffix 0 0) ≡ false → percent_decode (percent_sign ∷ suffix) ≡ percent_sign ∷ percent_decode suffix
+percent_before_none suffix long none = grind (arith, nat_tests, decode_broken)
 
 -- or with one digit
-pub percent_before_one : (behind : List ℕ) → 2 ≤ length behind → is_hexadecimal (get_or behind 0 0) ≡ true → is_hexadecimal (get_or behind 1 0) ≡ false → percent_decode (percent_sign ∷ behind) ≡ percent_sign ∷ percent_decode behind
-percent_before_one behind long one none = grind (arith, nat_tests, decode_broken)
+pub percent_before_one : (suffix : List ℕ) → 2 ≤ length suffix → is_hexadecimal (get_or suffix 0 0) ≡ true → is_hexadecimal (get_or suffix 1 0) ≡ false → percent_decode (percent_sign ∷ suffix) ≡ percent_sign ∷ percent_decode suffix
+percent_before_one suffix long one none = grind (arith, nat_tests, decode_broken)
 
 -- one with two digits decodes to their byte
-pub percent_before_two : (behind : List ℕ) (high low : ℕ) → 2 ≤ length behind → is_hexadecimal (get_or behind 0 0) ≡ true → high ≡ digit_value (get_or behind 0 0) → is_hexadecimal (get_or behind 1 0) ≡ true → low ≡ digit_value (get_or behind 1 0)
-    → percent_decode (percent_sign ∷ behind) ≡ (high * 16 + low) ∷ percent_decode (take (length behind - 2) (drop 2 behind))
+pub percent_before_two : (suffix : List ℕ) (high low : ℕ) → 2 ≤ length suffix → is_hexadecimal (get_or suffix 0 0) ≡ true → high ≡ digit_value (get_or suffix 0 0) → is_hexadecimal (get_or suffix 1 0) ≡ true → low ≡ digit_value (get_or suffix 1 0)
+    → percent_decode (percent_sign ∷ suffix) ≡ (high * 16 + low) ∷ percent_decode (take (length suffix - 2) (drop 2 suffix))
 percent_before_two [] high low long one is two same = absurd (omega (arith, long))
 percent_before_two (b ∷ []) high low long one is two same = absurd (omega (arith, long))
 percent_before_two (b ∷ c ∷ rest) high low long one is two same =
@@ -37,8 +37,8 @@ percent_before_two (b ∷ c ∷ rest) high low long one is two same =
 -- ---- one byte
 
 -- a text that doesn't begin with `%` keeps its first byte
-pub first_kept : (text behind : List ℕ) (b : ℕ) → text ≡ b ∷ behind → ¬ (b ≡ percent_sign) → percent_decode text ≡ b ∷ percent_decode behind
-first_kept text behind b e other = ap percent_decode e ∙ percent_decode_not_percent b behind other
+pub first_kept : (text suffix : List ℕ) (b : ℕ) → text ≡ b ∷ suffix → ¬ (b ≡ percent_sign) → percent_decode text ≡ b ∷ percent_decode suffix
+first_kept text suffix b e other = ap percent_decode e ∙ percent_decode_not_percent b suffix other
 
 -- nothing decodes to nothing
 pub nothing_decoded : (text : List ℕ) → text ≡ [] → percent_decode text ≡ []
@@ -57,21 +57,21 @@ all_in_window window rest text count joined e small =
 -- ---- blocks of 64 bytes
 
 -- the bytes so far and the rest are UTF-8 if they are with the block
-pub with_block : (read rest block behind : List ℕ) → PadsBlock rest block behind → IsUtf8 (read ++ percent_decode rest) ↔ IsUtf8 ((read ++ block) ++ percent_decode behind)
-with_block read rest block behind (zeros, e) =
+pub with_block : (read rest block suffix : List ℕ) → PadsBlock rest block suffix → IsUtf8 (read ++ percent_decode rest) ↔ IsUtf8 ((read ++ block) ++ percent_decode suffix)
+with_block read rest block suffix (zeros, e) =
     let padded = IsUtf8-append_ascii (read ++ percent_decode rest) (replicate zeros 0) (IsAscii-replicate zeros 0 (omega arith)) in
-    let same : (read ++ percent_decode rest) ++ replicate zeros 0 ≡ (read ++ block) ++ percent_decode behind =
-    append_assoc read (percent_decode rest) (replicate zeros 0) ∙ ap (λ l. read ++ l) e ∙ sym (append_assoc read block (percent_decode behind)) in
+    let same : (read ++ percent_decode rest) ++ replicate zeros 0 ≡ (read ++ block) ++ percent_decode suffix =
+    append_assoc read (percent_decode rest) (replicate zeros 0) ∙ ap (λ l. read ++ l) e ∙ sym (append_assoc read block (percent_decode suffix)) in
     (λ u. subst IsUtf8 same (padded.1 u), λ u. padded.0 (subst IsUtf8 (sym same) u))
 
 -- a full block
-pub full_block : (text block behind : List ℕ) (n : ℕ) → length block ≤ n → percent_decode text ≡ take n block ++ percent_decode behind → PadsBlock text block behind
-full_block text block behind n within e = (0, append-nil (percent_decode text) ∙ e ∙ ap (λ l. l ++ percent_decode behind) (take_all n block within))
+pub full_block : (text block suffix : List ℕ) (n : ℕ) → length block ≤ n → percent_decode text ≡ take n block ++ percent_decode suffix → PadsBlock text block suffix
+full_block text block suffix n within e = (0, append-nil (percent_decode text) ∙ e ∙ ap (λ l. l ++ percent_decode suffix) (take_all n block within))
 
 -- the last block
-pub last_block : (text block behind : List ℕ) (n : ℕ) → behind ≡ [] → drop n block ≡ replicate (64 - n) 0 → percent_decode text ≡ take n block ++ percent_decode behind → PadsBlock text block behind
-last_block text block behind n none zeros e =
-    let left : percent_decode behind ≡ [] = ap percent_decode none ∙ percent_decode-nil in
+pub last_block : (text block suffix : List ℕ) (n : ℕ) → suffix ≡ [] → drop n block ≡ replicate (64 - n) 0 → percent_decode text ≡ take n block ++ percent_decode suffix → PadsBlock text block suffix
+last_block text block suffix n none zeros e =
+    let left : percent_decode suffix ≡ [] = ap percent_decode none ∙ percent_decode-nil in
     let front : percent_decode text ≡ take n block = e ∙ ap (λ l. take n block ++ l) left ∙ append-nil (take n block) in
     (64 - n, ap (λ l. l ++ replicate (64 - n) 0) front ∙ ap (λ l. take n block ++ l) (sym zeros) ∙ take-append-drop n block ∙ sym (ap (λ l. block ++ l) left ∙ append-nil block))
 
@@ -82,17 +82,17 @@ zeros_left block n b within zeros =
     drop-set-lt (n + 1) block n b (omega arith) ∙ ap (λ k. drop k block) (omega arith) ∙ sym (drop-drop 1 n block) ∙ ap (drop 1) zeros ∙ drop-replicate 1 (64 - n) 0 ∙ ap (λ k. replicate k 0) count
 
 -- a byte more of the block
-pub byte_more : (text block rest behind : List ℕ) (n b : ℕ) → n < length block → percent_decode text ≡ take n block ++ percent_decode rest → percent_decode rest ≡ b ∷ percent_decode behind → percent_decode text ≡ take (n + 1) (slice_set block n b) ++ percent_decode behind
-byte_more text block rest behind n b within so_far first =
-    so_far ∙ ap (λ l. take n block ++ l) first ∙ sym (append_assoc (take n block) (b ∷ []) (percent_decode behind)) ∙ ap (λ l. l ++ percent_decode behind) (sym (take-set_at block n (n + 1) b (omega arith) within))
+pub byte_more : (text block rest suffix : List ℕ) (n b : ℕ) → n < length block → percent_decode text ≡ take n block ++ percent_decode rest → percent_decode rest ≡ b ∷ percent_decode suffix → percent_decode text ≡ take (n + 1) (slice_set block n b) ++ percent_decode suffix
+byte_more text block rest suffix n b within so_far first =
+    so_far ∙ ap (λ l. take n block ++ l) first ∙ sym (append_assoc (take n block) (b ∷ []) (percent_decode suffix)) ∙ ap (λ l. l ++ percent_decode suffix) (sym (take-set_at block n (n + 1) b (omega arith) within))
 
 -- a block leaves less of the decoding
-pub block_shorter : (text block behind : List ℕ) (n : ℕ) → 0 < n → n ≤ length block → percent_decode text ≡ take n block ++ percent_decode behind → length (percent_decode behind) < length (percent_decode text)
-block_shorter text block behind n some within e = omega (arith, ap length e, length-append (take n block) (percent_decode behind), length-take n block)
+pub block_shorter : (text block suffix : List ℕ) (n : ℕ) → 0 < n → n ≤ length block → percent_decode text ≡ take n block ++ percent_decode suffix → length (percent_decode suffix) < length (percent_decode text)
+block_shorter text block suffix n some within e = omega (arith, ap length e, length-append (take n block) (percent_decode suffix), length-take n block)
 
 -- the end of a text leaves nothing of it
-pub end_shorter : (text behind : List ℕ) → behind ≡ [] → 0 < length text → length (percent_decode behind) < length (percent_decode text)
-end_shorter text behind none some = omega (arith, ap length (ap percent_decode none ∙ percent_decode-nil), (length-percent_decode text).1)
+pub end_shorter : (text suffix : List ℕ) → suffix ≡ [] → 0 < length text → length (percent_decode suffix) < length (percent_decode text)
+end_shorter text suffix none some = omega (arith, ap length (ap percent_decode none ∙ percent_decode-nil), (length-percent_decode text).1)
 
 -- all that was read
 pub all_read : (read rest : List ℕ) → length rest ≡ 0 → read ≡ read ++ percent_decode rest

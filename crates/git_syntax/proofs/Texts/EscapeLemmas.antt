@@ -26,8 +26,8 @@ use Rattle.git_syntax.proofs.Texts.CutLemmas.{free_or_cut, heads}
 -- ---- walks over a decoding
 
 -- lists that differ at one place after an equal front are different
-pub differ_behind : (front xs ys : List ℕ) (x y : ℕ) → (y ≡ x → ⊥) → front ++ x ∷ xs ≡ front ++ y ∷ ys → ⊥
-differ_behind front xs ys x y other e = other (sym (heads (append_cancel_left front (x ∷ xs) (y ∷ ys) e)))
+pub differ_after : (front xs ys : List ℕ) (x y : ℕ) → (y ≡ x → ⊥) → front ++ x ∷ xs ≡ front ++ y ∷ ys → ⊥
+differ_after front xs ys x y other e = other (sym (heads (append_cancel_left front (x ∷ xs) (y ∷ ys) e)))
 
 -- four bytes are enough to read the first character
 pub decoded_window : (bs : List ℕ) → decoded (take 4 bs) ≡ decoded bs
@@ -265,8 +265,8 @@ escaped_percents-append (x ∷ xs) ys =
 -- ---- UTF-8 and white space in parts
 
 -- the text after a UTF-8 front of a UTF-8 text is UTF-8
-pub utf8_behind : (xs ys : List ℕ) → IsUtf8 (xs ++ ys) → IsUtf8 xs → IsUtf8 ys
-utf8_behind xs ys whole front =
+pub utf8_after : (xs ys : List ℕ) → IsUtf8 (xs ++ ys) → IsUtf8 xs → IsUtf8 ys
+utf8_after xs ys whole front =
     let within : length xs ≤ length (xs ++ ys) = omega (arith, length-append xs ys) in
     let at = IsCharBoundary-from_take (xs ++ ys) (length xs) whole within (subst IsUtf8 (sym (take_at xs ys (length xs) refl)) front) in
     subst IsUtf8 (drop_at xs ys (length xs) refl) (IsUtf8-drop (xs ++ ys) (length xs) whole at)
@@ -303,7 +303,7 @@ utf8_seam xs ys c whole ascii =
 pub utf8_parts : (xs ys : List ℕ) (c : ℕ) → IsUtf8 (xs ++ c ∷ ys) → c < 128 → IsUtf8 xs × IsUtf8 ys
 utf8_parts xs ys c whole ascii =
     let parts = utf8_seam xs ys c whole ascii in
-    (parts.0, utf8_behind (c ∷ []) ys parts.1 (utf8_byte c ascii))
+    (parts.0, utf8_after (c ∷ []) ys parts.1 (utf8_byte c ascii))
 
 -- UTF-8 texts joined by an ASCII byte are UTF-8
 pub utf8_joined : (xs ys : List ℕ) (c : ℕ) → IsUtf8 xs → c < 128 → IsUtf8 ys → IsUtf8 (xs ++ c ∷ ys)
@@ -332,8 +332,8 @@ no_line t utf8 lacks =
       | inl free ↦ free
       | inr (x, y, first, e) ↦
           let parts = utf8_seam x y newline (subst IsUtf8 e utf8) (omega arith) in
-          let behind = (white_space_parts x (newline ∷ y) parts.0 (subst (λ s. LacksWhiteSpace s) e lacks)).1 in
-          let byte = (white_space_parts (newline ∷ []) y (utf8_byte newline (omega arith)) behind).0 in
+          let suffix = (white_space_parts x (newline ∷ y) parts.0 (subst (λ s. LacksWhiteSpace s) e lacks)).1 in
+          let byte = (white_space_parts (newline ∷ []) y (utf8_byte newline (omega arith)) suffix).0 in
           absurd (false≢true (sym (ap (list_any is_whitespace) (sym (chars-IsAscii (newline ∷ []) (ascii_byte newline (omega arith)))) ∙ byte)))
     ]
 

@@ -28,15 +28,15 @@ high_free [] free = refl
 high_free (b ∷ bs) free = let (other, more) = free_head_tail percent_sign b bs free in high_kept b bs other ∙ high_free bs more
 
 -- the first `%` and the rest decide
-pub high_at_cut : (front behind : List ℕ) → FreeOf percent_sign front → has_high_escape (front ++ percent_sign ∷ behind) ≡ (begins_high behind || has_high_escape behind)
-high_at_cut [] behind free = refl
-high_at_cut (b ∷ front) behind free =
-    let (other, more) = free_head_tail percent_sign b front free in high_kept b (front ++ percent_sign ∷ behind) other ∙ high_at_cut front behind more
+pub high_at_cut : (front suffix : List ℕ) → FreeOf percent_sign front → has_high_escape (front ++ percent_sign ∷ suffix) ≡ (begins_high suffix || has_high_escape suffix)
+high_at_cut [] suffix free = refl
+high_at_cut (b ∷ front) suffix free =
+    let (other, more) = free_head_tail percent_sign b front free in high_kept b (front ++ percent_sign ∷ suffix) other ∙ high_at_cut front suffix more
 
 -- the text after a front has none if the whole has none
-high_behind : (front behind : List ℕ) → has_high_escape (front ++ behind) ≡ false → has_high_escape behind ≡ false
-high_behind [] behind low = low
-high_behind (b ∷ front) behind low = high_behind front behind (or_parts _ _ low).1
+high_after : (front suffix : List ℕ) → has_high_escape (front ++ suffix) ≡ false → has_high_escape suffix ≡ false
+high_after [] suffix low = low
+high_after (b ∷ front) suffix low = high_after front suffix (or_parts _ _ low).1
 
 -- ---- decoding
 
@@ -45,8 +45,8 @@ pub ascii_decoded : (t : List ℕ) → is_printable t ≡ true → has_high_esca
 ascii_decoded [] printable low = ascii_kept [] refl refl
 ascii_decoded (b ∷ bs) printable low =
     let (first, others) = and_parts (is_printable_byte b) (is_printable bs) printable in
-    let (here, behind) = or_parts (b == percent_sign && begins_high bs) (has_high_escape bs) low in
-    let rest = ascii_decoded bs others behind in
+    let (here, suffix) = or_parts (b == percent_sign && begins_high bs) (has_high_escape bs) low in
+    let rest = ascii_decoded bs others suffix in
     elim (cases_Bool (b == percent_sign)) [
       | inl percent ↦ subst (λ c. IsAscii (percent_decode (c ∷ bs))) (sym (eqb-true b percent_sign percent)) (ascii_escape bs (rw percent at here) rest)
       | inr other ↦ subst IsAscii (sym (decode_byte b bs other)) (ascii_cons b (percent_decode bs) (printable_ascii b first) rest)
@@ -103,15 +103,15 @@ sound_path web front (c ∷ rest) (inl none) sound = absurd (cc)
 sound_path web front (c ∷ rest) (inr start) sound = (sound_parts front rest c (start_no_digit web c start) sound).1
 
 -- the known facts about a text hold for the path at its end
-known_behind : (web : Bool) (byte_class : ByteClass) (front path : List ℕ) → StartsPath web path → HasByteClass byte_class (front ++ path) → HasByteClass byte_class path
-known_behind web Plain front path starts h = (plain_parts front path h).1
-known_behind web Ascii front path starts h = record { printable = (printable_parts front path h.printable).1; sound = sound_path web front path starts h.sound; low = high_behind front path h.low }
-known_behind web Escaped front path starts h = record { printable = (printable_parts front path h.printable).1; sound = sound_path web front path starts h.sound }
-known_behind web Other front path starts h = h
+known_after : (web : Bool) (byte_class : ByteClass) (front path : List ℕ) → StartsPath web path → HasByteClass byte_class (front ++ path) → HasByteClass byte_class path
+known_after web Plain front path starts h = (plain_parts front path h).1
+known_after web Ascii front path starts h = record { printable = (printable_parts front path h.printable).1; sound = sound_path web front path starts h.sound; low = high_after front path h.low }
+known_after web Escaped front path starts h = record { printable = (printable_parts front path h.printable).1; sound = sound_path web front path starts h.sound }
+known_after web Other front path starts h = h
 
 -- so is it of the path of a URL
 pub known_path : (web : Bool) (byte_class : ByteClass) (text scheme rest authority path : List ℕ) → text ≡ scheme ++ (codes "://" ++ rest) → rest ≡ authority ++ path → StartsPath web path → HasByteClass byte_class text → HasByteClass byte_class path
 known_path web byte_class text scheme rest authority path joined cut starts h =
     let whole : text ≡ (scheme ++ (codes "://" ++ authority)) ++ path =
     joined ∙ ap (λ t. scheme ++ (codes "://" ++ t)) cut ∙ ap (λ t. scheme ++ t) (sym (append_assoc (codes "://") authority path)) ∙ sym (append_assoc scheme (codes "://" ++ authority) path) in
-    known_behind web byte_class (scheme ++ (codes "://" ++ authority)) path starts (subst (HasByteClass byte_class) whole h)
+    known_after web byte_class (scheme ++ (codes "://" ++ authority)) path starts (subst (HasByteClass byte_class) whole h)

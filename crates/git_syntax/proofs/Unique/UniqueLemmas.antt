@@ -101,8 +101,8 @@ host_for_unique ssh (Some named) host other (x, p, e) (y, q, f) = e ∙ ap (λ z
 host_for_unique _ named host other h k = h ∙ sym k
 
 -- the location of the parts of a URL with this host
-abbrev pub meant_with : Scheme → UrlSyntax → Option (List ℕ) → Location
-meant_with scheme parts host = record {
+abbrev pub denoted_with : Scheme → UrlSyntax → Option (List ℕ) → Location
+denoted_with scheme parts host = record {
   scheme = scheme;
   user = parts.user;
   password = parts.password;
@@ -116,7 +116,7 @@ meant_with scheme parts host = record {
 -- the parts of a URL denote one location by its scheme
 by_scheme_unique : (scheme : Scheme) (parts : UrlSyntax) (v w : Location) → DenotesByScheme scheme parts v → DenotesByScheme scheme parts w → v ≡ w
 by_scheme_unique scheme parts v w h k =
-    h.value ∙ ap (λ host. meant_with scheme parts host) (host_for_unique scheme parts.host h.host k.host h.hosted k.hosted) ∙ sym k.value
+    h.value ∙ ap (λ host. denoted_with scheme parts host) (host_for_unique scheme parts.host h.host k.host h.hosted k.hosted) ∙ sym k.value
 
 -- the parts of a URL denote one location
 pub means_unique : (scheme : Scheme) (b : List ℕ) (parts : UrlSyntax) (v w : Location) → DenotesAs scheme b parts v → DenotesAs scheme b parts w → v ≡ w
@@ -192,9 +192,9 @@ scp_forms_agree b v w h k =
       | inl within ↦
           let pieces = scp_user_unique h.front h.user (Some k.user) h.host (left_bracket ∷ x) h.hosted.no_at (address_front_free at_sign k.address x y refl k.form.cut.addressed e) h.split (ScpUser.with_user k.user within refl) in
           absurd (open_bracket_no_host h.host x h.denoted pieces.1 (address_front_free right_bracket k.address x y refl k.form.cut.addressed e) h.hosted)
-      | inr (behind, paths) ↦
+      | inr (suffix, paths) ↦
           let free : FreeOf at_sign (k.address ++ right_bracket ∷ []) = free-append at_sign k.address (right_bracket ∷ []) (address_free at_sign k.address refl k.form.cut.addressed) refl in
-          let pieces = scp_user_unique h.front h.user (Some k.user) h.host (left_bracket ∷ (k.address ++ right_bracket ∷ [])) h.hosted.no_at free h.split (ScpUser.with_user k.user behind refl) in
+          let pieces = scp_user_unique h.front h.user (Some k.user) h.host (left_bracket ∷ (k.address ++ right_bracket ∷ [])) h.hosted.no_at free h.split (ScpUser.with_user k.user suffix refl) in
           h.value
           ∙ scp_same h.user (Some k.user) h.denoted (lowercase k.address) h.path k.path pieces.0 (bracketed_address_host h.host k.address h.denoted pieces.1 k.form.cut.addressed h.hosted) paths
           ∙ sym k.value

@@ -17,5 +17,5 @@ SplitsDecoded text result = MatchOption result (text ≡ [])
 
 -- the block is the front of the decoding, or all of it and zeros. The other text decodes to the rest
 abbrev pub PadsBlock : List ℕ → List ℕ → List ℕ → Type 0
-PadsBlock text block behind = (zeros : ℕ)
-    × (percent_decode text ++ replicate zeros 0 ≡ block ++ percent_decode behind)
+PadsBlock text block suffix = (zeros : ℕ)
+    × (percent_decode text ++ replicate zeros 0 ≡ block ++ percent_decode suffix)

@@ -44,14 +44,14 @@ HasAddressedCut b = (user : List ℕ) × (address : List ℕ) × (path : List �
 
 -- a user, `@[` and the text after it
 abbrev pub addressed_text : List ℕ → List ℕ → List ℕ
-addressed_text user behind = user ++ at_sign ∷ (left_bracket ∷ behind)
+addressed_text user suffix = user ++ at_sign ∷ (left_bracket ∷ suffix)
 
 -- the only user that a text `user@[address]:path` can have, and the text after its `@[`
-pub record AddressedFront (b user behind : List ℕ) : Type 0 where
-  pub joined : b ≡ user ++ at_sign ∷ (left_bracket ∷ behind)
+pub record AddressedFront (b user suffix : List ℕ) : Type 0 where
+  pub joined : b ≡ user ++ at_sign ∷ (left_bracket ∷ suffix)
   pub no_colon : FreeOf colon user
   pub only : (u a p : List ℕ) → AddressedCut b u a p
-      → (u ≡ user) × (behind ≡ a ++ right_bracket ∷ (colon ∷ p))
+      → (u ≡ user) × (suffix ≡ a ++ right_bracket ∷ (colon ∷ p))
 
 -- the text has the scp form with this front and this path, and not the form `user@[address]:path`
 pub record PlainScp (b front path : List ℕ) : Type 0 where

@@ -6,8 +6,8 @@ use Rattle.git_syntax.specs.Escapes.{begins_with_digits, is_sound}
 use Rattle.git_syntax.specs.Internal.ByteClasses.{begins_high, has_high_escape}
 
 -- the text begins with two hexadecimal digits, of which this is the first, and goes on with the rest
-pub record BeginsDigits (text : List ℕ) (high : ℕ) (behind : List ℕ) : Type 0 where
-  pub spelled : text ≡ high ∷ get_or text 1 0 ∷ behind
+pub record BeginsDigits (text : List ℕ) (high : ℕ) (suffix : List ℕ) : Type 0 where
+  pub spelled : text ≡ high ∷ get_or text 1 0 ∷ suffix
   pub first : is_hexadecimal high ≡ true
   pub second : is_hexadecimal (get_or text 1 0) ≡ true
 

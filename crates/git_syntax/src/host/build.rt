@@ -9,7 +9,7 @@ ghost use Rattle.git_syntax.specs.Internal.HostPieces.{is_bracketed, lowercase_a
 
 use crate::bytes::{copy_into, cut};
 use crate::escape::decode_into;
-use crate::host::bytes::looks_like_domain;
+use crate::host::bytes::is_like_domain;
 use crate::host::{HostPiece, HostPort};
 use crate::text::into_text;
 use std::alloc::{AllocError, Global};
@@ -21,13 +21,13 @@ impl HostPort<'_> {
         ensures { IfOk result (λ s. string_bytes s ≡ named_text self.entry) }
     {
         let mut text = vec![in alloc; 0; piece_bytes(self.piece).len() + 3]?;
-        let size = self.put_into(&mut text);
+        let size = self.write_into(&mut text);
         text.truncate(size);
         Ok(into_text(text))
     }
 
     /// Writes the text of the host to the front of the buffer and returns its length in bytes.
-    pub fn put_into(self, buffer: &mut [u8]) -> usize
+    pub fn write_into(self, buffer: &mut [u8]) -> usize
         requires { length (named_text self) ≤ length buffer.old }
         ensures size { result ≡ length (named_text self.entry) }
         ensures bytes { take result buffer.new ≡ named_text self.entry }
@@ -65,10 +65,10 @@ fn write_piece(buffer: &mut [u8], piece: HostPiece<'_>) -> usize
     if !is_bracketed(piece) {
         return write_shown(buffer, piece);
     }
-    let (front, behind) = buffer.split_at_mut(1);
+    let (front, suffix) = buffer.split_at_mut(1);
     front[0] = b'[';
-    let size = write_shown(behind, piece);
-    behind[size] = b']';
+    let size = write_shown(suffix, piece);
+    suffix[size] = b']';
     size + 2
 }
 
@@ -127,7 +127,7 @@ fn settle(host: &mut [u8], piece: HostPiece<'_>)
 pub fn normalize(host: &mut [u8])
     ensures { host.new ≡ spec.normal_host host.old }
 {
-    if looks_like_domain(host) {
+    if is_like_domain(host) {
         host.make_ascii_lowercase();
     }
 }

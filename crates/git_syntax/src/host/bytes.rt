@@ -100,7 +100,7 @@ fn is_zone_byte(byte: u8) -> bool
 }
 
 /// Whether each byte is a letter, a digit, `-`, `.`, `_` or `*`.
-pub fn looks_like_domain(host: &[u8]) -> bool
+pub fn is_like_domain(host: &[u8]) -> bool
     ensures { result ≡ list_all spec.is_dns_byte host.now }
 {
     // A loop without an early exit is compiled to test many bytes at once.

@@ -65,12 +65,12 @@ impl<'a> Marked<'a> {
     pub(crate) fn after_slashes(&self) -> Option<Marked<'a>>
         requires { IsMarked self.now }
         ensures cut { MatchOption result
-            ((behind : List ℕ) → ¬ (self.now.text.now ≡ slash ∷ (slash ∷ behind)))
-            (λ behind. self.now.text.now ≡ slash ∷ (slash ∷ behind.text.now)) }
-        ensures masks { IfSome result (λ behind. IsMarked behind) }
+            ((suffix : List ℕ) → ¬ (self.now.text.now ≡ slash ∷ (slash ∷ suffix)))
+            (λ suffix. self.now.text.now ≡ slash ∷ (slash ∷ suffix.text.now)) }
+        ensures masks { IfSome result (λ suffix. IsMarked suffix) }
     {
-        let behind = after_slashes(self.text)?;
-        Some(self.rest(behind))
+        let suffix = after_slashes(self.text)?;
+        Some(self.rest(suffix))
     }
 
     /// Returns the front up to the first `/`, and the rest: of `h/p` `h` and `/p`.

@@ -84,38 +84,38 @@ denoted-nil true = percent_decode-nil
 denoted-nil false = refl
 
 -- the texts around a delimiter denote the texts around it in the meaning of the whole
-pub meant_around : (escaped : Bool) (xs ys : List ℕ) (c : ℕ) → Parts c → denoted_by escaped (xs ++ c ∷ ys) ≡ denoted_by escaped xs ++ c ∷ denoted_by escaped ys
-meant_around true xs ys c parts = decode_around xs ys c parts
-meant_around false xs ys c parts = refl
+pub denoted_around : (escaped : Bool) (xs ys : List ℕ) (c : ℕ) → Parts c → denoted_by escaped (xs ++ c ∷ ys) ≡ denoted_by escaped xs ++ c ∷ denoted_by escaped ys
+denoted_around true xs ys c parts = decode_around xs ys c parts
+denoted_around false xs ys c parts = refl
 
 -- so the front is as long a front of the meaning of the whole
-pub meant_front : (escaped : Bool) (whole denoted xs ys : List ℕ) (c at : ℕ) → Parts c → denoted ≡ denoted_by escaped whole → whole ≡ xs ++ c ∷ ys → at ≡ length (denoted_by escaped xs) → take at denoted ≡ denoted_by escaped xs
-meant_front escaped whole denoted xs ys c at parts e cut size =
-    let split = e ∙ ap (denoted_by escaped) cut ∙ meant_around escaped xs ys c parts in
+pub denoted_front : (escaped : Bool) (whole denoted xs ys : List ℕ) (c at : ℕ) → Parts c → denoted ≡ denoted_by escaped whole → whole ≡ xs ++ c ∷ ys → at ≡ length (denoted_by escaped xs) → take at denoted ≡ denoted_by escaped xs
+denoted_front escaped whole denoted xs ys c at parts e cut size =
+    let split = e ∙ ap (denoted_by escaped) cut ∙ denoted_around escaped xs ys c parts in
     ap (take at) split ∙ take_at (denoted_by escaped xs) (c ∷ denoted_by escaped ys) at (sym size)
 
 -- the text after the delimiter
-pub meant_behind : (escaped : Bool) (whole denoted xs ys : List ℕ) (c at : ℕ) → Parts c → denoted ≡ denoted_by escaped whole → whole ≡ xs ++ c ∷ ys → at ≡ length (denoted_by escaped xs) → drop (at + 1) denoted ≡ denoted_by escaped ys
-meant_behind escaped whole denoted xs ys c at parts e cut size =
+pub denoted_after : (escaped : Bool) (whole denoted xs ys : List ℕ) (c at : ℕ) → Parts c → denoted ≡ denoted_by escaped whole → whole ≡ xs ++ c ∷ ys → at ≡ length (denoted_by escaped xs) → drop (at + 1) denoted ≡ denoted_by escaped ys
+denoted_after escaped whole denoted xs ys c at parts e cut size =
     let front = denoted_by escaped xs in
-    let split = e ∙ ap (denoted_by escaped) cut ∙ meant_around escaped xs ys c parts ∙ sym (append_assoc front (c ∷ []) (denoted_by escaped ys)) in
+    let split = e ∙ ap (denoted_by escaped) cut ∙ denoted_around escaped xs ys c parts ∙ sym (append_assoc front (c ∷ []) (denoted_by escaped ys)) in
     ap (drop (at + 1)) split ∙ drop_at (front ++ c ∷ []) (denoted_by escaped ys) (at + 1) (omega (arith, size, length-append front (c ∷ [])))
 
 -- the cut is in the meaning of the whole
-pub meant_within : (escaped : Bool) (whole denoted xs ys : List ℕ) (c at : ℕ) → Parts c → denoted ≡ denoted_by escaped whole → whole ≡ xs ++ c ∷ ys → at ≡ length (denoted_by escaped xs) → at + 1 ≤ length denoted
-meant_within escaped whole denoted xs ys c at parts e cut size =
-    let split = e ∙ ap (denoted_by escaped) cut ∙ meant_around escaped xs ys c parts in
+pub denoted_within : (escaped : Bool) (whole denoted xs ys : List ℕ) (c at : ℕ) → Parts c → denoted ≡ denoted_by escaped whole → whole ≡ xs ++ c ∷ ys → at ≡ length (denoted_by escaped xs) → at + 1 ≤ length denoted
+denoted_within escaped whole denoted xs ys c at parts e cut size =
+    let split = e ∙ ap (denoted_by escaped) cut ∙ denoted_around escaped xs ys c parts in
     omega (arith, size, ap length split, length-append (denoted_by escaped xs) (c ∷ denoted_by escaped ys))
 
 -- ---- spaces
 
 -- with each `+` a space, the texts around the first `+` denote the texts around that space
-pub meant_around_plus : (escaped : Bool) (xs ys : List ℕ) → FreeOf plus_sign xs → denoted_by escaped (with_spaces (xs ++ plus_sign ∷ ys)) ≡ denoted_by escaped xs ++ space ∷ denoted_by escaped (with_spaces ys)
-meant_around_plus escaped xs ys free =
+pub denoted_around_plus : (escaped : Bool) (xs ys : List ℕ) → FreeOf plus_sign xs → denoted_by escaped (with_spaces (xs ++ plus_sign ∷ ys)) ≡ denoted_by escaped xs ++ space ∷ denoted_by escaped (with_spaces ys)
+denoted_around_plus escaped xs ys free =
     let parts : Parts space = record { digit = refl; percent = refl } in
     ap (denoted_by escaped) (map-append (λ b. if b == plus_sign then space else b) xs (plus_sign ∷ ys) ∙ ap (λ t. t ++ space ∷ with_spaces ys) (spaces_free xs free))
-    ∙ meant_around escaped xs (with_spaces ys) space parts
+    ∙ denoted_around escaped xs (with_spaces ys) space parts
 
 -- a text without `+` denotes the same
-pub meant_spaces : (escaped : Bool) (xs : List ℕ) → FreeOf plus_sign xs → denoted_by escaped (with_spaces xs) ≡ denoted_by escaped xs
-meant_spaces escaped xs free = ap (denoted_by escaped) (spaces_free xs free)
+pub denoted_spaces : (escaped : Bool) (xs : List ℕ) → FreeOf plus_sign xs → denoted_by escaped (with_spaces xs) ≡ denoted_by escaped xs
+denoted_spaces escaped xs free = ap (denoted_by escaped) (spaces_free xs free)

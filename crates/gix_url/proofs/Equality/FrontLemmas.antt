@@ -8,8 +8,8 @@ use Rattle.std.proofs.lemmas.List.{take-append-drop}
 rest_reported : (n m : ℕ) (a b : List ℕ) → m ≤ n → drop m a ≡ drop m b → drop n a ≡ drop n b
 rest_reported n m a b within backs =
     let at : m + (n - m) ≡ n = omega arith in
-    let behind : (l : List ℕ) → drop n l ≡ drop (n - m) (drop m l) = λ l. ap (λ k. drop k l) (sym at) ∙ sym (drop-drop (n - m) m l) in
-    behind a ∙ ap (drop (n - m)) backs ∙ sym (behind b)
+    let suffix : (l : List ℕ) → drop n l ≡ drop (n - m) (drop m l) = λ l. ap (λ k. drop k l) (sym at) ∙ sym (drop-drop (n - m) m l) in
+    suffix a ∙ ap (drop (n - m)) backs ∙ sym (suffix b)
 
 -- so bytes with the same front and the same back are the same
 reported_by_both : (n m : ℕ) (a b : List ℕ) → m ≤ n → take n a ≡ take n b → drop m a ≡ drop m b → a ≡ b

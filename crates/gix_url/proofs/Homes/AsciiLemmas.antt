@@ -22,8 +22,8 @@ none_high (x ∷ xs) e (suc i) = none_high xs (omega arith) i
 
 -- a load of n bytes from an index whose comparison with 128 has no bit set
 pub ascii_lanes : (d : List ℕ) (i n : ℕ) → i + n ≤ length d → n ≤ 64 → IsTrue (eqb (mask_l (map (top 7) (zip2 at_least (replicate n 128) (chunk i n d))) % 2 ^ 64) 0) → IsAsciiBetween d i (i + n)
-ascii_lanes d i n room few none k p q =
-    let long = length-chunk i n d room in
+ascii_lanes d i n fits few none k p q =
+    let long = length-chunk i n d fits in
     let tests = zip2 at_least (replicate n 128) (chunk i n d) in
     let small = mask_l-mod (map (top 7) tests) 64 (omega (arith, length-map tests (top 7), length-zip2 at_least (replicate n 128) (chunk i n d) (length-replicate n 128 ∙ sym long), length-replicate {A = ℕ} n 128)) in
     let zero = sym small ∙ eqb-true _ 0 none in

@@ -26,12 +26,12 @@ char_cut c bs i j small h = sym (take-append-drop i bs) ∙ ap (λ r. take i bs 
 -- the pieces around the first c of a text
 pub text_cut : (c : ℕ) (bs : List ℕ) (r : Option (Bor (List ℕ) × Bor (List ℕ))) → c < 128 → MatchOption r (FindsChar c bs None) (λ x. SplitsAroundMatch (FindsChar c) bs x.0.now x.1.now) → CutsAt c bs r
 text_cut c bs None small h = free_of_char c bs small h
-text_cut c bs (Some x) small (i, j, found, front, behind, l, m, n) = rw (front, behind) (free_of_char c (take i bs) small found.0, char_cut c bs i j small found.1)
+text_cut c bs (Some x) small (i, j, found, front, suffix, l, m, n) = rw (front, suffix) (free_of_char c (take i bs) small found.0, char_cut c bs i j small found.1)
 
 -- the pieces around its last c
 pub text_last_cut : (c : ℕ) (bs : List ℕ) (r : Option (Bor (List ℕ) × Bor (List ℕ))) → c < 128 → MatchOption r (RFindsChar c bs None) (λ x. SplitsAroundMatch (RFindsChar c) bs x.0.now x.1.now) → CutsAtLast c bs r
 text_last_cut c bs None small h = free_of_char c bs small h
-text_last_cut c bs (Some x) small (i, j, found, front, behind, l, m, n) = rw (front, behind) (free_of_char c (drop j bs) small found.0, char_cut c bs i j small found.1)
+text_last_cut c bs (Some x) small (i, j, found, front, suffix, l, m, n) = rw (front, suffix) (free_of_char c (drop j bs) small found.0, char_cut c bs i j small found.1)
 
 -- ---- idle segments
 
@@ -52,12 +52,12 @@ tail_more text front before segment e h (tail, idle, whole) =
     (slash ∷ (segment ++ tail), idle_more segment tail h idle, whole ∙ ap (λ t. t ++ tail) e ∙ append_assoc before (slash ∷ segment) tail)
 
 -- a text that ends in a piece and holds a `/` ends in a piece after a `/`
-pub piece_behind : (text above last : List ℕ) → FreeOf slash last → text ≡ above ++ slash ∷ last → EndsInPiece text ⊎ (text ≡ []) → IsPiece last
-piece_behind text above last free e (inl (EndsInPiece.last_piece front piece h f)) =
+pub piece_after : (text above last : List ℕ) → FreeOf slash last → text ≡ above ++ slash ∷ last → EndsInPiece text ⊎ (text ≡ []) → IsPiece last
+piece_after text above last free e (inl (EndsInPiece.last_piece front piece h f)) =
     subst IsPiece (last_cut_unique slash front above piece last h.0 free (sym f ∙ e)).1 h
-piece_behind text above last free e (inl (EndsInPiece.lone_piece h some)) = absurd (not_free slash above last (subst (FreeOf slash) e h))
-piece_behind text [] last free e (inr h) = let wrong = sym h ∙ e in cc
-piece_behind text (a ∷ above) last free e (inr h) = let wrong = sym h ∙ e in cc
+piece_after text above last free e (inl (EndsInPiece.lone_piece h some)) = absurd (not_free slash above last (subst (FreeOf slash) e h))
+piece_after text [] last free e (inr h) = let wrong = sym h ∙ e in cc
+piece_after text (a ∷ above) last free e (inr h) = let wrong = sym h ∙ e in cc
 
 -- the last piece is in a folder that ends in another, or in the root
 parent_in : (text upper gap piece tail : List ℕ) → EndsInPiece upper ⊎ (upper ≡ []) → IsIdle gap → IsPiece piece → IsIdle tail → text ≡ upper ++ (gap ++ (slash ∷ (piece ++ tail))) → IsParent text (Some (or_root upper))
@@ -68,7 +68,7 @@ parent_in text (b ∷ bs) gap piece tail (inr h) g p t e = cc
 -- the front that ends with the last piece, cut at its last `/`, and again up to the piece before
 pub parent_above : (text whole above last upper : List ℕ) → UpToLast text whole → FreeOf slash last → whole ≡ above ++ slash ∷ last → UpToLast above upper → IsParent text (Some (or_root upper))
 parent_above text whole above last upper t free e u =
-    parent_in text upper u.tail last t.tail u.last u.idle (piece_behind whole above last free e t.last) t.idle
+    parent_in text upper u.tail last t.tail u.last u.idle (piece_after whole above last free e t.last) t.idle
     (t.whole ∙ ap (λ x. x ++ t.tail) (e ∙ ap (λ x. x ++ slash ∷ last) u.whole) ∙ simp append_assoc)
 
 -- the only piece is the first segment
@@ -87,14 +87,14 @@ last_byte (b ∷ c ∷ bs) some = let (front, last, e) = last_byte (c ∷ bs) (o
 pub opens_name : (folder : List ℕ) → 0 < length folder → ((front : List ℕ) → ¬ (folder ≡ front ++ slash ∷ [])) → Opens folder (folder ++ slash ∷ [])
 opens_name folder some no_slash =
     let (front, last, e) = last_byte folder some in
-    Opens.behind_name front last (false_from_ne_true (last == slash) (λ same. no_slash front (e ∙ ap (λ b. front ++ b ∷ []) (eqb-true last slash same)))) e refl
+    Opens.after_name front last (false_from_ne_true (last == slash) (λ same. no_slash front (e ∙ ap (λ b. front ++ b ∷ []) (eqb-true last slash same)))) e refl
 
 -- ---- pieces, one after another
 
 -- the text that a reader of segments has still to read: the `/` that it skipped, and the rest
 abbrev pub unread : Option (Bor (List ℕ)) → List ℕ
 unread None = []
-unread (Some behind) = slash ∷ behind.now
+unread (Some suffix) = slash ∷ suffix.now
 
 -- the text before the next piece: a `/`, but not before the first
 abbrev pub separator_of : List (List ℕ) → List ℕ
@@ -102,18 +102,18 @@ separator_of [] = []
 separator_of (piece ∷ others) = slash ∷ []
 
 -- a segment and the text after it
-pub segment_cut : (text : List ℕ) (segment : Bor (List ℕ)) (behind : Option (Bor (List ℕ))) → CutsSegment text segment behind → text ≡ segment.now ++ unread behind
+pub segment_cut : (text : List ℕ) (segment : Bor (List ℕ)) (suffix : Option (Bor (List ℕ))) → CutsSegment text segment suffix → text ≡ segment.now ++ unread suffix
 segment_cut text segment None h = h.1 ∙ sym (append-nil segment.now)
 segment_cut text segment (Some more) h = h.1
 
 -- if nothing is passed, nothing is left
-pub unread_none : (left : Option (Bor (List ℕ))) → ((behind : Bor (List ℕ)) → left ≡ Some behind → ⊥) → unread left ≡ []
+pub unread_none : (left : Option (Bor (List ℕ))) → ((suffix : Bor (List ℕ)) → left ≡ Some suffix → ⊥) → unread left ≡ []
 unread_none None h = refl
-unread_none (Some behind) h = absurd (h behind refl)
+unread_none (Some suffix) h = absurd (h suffix refl)
 
 -- the rest after a segment is shorter than the rest with the `/` before it
-pub shorter : (left : Option (Bor (List ℕ))) (text : Bor (List ℕ)) (segment : Bor (List ℕ)) (behind : Option (Bor (List ℕ))) → left ≡ Some text → CutsSegment text.now segment behind → length (unread behind) < length (unread left)
-shorter left text segment behind e h = rw (e, segment_cut text.now segment behind h) (omega (arith, length-append segment.now (unread behind)))
+pub shorter : (left : Option (Bor (List ℕ))) (text : Bor (List ℕ)) (segment : Bor (List ℕ)) (suffix : Option (Bor (List ℕ))) → left ≡ Some text → CutsSegment text.now segment suffix → length (unread suffix) < length (unread left)
+shorter left text segment suffix e h = rw (e, segment_cut text.now segment suffix h) (omega (arith, length-append segment.now (unread suffix)))
 
 -- a segment that doesn't count adds no piece
 pub pieces_past : (pieces : List (List ℕ)) (segment text : List ℕ) → counts segment ≡ false → HoldsPieces pieces text → HoldsPieces pieces (slash ∷ (segment ++ text))
@@ -167,7 +167,7 @@ gathers_more old out separator start left segment rest e h g = record {
 pub gathers_all : (old out separator path first start : List ℕ) → FreeOf slash first → path ≡ first ++ start → Gathers old out separator start [] → (rest : List ℕ) × WithoutFirst path rest × (out ≡ old ++ rest)
 gathers_all old out separator path first start free e g =
     let each : HoldsPieces g.done start = subst (λ p. HoldsPieces p start) (append-nil g.done) (g.follow [] idle_none) in
-    (join_with_byte slash g.done, (first, g.done, record { behind = start; no_slash = free; each = each; whole = e }, refl), g.written)
+    (join_with_byte slash g.done, (first, g.done, record { suffix = start; no_slash = free; each = each; whole = e }, refl), g.written)
 
 -- ---- a path below a folder
 
@@ -181,4 +181,4 @@ joined_begins ((b ∷ bs) ∷ other ∷ others) text (gap, rest, idle, is, more,
 -- a folder made ready, and the path without its first component after it
 pub lies_below : (folder ready path whole : List ℕ) → Opens folder ready → (rest : List ℕ) × WithoutFirst path rest × (whole ≡ ready ++ rest) → LiesBelow folder path whole
 lies_below folder ready path whole o (rest, (first, pieces, h, e), f) =
-    (rest, (first, pieces, h, e), Joins.within (ap (begins_with slash) e ∙ joined_begins pieces h.behind h.each) ready o f)
+    (rest, (first, pieces, h, e), Joins.within (ap (begins_with slash) e ∙ joined_begins pieces h.suffix h.each) ready o f)

@@ -5,7 +5,7 @@ use Rattle.std.proofs.lemmas.Bool.{both_ways, cases_Bool, eqb-true, eq-eqb, fals
 use Rattle.std.proofs.lemmas.List.Concat.{flat_map-append}
 use Rattle.git_syntax.specs.Bytes.{dot, slash, FreeOf, begins_by, begins_with}
 use Rattle.git_syntax.specs.Grammar.{or_root}
-use Rattle.gix_url.specs.Paths.{counts, IsPiece, behind_slashes, IsIdle, HoldsPieces, HasPieces, WithoutFirst, Opens, Joins, LiesBelow, EndsInPiece, IsParent}
+use Rattle.gix_url.specs.Paths.{counts, IsPiece, with_slashes, IsIdle, HoldsPieces, HasPieces, WithoutFirst, Opens, Joins, LiesBelow, EndsInPiece, IsParent}
 use Rattle.git_syntax.proofs.ByMasks.SimpleTextLemmas.{kept_root}
 use Rattle.git_syntax.proofs.Texts.CutLemmas.{tails, class_cut_unique, free-cons}
 use Rattle.gix_url.proofs.Homes.PathLemmas.{idle_none, last_byte, pieces_past}
@@ -22,7 +22,7 @@ FreeEach (segment ∷ segments) = FreeOf slash segment × FreeEach segments
 -- the text is these segments, each after a `/`
 pub record Segments (segments : List (List ℕ)) (text : List ℕ) : Type 0 where
   pub each : FreeEach segments
-  pub whole : text ≡ behind_slashes segments
+  pub whole : text ≡ with_slashes segments
 
 -- segments in two parts
 each_in_parts : (xs ys : List (List ℕ)) → FreeEach xs → FreeEach ys → FreeEach (xs ++ ys)
@@ -37,16 +37,16 @@ segments-append xs ys x y h k = record {
 }
 
 -- segments are nothing, or begin with a `/`
-starts : (segments : List (List ℕ)) → (behind_slashes segments ≡ []) ⊎ (begins_by (λ b. b == slash) (behind_slashes segments) ≡ true)
+starts : (segments : List (List ℕ)) → (with_slashes segments ≡ []) ⊎ (begins_by (λ b. b == slash) (with_slashes segments) ≡ true)
 starts [] = inl refl
 starts (segment ∷ segments) = inr refl
 
 -- a first segment and those after it
-pub first_unique : (a b : List ℕ) (xs ys : List (List ℕ)) → FreeOf slash a → FreeOf slash b → a ++ behind_slashes xs ≡ b ++ behind_slashes ys → (a ≡ b) × (behind_slashes xs ≡ behind_slashes ys)
-first_unique a b xs ys h k e = class_cut_unique (λ c. c == slash) a b (behind_slashes xs) (behind_slashes ys) h k (starts xs) (starts ys) e
+pub first_unique : (a b : List ℕ) (xs ys : List (List ℕ)) → FreeOf slash a → FreeOf slash b → a ++ with_slashes xs ≡ b ++ with_slashes ys → (a ≡ b) × (with_slashes xs ≡ with_slashes ys)
+first_unique a b xs ys h k e = class_cut_unique (λ c. c == slash) a b (with_slashes xs) (with_slashes ys) h k (starts xs) (starts ys) e
 
 -- the text determines its segments
-segments_unique : (xs ys : List (List ℕ)) → FreeEach xs → FreeEach ys → behind_slashes xs ≡ behind_slashes ys → xs ≡ ys
+segments_unique : (xs ys : List (List ℕ)) → FreeEach xs → FreeEach ys → with_slashes xs ≡ with_slashes ys → xs ≡ ys
 segments_unique [] [] h k e = refl
 segments_unique [] (y ∷ ys) h k e = cc
 segments_unique (x ∷ xs) [] h k e = cc
@@ -56,7 +56,7 @@ segments_unique (x ∷ xs) (y ∷ ys) (h, hs) (k, ks) e =
     λ i. cut.0 i ∷ rest i
 
 -- every text is a first segment and segments after it
-pub segmented : (text : List ℕ) → (first : List ℕ) × (segments : List (List ℕ)) × FreeOf slash first × FreeEach segments × (text ≡ first ++ behind_slashes segments)
+pub segmented : (text : List ℕ) → (first : List ℕ) × (segments : List (List ℕ)) × FreeOf slash first × FreeEach segments × (text ≡ first ++ with_slashes segments)
 segmented [] = ([], [], refl, tt, refl)
 segmented (b ∷ bs) =
     let (first, segments, h, hs, e) = segmented bs in
@@ -101,17 +101,17 @@ pieces_segments (piece ∷ others) text (gap, rest, (gaps, h, e), is, more, whol
 -- a text has one first segment, and one list of pieces after it
 pub has_pieces_unique : (text first other : List ℕ) (pieces others : List (List ℕ)) → HasPieces text first pieces → HasPieces text other others → (first ≡ other) × (pieces ≡ others)
 has_pieces_unique text first other pieces others h k =
-    let (xs, hx, fx) = pieces_segments pieces h.behind h.each in
-    let (ys, hy, fy) = pieces_segments others k.behind k.each in
+    let (xs, hx, fx) = pieces_segments pieces h.suffix h.each in
+    let (ys, hy, fy) = pieces_segments others k.suffix k.each in
     let cut = first_unique first other xs ys h.no_slash k.no_slash (sym (h.whole ∙ ap (λ t. first ++ t) hx.whole) ∙ (k.whole ∙ ap (λ t. other ++ t) hy.whole)) in
     (cut.0, sym fx ∙ (ap (filter counts) (segments_unique xs ys hx.each hy.each cut.1) ∙ fy))
 
 -- segments hold the pieces among them
-segments_hold : (segments : List (List ℕ)) → FreeEach segments → HoldsPieces (filter counts segments) (behind_slashes segments)
+segments_hold : (segments : List (List ℕ)) → FreeEach segments → HoldsPieces (filter counts segments) (with_slashes segments)
 segments_hold [] h = idle_none
 segments_hold (segment ∷ segments) (h, hs) = elim (cases_Bool (counts segment)) [
-  | inl good ↦ rw good ([], behind_slashes segments, idle_none, (h, good), segments_hold segments hs, refl)
-  | inr never ↦ rw never (pieces_past (filter counts segments) segment (behind_slashes segments) never (segments_hold segments hs))
+  | inl good ↦ rw good ([], with_slashes segments, idle_none, (h, good), segments_hold segments hs, refl)
+  | inr never ↦ rw never (pieces_past (filter counts segments) segment (with_slashes segments) never (segments_hold segments hs))
 ]
 
 -- and every text is something without its first component
@@ -119,7 +119,7 @@ pub some_rest : (text : List ℕ) → (rest : List ℕ) × WithoutFirst text res
 some_rest text =
     let (first, segments, h, hs, e) = segmented text in
     let pieces = filter counts segments in
-    (join_with_byte slash pieces, (first, pieces, record { behind = behind_slashes segments; no_slash = h; each = segments_hold segments hs; whole = e }, refl))
+    (join_with_byte slash pieces, (first, pieces, record { suffix = with_slashes segments; no_slash = h; each = segments_hold segments hs; whole = e }, refl))
 
 -- it is one text
 pub rest_unique : (text x y : List ℕ) → WithoutFirst text x → WithoutFirst text y → x ≡ y
@@ -168,7 +168,7 @@ some_last (segment ∷ segments) = elim (some_last segments) [
 -- the text above the last piece, from the last piece in front of it
 upper : List ℕ → Option (List (List ℕ) × List ℕ) → List ℕ
 upper first None = or_root first
-upper first (Some (front, piece)) = first ++ behind_slashes (front ++ piece ∷ [])
+upper first (Some (front, piece)) = first ++ with_slashes (front ++ piece ∷ [])
 
 -- the parent, from the last piece
 above : List ℕ → Option (List (List ℕ) × List ℕ) → Option (List ℕ)
@@ -182,25 +182,25 @@ record ShowsParent (text : List ℕ) (parent : Option (List ℕ)) : Type 0 where
   segments : List (List ℕ)
   no_slash : FreeOf slash first
   each : FreeEach segments
-  whole : text ≡ first ++ behind_slashes segments
+  whole : text ≡ first ++ with_slashes segments
   shown : parent ≡ above first (last_piece segments)
 
 -- a piece in segments that are in two parts
-in_parts : (first : List ℕ) (xs gaps tails : List (List ℕ)) (piece gap tail : List ℕ) → gap ≡ behind_slashes gaps → tail ≡ behind_slashes tails → (first ++ behind_slashes xs) ++ (gap ++ (slash ∷ (piece ++ tail))) ≡ first ++ behind_slashes ((xs ++ gaps) ++ piece ∷ tails)
+in_parts : (first : List ℕ) (xs gaps tails : List (List ℕ)) (piece gap tail : List ℕ) → gap ≡ with_slashes gaps → tail ≡ with_slashes tails → (first ++ with_slashes xs) ++ (gap ++ (slash ∷ (piece ++ tail))) ≡ first ++ with_slashes ((xs ++ gaps) ++ piece ∷ tails)
 in_parts first xs gaps tails piece gap tail e f =
-    rw (e, f) (append_assoc first (behind_slashes xs) (behind_slashes gaps ++ (slash ∷ (piece ++ behind_slashes tails)))
+    rw (e, f) (append_assoc first (with_slashes xs) (with_slashes gaps ++ (slash ∷ (piece ++ with_slashes tails)))
     ∙ ap (λ t. first ++ t) (sym (flat_map-append (λ segment. slash ∷ segment) (xs ++ gaps) (piece ∷ tails)
-    ∙ (ap (λ t. t ++ behind_slashes (piece ∷ tails)) (flat_map-append (λ segment. slash ∷ segment) xs gaps)
-    ∙ append_assoc (behind_slashes xs) (behind_slashes gaps) (behind_slashes (piece ∷ tails))))))
+    ∙ (ap (λ t. t ++ with_slashes (piece ∷ tails)) (flat_map-append (λ segment. slash ∷ segment) xs gaps)
+    ∙ append_assoc (with_slashes xs) (with_slashes gaps) (with_slashes (piece ∷ tails))))))
 
 -- after another piece
-shows_behind : (text front gap piece tail : List ℕ) → EndsInPiece front → IsIdle gap → IsPiece piece → IsIdle tail → text ≡ front ++ (gap ++ (slash ∷ (piece ++ tail))) → ShowsParent text (Some front)
+shows_after : (text front gap piece tail : List ℕ) → EndsInPiece front → IsIdle gap → IsPiece piece → IsIdle tail → text ≡ front ++ (gap ++ (slash ∷ (piece ++ tail))) → ShowsParent text (Some front)
 unfolding above upper
-shows_behind text front gap piece tail (EndsInPiece.last_piece before q isq ef) (gaps, g, eg) is (tails, t, et) e =
+shows_after text front gap piece tail (EndsInPiece.last_piece before q isq ef) (gaps, g, eg) is (tails, t, et) e =
     let (first, ss, h, hs, eb) = segmented before in
-    let same : front ≡ first ++ behind_slashes (ss ++ q ∷ []) =
-    ef ∙ (ap (λ x. x ++ slash ∷ q) eb ∙ (append_assoc first (behind_slashes ss) (slash ∷ q)
-    ∙ ap (λ x. first ++ x) (ap (λ x. behind_slashes ss ++ slash ∷ x) (sym (append-nil q)) ∙ sym (flat_map-append (λ segment. slash ∷ segment) ss (q ∷ []))))) in
+    let same : front ≡ first ++ with_slashes (ss ++ q ∷ []) =
+    ef ∙ (ap (λ x. x ++ slash ∷ q) eb ∙ (append_assoc first (with_slashes ss) (slash ∷ q)
+    ∙ ap (λ x. first ++ x) (ap (λ x. with_slashes ss ++ slash ∷ x) (sym (append-nil q)) ∙ sym (flat_map-append (λ segment. slash ∷ segment) ss (q ∷ []))))) in
     record {
       first = first;
       segments = ((ss ++ q ∷ []) ++ gaps) ++ piece ∷ tails;
@@ -209,7 +209,7 @@ shows_behind text front gap piece tail (EndsInPiece.last_piece before q isq ef) 
       whole = e ∙ (ap (λ x. x ++ (gap ++ (slash ∷ (piece ++ tail)))) same ∙ in_parts first (ss ++ q ∷ []) gaps tails piece gap tail eg et);
       shown = rw (last_at ((ss ++ q ∷ []) ++ gaps) piece tails is.1 t, append_assoc ss (q ∷ []) gaps, last_at ss q gaps isq.1 g) (ap Some same);
     }
-shows_behind text front gap piece tail (EndsInPiece.lone_piece free some) (gaps, g, eg) is (tails, t, et) e = record {
+shows_after text front gap piece tail (EndsInPiece.lone_piece free some) (gaps, g, eg) is (tails, t, et) e = record {
   first = front;
   segments = gaps ++ piece ∷ tails;
   no_slash = free;
@@ -221,7 +221,7 @@ shows_behind text front gap piece tail (EndsInPiece.lone_piece free some) (gaps,
 -- each case of a parent is shown by segments
 shows : (text : List ℕ) (parent : Option (List ℕ)) → IsParent text parent → ShowsParent text parent
 unfolding above upper
-shows text parent (IsParent.above_last front gap piece tail h g p t e f) = subst (ShowsParent text) (sym f) (shows_behind text front gap piece tail h g p t e)
+shows text parent (IsParent.above_last front gap piece tail h g p t e f) = subst (ShowsParent text) (sym f) (shows_after text front gap piece tail h g p t e)
 shows text parent (IsParent.in_root gap piece tail (gaps, g, eg) p (tails, t, et) e f) = record {
   first = [];
   segments = gaps ++ piece ∷ tails;
@@ -263,23 +263,23 @@ each_parts [] ys h = (tt, h)
 each_parts (x ∷ xs) ys (h, hs) = let parts = each_parts xs ys hs in ((h, parts.0), parts.1)
 
 -- nothing lies above a first segment alone, or above nothing
-parent_of_idle : (text first : List ℕ) (idle : List (List ℕ)) → FreeOf slash first → list_any counts idle ≡ false → text ≡ first ++ behind_slashes idle → (parent : Option (List ℕ)) × IsParent text parent
+parent_of_idle : (text first : List ℕ) (idle : List (List ℕ)) → FreeOf slash first → list_any counts idle ≡ false → text ≡ first ++ with_slashes idle → (parent : Option (List ℕ)) × IsParent text parent
 parent_of_idle text [] idle h k e = (None, IsParent.above_none (idle, k, e) refl)
-parent_of_idle text (b ∷ bs) idle h k e = (Some [], IsParent.above_first (b ∷ bs) (behind_slashes idle) h (omega arith) (idle, k, refl) e refl)
+parent_of_idle text (b ∷ bs) idle h k e = (Some [], IsParent.above_first (b ∷ bs) (with_slashes idle) h (omega arith) (idle, k, refl) e refl)
 
 -- a lone piece after a first segment, or in the root
 parent_of_lone : (text first : List ℕ) (gaps : List (List ℕ)) (piece : List ℕ) (idle : List (List ℕ)) → FreeOf slash first → list_any counts gaps ≡ false → IsPiece piece → list_any counts idle ≡ false
-    → text ≡ first ++ (behind_slashes gaps ++ (slash ∷ (piece ++ behind_slashes idle))) → (parent : Option (List ℕ)) × IsParent text parent
-parent_of_lone text [] gaps piece idle h g p k e = (Some (slash ∷ []), IsParent.in_root (behind_slashes gaps) piece (behind_slashes idle) (gaps, g, refl) p (idle, k, refl) e refl)
+    → text ≡ first ++ (with_slashes gaps ++ (slash ∷ (piece ++ with_slashes idle))) → (parent : Option (List ℕ)) × IsParent text parent
+parent_of_lone text [] gaps piece idle h g p k e = (Some (slash ∷ []), IsParent.in_root (with_slashes gaps) piece (with_slashes idle) (gaps, g, refl) p (idle, k, refl) e refl)
 parent_of_lone text (b ∷ bs) gaps piece idle h g p k e =
-    (Some (b ∷ bs), IsParent.above_last (b ∷ bs) (behind_slashes gaps) piece (behind_slashes idle) (EndsInPiece.lone_piece h (omega arith)) (gaps, g, refl) p (idle, k, refl) e refl)
+    (Some (b ∷ bs), IsParent.above_last (b ∷ bs) (with_slashes gaps) piece (with_slashes idle) (EndsInPiece.lone_piece h (omega arith)) (gaps, g, refl) p (idle, k, refl) e refl)
 
 -- the front that ends in a piece
-ends_at : (first : List ℕ) (front : List (List ℕ)) (piece : List ℕ) → IsPiece piece → EndsInPiece (first ++ behind_slashes (front ++ piece ∷ []))
+ends_at : (first : List ℕ) (front : List (List ℕ)) (piece : List ℕ) → IsPiece piece → EndsInPiece (first ++ with_slashes (front ++ piece ∷ []))
 ends_at first front piece h =
-    EndsInPiece.last_piece (first ++ behind_slashes front) piece h
-    (ap (λ x. first ++ x) (flat_map-append (λ segment. slash ∷ segment) front (piece ∷ []) ∙ ap (λ x. behind_slashes front ++ slash ∷ x) (append-nil piece))
-    ∙ sym (append_assoc first (behind_slashes front) (slash ∷ piece)))
+    EndsInPiece.last_piece (first ++ with_slashes front) piece h
+    (ap (λ x. first ++ x) (flat_map-append (λ segment. slash ∷ segment) front (piece ∷ []) ∙ ap (λ x. with_slashes front ++ slash ∷ x) (append-nil piece))
+    ∙ sym (append_assoc first (with_slashes front) (slash ∷ piece)))
 
 -- every text has a parent, or none
 pub some_parent : (text : List ℕ) → (parent : Option (List ℕ)) × IsParent text parent
@@ -289,16 +289,16 @@ some_parent text =
       | inl idle ↦ parent_of_idle text first segments h idle e
       | inr (front, piece, idle, good, k, whole) ↦
           let free : FreeEach front × FreeEach (piece ∷ idle) = each_parts front (piece ∷ idle) (subst FreeEach whole hs) in
-          let at : text ≡ first ++ behind_slashes (front ++ piece ∷ idle) = e ∙ ap (λ t. first ++ behind_slashes t) whole in
+          let at : text ≡ first ++ with_slashes (front ++ piece ∷ idle) = e ∙ ap (λ t. first ++ with_slashes t) whole in
           elim (some_last front) [
-            | inl gaps ↦ parent_of_lone text first front piece idle h gaps (free.1.0, good) k (at ∙ (sym (in_parts first [] front idle piece (behind_slashes front) (behind_slashes idle) refl refl) ∙ ap (λ x. x ++ (behind_slashes front ++ (slash ∷ (piece ++ behind_slashes idle)))) (append-nil first)))
+            | inl gaps ↦ parent_of_lone text first front piece idle h gaps (free.1.0, good) k (at ∙ (sym (in_parts first [] front idle piece (with_slashes front) (with_slashes idle) refl refl) ∙ ap (λ x. x ++ (with_slashes front ++ (slash ∷ (piece ++ with_slashes idle)))) (append-nil first)))
             | inr (before, other, gaps, better, g, cut) ↦
                 let others : FreeEach before × FreeEach (other ∷ gaps) = each_parts before (other ∷ gaps) (subst FreeEach cut free.0) in
-                let parts : text ≡ first ++ behind_slashes (((before ++ other ∷ []) ++ gaps) ++ piece ∷ idle) = at ∙ ap (λ t. first ++ behind_slashes (t ++ piece ∷ idle)) (cut ∙ sym (append_assoc before (other ∷ []) gaps)) in (
-                  Some (first ++ behind_slashes (before ++ other ∷ [])),
-                  IsParent.above_last (first ++ behind_slashes (before ++ other ∷ [])) (behind_slashes gaps) piece (behind_slashes idle)
+                let parts : text ≡ first ++ with_slashes (((before ++ other ∷ []) ++ gaps) ++ piece ∷ idle) = at ∙ ap (λ t. first ++ with_slashes (t ++ piece ∷ idle)) (cut ∙ sym (append_assoc before (other ∷ []) gaps)) in (
+                  Some (first ++ with_slashes (before ++ other ∷ [])),
+                  IsParent.above_last (first ++ with_slashes (before ++ other ∷ [])) (with_slashes gaps) piece (with_slashes idle)
                       (ends_at first before other (others.1.0, better)) (gaps, g, refl) (free.1.0, good) (idle, k, refl)
-                      (parts ∙ sym (in_parts first (before ++ other ∷ []) gaps idle piece (behind_slashes gaps) (behind_slashes idle) refl refl)) refl,
+                      (parts ∙ sym (in_parts first (before ++ other ∷ []) gaps idle piece (with_slashes gaps) (with_slashes idle) refl refl)) refl,
                 )
           ]
     ]
@@ -313,16 +313,16 @@ ended (b ∷ front) last e = cc
 -- a folder is made ready in one way
 opens_unique : (folder x y : List ℕ) → Opens folder x → Opens folder y → x ≡ y
 opens_unique folder x y (Opens.empty_folder e f) (Opens.empty_folder g h) = f ∙ sym h
-opens_unique folder x y (Opens.empty_folder e f) (Opens.behind_slash front g h) = ended front slash (sym e ∙ g)
-opens_unique folder x y (Opens.empty_folder e f) (Opens.behind_name front last n g h) = ended front last (sym e ∙ g)
-opens_unique folder x y (Opens.behind_slash front e f) (Opens.empty_folder g h) = ended front slash (sym g ∙ e)
-opens_unique folder x y (Opens.behind_slash front e f) (Opens.behind_slash other g h) = f ∙ sym h
-opens_unique folder x y (Opens.behind_slash front e f) (Opens.behind_name other last n g h) =
+opens_unique folder x y (Opens.empty_folder e f) (Opens.after_slash front g h) = ended front slash (sym e ∙ g)
+opens_unique folder x y (Opens.empty_folder e f) (Opens.after_name front last n g h) = ended front last (sym e ∙ g)
+opens_unique folder x y (Opens.after_slash front e f) (Opens.empty_folder g h) = ended front slash (sym g ∙ e)
+opens_unique folder x y (Opens.after_slash front e f) (Opens.after_slash other g h) = f ∙ sym h
+opens_unique folder x y (Opens.after_slash front e f) (Opens.after_name other last n g h) =
     absurd (both_ways (last == slash) n (eq-eqb last slash (sym (same_from_push front other slash last (sym e ∙ g)).1)))
-opens_unique folder x y (Opens.behind_name front last n e f) (Opens.empty_folder g h) = ended front last (sym g ∙ e)
-opens_unique folder x y (Opens.behind_name front last n e f) (Opens.behind_slash other g h) =
+opens_unique folder x y (Opens.after_name front last n e f) (Opens.empty_folder g h) = ended front last (sym g ∙ e)
+opens_unique folder x y (Opens.after_name front last n e f) (Opens.after_slash other g h) =
     absurd (both_ways (last == slash) n (eq-eqb last slash (same_from_push front other last slash (sym e ∙ g)).1))
-opens_unique folder x y (Opens.behind_name front last n e f) (Opens.behind_name other byte m g h) = f ∙ sym h
+opens_unique folder x y (Opens.after_name front last n e f) (Opens.after_name other byte m g h) = f ∙ sym h
 
 -- and it can be
 some_open : (folder : List ℕ) → (ready : List ℕ) × Opens folder ready
@@ -330,8 +330,8 @@ some_open [] = ([], Opens.empty_folder refl refl)
 some_open (b ∷ bs) =
     let (front, last, e) = last_byte (b ∷ bs) (omega arith) in
     elim (cases_Bool (last == slash)) [
-      | inl same ↦ (b ∷ bs, Opens.behind_slash front (e ∙ ap (λ c. front ++ c ∷ []) (eqb-true last slash same)) refl)
-      | inr other ↦ ((b ∷ bs) ++ slash ∷ [], Opens.behind_name front last other e refl)
+      | inl same ↦ (b ∷ bs, Opens.after_slash front (e ∙ ap (λ c. front ++ c ∷ []) (eqb-true last slash same)) refl)
+      | inr other ↦ ((b ∷ bs) ++ slash ∷ [], Opens.after_name front last other e refl)
     ]
 
 -- a path is joined to a folder in one way

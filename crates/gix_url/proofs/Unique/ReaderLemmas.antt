@@ -48,8 +48,8 @@ answer_owned : (b : List ℕ) (r : Result Location Error) → Reads b r → ¬ (
 answer_owned b r reads ample v spelled = elim (reads.answered v spelled) [ inl is ↦ is | inr memory ↦ absurd (ample memory) ]
 
 -- and with a buffer as long as the bytes they return the same locations
-pub same_with_room : SameWithBuffer
-same_with_room b buffer_len owned borrowed enough reads reads_in ample v = (
+pub same_with_buffer : SameWithBuffer
+same_with_buffer b buffer_len owned borrowed enough reads reads_in ample v = (
   λ is. (reads_in.exact enough v).1 (answer_spelled b owned reads.found v is),
   λ is. answer_owned b owned reads ample v ((reads_in.exact enough v).0 is),
 )

@@ -21,11 +21,11 @@ SpellsPath v whole = (whole.text.now ≡ original_path v) × (whole.denoted.now 
     × (whole.escaped ≡ matches v.spelling v.path)
 
 -- the pieces of a text around the first c, escaped if the text is
-pub record CutsAround (c : ℕ) (whole front behind : EscapedText) : Type 0 where
+pub record CutsAround (c : ℕ) (whole front suffix : EscapedText) : Type 0 where
   pub free : FreeOf c front.text.now
-  pub joined : whole.text.now ≡ front.text.now ++ c ∷ behind.text.now
+  pub joined : whole.text.now ≡ front.text.now ++ c ∷ suffix.text.now
   pub front_escaped : front.escaped ≡ whole.escaped
-  pub behind_escaped : behind.escaped ≡ whole.escaped
+  pub after_escaped : suffix.escaped ≡ whole.escaped
 
 -- the pieces around the first c, or `None` if the text lacks it
 abbrev pub CutsSpelled : ℕ → EscapedText → Option (EscapedText × EscapedText) → Type 0
@@ -36,7 +36,7 @@ CutsSpelled c whole parts = MatchOption parts (FreeOf c whole.text.now)
 abbrev pub CutsOff : ℕ → EscapedText → EscapedText → Option EscapedText → Type 0
 CutsOff c whole front None = FreeOf c whole.text.now × (front.text.now ≡ whole.text.now)
     × (front.escaped ≡ whole.escaped)
-CutsOff c whole front (Some behind) = CutsAround c whole front behind
+CutsOff c whole front (Some suffix) = CutsAround c whole front suffix
 
 -- ---- the query
 
@@ -52,8 +52,8 @@ pub record BorrowsPair (escaped : Bool) (field : List ℕ) (pair : QueryText × 
   pub name : List ℕ
   pub value : List ℕ
   pub split : SplitsField field name value
-  pub name_lent : BorrowsTerm escaped name pair.0
-  pub value_lent : BorrowsTerm escaped value pair.1
+  pub name_borrowed : BorrowsTerm escaped name pair.0
+  pub value_borrowed : BorrowsTerm escaped value pair.1
 
 -- these names and values are the decodings of the fields, in order; empty fields are skipped
 abbrev pub BorrowsPairs : Bool → List (List ℕ) → List (QueryText × QueryText) → Type 0
@@ -128,9 +128,9 @@ pub record BorrowsParts (escaped : Bool) (text : List ℕ) (parts : PathComponen
   pub query : Option (List ℕ)
   pub fragment : Option (List ℕ)
   pub cut : CutsPath text front query fragment
-  pub path_meant : bstr_bytes parts.path ≡ or_root (denoted_by escaped front)
-  pub query_lent : BorrowsQuery escaped query (option_map (λ pairs. pairs.items) parts.query)
-  pub fragment_meant : option_map bstr_bytes parts.fragment ≡ option_map (denoted_by escaped) fragment
+  pub path_denoted : bstr_bytes parts.path ≡ or_root (denoted_by escaped front)
+  pub query_borrowed : BorrowsQuery escaped query (option_map (λ pairs. pairs.items) parts.query)
+  pub fragment_denoted : option_map bstr_bytes parts.fragment ≡ option_map (denoted_by escaped) fragment
 
 -- a text has a query
 pub record HasQuery (text : List ℕ) : Type 0 where

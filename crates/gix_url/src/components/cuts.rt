@@ -8,7 +8,7 @@ ghost use Rattle.percent_encoding.specs.Percent.{percent_decode};
 ghost use Rattle.git_syntax.specs.Bytes.{FreeOf};
 ghost use Rattle.gix_url.specs.Internal.Meanings.{denoted_by};
 
-use crate::components::measure::meant_len;
+use crate::components::measure::denoted_len;
 use crate::components::near::cut_near;
 use git_syntax::bytes::cut;
 
@@ -60,8 +60,8 @@ impl<'a> EscapedText<'a> {
         requires percent { (c == 37) ≡ false }
         ensures { CutsSpelled c self.entry result }
     {
-        let (front, behind) = cut(self.text, c)?;
-        Some(self.around(c, front, behind))
+        let (front, suffix) = cut(self.text, c)?;
+        Some(self.around(c, front, suffix))
     }
 
     /// The pieces before and after the first `c`, for a `c` that is likely to be near the front.
@@ -71,20 +71,20 @@ impl<'a> EscapedText<'a> {
         requires percent { (c == 37) ≡ false }
         ensures { CutsSpelled c self.entry result }
     {
-        let (front, behind) = cut_near(self.text, c)?;
-        Some(self.around(c, front, behind))
+        let (front, suffix) = cut_near(self.text, c)?;
+        Some(self.around(c, front, suffix))
     }
 
     /// The pieces around the first `c`, from their texts.
     #[inline(always)]
-    fn around(self, c: u8, front: &'a [u8], behind: &'a [u8]) -> (EscapedText<'a>, EscapedText<'a>)
+    fn around(self, c: u8, front: &'a [u8], suffix: &'a [u8]) -> (EscapedText<'a>, EscapedText<'a>)
         requires digit { is_digit c 16 ≡ false }
         requires percent { (c == 37) ≡ false }
         requires free { FreeOf c front.now }
-        requires joined { self.text.now ≡ front.now ++ c ∷ behind.now }
+        requires joined { self.text.now ≡ front.now ++ c ∷ suffix.now }
         ensures { CutsAround c self.entry result.0 result.1 }
     {
-        let at = meant_len(front, self.escaped);
+        let at = denoted_len(front, self.escaped);
         (
             EscapedText {
                 text: front,
@@ -92,7 +92,7 @@ impl<'a> EscapedText<'a> {
                 escaped: self.escaped,
             },
             EscapedText {
-                text: behind,
+                text: suffix,
                 denoted: self.denoted.split_at(at + 1).1,
                 escaped: self.escaped,
             },
@@ -106,7 +106,7 @@ impl<'a> EscapedText<'a> {
         ensures { CutsOff c self.entry result.0 result.1 }
     {
         match self.cut(c) {
-            Some((front, behind)) => (front, Some(behind)),
+            Some((front, suffix)) => (front, Some(suffix)),
             None => (self, None),
         }
     }

@@ -42,9 +42,9 @@ fn borrow_spelled<'a>(
     let mut pairs = Vec::with_capacity(alloc, count_fields(query.text))?;
     let plain = is_free_of(query.text, b'+');
     let mut rest = query;
-    while let Some((field, behind)) = rest.cut_near(b'&') {
+    while let Some((field, suffix)) = rest.cut_near(b'&') {
         push_field(alloc, &mut pairs, field, plain)?;
-        rest = behind;
+        rest = suffix;
     }
     push_field(alloc, &mut pairs, rest, plain)?;
     Ok(pairs)
@@ -60,9 +60,9 @@ fn borrow_raw<'a>(
     let mut pairs = Vec::with_capacity(alloc, count_fields(query))?;
     let plain = is_free_of(query, b'+');
     let mut rest = query;
-    while let Some((field, behind)) = cut_near(rest, b'&') {
+    while let Some((field, suffix)) = cut_near(rest, b'&') {
         push_field(alloc, &mut pairs, EscapedText::raw(field), plain)?;
-        rest = behind;
+        rest = suffix;
     }
     push_field(alloc, &mut pairs, EscapedText::raw(rest), plain)?;
     Ok(pairs)
@@ -148,11 +148,11 @@ fn count_fields(query: &[u8]) -> usize
     let mut before = b'&';
     let mut rest = query;
     while PIECE < rest.len() {
-        let (piece, behind) = rest.split_at(PIECE);
+        let (piece, suffix) = rest.split_at(PIECE);
         let (begun, last) = count_begun(before, piece);
         count += usize::from(begun);
         before = last;
-        rest = behind;
+        rest = suffix;
     }
     count + usize::from(count_begun(before, rest).0)
 }

@@ -8,7 +8,7 @@ use git_syntax::escape::begins_with_digits;
 
 /// The length of the text's decoding, or of the text itself if its escapes are literal.
 #[inline(always)]
-pub(super) fn meant_len(text: &[u8], escaped: bool) -> usize
+pub(super) fn denoted_len(text: &[u8], escaped: bool) -> usize
     ensures { result ≡ length (denoted_by escaped text.now) }
 {
     if escaped {
@@ -24,8 +24,8 @@ fn decoded_len(text: &[u8]) -> usize
 {
     let mut len = 0;
     let mut rest = text;
-    while let [first, behind @ ..] = rest {
-        rest = behind_unit(*first, behind);
+    while let [first, suffix @ ..] = rest {
+        rest = after_unit(*first, suffix);
         len += 1;
     }
     len
@@ -33,15 +33,15 @@ fn decoded_len(text: &[u8]) -> usize
 
 /// The text after a byte, and after its digits if it begins an escape.
 #[inline(always)]
-fn behind_unit(first: u8, behind: &[u8]) -> &[u8]
-    ensures decoded { length (percent_decode (first ∷ behind.now)) ≡ length (percent_decode result.now) + 1 }
-    ensures shorter { length result.now ≤ length behind.now }
+fn after_unit(first: u8, suffix: &[u8]) -> &[u8]
+    ensures decoded { length (percent_decode (first ∷ suffix.now)) ≡ length (percent_decode result.now) + 1 }
+    ensures shorter { length result.now ≤ length suffix.now }
 {
     if first != b'%' {
-        return behind;
+        return suffix;
     }
-    if !begins_with_digits(behind) {
-        return behind;
+    if !begins_with_digits(suffix) {
+        return suffix;
     }
-    behind.split_at(2).1
+    suffix.split_at(2).1
 }

@@ -17,10 +17,10 @@ pub(super) fn cut_near(bytes: &[u8], c: u8) -> Option<(&[u8], &[u8])>
     ensures { CutsAt c bytes.now result }
 {
     // In hostile queries nothing precedes it.
-    if let [first, behind @ ..] = bytes
+    if let [first, suffix @ ..] = bytes
         && *first == c
     {
-        return Some((b"", behind));
+        return Some((b"", suffix));
     }
     let near = bytes.len().min(NEAR);
     for at in 0..near {
@@ -37,6 +37,6 @@ fn cut_far(bytes: &[u8], from: usize, c: u8) -> Option<(&[u8], &[u8])>
     requires free { FreeOf c (take from bytes.now) }
     ensures { CutsAt c bytes.now result }
 {
-    let (front, behind) = cut(bytes.split_at(from).1, c)?;
-    Some((bytes.split_at(from + front.len()).0, behind))
+    let (front, suffix) = cut(bytes.split_at(from).1, c)?;
+    Some((bytes.split_at(from + front.len()).0, suffix))
 }

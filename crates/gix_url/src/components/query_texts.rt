@@ -71,10 +71,10 @@ fn with_spaces(alloc: Global, piece: EscapedText<'_>) -> Result<Vec<u8>, AllocEr
     }
     let mut bytes = Vec::with_capacity(alloc, piece.denoted.len())?;
     let mut rest = piece;
-    while let Some((front, behind)) = rest.cut_near(b'+') {
+    while let Some((front, suffix)) = rest.cut_near(b'+') {
         append_within(&mut bytes, front.denoted);
         append_within(&mut bytes, b" ");
-        rest = behind;
+        rest = suffix;
     }
     append_within(&mut bytes, rest.denoted);
     Ok(bytes)

@@ -33,7 +33,7 @@ fn first_segment(text: &str) -> (&str, Option<&str>)
     ensures { CutsSegment text.now result.0 result.1 }
 {
     match first_slash(text) {
-        Some((segment, behind)) => (segment, Some(behind)),
+        Some((segment, suffix)) => (segment, Some(suffix)),
         None => (text, None),
     }
 }
@@ -119,8 +119,8 @@ fn push_pieces(out: &mut String, path: &str) -> Result<(), AllocError>
 {
     let (_, mut rest) = first_segment(path);
     let mut separator = "";
-    while let Some(behind) = rest {
-        let (segment, more) = first_segment(behind);
+    while let Some(suffix) = rest {
+        let (segment, more) = first_segment(suffix);
         rest = more;
         if !counts(segment) {
             continue;

@@ -17,10 +17,10 @@ use std::alloc::{AllocError, Global};
 pub(super) fn cut_home(path: &[u8]) -> Option<(&[u8], &[u8])>
     ensures { CutsHome path.now result }
 {
-    let behind = after(after(path, b'/')?, b'~')?;
-    match cut(behind, b'/') {
+    let suffix = after(after(path, b'/')?, b'~')?;
+    match cut(suffix, b'/') {
         Some((name, below)) => Some((name, below)),
-        None => Some((behind, b"")),
+        None => Some((suffix, b"")),
     }
 }
 

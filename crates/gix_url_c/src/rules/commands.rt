@@ -4,14 +4,17 @@ ghost use Rattle.std.specs.Prelude.{◌≡◌, ◌<◌, ◌⊎◌, IfOk, IfSome,
 ghost use Rattle.std.specs.List.{concat};
 ghost use Rattle.bstr.specs.Owned.{bstring_bytes};
 ghost use Rattle.git_rules.specs.SecureShell.{command_words};
+ghost use Rattle.git_rules.specs.declared.ssh.program.ProgramVariant.TheVariants.{Known};
 ghost use Rattle.gix_url_c.specs.Codes.{UnlessMemory, UnlessNone, memory, no_room, ok};
 ghost use Rattle.gix_url_c.specs.Input.{IsNone, location_of};
 ghost use Rattle.gix_url_c.specs.Left.{LeavesLengths, LeavesBuffer};
+ghost use Rattle.gix_url_c.specs.ProgramNumbers.{variant_number};
 ghost use Rattle.gix_url_c.specs.WordNumbers.{IsNoFamily, IsNoRequest, PutsWords, ReportsWords, family_numbered, refusal_number, refused_numbers, request_passed, service_numbered, variable_number, variant_numbered, version_number, version_numbered};
 
-use crate::buffer::put_both;
+use crate::buffer::write_both;
 use crate::codes::{MEMORY, NO_LOCATION, OK};
 use crate::input::{PartBytes, location_of, present};
+use crate::tables::{number_of, numbered};
 use bstr::BString;
 use git_rules::ssh::{
     AddressFamily, ProtocolVersion, Service, SshCommand, SshRefusal, SshRequest, SshVariant,
@@ -20,7 +23,29 @@ use git_rules::ssh::{
 use gix_url::UrlRef;
 use std::alloc::{AllocError, Global};
 
-/// The request to Secure Shell, apart from the location.
+/// The numbers of the versions of Git's protocol.
+macro_rules! version_numbers {
+    ($direction:ident, $it:expr) => {
+        $direction! { $it; 0 => ProtocolVersion::V0, 1 => ProtocolVersion::V1, 2 => ProtocolVersion::V2, }
+    };
+}
+
+/// The numbers of the variants of Secure Shell.
+macro_rules! variant_numbers {
+    ($direction:ident, $it:expr) => {
+        $direction! {
+            $it;
+            0 => SshVariant::Ssh,
+            1 => SshVariant::Simple,
+            2 => SshVariant::Plink,
+            3 => SshVariant::Putty,
+            4 => SshVariant::TortoisePlink,
+        }
+    };
+}
+
+/// The request to Secure Shell, apart from the location, as [`gix_url_c_ssh_words`] takes it. The bytes of a
+/// missing program are ignored.
 #[repr(C)]
 #[derive(Clone, Copy)]
 pub struct RequestBytes<'a> {
@@ -38,7 +63,7 @@ pub struct RequestBytes<'a> {
     pub family: u8,
 }
 
-/// The report about a command, apart from its words.
+/// The report of [`gix_url_c_ssh_words`] about a command, apart from its words.
 #[repr(C)]
 #[derive(Clone, Copy)]
 pub struct WordNumbers {
@@ -77,13 +102,13 @@ pub extern "C" fn gix_url_c_ssh_words(
         return NO_LOCATION;
     };
     match request_of(request) {
-        Some(request) => put_command(alloc, &url, &request, built, buffer, lengths),
+        Some(request) => write_command(alloc, &url, &request, built, buffer, lengths),
         None => NO_LOCATION,
     }
 }
 
 /// Copies and reports the words of the command for the location, or reports why there is none.
-fn put_command(
+fn write_command(
     alloc: Global,
     url: &UrlRef<'_>,
     request: &SshRequest<'_>,
@@ -98,7 +123,7 @@ fn put_command(
     ensures numbers { LeavesLengths result built.old built.new }
 {
     match ssh_command_for(url, request) {
-        Ok(command) => put_words(alloc, &command, built, buffer, lengths),
+        Ok(command) => write_words(alloc, &command, built, buffer, lengths),
         Err(refusal) => {
             *built = refused_numbers(refusal);
             OK
@@ -107,7 +132,7 @@ fn put_command(
 }
 
 /// Copies and reports the words of a command.
-fn put_words(
+fn write_words(
     alloc: Global,
     command: &SshCommand<'_>,
     built: &mut WordNumbers,
@@ -135,7 +160,7 @@ fn put_words(
         words: words.len(),
         bytes: bytes.len(),
     };
-    put_both(&bytes, &measured, buffer, lengths)
+    write_both(&bytes, &measured, buffer, lengths)
 }
 
 /// The bytes of the words, one after the other.
@@ -186,11 +211,7 @@ fn variable_number(command: &SshCommand<'_>) -> u8
 fn version_number(version: ProtocolVersion) -> u8
     ensures { result ≡ version_number version }
 {
-    match version {
-        ProtocolVersion::V0 => 0,
-        ProtocolVersion::V1 => 1,
-        ProtocolVersion::V2 => 2,
-    }
+    version_numbers!(number_of, version)
 }
 
 /// The request, unless one of its numbers has no meaning.
@@ -228,14 +249,14 @@ fn variant_numbered(number: u8) -> Option<SshVariant>
     ensures known { IfSome result (λ _. ¬ (4 < number)) }
     ensures refused { result ≡ None → 4 < number }
 {
-    match number {
-        0 => Some(SshVariant::Ssh),
-        1 => Some(SshVariant::Simple),
-        2 => Some(SshVariant::Plink),
-        3 => Some(SshVariant::Putty),
-        4 => Some(SshVariant::TortoisePlink),
-        _ => None,
-    }
+    variant_numbers!(numbered, number)
+}
+
+/// The number of a variant that is known.
+pub(crate) fn known_variant_number(variant: SshVariant) -> u8
+    ensures { result ≡ variant_number (Known variant) }
+{
+    variant_numbers!(number_of, variant)
 }
 
 /// The version with this number.
@@ -244,12 +265,7 @@ fn version_numbered(number: u8) -> Option<ProtocolVersion>
     ensures known { IfSome result (λ _. ¬ (2 < number)) }
     ensures refused { result ≡ None → 2 < number }
 {
-    match number {
-        0 => Some(ProtocolVersion::V0),
-        1 => Some(ProtocolVersion::V1),
-        2 => Some(ProtocolVersion::V2),
-        _ => None,
-    }
+    version_numbers!(numbered, number)
 }
 
 /// The version of IP with this number.

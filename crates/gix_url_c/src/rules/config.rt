@@ -7,7 +7,7 @@ ghost use Rattle.gix_url_c.specs.EntryNumbers.{IsListingOf, PutsFile, PutsListin
 ghost use Rattle.gix_url_c.specs.Left.{LeavesLengths, LeavesBuffer};
 ghost use Rattle.gix_url_c.specs.Stops.{LeavesStop, no_configuration, no_stop};
 
-use crate::buffer::put_both;
+use crate::buffer::write_both;
 use crate::codes::MEMORY;
 use crate::rules::pieces::joined;
 use crate::rules::stops::{NO_CONFIGURATION, Stop, no_stop};
@@ -17,7 +17,8 @@ use git_modules::config_file::{self, FileEntry};
 use git_rules::config::{Entry, EntryError, Reader};
 use std::alloc::{AllocError, Global};
 
-/// The number of entries, and the length of their parts.
+/// The number of entries, and the length of their parts. [`gix_url_c_read_listing`] and
+/// [`gix_url_c_read_file`] report them.
 #[repr(C)]
 #[derive(Clone, Copy)]
 pub struct EntrySizes {
@@ -69,7 +70,7 @@ pub extern "C" fn gix_url_c_read_listing(
 {
     *stop = no_stop();
     match listed(alloc, text) {
-        Ok(entries) => put_listing(alloc, &entries, built, buffer, numbers),
+        Ok(entries) => write_listing(alloc, &entries, built, buffer, numbers),
         Err(Unlisted::Memory) => MEMORY,
         Err(Unlisted::Flawed(flaw)) => {
             *stop = flaw_stop(flaw);
@@ -104,7 +105,7 @@ pub extern "C" fn gix_url_c_read_file(
         return MEMORY;
     };
     match config_file::entries(alloc, text, scratch.as_mut_slice()) {
-        Ok(entries) => put_file(alloc, &entries, built, buffer, numbers),
+        Ok(entries) => write_file(alloc, &entries, built, buffer, numbers),
         // The scratch buffer is as long as the text.
         Err(FileError::Memory | FileError::ShortBuffer) => MEMORY,
         Err(FileError::Refused { flaw, at, line }) => {
@@ -142,7 +143,7 @@ fn keep<'a>(found: &mut Vec<Entry<'a>>, entry: Entry<'a>) -> Result<(), AllocErr
 }
 
 /// Copies and reports the parts and the numbers of the entries of a listing.
-fn put_listing(
+fn write_listing(
     alloc: Global,
     entries: &[Entry<'_>],
     built: &mut EntrySizes,
@@ -157,13 +158,13 @@ fn put_listing(
     ensures code { (result ≡ memory) ⊎ ((result ≡ ok) ⊎ (result ≡ no_room)) }
 {
     match written_listing(alloc, entries) {
-        Ok(written) => put_written(alloc, &written, entries.len(), built, buffer, numbers),
+        Ok(written) => write_file_parts(alloc, &written, entries.len(), built, buffer, numbers),
         Err(_) => MEMORY,
     }
 }
 
 /// Copies and reports the parts and the numbers of the entries of a file.
-fn put_file(
+fn write_file(
     alloc: Global,
     entries: &[FileEntry<'_>],
     built: &mut EntrySizes,
@@ -178,13 +179,13 @@ fn put_file(
     ensures code { (result ≡ memory) ⊎ ((result ≡ ok) ⊎ (result ≡ no_room)) }
 {
     match written_file(alloc, entries) {
-        Ok(written) => put_written(alloc, &written, entries.len(), built, buffer, numbers),
+        Ok(written) => write_file_parts(alloc, &written, entries.len(), built, buffer, numbers),
         Err(_) => MEMORY,
     }
 }
 
 /// Copies the parts and the numbers of so many entries, if both fit.
-fn put_written(
+fn write_file_parts(
     alloc: Global,
     written: &Written<'_>,
     entries: usize,
@@ -206,7 +207,7 @@ fn put_written(
                 entries,
                 bytes: bytes.len(),
             };
-            put_both(&bytes, &written.numbers, buffer, numbers)
+            write_both(&bytes, &written.numbers, buffer, numbers)
         }
         Err(_) => MEMORY,
     }

@@ -7,19 +7,20 @@ ghost use Rattle.gix_url_c.specs.Codes.{UnlessMemory, memory, no_room, ok};
 ghost use Rattle.gix_url_c.specs.CredentialNumbers.{FindsCredentials, PutsCredentials, ReportsCredentials, no_credentials};
 ghost use Rattle.gix_url_c.specs.Entries.{entries_passed};
 ghost use Rattle.gix_url_c.specs.Left.{LeavesLengths, LeavesBuffer};
-ghost use Rattle.gix_url_c.specs.Stops.{LeavesStop, StopsAt, no_boolean, no_stop};
+ghost use Rattle.gix_url_c.specs.Stops.{LeavesStop, no_stop};
 
-use crate::buffer::put_both;
+use crate::buffer::write_both;
 use crate::codes::{MEMORY, OK};
 use crate::output::part;
 use crate::rules::entries::{EntryBytes, entries_of};
-use crate::rules::stops::{NO_BOOLEAN, Stop, no_stop, stop_without_value};
+use crate::rules::stops::{NO_BOOLEAN, NO_VALUE, Stop, no_stop, stop_at};
 use git_rules::config::Entry;
 use git_rules::credentials::{Credentials, CredentialsError, credentials_for};
 use gix_url::credential::{Buffers, Request, reading};
 use std::alloc::Global;
 
-/// The report about credentials: numbers, and the length of the user. The caller's buffer has the user.
+/// The report of [`gix_url_c_credentials`]: numbers, and the length of the user. The caller's buffer has the
+/// user.
 #[repr(C)]
 #[derive(Clone, Copy)]
 pub struct CredentialNumbers {
@@ -60,13 +61,13 @@ pub extern "C" fn gix_url_c_credentials(
 {
     *stop = no_stop();
     match entries_of(alloc, entries) {
-        Ok(entries) => put_for_text(alloc, &entries, text, built, buffer, indices, stop),
+        Ok(entries) => write_for_text(alloc, &entries, text, built, buffer, indices, stop),
         Err(_) => MEMORY,
     }
 }
 
 /// Copies and reports the settings that Git uses for a text.
-fn put_for_text(
+fn write_for_text(
     alloc: Global,
     entries: &[Entry<'_>],
     text: &[u8],
@@ -85,7 +86,7 @@ fn put_for_text(
     *stop = no_stop();
     let mut buffers = Buffers::new(alloc);
     match reading(text, &mut buffers) {
-        Ok(Some(request)) => put_for_request(
+        Ok(Some(request)) => write_for_request(
             alloc, entries, &request, built, buffer, indices, stop,
         ),
         Ok(None) => {
@@ -97,7 +98,7 @@ fn put_for_text(
 }
 
 /// Copies and reports the settings that Git uses for a request.
-fn put_for_request(
+fn write_for_request(
     alloc: Global,
     entries: &[Entry<'_>],
     request: &Request<'_>,
@@ -115,27 +116,15 @@ fn put_for_request(
 {
     *stop = no_stop();
     match credentials_for(alloc, entries, request) {
-        Ok(found) => put_credentials(&found, built, buffer, indices),
+        Ok(found) => write_credentials(&found, built, buffer, indices),
         Err(CredentialsError::Memory) => MEMORY,
-        Err(CredentialsError::NoValue { at }) => stop_without_value(at, stop),
-        Err(CredentialsError::NoBoolean { at }) => stop_without_boolean(at, stop),
+        Err(CredentialsError::NoValue { at }) => stop_at(NO_VALUE, at, stop),
+        Err(CredentialsError::NoBoolean { at }) => stop_at(NO_BOOLEAN, at, stop),
     }
 }
 
-/// Reports that Git stops at an entry that has no boolean value.
-fn stop_without_boolean(at: usize, stop: &mut Stop) -> u32
-    ensures { StopsAt no_boolean at stop.new result }
-{
-    *stop = Stop {
-        at,
-        line: 0,
-        flaw: 0,
-    };
-    NO_BOOLEAN
-}
-
 /// Copies and reports the user and the indices of the helpers.
-fn put_credentials(
+fn write_credentials(
     found: &Credentials<'_>,
     built: &mut CredentialNumbers,
     buffer: &mut [u8],
@@ -154,7 +143,7 @@ fn put_credentials(
         helpers: found.helpers.len(),
         user: part(found.user).len(),
     };
-    put_both(part(found.user), &found.helpers, buffer, indices)
+    write_both(part(found.user), &found.helpers, buffer, indices)
 }
 
 /// The numbers of a text in which Git's credential code reads nothing.

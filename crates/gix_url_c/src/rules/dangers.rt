@@ -2,18 +2,39 @@
 
 ghost use Rattle.std.specs.Prelude.{◌≡◌, IfOk, IfSome, None, map};
 ghost use Rattle.git_audit.specs.Dangers.{danger_name, danger_words};
-ghost use Rattle.gix_url_c.specs.Codes.{UnlessMemory, UnlessNone};
-ghost use Rattle.gix_url_c.specs.DangerNumbers.{IsDanger, PutsDanger, ReportsDangers, danger_number};
+ghost use Rattle.gix_url_c.specs.Codes.{HasNumber, UnlessMemory, UnlessNone};
+ghost use Rattle.gix_url_c.specs.DangerNumbers.{ReportsDangers, danger_number};
 ghost use Rattle.gix_url_c.specs.Input.{IsNone, location_of};
 ghost use Rattle.gix_url_c.specs.Left.{LeavesLengths, LeavesBuffer};
+ghost use Rattle.gix_url_c.specs.NumberedTexts.{PutsNumbered};
 
-use crate::buffer::put_text;
+use crate::buffer::write_text;
 use crate::codes::{MEMORY, NO_LOCATION};
 use crate::input::{PartBytes, location_of};
-use crate::reasons::put_nothing;
+use crate::reasons::write_nothing;
+use crate::tables::{number_of, numbered};
 use git_audit::danger::{Danger, dangers};
 use gix_url::UrlRef;
 use std::alloc::{AllocError, Global};
+
+/// The numbers of dangers.
+macro_rules! danger_numbers {
+    ($direction:ident, $it:expr) => {
+        $direction! {
+            $it;
+            1 => Danger::Command,
+            2 => Danger::OptionLikeUser,
+            3 => Danger::OptionLikeHost,
+            4 => Danger::OptionLikePath,
+            5 => Danger::Password,
+            6 => Danger::Token,
+            7 => Danger::HostCharacter,
+            8 => Danger::LineEnd,
+            9 => Danger::OtherHost,
+            10 => Danger::MisreadHost,
+        }
+    };
+}
 
 /// Copies the numbers of the dangers of a text and its location to the buffer, one byte each, and reports how many
 /// there are: [`git_audit::danger::dangers`]. The numbers are 1 to 10, in the order of [`git_audit::danger::Danger`].
@@ -33,13 +54,13 @@ pub extern "C" fn gix_url_c_dangers(
     ensures count { LeavesLengths result count.old count.new }
 {
     match location_of(passed) {
-        Some(url) => put_dangers(alloc, text, &url, buffer, count),
+        Some(url) => write_dangers(alloc, text, &url, buffer, count),
         None => NO_LOCATION,
     }
 }
 
 /// Copies the numbers of the dangers to the buffer.
-fn put_dangers(
+fn write_dangers(
     alloc: Global,
     text: &[u8],
     url: &UrlRef<'_>,
@@ -54,7 +75,7 @@ fn put_dangers(
         return MEMORY;
     };
     match numbers_of(alloc, &found) {
-        Ok(numbers) => put_text(&numbers, buffer, count),
+        Ok(numbers) => write_text(&numbers, buffer, count),
         Err(_) => MEMORY,
     }
 }
@@ -74,18 +95,7 @@ fn numbers_of(alloc: Global, found: &[Danger]) -> Result<Vec<u8>, AllocError>
 fn danger_number(danger: Danger) -> u8
     ensures { result ≡ danger_number danger }
 {
-    match danger {
-        Danger::Command => 1,
-        Danger::OptionLikeUser => 2,
-        Danger::OptionLikeHost => 3,
-        Danger::OptionLikePath => 4,
-        Danger::Password => 5,
-        Danger::Token => 6,
-        Danger::HostCharacter => 7,
-        Danger::LineEnd => 8,
-        Danger::OtherHost => 9,
-        Danger::MisreadHost => 10,
-    }
+    danger_numbers!(number_of, danger)
 }
 
 /// Copies the name of the danger with this number to the buffer, and reports its length:
@@ -94,49 +104,34 @@ fn danger_number(danger: Danger) -> u8
 /// Returns 0; 101, with the length 0, if no danger has this number; 102 if the name doesn't fit.
 #[unsafe(no_mangle)]
 pub extern "C" fn gix_url_c_danger_name(danger: u8, buffer: &mut [u8], len: &mut usize) -> u32
-    ensures reported { PutsDanger danger_name danger buffer.old buffer.new len.new result }
+    ensures reported { PutsNumbered danger_number danger_name danger buffer.old buffer.new len.new result }
     ensures buffer { LeavesBuffer result buffer.old buffer.new }
 {
     match danger_numbered(danger) {
-        Some(danger) => put_text(danger.name().as_bytes(), buffer, len),
-        None => put_nothing(len),
+        Some(danger) => write_text(danger.name().as_bytes(), buffer, len),
+        None => write_nothing(len),
     }
 }
 
 /// Copies the words of the danger with this number to the buffer, and reports their length:
-
 /// [`git_audit::danger::Danger::words`].
-
 ///
-
 /// Returns the numbers of [`gix_url_c_danger_name`].
 #[unsafe(no_mangle)]
 pub extern "C" fn gix_url_c_danger_words(danger: u8, buffer: &mut [u8], len: &mut usize) -> u32
-    ensures reported { PutsDanger danger_words danger buffer.old buffer.new len.new result }
+    ensures reported { PutsNumbered danger_number danger_words danger buffer.old buffer.new len.new result }
     ensures buffer { LeavesBuffer result buffer.old buffer.new }
 {
     match danger_numbered(danger) {
-        Some(danger) => put_text(danger.words().as_bytes(), buffer, len),
-        None => put_nothing(len),
+        Some(danger) => write_text(danger.words().as_bytes(), buffer, len),
+        None => write_nothing(len),
     }
 }
 
 /// The danger with this number.
 fn danger_numbered(number: u8) -> Option<Danger>
     ensures found { IfSome result (λ danger. danger_number danger ≡ number) }
-    ensures none { result ≡ None → ¬ IsDanger number }
+    ensures none { result ≡ None → ¬ HasNumber danger_number number }
 {
-    match number {
-        1 => Some(Danger::Command),
-        2 => Some(Danger::OptionLikeUser),
-        3 => Some(Danger::OptionLikeHost),
-        4 => Some(Danger::OptionLikePath),
-        5 => Some(Danger::Password),
-        6 => Some(Danger::Token),
-        7 => Some(Danger::HostCharacter),
-        8 => Some(Danger::LineEnd),
-        9 => Some(Danger::OtherHost),
-        10 => Some(Danger::MisreadHost),
-        _ => None,
-    }
+    danger_numbers!(numbered, number)
 }

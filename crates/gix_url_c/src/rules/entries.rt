@@ -7,7 +7,8 @@ use crate::input::present;
 use git_rules::config::Entry;
 use std::alloc::{AllocError, Global};
 
-/// An entry of a configuration in C's form. The bytes of a missing part are ignored.
+/// An entry of a configuration in C's form. The bytes of a missing part are ignored. Exports over a
+/// configuration take a slice of entries.
 #[repr(C)]
 #[derive(Clone, Copy)]
 pub struct EntryBytes<'a> {

@@ -8,7 +8,7 @@ ghost use Rattle.gix_url_c.specs.Input.{present};
 ghost use Rattle.gix_url_c.specs.Left.{LeavesBuffer};
 ghost use Rattle.gix_url_c.specs.PolicyNumbers.{ReportsPermission, ReportsTransport, permission_numbers, policy_passed, reason_place, decider_number, transport_number};
 
-use crate::buffer::put_text;
+use crate::buffer::write_text;
 use crate::codes::{MEMORY, NO_LOCATION, OK};
 use crate::input::present;
 use crate::rules::entries::{EntryBytes, entries_of};
@@ -16,7 +16,8 @@ use git_rules::protocols::text::{NoTransport, transport_of};
 use git_rules::protocols::{Permission, Protocols, Reason};
 use std::alloc::Global;
 
-/// Two environment variables. The bytes of a variable that isn't set are ignored.
+/// Two environment variables, as [`gix_url_c_permission`] takes them. The bytes of a variable that isn't set
+/// are ignored.
 #[repr(C)]
 #[derive(Clone, Copy)]
 pub struct PolicyBytes<'a> {
@@ -30,7 +31,7 @@ pub struct PolicyBytes<'a> {
     pub has_from_user: bool,
 }
 
-/// Whether Git uses a transport, and the variable or entry that decides.
+/// Whether Git uses a transport, and the variable or entry that decides. [`gix_url_c_permission`] reports it.
 #[repr(C)]
 #[derive(Clone, Copy)]
 pub struct PermissionNumbers {
@@ -62,7 +63,7 @@ pub extern "C" fn gix_url_c_transport(
     match transport_of(text) {
         Ok(name) => {
             *why = 0;
-            put_text(name.as_bytes(), buffer, len)
+            write_text(name.as_bytes(), buffer, len)
         }
         Err(reason) => {
             *why = transport_number(reason);
@@ -121,7 +122,7 @@ fn permission_numbers(permission: Permission) -> PermissionNumbers
     match permission {
         Permission::Allowed(by) => numbers(1, decider_number(by), reason_place(by)),
         Permission::Refused(by) => numbers(2, decider_number(by), reason_place(by)),
-        Permission::UnknownAllowance { at } => numbers(3, 2, at),
+        Permission::UnknownAllowance { at } => numbers(3, decider_number(Reason::Entry { at }), at),
         Permission::UnknownFromUser => numbers(4, 0, 0),
     }
 }

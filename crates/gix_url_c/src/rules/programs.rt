@@ -10,14 +10,15 @@ ghost use Rattle.gix_url_c.specs.Stops.{LeavesStop, no_stop};
 use crate::buffer::put;
 use crate::codes::MEMORY;
 use crate::input::present;
+use crate::rules::commands::known_variant_number;
 use crate::rules::entries::{EntryBytes, entries_of};
-use crate::rules::stops::{Stop, no_stop, stop_without_value};
+use crate::rules::stops::{NO_VALUE, Stop, no_stop, stop_at};
 use git_rules::config::Entry;
-use git_rules::ssh::SshVariant;
 use git_rules::ssh::program::{ProgramVariant, SshProgram, SshProgramError, SshSettings};
 use std::alloc::Global;
 
-/// Three environment variables. The bytes of a variable that isn't set are ignored.
+/// Three environment variables, as [`gix_url_c_ssh_program`] takes them. The bytes of a variable that isn't
+/// set are ignored.
 #[repr(C)]
 #[derive(Clone, Copy)]
 pub struct GivenVariables<'a> {
@@ -35,7 +36,7 @@ pub struct GivenVariables<'a> {
     pub has_variant: bool,
 }
 
-/// The report about a program, apart from its text.
+/// The report of [`gix_url_c_ssh_program`] about a program, apart from its text.
 #[repr(C)]
 #[derive(Clone, Copy)]
 pub struct ProgramNumbers {
@@ -98,13 +99,13 @@ fn find(
         git_ssh_variant: present(variables.has_variant, variables.variant),
     };
     match SshProgram::of(&settings) {
-        Ok(program) => put_program(&program, built, buffer),
-        Err(SshProgramError::NoValue { at }) => stop_without_value(at, stop),
+        Ok(program) => write_program(&program, built, buffer),
+        Err(SshProgramError::NoValue { at }) => stop_at(NO_VALUE, at, stop),
     }
 }
 
 /// Copies and reports the text of a program.
-fn put_program(program: &SshProgram<'_>, built: &mut ProgramNumbers, buffer: &mut [u8]) -> u32
+fn write_program(program: &SshProgram<'_>, built: &mut ProgramNumbers, buffer: &mut [u8]) -> u32
     ensures reported { PutsProgram program.now built.new buffer.old buffer.new result }
     ensures buffer { LeavesBuffer result buffer.old buffer.new }
     ensures numbers { LeavesLengths result built.old built.new }
@@ -123,11 +124,7 @@ fn variant_number(variant: ProgramVariant) -> u8
     ensures { result ≡ variant_number variant }
 {
     match variant {
-        ProgramVariant::Known(SshVariant::Ssh) => 0,
-        ProgramVariant::Known(SshVariant::Simple) => 1,
-        ProgramVariant::Known(SshVariant::Plink) => 2,
-        ProgramVariant::Known(SshVariant::Putty) => 3,
-        ProgramVariant::Known(SshVariant::TortoisePlink) => 4,
+        ProgramVariant::Known(variant) => known_variant_number(variant),
         ProgramVariant::Asked => 5,
     }
 }

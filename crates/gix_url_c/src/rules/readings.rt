@@ -5,7 +5,7 @@ ghost use Rattle.std.specs.Prelude.{◌≡◌, ◌⊎◌};
 ghost use Rattle.git_reads.specs.Views.{credential_reading, git_reading, scheme_of_protocol};
 ghost use Rattle.gix_url_c.specs.Codes.{UnlessMemory, memory, no_room, ok};
 ghost use Rattle.gix_url_c.specs.Left.{LeavesLengths, LeavesBuffer};
-ghost use Rattle.gix_url_c.specs.ReadingNumbers.{PutsPlace, PutsRequest, ReportsPlace, ReportsRequest, TellsUnread, no_request, place_numbers, protocol_number, request_numbers, unread_number, unread_numbers};
+ghost use Rattle.gix_url_c.specs.ReadingNumbers.{PutsPlace, PutsRequest, ReportsPlace, ReportsRequest, ReportsUnread, no_request, place_numbers, protocol_number, request_numbers, unread_number, unread_numbers};
 
 use crate::buffer::put;
 use crate::codes::{MEMORY, OK};
@@ -15,8 +15,8 @@ use gix_url::credential::{self, Request};
 use gix_url::transport::{self, GitPlace, Protocol, Unread};
 use std::alloc::Global;
 
-/// The place that Git reads: numbers, and the lengths of its parts in bytes. The caller's buffer has the parts in this
-/// order.
+/// The place that Git reads: numbers, and the lengths of its parts in bytes. The caller's buffer has the
+/// parts in this order. [`gix_url_c_git_reading`] reports it.
 #[repr(C)]
 #[derive(Clone, Copy)]
 pub struct PlaceNumbers {
@@ -40,8 +40,8 @@ pub struct PlaceNumbers {
     pub path: usize,
 }
 
-/// The request of Git's credential code to helpers: numbers, and the lengths of its parts in bytes. The caller's buffer
-/// has the parts in this order.
+/// The request of Git's credential code to helpers: numbers, and the lengths of its parts in bytes. The
+/// caller's buffer has the parts in this order. [`gix_url_c_credential_reading`] reports it.
 #[repr(C)]
 #[derive(Clone, Copy)]
 pub struct RequestNumbers {
@@ -82,14 +82,14 @@ pub extern "C" fn gix_url_c_git_reading(
 {
     let mut buffers = transport::Buffers::new(alloc);
     match transport::reading(text, &mut buffers) {
-        Ok(place) => put_place(alloc, &place, built, buffer),
+        Ok(place) => write_place(alloc, &place, built, buffer),
         Err(why) => tell_unread(why, built),
     }
 }
 
 /// Reports why Git reads no place, or returns that memory was refused.
 fn tell_unread(why: Unread, built: &mut PlaceNumbers) -> u32
-    ensures reported { UnlessMemory result (TellsUnread why built.new result) }
+    ensures reported { UnlessMemory result (ReportsUnread why built.new result) }
     ensures numbers { LeavesLengths result built.old built.new }
 {
     match why {
@@ -122,7 +122,7 @@ pub extern "C" fn gix_url_c_credential_reading(
 {
     let mut buffers = credential::Buffers::new(alloc);
     match credential::reading(text, &mut buffers) {
-        Ok(Some(request)) => put_request(alloc, &request, built, buffer),
+        Ok(Some(request)) => write_request(alloc, &request, built, buffer),
         Ok(None) => {
             *built = no_request();
             OK
@@ -132,7 +132,7 @@ pub extern "C" fn gix_url_c_credential_reading(
 }
 
 /// Copies and reports the parts of a place.
-fn put_place(
+fn write_place(
     alloc: Global,
     place: &GitPlace<'_>,
     built: &mut PlaceNumbers,
@@ -153,7 +153,7 @@ fn put_place(
 }
 
 /// Copies and reports the parts of a request.
-fn put_request(
+fn write_request(
     alloc: Global,
     request: &Request<'_>,
     built: &mut RequestNumbers,

@@ -10,19 +10,19 @@ ghost use Rattle.gix_url_c.specs.Left.{LeavesLengths, LeavesBuffer};
 ghost use Rattle.gix_url_c.specs.RemoteNumbers.{FindsRemote, PutsRemote, ReportsRemote, remote_bytes, remote_lengths, remote_numbers};
 ghost use Rattle.gix_url_c.specs.Stops.{LeavesStop, no_stop};
 
-use crate::buffer::put_both;
+use crate::buffer::write_both;
 use crate::codes::MEMORY;
 use crate::output::part;
 use crate::rules::entries::{EntryBytes, entries_of};
-use crate::rules::stops::{Stop, no_stop, stop_without_value};
+use crate::rules::stops::{NO_VALUE, Stop, no_stop, stop_at};
 use git_rules::config::Entry;
 use git_rules::remote::{Remote, RemoteError};
 use git_rules::rewrite::outcome::Rewritten;
 use git_rules::rewrite::{RewriteError, Rewrites};
 use std::alloc::{AllocError, Global};
 
-/// The report about a remote: numbers, and the lengths of its values in bytes. The caller's buffer has the
-/// URLs, and then the values in this order.
+/// The report of [`gix_url_c_remote`]: numbers, and the lengths of its values in bytes. The caller's buffer
+/// has the URLs, and then the values in this order.
 #[repr(C)]
 #[derive(Clone, Copy)]
 pub struct RemoteNumbers {
@@ -74,13 +74,13 @@ pub extern "C" fn gix_url_c_remote<'a>(
 {
     *stop = no_stop();
     match entries_of(alloc, entries) {
-        Ok(entries) => put_named(alloc, &entries, name, built, buffer, lengths, stop),
+        Ok(entries) => write_named(alloc, &entries, name, built, buffer, lengths, stop),
         Err(_) => MEMORY,
     }
 }
 
 /// Copies and reports the remote with this name, by the rules of the entries.
-fn put_named<'a>(
+fn write_named<'a>(
     alloc: Global,
     entries: &[Entry<'a>],
     name: &'a [u8],
@@ -98,14 +98,14 @@ fn put_named<'a>(
 {
     *stop = no_stop();
     match Rewrites::from_entries(alloc, entries) {
-        Ok(rules) => put_by_rules(alloc, entries, &rules, name, built, buffer, lengths, stop),
+        Ok(rules) => write_by_rules(alloc, entries, &rules, name, built, buffer, lengths, stop),
         Err(RewriteError::Memory) => MEMORY,
-        Err(RewriteError::NoValue { at }) => stop_without_value(at, stop),
+        Err(RewriteError::NoValue { at }) => stop_at(NO_VALUE, at, stop),
     }
 }
 
 /// Copies and reports the remote with this name, by these rules.
-fn put_by_rules<'a>(
+fn write_by_rules<'a>(
     alloc: Global,
     entries: &[Entry<'a>],
     rules: &Rewrites<'a>,
@@ -124,14 +124,14 @@ fn put_by_rules<'a>(
 {
     *stop = no_stop();
     match Remote::of(alloc, entries, rules, name) {
-        Ok(remote) => put_remote(alloc, &remote, built, buffer, lengths),
+        Ok(remote) => write_remote(alloc, &remote, built, buffer, lengths),
         Err(RemoteError::Memory) => MEMORY,
-        Err(RemoteError::NoValue { at }) => stop_without_value(at, stop),
+        Err(RemoteError::NoValue { at }) => stop_at(NO_VALUE, at, stop),
     }
 }
 
 /// Copies and reports the URLs and values of a remote.
-fn put_remote(
+fn write_remote(
     alloc: Global,
     remote: &Remote<'_>,
     built: &mut RemoteNumbers,
@@ -152,7 +152,7 @@ fn put_remote(
         return MEMORY;
     };
     *built = remote_numbers(remote, bytes.len());
-    put_both(&bytes, &measured, buffer, lengths)
+    write_both(&bytes, &measured, buffer, lengths)
 }
 
 /// The bytes of the URLs and values of a remote.

@@ -14,13 +14,13 @@ use crate::buffer::put;
 use crate::codes::MEMORY;
 use crate::output::part;
 use crate::rules::entries::{EntryBytes, entries_of};
-use crate::rules::stops::{Stop, no_stop, stop_without_value};
+use crate::rules::stops::{NO_VALUE, Stop, no_stop, stop_at};
 use git_rules::config::Entry;
 use git_rules::rewrite::outcome::Rewritten;
 use git_rules::rewrite::{RewriteError, Rewrites};
 use std::alloc::Global;
 
-/// The report about a rewritten text, apart from the text.
+/// The report of [`gix_url_c_rewrite_fetch`] and [`gix_url_c_rewrite_push`], apart from the rewritten text.
 #[repr(C)]
 #[derive(Clone, Copy)]
 pub struct RewriteNumbers {
@@ -104,9 +104,9 @@ fn fetch(
 {
     *stop = no_stop();
     match Rewrites::from_entries(alloc, entries) {
-        Ok(rules) => put_outcome(alloc, &rules.rewrite_fetch(text), built, buffer),
+        Ok(rules) => write_outcome(alloc, &rules.rewrite_fetch(text), built, buffer),
         Err(RewriteError::Memory) => MEMORY,
-        Err(RewriteError::NoValue { at }) => stop_without_value(at, stop),
+        Err(RewriteError::NoValue { at }) => stop_at(NO_VALUE, at, stop),
     }
 }
 
@@ -129,19 +129,19 @@ fn push(
 {
     *stop = no_stop();
     match Rewrites::from_entries(alloc, entries) {
-        Ok(rules) => put_outcome(
+        Ok(rules) => write_outcome(
             alloc,
             &rules.rewrite_push(text, has_push_url),
             built,
             buffer,
         ),
         Err(RewriteError::Memory) => MEMORY,
-        Err(RewriteError::NoValue { at }) => stop_without_value(at, stop),
+        Err(RewriteError::NoValue { at }) => stop_at(NO_VALUE, at, stop),
     }
 }
 
 /// Copies and reports a rewritten text.
-fn put_outcome(
+fn write_outcome(
     alloc: Global,
     outcome: &Rewritten<'_>,
     built: &mut RewriteNumbers,

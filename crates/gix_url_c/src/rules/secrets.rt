@@ -8,7 +8,7 @@ ghost use Rattle.gix_url_c.specs.Codes.{memory};
 ghost use Rattle.gix_url_c.specs.Left.{LeavesBuffer};
 ghost use Rattle.gix_url_c.specs.PieceNumbers.{ReportsPieces, part_numbers};
 
-use crate::buffer::put_at;
+use crate::buffer::write_at;
 use crate::codes::{NO_ROOM, OK};
 use git_audit::secret::{Piece, secrets};
 
@@ -26,7 +26,7 @@ pub extern "C" fn gix_url_c_secrets(text: &[u8], numbers: &mut [usize], count: &
     if numbers.len() / 2 < *count {
         return NO_ROOM;
     }
-    put_pieces(text, numbers);
+    write_pieces(text, numbers);
     OK
 }
 
@@ -42,14 +42,14 @@ fn count_pieces(text: &[u8]) -> usize
 }
 
 /// Copies the numbers of all pieces to the front of `numbers`, which is long enough.
-fn put_pieces(text: &[u8], numbers: &mut [usize])
+fn write_pieces(text: &[u8], numbers: &mut [usize])
     requires { length (flat_map part_numbers (parts_of text.now)) ≤ length numbers.old }
     ensures { let put = flat_map part_numbers (parts_of text.now) in
         numbers.new ≡ put ++ drop (length put) numbers.old }
 {
     let mut at: usize = 0;
     for piece in secrets(text) {
-        at = put_at(numbers, at, &numbers_of(piece));
+        at = write_at(numbers, at, &numbers_of(piece));
     }
 }
 

@@ -11,13 +11,13 @@ ghost use Rattle.gix_url_c.specs.Stops.{LeavesStop, no_stop};
 use crate::buffer::put;
 use crate::codes::{MEMORY, NO_LOCATION};
 use crate::rules::entries::{EntryBytes, entries_of};
-use crate::rules::stops::{Stop, no_stop, stop_without_value};
+use crate::rules::stops::{NO_VALUE, Stop, no_stop, stop_at};
 use git_rules::config::Entry;
 use git_rules::normal::{NormalError, NormalUrl, needed_buffer_len};
 use git_rules::pattern::settings::{SettingsError, settings_for, settings_without_place};
 use std::alloc::Global;
 
-/// The report about settings, apart from their indices.
+/// The report of [`gix_url_c_settings`], apart from the indices of the settings.
 #[repr(C)]
 #[derive(Clone, Copy)]
 pub struct SettingNumbers {
@@ -54,11 +54,11 @@ pub extern "C" fn gix_url_c_settings(
     let Ok(name) = str::from_utf8(name) else {
         return NO_LOCATION;
     };
-    put_passed(alloc, entries, name, text, built, indices, stop)
+    write_passed(alloc, entries, name, text, built, indices, stop)
 }
 
 /// Copies and reports the indices of the settings for a URL, by the entries of the caller.
-fn put_passed(
+fn write_passed(
     alloc: Global,
     entries: &[EntryBytes<'_>],
     name: &str,
@@ -75,13 +75,13 @@ fn put_passed(
 {
     *stop = no_stop();
     match entries_of(alloc, entries) {
-        Ok(entries) => put_settings(alloc, &entries, name, text, built, indices, stop),
+        Ok(entries) => write_settings(alloc, &entries, name, text, built, indices, stop),
         Err(_) => MEMORY,
     }
 }
 
 /// Copies and reports the indices of the settings for a URL.
-fn put_settings(
+fn write_settings(
     alloc: Global,
     entries: &[Entry<'_>],
     name: &str,
@@ -101,18 +101,18 @@ fn put_settings(
         return MEMORY;
     };
     match NormalUrl::parse_in(text, buffer.as_mut_slice()) {
-        Ok(place) => put_for_place(alloc, entries, name, &place, built, indices, stop),
+        Ok(place) => write_for_place(alloc, entries, name, &place, built, indices, stop),
         // The buffer is long enough.
         Err(NormalError::NoRoom) => MEMORY,
         Err(error) => {
             let why = abnormal_number(error);
-            put_without_place(alloc, entries, name, why, built, indices, stop)
+            write_without_place(alloc, entries, name, why, built, indices, stop)
         }
     }
 }
 
 /// Copies and reports the indices of the settings for a place.
-fn put_for_place(
+fn write_for_place(
     alloc: Global,
     entries: &[Entry<'_>],
     name: &str,
@@ -132,15 +132,15 @@ fn put_for_place(
         return MEMORY;
     };
     match settings_for(alloc, entries, name, place, buffer.as_mut_slice()) {
-        Ok(found) => put_indices(&found, 0, built, indices),
+        Ok(found) => write_indices(&found, 0, built, indices),
         // The buffer is long enough for each entry.
         Err(SettingsError::Memory | SettingsError::NoRoom) => MEMORY,
-        Err(SettingsError::NoValue { at }) => stop_without_value(at, stop),
+        Err(SettingsError::NoValue { at }) => stop_at(NO_VALUE, at, stop),
     }
 }
 
 /// Copies and reports the indices of the settings for a URL that has no normal form, for this reason.
-fn put_without_place(
+fn write_without_place(
     alloc: Global,
     entries: &[Entry<'_>],
     name: &str,
@@ -157,14 +157,14 @@ fn put_without_place(
 {
     *stop = no_stop();
     match settings_without_place(alloc, entries, name) {
-        Ok(found) => put_indices(&found, why, built, indices),
+        Ok(found) => write_indices(&found, why, built, indices),
         Err(SettingsError::Memory | SettingsError::NoRoom) => MEMORY,
-        Err(SettingsError::NoValue { at }) => stop_without_value(at, stop),
+        Err(SettingsError::NoValue { at }) => stop_at(NO_VALUE, at, stop),
     }
 }
 
 /// Copies and reports the indices.
-fn put_indices(found: &[usize], why: u8, built: &mut SettingNumbers, indices: &mut [usize]) -> u32
+fn write_indices(found: &[usize], why: u8, built: &mut SettingNumbers, indices: &mut [usize]) -> u32
     ensures reported { PutsIndices found.now why built.new indices.old indices.new result }
     ensures indices { LeavesBuffer result indices.old indices.new }
     ensures numbers { LeavesLengths result built.old built.new }

@@ -1,7 +1,7 @@
 //! The places at which Git stops, and at which a text isn't a configuration. The header repeats their numbers.
 
 ghost use Rattle.std.specs.Prelude.{◌≡◌};
-ghost use Rattle.gix_url_c.specs.Stops.{StopsAt, no_stop, no_value};
+ghost use Rattle.gix_url_c.specs.Stops.{StopsAt, no_stop};
 
 /// Git stops at an entry without a value.
 pub const NO_VALUE: u32 = 104;
@@ -10,7 +10,8 @@ pub const NO_BOOLEAN: u32 = 105;
 /// The text isn't a configuration.
 pub const NO_CONFIGURATION: u32 = 106;
 
-/// The place of an entry, or in the text of a configuration.
+/// The place of an entry, or in the text of a configuration. All of it is 0 unless the export returns 104 to
+/// 106.
 #[repr(C)]
 #[derive(Clone, Copy)]
 pub struct Stop {
@@ -33,14 +34,10 @@ pub(crate) fn no_stop() -> Stop
     }
 }
 
-/// Reports that Git stops at an entry without a value.
-pub(crate) fn stop_without_value(at: usize, stop: &mut Stop) -> u32
-    ensures { StopsAt no_value at stop.new result }
+/// Reports that Git stops at the entry with this place, and returns the number of the stop.
+pub(crate) fn stop_at(code: u32, at: usize, stop: &mut Stop) -> u32
+    ensures { StopsAt code at stop.new result }
 {
-    *stop = Stop {
-        at,
-        line: 0,
-        flaw: 0,
-    };
-    NO_VALUE
+    *stop = Stop { at, ..no_stop() };
+    code
 }

@@ -12,7 +12,7 @@ ghost use Rattle.gix_url_c.specs.Output.{Puts};
 ghost use Rattle.gix_url_c.specs.Left.{LeavesLengths, LeavesBuffer};
 ghost use Rattle.gix_url_c.specs.SubmoduleNumbers.{ChecksEntry, PutsSubmodules, ReportsResolution, index_or, submodule_names, submodule_numbers, refused_number, unresolved_number};
 
-use crate::buffer::{put_at, put_both};
+use crate::buffer::{write_at, write_both};
 use crate::codes::{MEMORY, NO_ROOM, OK};
 use crate::rules::entries::{EntryBytes, entries_of, entry_of};
 use git_modules::resolve::outcome::Resolved;
@@ -21,7 +21,7 @@ use git_modules::submodules::refusal::{Refused, check};
 use git_modules::submodules::{Submodule, Used, submodules};
 use std::alloc::{AllocError, Global};
 
-/// The report about a resolved URL, apart from its text.
+/// The report of [`gix_url_c_resolve`] about a resolved URL, apart from its text.
 #[repr(C)]
 #[derive(Clone, Copy)]
 pub struct ResolvedNumbers {
@@ -35,7 +35,7 @@ pub struct ResolvedNumbers {
     pub len: usize,
 }
 
-/// The parts of an entry of `.gitmodules` that `git fsck` refuses.
+/// The parts of an entry of `.gitmodules` that `git fsck` refuses. [`gix_url_c_check`] reports them.
 #[repr(C)]
 #[derive(Clone, Copy)]
 pub struct CheckNumbers {
@@ -45,7 +45,7 @@ pub struct CheckNumbers {
     pub value: u8,
 }
 
-/// The number of submodules, and the length of their names.
+/// The number of submodules, and the length of their names. [`gix_url_c_submodules`] reports them.
 #[repr(C)]
 #[derive(Clone, Copy)]
 pub struct SubmoduleSizes {
@@ -80,7 +80,7 @@ pub extern "C" fn gix_url_c_resolve(
                 climbs,
                 len: usize::try_from(size_of(&resolved)).unwrap_or(usize::MAX),
             };
-            put_resolved(&resolved, buffer)
+            write_resolved(&resolved, buffer)
         }
         Err(error) => {
             *built = ResolvedNumbers {
@@ -102,7 +102,7 @@ fn size_of(resolved: &Resolved<'_>) -> u128
 }
 
 /// Copies the resolved URL to the buffer, if it fits.
-fn put_resolved(resolved: &Resolved<'_>, buffer: &mut [u8]) -> u32
+fn write_resolved(resolved: &Resolved<'_>, buffer: &mut [u8]) -> u32
     ensures put { Puts (resolved_text resolved.now) buffer.old buffer.new result }
     ensures buffer { LeavesBuffer result buffer.old buffer.new }
     ensures code { (result ≡ ok) ⊎ (result ≡ no_room) }
@@ -110,18 +110,18 @@ fn put_resolved(resolved: &Resolved<'_>, buffer: &mut [u8]) -> u32
     if (buffer.len() as u128) < size_of(resolved) {
         return NO_ROOM;
     }
-    put_parts(resolved, buffer);
+    write_parts(resolved, buffer);
     OK
 }
 
 /// Copies the resolved URL to the front of the buffer, which is long enough.
-fn put_parts(resolved: &Resolved<'_>, buffer: &mut [u8])
+fn write_parts(resolved: &Resolved<'_>, buffer: &mut [u8])
     requires { length (resolved_text resolved.now) ≤ length buffer.old }
     ensures { let text = resolved_text resolved.now in buffer.new ≡ text ++ drop (length text) buffer.old }
 {
-    let at = put_at(buffer, 0, resolved.front);
-    let at = put_at(buffer, at, resolved.separator);
-    let _ = put_at(buffer, at, resolved.rest);
+    let at = write_at(buffer, 0, resolved.front);
+    let at = write_at(buffer, at, resolved.separator);
+    let _ = write_at(buffer, at, resolved.rest);
 }
 
 /// The number of the reason why Git resolves no URL.
@@ -186,13 +186,13 @@ pub extern "C" fn gix_url_c_submodules(
         return MEMORY;
     };
     match submodules(alloc, &entries) {
-        Ok(found) => put_submodules(alloc, &found, built, buffer, numbers),
+        Ok(found) => write_submodules(alloc, &found, built, buffer, numbers),
         Err(_) => MEMORY,
     }
 }
 
 /// Copies and reports the names and numbers of submodules.
-fn put_submodules(
+fn write_submodules(
     alloc: Global,
     found: &[Submodule<'_>],
     built: &mut SubmoduleSizes,
@@ -215,7 +215,7 @@ fn put_submodules(
         submodules: found.len(),
         bytes: bytes.len(),
     };
-    put_both(&bytes, &measured, buffer, numbers)
+    write_both(&bytes, &measured, buffer, numbers)
 }
 
 /// The bytes of the names.

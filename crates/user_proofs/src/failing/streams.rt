@@ -65,7 +65,7 @@ impl Read for FailingReader<'_> {
 }
 
 /// The rest of a text after a piece of it; `None` if the text doesn't begin with the piece.
-fn behind<'a>(left: Option<&'a [u8]>, piece: &[u8]) -> Option<&'a [u8]> {
+fn suffix<'a>(left: Option<&'a [u8]>, piece: &[u8]) -> Option<&'a [u8]> {
     match left {
         None => None,
         Some(left) => left.strip_prefix(piece),
@@ -97,7 +97,7 @@ impl Write for FailingWriter<'_> {
         }
         self.calls -= 1;
         let part = &buf[..self.at_most.min(buf.len())];
-        self.left = behind(self.left, part);
+        self.left = suffix(self.left, part);
         Ok(part.len())
     }
 
@@ -117,7 +117,7 @@ pub struct FailingFormatter<'a> {
 
 impl fmt::Write for FailingFormatter<'_> {
     fn write_str(&mut self, text: &str) -> fmt::Result {
-        self.left = behind(self.left, text.as_bytes());
+        self.left = suffix(self.left, text.as_bytes());
         if self.calls == 0 {
             self.calls = usize::MAX;
             return Err(fmt::Error);

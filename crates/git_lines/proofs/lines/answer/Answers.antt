@@ -12,7 +12,7 @@ returns-then-is_simple_text c =
     let line = c.args.line.now in
     let (v, simple) = c.if-is_simple_text.ensures refl in
     let (known, is) = simple_unchanged line v simple in
-    (_, reported v (simple_spelled line v simple) (settled line is known refl refl), c.in_ok-put_settled.ensures)
+    (_, reported v (simple_spelled line v simple) (settled line is known refl refl), c.in_ok-append_settled.ensures)
 
 pub returns-in-Ok : goal.returns-in-Ok
 returns-in-Ok c = reported_answer c.args.line.now _ _ _ _ c.in-Ok.ensures.found c.report.ensures

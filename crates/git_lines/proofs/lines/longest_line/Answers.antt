@@ -5,7 +5,7 @@ use Rattle.git_lines.proofs.lines.longest_line.Goals as goal
 
 pub loop-line-preserved : goal.loop-line-preserved
 loop-line-preserved c =
-    subst (Measured c.args.text.now c.in-Some.behind.now) (sym c.max-longest.ensures) (measured_step c.args.text.now c.loop-line.rest.now c.in-Some.line.now c.in-Some.behind.now c.loop-line.longest c.loop-line.invariant c.in-Some.ensures)
+    subst (Measured c.args.text.now c.in-Some.suffix.now) (sym c.max-longest.ensures) (measured_step c.args.text.now c.loop-line.rest.now c.in-Some.line.now c.in-Some.suffix.now c.loop-line.longest c.loop-line.invariant c.in-Some.ensures)
 
 pub returns-clause-line_buffer : goal.returns-clause-line_buffer
 returns-clause-line_buffer c =

@@ -5,5 +5,5 @@ use Rattle.git_lines.proofs.lines.report.Goals as goal
 pub report_written-requires : goal.report_written-requires
 report_written-requires c = sym c.in-Ok.ensures
 
-pub returns-in_ok-put_scheme-in-Err : goal.returns-in_ok-put_scheme-in-Err
-returns-in_ok-put_scheme-in-Err c = (_, unwritable _ (sym c.in-Err.ensures) refl refl, c.in_ok-put_scheme-in-Err.ensures)
+pub returns-in_ok-append_scheme-in-Err : goal.returns-in_ok-append_scheme-in-Err
+returns-in_ok-append_scheme-in-Err c = (_, unwritable _ (sym c.in-Err.ensures) refl refl, c.in_ok-append_scheme-in-Err.ensures)

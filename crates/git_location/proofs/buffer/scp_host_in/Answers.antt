@@ -1,7 +1,7 @@
 -- A literal in lower case stays as it is.
 use Rattle.std.proofs.Common.{refl, sym, ◌∙◌, ap}
 use Rattle.git_syntax.specs.Internal.FoundPieces.{scp_host_of}
-use Rattle.git_syntax.proofs.Parsing.RoomLemmas.{lowercase_address_kept}
+use Rattle.git_syntax.proofs.Parsing.BufferLemmas.{lowercase_address_kept}
 use Rattle.git_location.proofs.buffer.scp_host_in.Goals as goal
 
 pub returns-then-is_lowercase : goal.returns-then-is_lowercase

@@ -3,7 +3,7 @@ use Rattle.std.proofs.Common.{sym, ap, ◌∙◌}
 use Rattle.git_syntax.specs.Hosts.{normal_host}
 use Rattle.git_syntax.specs.Internal.HostPieces.{denoted_host}
 use Rattle.git_syntax.proofs.Texts.EscapeLemmas.{decode_kept}
-use Rattle.git_syntax.proofs.Parsing.RoomLemmas.{normal_host_kept}
+use Rattle.git_syntax.proofs.Parsing.BufferLemmas.{normal_host_kept}
 use Rattle.git_location.proofs.buffer.unescaped_slice.Goals as goal
 
 pub returns-else-has_percent : goal.returns-else-has_percent

@@ -8,13 +8,13 @@ use Rattle.git_readers.proofs.path.has_dots.Goals as goal
 pub returns-then-is_dots : goal.returns-then-is_dots
 returns-then-is_dots c =
     let e = c.in-Some.ensures in
-    (λ yes. c.loop-segment.invariant.0 (HasDots.first c.loop-segment.rest.now c.in-Some.segment.now c.in-Some.behind.now (c.is_dots.ensures.0 c.if-is_dots.true) e.1), λ has. refl)
+    (λ yes. c.loop-segment.invariant.0 (HasDots.first c.loop-segment.rest.now c.in-Some.segment.now c.in-Some.suffix.now (c.is_dots.ensures.0 c.if-is_dots.true) e.1), λ has. refl)
 
 pub loop-segment-preserved : goal.loop-segment-preserved
 loop-segment-preserved c =
     let e = c.in-Some.ensures in (
-      λ later. c.loop-segment.invariant.0 (HasDots.later c.loop-segment.rest.now c.in-Some.segment.now c.in-Some.behind.now later e.1),
-      λ has. ⊎_elim (λ dots. absurd (both_ways _ c.if-is_dots.false (c.is_dots.ensures.1 dots))) (λ later. later) (dots_cut c.loop-segment.rest.now c.in-Some.segment.now c.in-Some.behind.now e.0 e.1 (c.loop-segment.invariant.1 has)),
+      λ later. c.loop-segment.invariant.0 (HasDots.later c.loop-segment.rest.now c.in-Some.segment.now c.in-Some.suffix.now later e.1),
+      λ has. ⊎_elim (λ dots. absurd (both_ways _ c.if-is_dots.false (c.is_dots.ensures.1 dots))) (λ later. later) (dots_cut c.loop-segment.rest.now c.in-Some.segment.now c.in-Some.suffix.now e.0 e.1 (c.loop-segment.invariant.1 has)),
     )
 
 pub returns : goal.returns

@@ -7,7 +7,7 @@ pub returns-in-Some : goal.returns-in-Some
 returns-in-Some c =
     let e = c.in-Some.ensures in
     let front = c.in-Some.field-0-0.now in
-    let behind = c.in-Some.behind.now in (
-      λ there. record { front = front; behind = behind; joined = e.1; nonempty = some_from (length behind) (sym (ap not c.is_empty.ensures) ∙ there) },
-      λ has. ap not c.is_empty.ensures ∙ some_to (length behind) (before_cut c.args.text.now front behind e.0 e.1 has),
+    let suffix = c.in-Some.suffix.now in (
+      λ there. record { front = front; suffix = suffix; joined = e.1; nonempty = some_from (length suffix) (sym (ap not c.is_empty.ensures) ∙ there) },
+      λ has. ap not c.is_empty.ensures ∙ some_to (length suffix) (before_cut c.args.text.now front suffix e.0 e.1 has),
     )

@@ -4,8 +4,8 @@ use Rattle.git_syntax.specs.Bytes.{Holds}
 use Rattle.git_readers.specs.Unambiguous.{slashes}
 use Rattle.git_readers.proofs.path.has_slashes.Given as goal
 
-abbrev pub invariant-loop-behind : goal.invariant-loop-behind
-invariant-loop-behind l = Holds slashes l.rest ↔ Holds slashes l.path
+abbrev pub invariant-loop-suffix : goal.invariant-loop-suffix
+invariant-loop-suffix l = Holds slashes l.rest ↔ Holds slashes l.path
 
-abbrev pub decreases-loop-behind : goal.decreases-loop-behind
-decreases-loop-behind l = length l.rest
+abbrev pub decreases-loop-suffix : goal.decreases-loop-suffix
+decreases-loop-suffix l = length l.rest

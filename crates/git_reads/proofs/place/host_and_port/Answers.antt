@@ -11,4 +11,4 @@ returns-clause-found c =
     let found = c.in-Some.found in
     let written =
     c.as_slice.ensures.value ∙ c.in_ok-extend_from_slice-2.ensures.items ∙ ap (λ x. x ++ found.inside.now) (c.in_ok-extend_from_slice.ensures.items ∙ ap (λ x. x ++ found.front.now) c.clear.ensures.items) in
-    HostAndPort.brackets found.front.now found.inside.now found.behind.now c.before_port-2.result.0.now c.in-Some.ensures written c.before_port-2.ensures
+    HostAndPort.brackets found.front.now found.inside.now found.suffix.now c.before_port-2.result.0.now c.in-Some.ensures written c.before_port-2.ensures

@@ -22,15 +22,15 @@ returns-then-not-is_remote-clause-why c =
 
 pub returns-in-Some-clause-read : goal.returns-in-Some-clause-read
 returns-in-Some-clause-read c =
-    let (behind, is, cut) = c.in-Some.ensures in
+    let (suffix, is, cut) = c.in-Some.ensures in
     let path = c.from_tilde.ensures ∙ ap from_tilde (c.split_at.ensures.back ∙ ap (drop 1) is) in
-    IfOk-weaker c.secure.result (λ it. ReachesSecure c.in-Some.place.now c.from_tilde.result.now (git_reading it)) (λ it. ReadsInput c.args.text.now (git_reading it)) (λ it h. scp_reads c.args.text.now c.in-Some.place.now behind c.from_tilde.result.now (git_reading it) (is_no_url c.args.text.now c.requires.no_mark c.requires.no_helper (λ k. false≢true (c.if-begins_by.ensures.1 k))) (c.if-not-is_remote.ensures.0 refl) cut path h) c.secure.ensures.read
+    IfOk-weaker c.secure.result (λ it. ReachesSecure c.in-Some.place.now c.from_tilde.result.now (git_reading it)) (λ it. ReadsInput c.args.text.now (git_reading it)) (λ it h. scp_reads c.args.text.now c.in-Some.place.now suffix c.from_tilde.result.now (git_reading it) (is_no_url c.args.text.now c.requires.no_mark c.requires.no_helper (λ k. false≢true (c.if-begins_by.ensures.1 k))) (c.if-not-is_remote.ensures.0 refl) cut path h) c.secure.ensures.read
 
 pub returns-in-Some-clause-why : goal.returns-in-Some-clause-why
 returns-in-Some-clause-why c =
-    let (behind, is, cut) = c.in-Some.ensures in
+    let (suffix, is, cut) = c.in-Some.ensures in
     let path = c.from_tilde.ensures ∙ ap from_tilde (c.split_at.ensures.back ∙ ap (drop 1) is) in
-    IfErr-weaker c.secure.result (FailsToReach c.in-Some.place.now (ReachesSecure c.in-Some.place.now c.from_tilde.result.now) (GetsUrl c.in-Some.place.now c.from_tilde.result.now)) (Fails c.args.text.now) (λ w h. scp_fails c.args.text.now c.in-Some.place.now behind w c.requires.no_mark c.requires.no_helper (λ k. false≢true (c.if-begins_by.ensures.1 k)) (c.if-not-is_remote.ensures.0 refl) cut (subst (λ p. FailsToReach c.in-Some.place.now (ReachesSecure c.in-Some.place.now p) (GetsUrl c.in-Some.place.now p) w) path h)) c.secure.ensures.why
+    IfErr-weaker c.secure.result (FailsToReach c.in-Some.place.now (ReachesSecure c.in-Some.place.now c.from_tilde.result.now) (GetsUrl c.in-Some.place.now c.from_tilde.result.now)) (Fails c.args.text.now) (λ w h. scp_fails c.args.text.now c.in-Some.place.now suffix w c.requires.no_mark c.requires.no_helper (λ k. false≢true (c.if-begins_by.ensures.1 k)) (c.if-not-is_remote.ensures.0 refl) cut (subst (λ p. FailsToReach c.in-Some.place.now (ReachesSecure c.in-Some.place.now p) (GetsUrl c.in-Some.place.now p) w) path h)) c.secure.ensures.why
 
 pub returns-in-None-clause-why : goal.returns-in-None-clause-why
 returns-in-None-clause-why c = scp_uncut c.args.text.now c.requires.no_mark c.requires.no_helper (c.if-not-is_remote.ensures.0 refl) c.in-None.ensures

@@ -19,15 +19,15 @@ pub returns-in-Some-cut_place-clause-read : goal.returns-in-Some-cut_place-claus
 returns-in-Some-cut_place-clause-read c =
     let decoded = c.as_slice.ensures.value ∙ c.in_ok-append_decoded.ensures.value ∙ ap (λ s. s ++ git_decode c.args.spelled.now) c.clear.ensures.items in
     let url = own_url c.args.scheme.now c.args.spelled.now c.as_slice.result.now (scheme_of_protocol c.in-Some.protocol) c.in-Some.ensures decoded in
-    let (behind, is, cut) = c.in-Some-cut_place.ensures in
-    IfOk-weaker c.reach.result (λ it. ReachesBy (scheme_of_protocol c.in-Some.protocol) c.in-Some-cut_place.place.now c.in-Some-cut_place.path.now (git_reading it)) (λ it. ReadsInput (url_text c.args.scheme.now c.args.spelled.now) (git_reading it)) (λ it h. own_reads (scheme_of_protocol c.in-Some.protocol) (url_text c.args.scheme.now c.args.spelled.now) c.as_slice.result.now c.in-Some-cut_place.place.now behind (git_reading it) url cut (subst (λ s. ReachesBy (scheme_of_protocol c.in-Some.protocol) c.in-Some-cut_place.place.now s (git_reading it)) is h)) c.reach.ensures.read
+    let (suffix, is, cut) = c.in-Some-cut_place.ensures in
+    IfOk-weaker c.reach.result (λ it. ReachesBy (scheme_of_protocol c.in-Some.protocol) c.in-Some-cut_place.place.now c.in-Some-cut_place.path.now (git_reading it)) (λ it. ReadsInput (url_text c.args.scheme.now c.args.spelled.now) (git_reading it)) (λ it h. own_reads (scheme_of_protocol c.in-Some.protocol) (url_text c.args.scheme.now c.args.spelled.now) c.as_slice.result.now c.in-Some-cut_place.place.now suffix (git_reading it) url cut (subst (λ s. ReachesBy (scheme_of_protocol c.in-Some.protocol) c.in-Some-cut_place.place.now s (git_reading it)) is h)) c.reach.ensures.read
 
 pub returns-in-Some-cut_place-clause-why : goal.returns-in-Some-cut_place-clause-why
 returns-in-Some-cut_place-clause-why c =
     let decoded = c.as_slice.ensures.value ∙ c.in_ok-append_decoded.ensures.value ∙ ap (λ s. s ++ git_decode c.args.spelled.now) c.clear.ensures.items in
     let url = own_url c.args.scheme.now c.args.spelled.now c.as_slice.result.now (scheme_of_protocol c.in-Some.protocol) c.in-Some.ensures decoded in
-    let (behind, is, cut) = c.in-Some-cut_place.ensures in
-    IfErr-weaker c.reach.result (FailsToReach c.in-Some-cut_place.place.now (ReachesBy (scheme_of_protocol c.in-Some.protocol) c.in-Some-cut_place.place.now c.in-Some-cut_place.path.now) (GetsUrlBy (scheme_of_protocol c.in-Some.protocol) c.in-Some-cut_place.place.now c.in-Some-cut_place.path.now)) (Fails (url_text c.args.scheme.now c.args.spelled.now)) (λ w h. own_fails (scheme_of_protocol c.in-Some.protocol) (url_text c.args.scheme.now c.args.spelled.now) c.as_slice.result.now c.in-Some-cut_place.place.now behind w (protocol_own c.in-Some.protocol) url cut (subst (λ s. FailsToReach c.in-Some-cut_place.place.now (ReachesBy (scheme_of_protocol c.in-Some.protocol) c.in-Some-cut_place.place.now s) (GetsUrlBy (scheme_of_protocol c.in-Some.protocol) c.in-Some-cut_place.place.now s) w) is h)) c.reach.ensures.why
+    let (suffix, is, cut) = c.in-Some-cut_place.ensures in
+    IfErr-weaker c.reach.result (FailsToReach c.in-Some-cut_place.place.now (ReachesBy (scheme_of_protocol c.in-Some.protocol) c.in-Some-cut_place.place.now c.in-Some-cut_place.path.now) (GetsUrlBy (scheme_of_protocol c.in-Some.protocol) c.in-Some-cut_place.place.now c.in-Some-cut_place.path.now)) (Fails (url_text c.args.scheme.now c.args.spelled.now)) (λ w h. own_fails (scheme_of_protocol c.in-Some.protocol) (url_text c.args.scheme.now c.args.spelled.now) c.as_slice.result.now c.in-Some-cut_place.place.now suffix w (protocol_own c.in-Some.protocol) url cut (subst (λ s. FailsToReach c.in-Some-cut_place.place.now (ReachesBy (scheme_of_protocol c.in-Some.protocol) c.in-Some-cut_place.place.now s) (GetsUrlBy (scheme_of_protocol c.in-Some.protocol) c.in-Some-cut_place.place.now s) w) is h)) c.reach.ensures.why
 
 pub returns-in-None-clause-why : goal.returns-in-None-clause-why
 returns-in-None-clause-why c =

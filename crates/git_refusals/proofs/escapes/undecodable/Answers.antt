@@ -8,13 +8,13 @@ pub returns : goal.returns
 returns c =
     let text = c.args.piece.now in
     let left = c.undecodable_end-left.result.now in
-    let behind = c.behind.result.now in
+    let suffix = c.suffix.result.now in
     let start = c.undecodable_end-left.ensures in
     let not : ¬ IsUtf8 (percent_decode text) = λ utf8. true≢false (sym (c.decodes_to_utf8.ensures.1 utf8) ∙ c.if-decodes_to_utf8.false) in
     record {
       found = record {
         undecodable = not;
-        stands = record { named = refl; start = at_is text left start; size = len_is text left _ behind _ not start c.front-count.ensures.bytes c.decode-size.ensures.size c.behind.ensures };
+        stands = record { named = refl; start = at_is text left start; size = len_is text left _ suffix _ not start c.front-count.ensures.bytes c.decode-size.ensures.size c.suffix.ensures };
       };
-      within = place_within text left behind _ start;
+      within = place_within text left suffix _ start;
     }

@@ -12,7 +12,7 @@ returns-then-not-is_empty c =
     let w = c.before_colon-wrong.ensures in
     let wrong = c.before_colon-wrong.result.now in
     record {
-      found = BadHost.behind_bracket c.args.inner.now wrong w.rest c.requires w.no_colon (some_tested wrong c.if-not-is_empty.ensures) w.followed (ap (λ t. left_bracket ∷ (c.args.inner.now ++ right_bracket ∷ t)) w.joined) (record { named = refl; start = refl; size = refl });
+      found = BadHost.after_bracket c.args.inner.now wrong w.rest c.requires w.no_colon (some_tested wrong c.if-not-is_empty.ensures) w.followed (ap (λ t. left_bracket ∷ (c.args.inner.now ++ right_bracket ∷ t)) w.joined) (record { named = refl; start = refl; size = refl });
       within = omega (arith, ap length w.joined, length-append wrong w.rest, length-append c.args.inner.now (right_bracket ∷ c.args.rest.now));
     }
 
@@ -42,7 +42,7 @@ returns-in_err-place c =
 
 pub returns : goal.returns
 returns c = record {
-  found = BadHost.port_behind c.args.inner.now c.in_ok-digits.digits.now c.requires (inner_passes (host_syntax c.args.syntax) c.args.inner.now c.in_default.ensures.found) (ap (λ t. left_bracket ∷ (c.args.inner.now ++ right_bracket ∷ t)) c.in_ok-digits.ensures)
+  found = BadHost.port_after c.args.inner.now c.in_ok-digits.digits.now c.requires (inner_passes (host_syntax c.args.syntax) c.args.inner.now c.in_default.ensures.found) (ap (λ t. left_bracket ∷ (c.args.inner.now ++ right_bracket ∷ t)) c.in_ok-digits.ensures)
       (record { inside = c.in_ok-place.place; found = c.in_ok-place.ensures.found; stands = record { named = refl; start = refl; size = refl } });
   within = omega (arith, c.in_ok-place.ensures.within, ap length c.in_ok-digits.ensures, length-append c.args.inner.now (right_bracket ∷ c.args.rest.now));
 }

@@ -22,7 +22,7 @@ returns-in-None c =
       | in_default w ↦ (λ front e h. w.in_default.ensures front e)
     ]) in
     record {
-      found = WebColons.no_host c.in_ok-front.behind.now none c.in-None.ensures (only_in_front c.args.piece.now c.in_ok-front.front.now c.in_ok-front.behind.now c.requires c.in_ok-front.ensures.0 c.in-None.ensures c.in_ok-front.ensures.1) (record { named = refl; start = refl; size = refl });
+      found = WebColons.no_host c.in_ok-front.suffix.now none c.in-None.ensures (only_in_front c.args.piece.now c.in_ok-front.front.now c.in_ok-front.suffix.now c.requires c.in_ok-front.ensures.0 c.in-None.ensures c.in_ok-front.ensures.1) (record { named = refl; start = refl; size = refl });
       within = omega arith;
     }
 

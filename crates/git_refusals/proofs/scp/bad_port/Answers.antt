@@ -14,7 +14,7 @@ returns-in_err-front c =
 
 pub returns-then-is_empty : goal.returns-then-is_empty
 returns-then-is_empty c =
-    colons_read c.args.host.now c.in_ok-front.front.now c.in_ok-front.behind.now c.requires.open_front c.requires.text c.requires.colons c.in_ok-front.ensures.1
+    colons_read c.args.host.now c.in_ok-front.front.now c.in_ok-front.suffix.now c.requires.open_front c.requires.text c.requires.colons c.in_ok-front.ensures.1
     (elim c.then-is_empty.branch [
       | then-is_empty-via-then-is_empty w ↦ inl w.if-is_empty.ensures
       | then-is_empty-via-else-is_empty+then-not-is_free_of w ↦ inr (λ h. false≢true (w.if-not-is_free_of.ensures.1 h))
@@ -22,4 +22,4 @@ returns-then-is_empty c =
 
 pub returns : goal.returns
 returns c =
-    port_place_found c.args.host.now c.in_ok-front.front.now c.in_ok-front.behind.now c.requires.open_front c.in_ok-front.ensures.0 c.in_ok-front.ensures.1 c.if-is_empty.ensures (c.if-not-is_free_of.ensures.0 refl)
+    port_place_found c.args.host.now c.in_ok-front.front.now c.in_ok-front.suffix.now c.requires.open_front c.in_ok-front.ensures.0 c.in_ok-front.ensures.1 c.if-is_empty.ensures (c.if-not-is_free_of.ensures.0 refl)

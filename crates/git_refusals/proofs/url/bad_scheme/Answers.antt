@@ -1,7 +1,7 @@
 -- A scheme begins with a letter, and its first wrong character is found.
 use Rattle.std.proofs.Common.{length, refl, sym, ap, subst, ◌∙◌, arith, true}
 use Rattle.std.specs.Prelude.{slice_get}
-use Rattle.git_refusals.specs.Characters.{StandsCharacter}
+use Rattle.git_refusals.specs.Characters.{IsCharacterAt}
 use Rattle.git_refusals.specs.Reasons.{BadScheme}
 use Rattle.git_refusals.proofs.Refusing.SchemeLemmas.{nothing_first, starts, scheme_read, no_character, first_at_front}
 use Rattle.git_refusals.proofs.url.bad_scheme.Goals as goal
@@ -40,7 +40,7 @@ returns c =
     record {
       found =
           BadScheme.bad_start c.in-Some.first.now rest c.in_ok-at-2.len e (sym c.if-is_ascii_alphabetic.ensures.value)
-          (subst (λ n. StandsCharacter (λ _. true) c.args.scheme.now n c.in_ok-at-2.len) front c.in_ok-at-2.ensures.found)
+          (subst (λ n. IsCharacterAt (λ _. true) c.args.scheme.now n c.in_ok-at-2.len) front c.in_ok-at-2.ensures.found)
           (record { named = refl; start = front; size = refl });
       within = c.in_ok-at-2.ensures.within;
     }

@@ -8,18 +8,18 @@ use Rattle.git_rules.proofs.protocols.is_listed.Goals as goal
 pub returns-then-eq : goal.returns-then-eq
 returns-then-eq c =
     let piece = c.in-Some.piece.now in
-    let behind = c.in-Some.behind.now in
+    let suffix = c.in-Some.suffix.now in
     let name = c.args.name.now in
     let same : bytes_eq piece name ≡ true = sym c.eq.ensures ∙ c.if-eq.true in
-    sym (c.loop-piece.invariant ∙ ap (λ rest. is_listed rest name) c.in-Some.ensures.1 ∙ listed-cut piece behind name c.in-Some.ensures.0 ∙ ap (λ b. b || is_listed behind name) same)
+    sym (c.loop-piece.invariant ∙ ap (λ rest. is_listed rest name) c.in-Some.ensures.1 ∙ listed-cut piece suffix name c.in-Some.ensures.0 ∙ ap (λ b. b || is_listed suffix name) same)
 
 pub loop-piece-preserved : goal.loop-piece-preserved
 loop-piece-preserved c =
     let piece = c.in-Some.piece.now in
-    let behind = c.in-Some.behind.now in
+    let suffix = c.in-Some.suffix.now in
     let name = c.args.name.now in
     let other : bytes_eq piece name ≡ false = sym c.eq.ensures ∙ c.if-eq.false in
-    c.loop-piece.invariant ∙ ap (λ rest. is_listed rest name) c.in-Some.ensures.1 ∙ listed-cut piece behind name c.in-Some.ensures.0 ∙ ap (λ b. b || is_listed behind name) other
+    c.loop-piece.invariant ∙ ap (λ rest. is_listed rest name) c.in-Some.ensures.1 ∙ listed-cut piece suffix name c.in-Some.ensures.0 ∙ ap (λ b. b || is_listed suffix name) other
 
 pub returns : goal.returns
 returns c = c.eq-2.ensures ∙ sym (c.loop-piece.invariant ∙ listed-last c.loop-piece.rest.now c.args.name.now c.in_default.ensures)

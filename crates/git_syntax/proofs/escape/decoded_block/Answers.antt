@@ -12,7 +12,7 @@ returns-in_default-clause-shorter c = λ some. end_shorter c.args.text.now c.loo
 
 pub loop-at-preserved : goal.loop-at-preserved
 loop-at-preserved c = record {
-  bytes = byte_more c.args.text.now c.loop-at.block c.loop-at.rest.now c.in-Some.behind.now c.loop-at.at c.in-Some.byte (omega (arith, c.loop-at.invariant.buffer, c.loop-at-test.true)) c.loop-at.invariant.bytes c.in-Some.ensures;
+  bytes = byte_more c.args.text.now c.loop-at.block c.loop-at.rest.now c.in-Some.suffix.now c.loop-at.at c.in-Some.byte (omega (arith, c.loop-at.invariant.buffer, c.loop-at-test.true)) c.loop-at.invariant.bytes c.in-Some.ensures;
   buffer = length-set c.loop-at.block c.loop-at.at c.in-Some.byte ∙ c.loop-at.invariant.buffer;
   zeros = zeros_left c.loop-at.block c.loop-at.at c.in-Some.byte c.loop-at-test.true c.loop-at.invariant.zeros;
 }

@@ -6,7 +6,7 @@ use Rattle.git_syntax.proofs.escape.front.Given as goal
 abbrev pub invariant-loop-byte : goal.invariant-loop-byte
 invariant-loop-byte l = record {
   small : l.count ≤ 4;
-  room : length l.window ≡ 4;
+  fits : length l.window ≡ 4;
   whole : percent_decode l.text ≡ take l.count l.window ++ percent_decode l.rest;
 }
 

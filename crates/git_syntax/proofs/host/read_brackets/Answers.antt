@@ -2,7 +2,7 @@
 use Rattle.std.proofs.Common.{Some, refl}
 use Rattle.std.proofs.lemmas.Bool.{false≢true}
 use Rattle.git_syntax.specs.Internal.HostPieces.{named_text, denoted_host, host_syntax}
-use Rattle.git_syntax.proofs.Parsing.HostLemmas.{bracketed_name, no_port_behind, not_ended, not_inner}
+use Rattle.git_syntax.proofs.Parsing.HostLemmas.{bracketed_name, no_port_after, not_ended, not_inner}
 use Rattle.git_syntax.proofs.host.read_brackets.Goals as goal
 
 pub returns-then-not-ends_host : goal.returns-then-not-ends_host
@@ -20,4 +20,4 @@ returns-in-Some-with_rest c =
 
 pub returns-in-None : goal.returns-in-None
 returns-in-None c =
-    no_port_behind (host_syntax c.args.syntax) _ c.args.inner.now c.args.rest.now c.in-None.ensures.0 c.requires refl c.in-None.ensures.2 c.in-None.ensures.1
+    no_port_after (host_syntax c.args.syntax) _ c.args.inner.now c.args.rest.now c.in-None.ensures.0 c.requires refl c.in-None.ensures.2 c.in-None.ensures.1

@@ -5,8 +5,8 @@ use Rattle.git_syntax.proofs.length.advance_slashes.Given as goal
 
 -- the rest has the outcome of all bytes
 abbrev pub invariant-loop-rest : goal.invariant-loop-rest
-invariant-loop-rest l = (behind : List ℕ)
-    → is_in_time l.web Slashes (l.rest ++ behind) ≡ is_in_time l.web Slashes (l.bytes ++ behind)
+invariant-loop-rest l = (suffix : List ℕ)
+    → is_in_time l.web Slashes (l.rest ++ suffix) ≡ is_in_time l.web Slashes (l.bytes ++ suffix)
 
 abbrev pub decreases-loop-rest : goal.decreases-loop-rest
 decreases-loop-rest l = length l.rest

@@ -3,17 +3,17 @@ use Rattle.std.proofs.Common.{refl, sym, ap, subst, Some, IsUtf8}
 use Rattle.git_syntax.specs.Addresses.{Literal}
 use Rattle.git_syntax.specs.Bytes.{lowercase}
 use Rattle.git_syntax.specs.Grammar.{AddressedForm, scp_location}
-use Rattle.git_syntax.specs.Flaws.MissesPath.{behind_address}
+use Rattle.git_syntax.specs.Flaws.MissesPath.{after_address}
 use Rattle.git_syntax.proofs.Addresses.AddressLemmas.{address_utf8, address-lowercase}
 use Rattle.git_syntax.proofs.Parsing.HostLemmas.{literal_normal, some_tested}
 use Rattle.git_syntax.proofs.Parsing.ClassifierLemmas.{nil_tested}
-use Rattle.git_syntax.proofs.Parsing.RoomLemmas.{address_within}
+use Rattle.git_syntax.proofs.Parsing.BufferLemmas.{address_within}
 use Rattle.git_syntax.proofs.Parsing.ScpLemmas.{addressed_user_utf8}
 use Rattle.git_syntax.proofs.scp.find_addressed.Goals as goal
 
 pub returns-then-is_empty-clause-flaw : goal.returns-then-is_empty-clause-flaw
 returns-then-is_empty-clause-flaw c =
-    behind_address c.args.user.now c.args.address.now (subst (λ p. AddressedForm c.args.input.now c.args.user.now c.args.address.now p) (nil_tested c.args.path.now c.if-is_empty.ensures) c.requires)
+    after_address c.args.user.now c.args.address.now (subst (λ p. AddressedForm c.args.input.now c.args.user.now c.args.address.now p) (nil_tested c.args.path.now c.if-is_empty.ensures) c.requires)
 
 pub returns-clause-found : goal.returns-clause-found
 returns-clause-found c = record {

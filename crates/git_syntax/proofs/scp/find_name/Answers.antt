@@ -10,7 +10,7 @@ returns-in_default-clause-read c = name_found c.args.host.now c.requires.some c.
 
 pub returns-then-is_empty-clause-read : goal.returns-then-is_empty-clause-read
 returns-then-is_empty-clause-read c =
-    colons_found c.args.host.now c.in-Some.front.now c.in-Some.behind.now c.requires.open_front c.requires.text c.requires.colons c.in-Some.ensures.1
+    colons_found c.args.host.now c.in-Some.front.now c.in-Some.suffix.now c.requires.open_front c.requires.text c.requires.colons c.in-Some.ensures.1
     (elim c.then-is_empty.branch [
       | then-is_empty-via-then-is_empty w ↦ inl w.if-is_empty.ensures
       | then-is_empty-via-else-is_empty+then-not-is_free_of w ↦ inr (λ h. false≢true (w.if-not-is_free_of.ensures.1 h))
@@ -18,4 +18,4 @@ returns-then-is_empty-clause-read c =
 
 pub returns-clause-read : goal.returns-clause-read
 returns-clause-read c =
-    no_port_found c.args.host.now c.in-Some.front.now c.in-Some.behind.now c.requires.open_front c.requires.colons c.in-Some.ensures.0 c.in-Some.ensures.1 c.if-is_empty.ensures (c.if-not-is_free_of.ensures.0 refl)
+    no_port_found c.args.host.now c.in-Some.front.now c.in-Some.suffix.now c.requires.open_front c.requires.colons c.in-Some.ensures.0 c.in-Some.ensures.1 c.if-is_empty.ensures (c.if-not-is_free_of.ensures.0 refl)

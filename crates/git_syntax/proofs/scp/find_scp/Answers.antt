@@ -6,7 +6,7 @@ use Rattle.git_syntax.specs.Grammar.{ScpForm}
 use Rattle.git_syntax.specs.Flaws.MissesPath.{in_scp}
 use Rattle.git_syntax.proofs.Parsing.HostLemmas.{some_tested}
 use Rattle.git_syntax.proofs.Parsing.ClassifierLemmas.{nil_tested}
-use Rattle.git_syntax.proofs.Parsing.ScpLemmas.{scp_host_utf8, scp_user_utf8, scp_meant_utf8, colons_inside_front, colons_inside_host}
+use Rattle.git_syntax.proofs.Parsing.ScpLemmas.{scp_host_utf8, scp_user_utf8, scp_denoted_utf8, colons_inside_front, colons_inside_host}
 use Rattle.git_syntax.proofs.scp.find_scp.Goals as goal
 
 pub returns-then-is_empty-clause-flaw : goal.returns-then-is_empty-clause-flaw
@@ -40,7 +40,7 @@ pub returns-in-Ok-clause-ready : goal.returns-in-Ok-clause-ready
 returns-in-Ok-clause-ready c = record {
   user_text =
       scp_user_utf8 c.args.input.now c.args.front.now c.args.path.now (option_copied c.cut_front_user.result.0) c.cut_front_user.result.1.now c.requires.form (c.if-not-is_utf8.ensures.0 refl) c.cut_front_user.ensures.split;
-  host_text = scp_meant_utf8 c.in-Ok.ensures.read;
+  host_text = scp_denoted_utf8 c.in-Ok.ensures.read;
 }
 
 pub returns-in-Err-clause-flaw : goal.returns-in-Err-clause-flaw

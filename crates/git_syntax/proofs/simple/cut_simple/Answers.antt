@@ -8,6 +8,6 @@ url_pieces-requires-clause-form c =
     let b = c.args.text.text.now in
     let front = c.in-Some.front.text.now in
     let rest = c.in-Some.rest.text.now in
-    let behind = c.in-Some-after_slashes.behind.text.now in
-    url_has_form b front behind c.in-Some.ensures.cut.0
-    (mark_at_colon b front rest behind (record { joined = c.in-Some.ensures.cut.1; no_colon = c.in-Some.ensures.cut.0 }) c.in-Some-after_slashes.ensures.cut).1
+    let suffix = c.in-Some-after_slashes.suffix.text.now in
+    url_has_form b front suffix c.in-Some.ensures.cut.0
+    (mark_at_colon b front rest suffix (record { joined = c.in-Some.ensures.cut.1; no_colon = c.in-Some.ensures.cut.0 }) c.in-Some-after_slashes.ensures.cut).1

@@ -7,7 +7,7 @@ use Rattle.git_syntax.proofs.Parsing.ClassifierLemmas.{nil_tested}
 use Rattle.git_syntax.proofs.Parsing.SchemeRuleLemmas.{named_ext}
 use Rattle.git_syntax.proofs.Parsing.UrlLocationLemmas.{texts, scheme_utf8, path_missed}
 use Rattle.git_syntax.proofs.Parsing.FoundLemmas.{found_url}
-use Rattle.git_syntax.proofs.Parsing.RoomLemmas.{parts_within}
+use Rattle.git_syntax.proofs.Parsing.BufferLemmas.{parts_within}
 use Rattle.git_syntax.proofs.url.found_of_url.Goals as goal
 use Rattle.git_syntax.proofs.url.found_of_url.Goals.{else-rules-via-then-rules+else-is_empty, else-rules-via-else-rules}
 

@@ -1,7 +1,7 @@
 -- The spelling that was found is the one that matches, and else the path denotes itself.
 use Rattle.std.proofs.Common.{◌∙◌, ap, sym}
 use Rattle.git_syntax.specs.Location.{Location}
-use Rattle.gix_url.proofs.ComponentCuts.HandedLemmas.{found_spelling, no_spelling}
+use Rattle.gix_url.proofs.ComponentCuts.BorrowLemmas.{found_spelling, no_spelling}
 use Rattle.gix_url.proofs.components.spelled_path.Goals as goal
 
 pub spelling-requires : goal.spelling-requires

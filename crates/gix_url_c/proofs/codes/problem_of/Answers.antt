@@ -8,7 +8,7 @@ pub returns-in-Some : goal.returns-in-Some
 returns-in-Some c =
     let e = c.args.error.now in
     let r = c.in-Some.refusal in
-    let numbers = c.told.ensures ∙ ap (λ n. refusal_problem r n c.total_of.result) c.shown_of.ensures
+    let numbers = c.problem_with.ensures ∙ ap (λ n. refusal_problem r n c.total_of.result) c.shown_of.ensures
     ∙ ap (λ n. refusal_problem r (error_shown e) n) c.total_of.ensures in
     record {
       refused = λ b s refused is. numbers ∙ reported_of_refusal b s r e refused is c.in-Some.ensures.read;

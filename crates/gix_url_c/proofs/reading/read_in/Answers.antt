@@ -13,7 +13,7 @@ pub returns-in-Ok-clause-reported : goal.returns-in-Ok-clause-reported
 returns-in-Ok-clause-reported c =
     let answer = Ok c.in-Ok.url in
     let read = read_with_buffer c.args.input.now (length c.args.scratch.now) answer c.requires c.in-Ok.ensures in
-    (answer, read, (c.no_problem.ensures, c.put_location.ensures.reported))
+    (answer, read, (c.no_problem.ensures, c.write_location.ensures.reported))
 
 pub returns-in-Err-Refused-clause-reported : goal.returns-in-Err-Refused-clause-reported
 returns-in-Err-Refused-clause-reported c =

@@ -16,4 +16,4 @@ returns-in-Err-clause-reported c =
 pub returns-in-Ok-clause-reported : goal.returns-in-Ok-clause-reported
 returns-in-Ok-clause-reported c =
     let shown = shown_as (display c.args.url.now) (text c.args.url.now) c.in_default.field-0 (string_bytes c.in-Ok.shown) (both c.args.url.now) (sym c.in_default.ensures) c.in-Ok.ensures.ok in
-    inr (rw shown (subst (λ t. PutsText t c.args.buffer.now c.put_text.new.buffer c.put_text.new.len c.put_text.result) c.as_bytes.ensures.value c.put_text.ensures.put))
+    inr (rw shown (subst (λ t. PutsText t c.args.buffer.now c.write_text.new.buffer c.write_text.new.len c.write_text.result) c.as_bytes.ensures.value c.write_text.ensures.put))

@@ -6,12 +6,12 @@ use Rattle.git_location.proofs.git.web.has_dot_segment.Goals as goal
 
 pub returns-then-is_dot_segment : goal.returns-then-is_dot_segment
 returns-then-is_dot_segment c =
-    let cut = segment_cut c.loop-front.rest.now c.in-Some.front.now c.in-Some.behind.now c.in-Some.ensures.0 c.in-Some.ensures.1 in
+    let cut = segment_cut c.loop-front.rest.now c.in-Some.front.now c.in-Some.suffix.now c.in-Some.ensures.0 c.in-Some.ensures.1 in
     (λ yes. c.loop-front.invariant.0 (cut.0 (inl (c.is_dot_segment.ensures.0 c.if-is_dot_segment.true))), λ has. refl)
 
 pub loop-front-preserved : goal.loop-front-preserved
 loop-front-preserved c =
-    let cut = segment_cut c.loop-front.rest.now c.in-Some.front.now c.in-Some.behind.now c.in-Some.ensures.0 c.in-Some.ensures.1 in (
+    let cut = segment_cut c.loop-front.rest.now c.in-Some.front.now c.in-Some.suffix.now c.in-Some.ensures.0 c.in-Some.ensures.1 in (
       λ later. c.loop-front.invariant.0 (cut.0 (inr later)),
       λ has. ⊎_elim (λ dots. absurd (both_ways _ c.if-is_dot_segment.false (c.is_dot_segment.ensures.1 dots))) (λ later. later) (cut.1 (c.loop-front.invariant.1 has)),
     )

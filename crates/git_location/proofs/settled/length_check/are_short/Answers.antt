@@ -7,8 +7,8 @@ use Rattle.git_location.proofs.settled.length_check.are_short.Goals as goal
 
 pub returns-then-scheme-le-LIMIT : goal.returns-then-scheme-le-LIMIT
 returns-then-scheme-le-LIMIT c =
-    let behind = drop (length c.args.scheme.now + 3) (pieces_text c.args.pieces.now) in
-    let test = fits_tested c.args.scheme.now behind (omega arith) in
+    let suffix = drop (length c.args.scheme.now + 3) (pieces_text c.args.pieces.now) in
+    let test = fits_tested c.args.scheme.now suffix (omega arith) in
     (λ yes. test.0 (sym c.is_rest_short.ensures ∙ yes), λ fits. c.is_rest_short.ensures ∙ test.1 fits)
 
 pub returns-else-scheme-le-LIMIT : goal.returns-else-scheme-le-LIMIT

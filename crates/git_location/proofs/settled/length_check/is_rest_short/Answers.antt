@@ -11,11 +11,11 @@ use Rattle.git_location.proofs.settled.length_check.is_rest_short.Goals as goal
 
 pub returns-then-len-scheme : goal.returns-then-len-scheme
 returns-then-len-scheme c =
-    let behind = drop (length c.args.scheme.now + 3) (pieces_text c.args.pieces.now) in
-    sym (or_left _ _ (le-leb (length behind) 1024 (omega (arith, c.len.ensures, length-drop (length c.args.scheme.now + 3) (pieces_text c.args.pieces.now)))))
+    let suffix = drop (length c.args.scheme.now + 3) (pieces_text c.args.pieces.now) in
+    sym (or_left _ _ (le-leb (length suffix) 1024 (omega (arith, c.len.ensures, length-drop (length c.args.scheme.now + 3) (pieces_text c.args.pieces.now)))))
 
 pub returns : goal.returns
 returns c =
-    let behind = drop (length c.args.scheme.now + 3) (pieces_text c.args.pieces.now) in
+    let suffix = drop (length c.args.scheme.now + 3) (pieces_text c.args.pieces.now) in
     c.is_in_time.ensures ∙ ap (λ (w : LengthCheck). is_text_in_time w (pieces_text c.args.pieces.now)) c.over.ensures
-    ∙ sym (long_tested (is_web_scheme c.args.scheme.now) behind (omega (arith, c.len.ensures, length-drop (length c.args.scheme.now + 3) (pieces_text c.args.pieces.now))))
+    ∙ sym (long_tested (is_web_scheme c.args.scheme.now) suffix (omega (arith, c.len.ensures, length-drop (length c.args.scheme.now + 3) (pieces_text c.args.pieces.now))))

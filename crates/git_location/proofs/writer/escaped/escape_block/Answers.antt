@@ -10,6 +10,6 @@ loop-byte-init c = record { bytes = sym (percent_encode-nil c.args.set); bound =
 
 pub loop-byte-preserved : goal.loop-byte-preserved
 loop-byte-preserved c = record {
-  bytes = c.put_byte-size.ensures.bytes ∙ ap (λ l. l ++ encode_byte c.args.set (get_or c.args.block.now c.loop-byte.byte-index 0)) c.loop-byte.invariant.bytes ∙ encoded_more c.args.set c.args.block.now c.loop-byte.byte-index c.loop-byte-test.true;
-  bound = omega (arith, c.put_byte-size.ensures.bound, c.loop-byte.invariant.bound);
+  bytes = c.write_byte-size.ensures.bytes ∙ ap (λ l. l ++ encode_byte c.args.set (get_or c.args.block.now c.loop-byte.byte-index 0)) c.loop-byte.invariant.bytes ∙ encoded_more c.args.set c.args.block.now c.loop-byte.byte-index c.loop-byte-test.true;
+  bound = omega (arith, c.write_byte-size.ensures.bound, c.loop-byte.invariant.bound);
 }

@@ -8,13 +8,13 @@ use Rattle.git_modules.proofs.submodules.url.replaces_host.Goals as goal
 
 pub loop-is_up-preserved-then-up : goal.loop-is_up-preserved-then-up
 loop-is_up-preserved-then-up c =
-    subst (HasSteps c.args.url.now c.in-Some.behind.now) (short_or c.loop-is_up.up c.in-Some.is_up c.if-up.true)
-    (steps_more c.args.url.now c.loop-is_up.rest.now c.in-Some.behind.now c.loop-is_up.up c.in-Some.is_up c.loop-is_up.invariant c.in-Some.ensures)
+    subst (HasSteps c.args.url.now c.in-Some.suffix.now) (short_or c.loop-is_up.up c.in-Some.is_up c.if-up.true)
+    (steps_more c.args.url.now c.loop-is_up.rest.now c.in-Some.suffix.now c.loop-is_up.up c.in-Some.is_up c.loop-is_up.invariant c.in-Some.ensures)
 
 pub loop-is_up-preserved : goal.loop-is_up-preserved
 loop-is_up-preserved c =
-    subst (HasSteps c.args.url.now c.in-Some.behind.now) (other_or c.loop-is_up.up c.in-Some.is_up c.if-up.false)
-    (steps_more c.args.url.now c.loop-is_up.rest.now c.in-Some.behind.now c.loop-is_up.up c.in-Some.is_up c.loop-is_up.invariant c.in-Some.ensures)
+    subst (HasSteps c.args.url.now c.in-Some.suffix.now) (other_or c.loop-is_up.up c.in-Some.is_up c.if-up.false)
+    (steps_more c.args.url.now c.loop-is_up.rest.now c.in-Some.suffix.now c.loop-is_up.up c.in-Some.is_up c.loop-is_up.invariant c.in-Some.ensures)
 
 pub returns-then-up-2 : goal.returns-then-up-2
 returns-then-up-2 c =

@@ -1,7 +1,7 @@
 -- User information, and a host and a port, are the texts around the last `@`.
 use Rattle.std.proofs.Common.{refl}
 use Rattle.git_refusals.specs.Parts.{AuthoritySpans}
-use Rattle.git_refusals.proofs.Refusing.PartLemmas.{authority_names, behind_names}
+use Rattle.git_refusals.proofs.Refusing.PartLemmas.{authority_names, after_names}
 use Rattle.git_refusals.proofs.parts.authority.authority_parts.Goals as goal
 
 pub host_parts-host-requires-clause-named : goal.host_parts-host-requires-clause-named
@@ -9,7 +9,7 @@ host_parts-host-requires-clause-named c = authority_names c.args.authority.now c
 
 pub host_parts-host-requires-in-Some-clause-named : goal.host_parts-host-requires-in-Some-clause-named
 host_parts-host-requires-in-Some-clause-named c =
-    behind_names c.args.authority.now c.in-Some.information.now c.in-Some.piece.now c.in-Some.ensures.0 c.in-Some.ensures.1 c.requires.held
+    after_names c.args.authority.now c.in-Some.information.now c.in-Some.piece.now c.in-Some.ensures.0 c.in-Some.ensures.1 c.requires.held
 
 pub returns-in-None : goal.returns-in-None
 returns-in-None c = AuthoritySpans.alone c.in-None.ensures refl refl c.host_parts-host.ensures

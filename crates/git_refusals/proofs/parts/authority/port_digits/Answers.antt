@@ -5,4 +5,4 @@ use Rattle.git_refusals.proofs.parts.authority.port_digits.Goals as goal
 
 pub returns-in-Some : goal.returns-in-Some
 returns-in-Some c =
-    subst (λ piece. MatchOption c.digits_behind_brackets.result (IsHostAlone piece) (λ digits. HasPort piece digits.now)) (sym c.in-Some.ensures) c.digits_behind_brackets.ensures
+    subst (λ piece. MatchOption c.digits_after_brackets.result (IsHostAlone piece) (λ digits. HasPort piece digits.now)) (sym c.in-Some.ensures) c.digits_after_brackets.ensures

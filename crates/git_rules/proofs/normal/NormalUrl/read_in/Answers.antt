@@ -12,10 +12,10 @@ returns-in_err-authority c =
     let error = c.in_err-authority.field-0.0 in
     let flaw = subst (λ s. AuthorityFlaw c.args.globs s c.in-Some.authority.now error) c.lowered_in-buffer.ensures.text c.in_err-authority.ensures in
     subst (λ r. NormalizesIn c.args.globs c.args.text.now (length c.args.buffer.now) r) (sym (is ∙ ap (λ x. Err x) same))
-    (part_flawed c.args.globs c.args.text.now c.in-Some.scheme.now c.in-Some.authority.now c.in-Some.behind.now (length c.args.buffer.now) error (c.if-not-is_enough.ensures.0 refl) c.in-Some.ensures (inl flaw))
+    (part_flawed c.args.globs c.args.text.now c.in-Some.scheme.now c.in-Some.authority.now c.in-Some.suffix.now (length c.args.buffer.now) error (c.if-not-is_enough.ensures.0 refl) c.in-Some.ensures (inl flaw))
 
 pub returns : goal.returns
 returns c =
     let authority = c.in_ok-authority.authority in
-    parts_normalize c.args.globs c.args.text.now c.in-Some.scheme.now c.lowered_in-buffer.result.0.now c.in-Some.authority.now c.in-Some.behind.now (option_copied authority.user) authority.host.now authority.port (length c.args.buffer.now) c.write_parts.result
+    parts_normalize c.args.globs c.args.text.now c.in-Some.scheme.now c.lowered_in-buffer.result.0.now c.in-Some.authority.now c.in-Some.suffix.now (option_copied authority.user) authority.host.now authority.port (length c.args.buffer.now) c.write_parts.result
     (c.if-not-is_enough.ensures.0 refl) c.in-Some.ensures c.lowered_in-buffer.ensures.text c.in_ok-authority.ensures c.write_parts.ensures

@@ -8,4 +8,4 @@ use Rattle.git_rules.proofs.normal.escapes.split_normal.Goals as goal
 pub returns : goal.returns
 returns c =
     let other : (c.in_ok-first.first.now == percent_sign) ≡ false = false_from_ne_true _ (λ e. c.if-first-eq37.false (eqb-true _ _ e)) in
-    splits_kept c.args.text.now c.in_ok-first.behind.now c.in_ok-first.first.now c.in_ok-first.ensures.cases.0 other c.requires
+    splits_kept c.args.text.now c.in_ok-first.suffix.now c.in_ok-first.first.now c.in_ok-first.ensures.cases.0 other c.requires

@@ -3,11 +3,11 @@ use Rattle.std.proofs.Common.{length, option_copied, subst}
 use Rattle.std.proofs.lemmas.Result.{err_from_is_err_and}
 use Rattle.git_rules.specs.Patterns.{IsBest}
 use Rattle.git_rules.specs.Settings.{RanksSetting}
-use Rattle.git_rules.proofs.Settled.AnswerLemmas.{first_of_memory, first_of_room}
+use Rattle.git_rules.proofs.Settled.AnswerLemmas.{first_of_memory, first_of_buffer}
 use Rattle.git_rules.proofs.pattern.settings.best_alone.Goals as goal
 
 pub returns-in-Err-clause-first : goal.returns-in-Err-clause-first
-returns-in-Err-clause-first c = first_of_room c.args.name.now (option_copied c.args.place) (length c.args.buffer.now) c.args.entries.now c.requires c.in-Err.ensures.first
+returns-in-Err-clause-first c = first_of_buffer c.args.name.now (option_copied c.args.place) (length c.args.buffer.now) c.args.entries.now c.requires c.in-Err.ensures.first
 
 pub returns-in_err-push-in-Ok-Some-clause-first : goal.returns-in_err-push-in-Ok-Some-clause-first
 returns-in_err-push-in-Ok-Some-clause-first c =

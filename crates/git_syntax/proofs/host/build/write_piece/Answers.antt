@@ -1,6 +1,6 @@
 -- Brackets are around the shown text.
 use Rattle.std.proofs.Common.{arith, sym, ◌∙◌}
-use Rattle.git_syntax.proofs.Parsing.RoomLemmas.{bracketed_host, bracketed_host_length, brackets_put}
+use Rattle.git_syntax.proofs.Parsing.BufferLemmas.{bracketed_host, bracketed_host_length, brackets_put}
 use Rattle.git_syntax.proofs.host.build.write_piece.Goals as goal
 
 pub write_shown-size-requires : goal.write_shown-size-requires

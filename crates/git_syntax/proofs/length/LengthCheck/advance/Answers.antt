@@ -5,4 +5,4 @@ use Rattle.git_syntax.proofs.Parsing.LengthLemmas.{drop_joined}
 use Rattle.git_syntax.proofs.length.LengthCheck.advance.Goals as goal
 
 pub returns-then-bytes-self : goal.returns-then-bytes-self
-returns-then-bytes-self c = λ behind. ap (is_in_time c.args.self.web c.args.self.stage) (sym (drop_joined c.args.self.left c.args.bytes.now behind (omega arith)))
+returns-then-bytes-self c = λ suffix. ap (is_in_time c.args.self.web c.args.self.stage) (sym (drop_joined c.args.self.left c.args.bytes.now suffix (omega arith)))

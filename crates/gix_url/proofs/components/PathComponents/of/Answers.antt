@@ -6,7 +6,7 @@ use Rattle.git_location.specs.Settled.{IsWeb}
 use Rattle.gix_url.specs.Internal.ComponentPieces.{HasQuery}
 use Rattle.gix_url.specs.ComponentViews.{components}
 use Rattle.git_laws.proofs.ComponentCuts.ComponentLemmas.{web_parts}
-use Rattle.gix_url.proofs.ComponentCuts.HandedLemmas.{parts_meant, path_lent, query_lent, fragment_lent, query_there, given, whole_meant, lends_whole, path_alone_held}
+use Rattle.gix_url.proofs.ComponentCuts.BorrowLemmas.{parts_denoted, path_borrowed, query_borrowed, fragment_borrowed, query_there, given, whole_denoted, borrows_whole, path_alone_held}
 use Rattle.std.proofs.lemmas.Result.{IfOk-weaker}
 use Rattle.gix_url.proofs.components.PathComponents.of.Goals as goal
 
@@ -23,25 +23,25 @@ is_web c =
 pub returns-in-Http-clause-parts : goal.returns-in-Http-clause-parts
 returns-in-Http-clause-parts c =
     let v = c.args.url.now in
-    IfOk-weaker c.web_components.result _ _ (λ parts h. (web_parts v (components parts) (is_web c)).1 (parts_meant v parts (lends_whole v c.spelled_path.result parts c.spelled_path.ensures h))) c.web_components.ensures.borrowed
+    IfOk-weaker c.web_components.result _ _ (λ parts h. (web_parts v (components parts) (is_web c)).1 (parts_denoted v parts (borrows_whole v c.spelled_path.result parts c.spelled_path.ensures h))) c.web_components.ensures.borrowed
 
 pub returns-in-Http-clause-path : goal.returns-in-Http-clause-path
 returns-in-Http-clause-path c =
     let v = c.args.url.now in
-    let whole = whole_meant v c.spelled_path.result c.spelled_path.ensures in
-    IfOk-weaker c.web_components.result _ _ (λ parts h. path_lent v parts (lends_whole v c.spelled_path.result parts c.spelled_path.ensures h) whole) c.web_components.ensures.borrowed
+    let whole = whole_denoted v c.spelled_path.result c.spelled_path.ensures in
+    IfOk-weaker c.web_components.result _ _ (λ parts h. path_borrowed v parts (borrows_whole v c.spelled_path.result parts c.spelled_path.ensures h) whole) c.web_components.ensures.borrowed
 
 pub returns-in-Http-clause-query : goal.returns-in-Http-clause-query
 returns-in-Http-clause-query c =
     let v = c.args.url.now in
-    let whole = whole_meant v c.spelled_path.result c.spelled_path.ensures in
-    IfOk-weaker c.web_components.result _ _ (λ parts h. query_lent v parts (lends_whole v c.spelled_path.result parts c.spelled_path.ensures h) whole) c.web_components.ensures.borrowed
+    let whole = whole_denoted v c.spelled_path.result c.spelled_path.ensures in
+    IfOk-weaker c.web_components.result _ _ (λ parts h. query_borrowed v parts (borrows_whole v c.spelled_path.result parts c.spelled_path.ensures h) whole) c.web_components.ensures.borrowed
 
 pub returns-in-Http-clause-fragment : goal.returns-in-Http-clause-fragment
 returns-in-Http-clause-fragment c =
     let v = c.args.url.now in
-    let whole = whole_meant v c.spelled_path.result c.spelled_path.ensures in
-    IfOk-weaker c.web_components.result _ _ (λ parts h. fragment_lent v parts (lends_whole v c.spelled_path.result parts c.spelled_path.ensures h) whole) c.web_components.ensures.borrowed
+    let whole = whole_denoted v c.spelled_path.result c.spelled_path.ensures in
+    IfOk-weaker c.web_components.result _ _ (λ parts h. fragment_borrowed v parts (borrows_whole v c.spelled_path.result parts c.spelled_path.ensures h) whole) c.web_components.ensures.borrowed
 
 pub returns-in-Http-clause-no_query : goal.returns-in-Http-clause-no_query
 returns-in-Http-clause-no_query c given_parts parts none =

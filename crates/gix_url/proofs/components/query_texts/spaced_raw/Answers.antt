@@ -1,7 +1,7 @@
 -- The byte of the turn has its space, those before it have theirs, and those after it stay.
 use Rattle.std.proofs.Common.{◌<◌, ◌∙◌, arith, length}
 use Rattle.std.proofs.lemmas.List.{length-set}
-use Rattle.gix_url.proofs.ComponentCuts.LentLemmas.{left_next, spaced_next}
+use Rattle.gix_url.proofs.ComponentCuts.FieldLemmas.{left_next, spaced_next}
 use Rattle.gix_url.proofs.components.query_texts.spaced_raw.Goals as goal
 
 pub loop-byte-preserved : goal.loop-byte-preserved

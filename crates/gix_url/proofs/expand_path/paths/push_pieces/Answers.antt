@@ -12,12 +12,12 @@ loop-rest-init c = record { text = search rules; gathered = gathers_none _ _ }
 pub loop-rest-smaller-then-not-counts : goal.loop-rest-smaller-then-not-counts
 loop-rest-smaller-then-not-counts c =
     let cut = c.first_segment-in-Some.result in
-    shorter c.loop-rest.rest c.in-Some.behind cut.0 cut.1 c.in-Some.is c.first_segment-in-Some.ensures
+    shorter c.loop-rest.rest c.in-Some.suffix cut.0 cut.1 c.in-Some.is c.first_segment-in-Some.ensures
 
 pub loop-rest-preserved-then-not-counts : goal.loop-rest-preserved-then-not-counts
 loop-rest-preserved-then-not-counts c =
     let cut = c.first_segment-in-Some.result in
-    let left = ap unread c.in-Some.is ∙ ap (λ t. slash ∷ t) (segment_cut c.in-Some.behind.now cut.0 cut.1 c.first_segment-in-Some.ensures) in
+    let left = ap unread c.in-Some.is ∙ ap (λ t. slash ∷ t) (segment_cut c.in-Some.suffix.now cut.0 cut.1 c.first_segment-in-Some.ensures) in
     record {
       text = search rules;
       gathered = gathers_past _ _ _ _ _ cut.0.now (unread cut.1) left (sym c.counts.ensures ∙ c.if-not-counts.true) c.loop-rest.invariant.gathered;
@@ -26,12 +26,12 @@ loop-rest-preserved-then-not-counts c =
 pub loop-rest-smaller : goal.loop-rest-smaller
 loop-rest-smaller c =
     let cut = c.first_segment-in-Some.result in
-    shorter c.loop-rest.rest c.in-Some.behind cut.0 cut.1 c.in-Some.is c.first_segment-in-Some.ensures
+    shorter c.loop-rest.rest c.in-Some.suffix cut.0 cut.1 c.in-Some.is c.first_segment-in-Some.ensures
 
 pub loop-rest-preserved : goal.loop-rest-preserved
 loop-rest-preserved c =
     let cut = c.first_segment-in-Some.result in
-    let left = ap unread c.in-Some.is ∙ ap (λ t. slash ∷ t) (segment_cut c.in-Some.behind.now cut.0 cut.1 c.first_segment-in-Some.ensures) in
+    let left = ap unread c.in-Some.is ∙ ap (λ t. slash ∷ t) (segment_cut c.in-Some.suffix.now cut.0 cut.1 c.first_segment-in-Some.ensures) in
     let is : IsPiece cut.0.now = (c.first_segment-in-Some.ensures.0, sym c.counts.ensures ∙ c.if-not-counts.false) in
     let more = gathers_more _ _ _ _ _ cut.0.now (unread cut.1) left is c.loop-rest.invariant.gathered in
     let written = c.in_ok-push_str-2.ensures.bytes ∙ ap (λ t. t ++ cut.0.now) c.in_ok-push_str.ensures.bytes ∙ append_assoc (string_bytes c.loop-rest.out) c.loop-rest.separator.now cut.0.now in

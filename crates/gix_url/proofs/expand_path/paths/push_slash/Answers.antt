@@ -7,7 +7,7 @@ use Rattle.gix_url.proofs.Homes.PathLemmas.{opens_name}
 use Rattle.gix_url.proofs.expand_path.paths.push_slash.Goals as goal
 
 pub returns-in-Some : goal.returns-in-Some
-returns-in-Some c = Opens.behind_slash c.in-Some.field-0.now (sym c.as_bytes.ensures.value ∙ c.in-Some.ensures) refl
+returns-in-Some c = Opens.after_slash c.in-Some.field-0.now (sym c.as_bytes.ensures.value ∙ c.in-Some.ensures) refl
 
 pub returns-in_ok-push-in-None : goal.returns-in_ok-push-in-None
 returns-in_ok-push-in-None c =

@@ -6,7 +6,7 @@ use Rattle.gix_url.proofs.expand_path.paths.up_to_last.Goals as goal
 
 pub returns-then-counts : goal.returns-then-counts
 returns-then-counts c =
-    let (tail, idle, whole) = c.loop-before.invariant.behind in
+    let (tail, idle, whole) = c.loop-before.invariant.suffix in
     record {
       tail = tail;
       idle = idle;
@@ -17,5 +17,5 @@ returns-then-counts c =
 pub loop-before-preserved : goal.loop-before-preserved
 loop-before-preserved c = record {
   text = search rules;
-  behind = tail_more c.args.text.now c.loop-before.front.now c.in-Some.before.now c.in-Some.segment.now c.in-Some.ensures.1 (sym c.counts.ensures ∙ c.if-counts.false) c.loop-before.invariant.behind;
+  suffix = tail_more c.args.text.now c.loop-before.front.now c.in-Some.before.now c.in-Some.segment.now c.in-Some.ensures.1 (sym c.counts.ensures ∙ c.if-counts.false) c.loop-before.invariant.suffix;
 }

@@ -8,7 +8,7 @@ use Rattle.gix_url.proofs.expand_path.paths.up_to_last.Given as goal
 abbrev pub invariant-loop-before : goal.invariant-loop-before
 invariant-loop-before l = record {
   text : shadow (Utf8 l.front);
-  behind : (tail : List ℕ) × IsIdle tail × (l.text ≡ l.front ++ tail);
+  suffix : (tail : List ℕ) × IsIdle tail × (l.text ≡ l.front ++ tail);
 }
 
 abbrev pub decreases-loop-before : goal.decreases-loop-before

@@ -8,12 +8,12 @@ use Rattle.gix_url.proofs.expand_path.split.cut_home.Goals as goal
 pub returns-in_err-after : goal.returns-in_err-after
 returns-in_err-after c = rw c.from_residual.ensures (no_slash_no_home c.args.path.now c.in_err-after.ensures)
 
-pub returns-in_err-behind : goal.returns-in_err-behind
-returns-in_err-behind c = rw c.from_residual-in_err-behind.ensures (ap begins_at_home c.in_ok-after.ensures ∙ no_tilde_no_home c.in_ok-after.field-0.now c.in_err-behind.ensures)
+pub returns-in_err-suffix : goal.returns-in_err-suffix
+returns-in_err-suffix c = rw c.from_residual-in_err-suffix.ensures (ap begins_at_home c.in_ok-after.ensures ∙ no_tilde_no_home c.in_ok-after.field-0.now c.in_err-suffix.ensures)
 
 pub returns-in-Some : goal.returns-in-Some
 returns-in-Some c =
-    (c.in-Some.ensures.0, inr (c.in_ok-after.ensures ∙ ap (λ t. slash ∷ t) (c.in_ok-behind.ensures ∙ ap (λ t. tilde ∷ t) c.in-Some.ensures.1)))
+    (c.in-Some.ensures.0, inr (c.in_ok-after.ensures ∙ ap (λ t. slash ∷ t) (c.in_ok-suffix.ensures ∙ ap (λ t. tilde ∷ t) c.in-Some.ensures.1)))
 
 pub returns-in-None : goal.returns-in-None
-returns-in-None c = (c.in-None.ensures, inl (c.in_ok-after.ensures ∙ ap (λ t. slash ∷ t) c.in_ok-behind.ensures, refl))
+returns-in-None c = (c.in-None.ensures, inl (c.in_ok-after.ensures ∙ ap (λ t. slash ∷ t) c.in_ok-suffix.ensures, refl))

@@ -9,8 +9,8 @@ use Rattle.gix_url_c.proofs.rules.commands.gix_url_c_ssh_words.Goals as goal
 
 pub returns-in-Some-request_of-clause-reported : goal.returns-in-Some-request_of-clause-reported
 returns-in-Some-request_of-clause-reported c =
-    let new = c.put_command.new in
-    let code = c.put_command.result in
+    let new = c.write_command.new in
+    let code = c.write_command.result in
     let buffer = c.args.buffer.now in
     let lengths = c.args.lengths.now in
     let asked = c.in-Some-request_of in
@@ -21,5 +21,5 @@ returns-in-Some-request_of-clause-reported c =
           asked.ensures.built
           (subst
           (λ v. UnlessMemory code (ReportsWords v asked.request new.built buffer new.buffer lengths new.lengths code))
-          c.in-Some.ensures.built c.put_command.ensures.reported),
+          c.in-Some.ensures.built c.write_command.ensures.reported),
     )

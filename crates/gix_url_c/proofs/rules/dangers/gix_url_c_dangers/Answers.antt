@@ -7,10 +7,10 @@ use Rattle.gix_url_c.proofs.rules.dangers.gix_url_c_dangers.Goals as goal
 
 pub returns-in-Some-clause-reported : goal.returns-in-Some-clause-reported
 returns-in-Some-clause-reported c =
-    let new = c.put_dangers.new in
-    let code = c.put_dangers.result in
+    let new = c.write_dangers.new in
+    let code = c.write_dangers.result in
     inr (
       c.in-Some.ensures.whole,
       subst (λ v. UnlessMemory code (ReportsDangers c.args.text.now v c.args.buffer.now new.buffer new.count code))
-          c.in-Some.ensures.built c.put_dangers.ensures.reported,
+          c.in-Some.ensures.built c.write_dangers.ensures.reported,
     )

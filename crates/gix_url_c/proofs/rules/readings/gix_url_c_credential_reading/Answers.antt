@@ -15,4 +15,4 @@ returns-in-Ok-Some-clause-reported c =
     let reads = subst
     (λ request. MatchOption request (LacksRequest text) (λ it. CredentialReads text (credential_reading it)))
     found.field-0-is found.ensures in
-    unless_memory c.put_request.result (λ put. inr (credential_reading found.request, reads, put)) c.put_request.ensures.reported
+    unless_memory c.write_request.result (λ put. inr (credential_reading found.request, reads, put)) c.write_request.ensures.reported

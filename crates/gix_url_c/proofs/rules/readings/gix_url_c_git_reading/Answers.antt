@@ -8,9 +8,9 @@ use Rattle.gix_url_c.proofs.rules.readings.gix_url_c_git_reading.Goals as goal
 
 pub returns-in-Ok-clause-reported : goal.returns-in-Ok-clause-reported
 returns-in-Ok-clause-reported c =
-    unless_memory c.put_place.result (λ put. inr (git_reading c.in-Ok.place, c.in-Ok.ensures.read, put)) c.put_place.ensures.reported
+    unless_memory c.write_place.result (λ put. inr (git_reading c.in-Ok.place, c.in-Ok.ensures.read, put)) c.write_place.ensures.reported
 
 pub returns-clause-reported : goal.returns-clause-reported
 returns-clause-reported c =
     let why = c.in-Err.ensures in
-    unless_memory c.tell_unread.result (λ told. inl (c.in-Err.why, why.none told.0, why.why, refl, told)) c.tell_unread.ensures.reported
+    unless_memory c.tell_unread.result (λ unread. inl (c.in-Err.why, why.none unread.0, why.why, refl, unread)) c.tell_unread.ensures.reported

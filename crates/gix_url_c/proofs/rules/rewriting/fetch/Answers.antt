@@ -10,5 +10,5 @@ returns-in-Ok-clause-reported c =
     let filled = c.in-Ok.ensures in
     let outcome = c.rewrite_fetch.result in
     let rewritten = subst (λ rules. IsRewritten rules.fetching c.args.text.now outcome) filled.1 c.rewrite_fetch.ensures in
-    unless_memory c.put_outcome.result (λ put. inr (filled.0, (outcome, rewritten, c.no_stop.ensures, put)))
-    c.put_outcome.ensures.reported
+    unless_memory c.write_outcome.result (λ put. inr (filled.0, (outcome, rewritten, c.no_stop.ensures, put)))
+    c.write_outcome.ensures.reported

@@ -14,7 +14,7 @@ returns-then-numbers-count-clause-reported c =
     omega (arith, two, c.count_pieces.ensures, c.if-numbers-count.true) in
     (c.count_pieces.ensures, search (rules, short))
 
-pub put_pieces-requires : goal.put_pieces-requires
-put_pieces-requires c =
+pub write_pieces-requires : goal.write_pieces-requires
+write_pieces-requires c =
     let two = two_each (parts_of c.args.text.now) in
     omega (arith, two, c.count_pieces.ensures, c.if-numbers-count.false)

@@ -8,12 +8,12 @@ use Rattle.gix_url_c.proofs.rules.settings.gix_url_c_settings.Goals as goal
 
 pub returns-clause-reported : goal.returns-clause-reported
 returns-clause-reported c =
-    let new = c.put_passed.new in
-    let code = c.put_passed.result in
+    let new = c.write_passed.new in
+    let code = c.write_passed.result in
     let config = entries_passed c.args.entries.now in
     inr (
       λ not. not c.in-Ok.ensures.cases.1,
       subst
           (λ name. UnlessMemory code (ReportsSettings config name c.args.text.now new.built c.args.indices.now new.indices new.stop code))
-          c.in-Ok.ensures.cases.0 c.put_passed.ensures.reported,
+          c.in-Ok.ensures.cases.0 c.write_passed.ensures.reported,
     )

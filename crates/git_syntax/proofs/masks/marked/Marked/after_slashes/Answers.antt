@@ -4,4 +4,4 @@ use Rattle.git_syntax.specs.Bytes.{slash}
 use Rattle.git_syntax.proofs.masks.marked.Marked.after_slashes.Goals as goal
 
 pub rest-requires-clause-rest : goal.rest-requires-clause-rest
-rest-requires-clause-rest c = (slash ∷ (slash ∷ []), c.in_ok-behind.ensures)
+rest-requires-clause-rest c = (slash ∷ (slash ∷ []), c.in_ok-suffix.ensures)
