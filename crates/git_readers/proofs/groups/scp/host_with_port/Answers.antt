@@ -4,7 +4,7 @@ use Rattle.std.proofs.lemmas.Bool.{cond-true}
 use Rattle.git_readers.specs.Groups as spec
 use Rattle.git_readers.specs.Readers.{is_no_digit}
 use Rattle.git_readers.proofs.GroupLemmas.{port_front, port_short}
-use Rattle.git_readers.proofs.groups.host_with_port.Goals as goal
+use Rattle.git_readers.proofs.groups.scp.host_with_port.Goals as goal
 
 pub overflow_sub-text : goal.overflow_sub-text
 overflow_sub-text c =

@@ -1,6 +1,6 @@
 -- An authority ends if a path starts.
 use Rattle.git_readers.proofs.GroupLemmas.{before_path}
-use Rattle.git_readers.proofs.groups.authority.Goals as goal
+use Rattle.git_readers.proofs.groups.cuts.authority.Goals as goal
 
 pub returns : goal.returns
 returns c =
