@@ -142,11 +142,7 @@ fn write_quoted(byte: u8, is_escaped: bool, len: usize, buffer: &mut [u8]) -> (u
     ensures least { len ≤ result.0 }
     ensures most { result.0 ≤ len + 1 }
 {
-    if is_escaped {
-        buffer[len] = byte;
-        return (len + 1, false);
-    }
-    if byte == b'\\' {
+    if !is_escaped && byte == b'\\' {
         return (len, true);
     }
     buffer[len] = byte;
