@@ -1,22 +1,20 @@
 -- Simple texts, by the pieces that masks cut.
-use Rattle.std.proofs.Common.{◌≡◌, ◌∙◌, ◌<◌, ◌≤◌, ◌++◌, ◌∷◌, ℕ, true, false, List, [], Option, Some, length, codes, refl, ap, subst, append_assoc}
-use Rattle.git_syntax.specs.Bytes.{FreeOf, begins_with, colon, is_helper_name, slash}
+use Rattle.std.proofs.Common.{◌≡◌, ◌∙◌, ◌<◌, ◌≤◌, ◌++◌, ◌∷◌, ℕ, true, false, List, [], Option, Some, length, codes, refl, ap, append_assoc}
+use Rattle.git_syntax.specs.Bytes.{FreeOf, begins_with, colon, slash}
 use Rattle.git_syntax.specs.Flaws.{UrlForm}
-use Rattle.git_syntax.specs.Grammar.{SpellsLocal, begins_at_home, helper_scheme}
-use Rattle.git_syntax.specs.Location.{Location, Scheme, path_alone}
+use Rattle.git_syntax.specs.Grammar.{SpellsLocal, begins_at_home}
+use Rattle.git_syntax.specs.Location.{Scheme, path_alone}
 use Rattle.git_syntax.specs.Location.Scheme.{file, ssh}
 use Rattle.git_syntax.specs.Schemes.{scheme_text}
 use Rattle.git_syntax.specs.SimpleTexts.{HasSimpleParts, IsRemoteScheme, IsSimpleText, before_host}
 use Rattle.git_syntax.specs.Hosts.{port_part}
 use Rattle.git_syntax.specs.Internal.HostPieces.{IsSimpleHost}
 use Rattle.git_syntax.specs.Internal.SimplePieces.{CutsSimpleUser, IsSimplePlace}
-use Rattle.git_syntax.specs.SimpleTexts.IsSimpleText.{file_text, helper_text, scp_text, url_text}
+use Rattle.git_syntax.specs.SimpleTexts.IsSimpleText.{file_text, scp_text, url_text}
 use Rattle.git_syntax.specs.Internal.Forms.{ColonCut}
 use Rattle.git_syntax.specs.Internal.Masks.{is_common}
 use Rattle.git_syntax.proofs.ByMasks.CommonLemmas.{around_colon, common_utf8, neither_by_colon, not_addressed}
-use Rattle.git_syntax.proofs.Parsing.ClassifierLemmas.{colon_nonempty, local_form, no_helper_free, no_scp_cut}
-use Rattle.git_syntax.proofs.Parsing.FormLemmas.{not_scp}
-use Rattle.git_syntax.proofs.Texts.CutLemmas.{held_free, not_free}
+use Rattle.git_syntax.proofs.Parsing.ClassifierLemmas.{colon_nonempty, local_form, no_scp_cut}
 
 -- a text with a slash before its only colon is a local path
 pub slashed_local : (b front rest : List ℕ) → is_common b ≡ true → ColonCut b front rest → ((suffix : List ℕ) → ¬ (rest ≡ slash ∷ (slash ∷ suffix)))

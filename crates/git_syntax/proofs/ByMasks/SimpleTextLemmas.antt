@@ -1,12 +1,11 @@
 -- A simple text spells its location.
-use Rattle.std.proofs.Common.{◌≡◌, ◌∙◌, ◌<◌, ◌≤◌, ◌++◌, ◌∷◌, ◌==◌, ◌&&◌, ℕ, Bool, bytes_eq, true, false, List, [], Option, Some, None, length, codes, refl, sym, ap, subst, inl, inr, arith, append_assoc, append-nil}
+use Rattle.std.proofs.Common.{◌≡◌, ◌∙◌, ◌<◌, ◌≤◌, ◌++◌, ◌∷◌, ◌==◌, ℕ, Bool, bytes_eq, true, false, List, [], Option, Some, None, length, codes, refl, sym, ap, subst, inl, inr, arith, append_assoc, append-nil}
 use Rattle.std.specs.Prelude.{IfSome}
-use Rattle.std.proofs.lemmas.Bool.{and_parts, false≢true}
-use Rattle.std.proofs.lemmas.Bool.Decides.{nat_tests}
+use Rattle.std.proofs.lemmas.Bool.{false≢true}
 use Rattle.percent_encoding.specs.Percent.{percent_decode}
 use Rattle.git_syntax.specs.Authority.Authority.{host_alone, with_user}
 use Rattle.git_syntax.specs.Authority.Credentials.{user_alone}
-use Rattle.git_syntax.specs.Bytes.{FreeOf, at_sign, begins_with, colon, is_scheme_text, left_bracket, slash, tilde}
+use Rattle.git_syntax.specs.Bytes.{FreeOf, at_sign, begins_with, colon, is_scheme_text, left_bracket, slash}
 use Rattle.git_syntax.specs.Grammar.{begins_at_home, HasUrlSyntax, HostFor, IsSshHost, DenotesByScheme, ScpFront, ScpUser, Spells, UrlSyntax, from_home, or_root, path_for}
 use Rattle.git_syntax.specs.Grammar.Spells.{file_url, local_path, remote_helper, scp_form, url}
 use Rattle.git_syntax.specs.Hosts.{AllowsPort, HostSyntax, IsPlainHost, SpellsHostPort, port_part}
@@ -21,10 +20,10 @@ use Rattle.git_syntax.specs.SimpleTexts.{HasSimpleParts, IsRemoteScheme, IsSimpl
 use Rattle.git_syntax.specs.SimpleTexts.IsRemoteScheme.{of_git, of_ssh, of_http, of_https}
 use Rattle.git_syntax.specs.SimpleTexts.IsSimpleText.{file_text, helper_text, local_text, scp_text, url_text}
 use Rattle.git_syntax.specs.Internal.HostPieces.{IsSimpleHost, is_simple_byte}
-use Rattle.git_syntax.specs.Internal.Masks.{is_common, is_common_byte}
+use Rattle.git_syntax.specs.Internal.Masks.{is_common}
 use Rattle.git_syntax.specs.Internal.Forms.{ColonCut}
 use Rattle.git_syntax.specs.Internal.UrlPieces.{HoldsHosted}
-use Rattle.git_syntax.proofs.ByMasks.CommonLemmas.{common_around, common_free_of_percent, common_parts, common_utf8, neither_by_colon, url_of_common}
+use Rattle.git_syntax.proofs.ByMasks.CommonLemmas.{common_free_of_percent, common_parts, common_utf8, neither_by_colon, url_of_common}
 use Rattle.git_syntax.proofs.Parsing.ClassifierLemmas.{url_has_form}
 use Rattle.git_syntax.proofs.Parsing.HostLemmas.{decimal_digits, number_written, simple_decoded, simple_named, simple_text, simple_utf8}
 use Rattle.git_syntax.proofs.Parsing.ScpLemmas.{simple_scp_host}
