@@ -1,7 +1,8 @@
 -- Hosts and ports, which follow the user information of an authority, in three syntaxes.
-use Rattle.std.specs.Prelude.{◌≡◌, ℕ, ◌<◌, ◌≤◌, Bool, true, false, ◌||◌, nat_le, ◌&&◌, ◌⊎◌, List, [], ◌∷◌, ◌++◌, length, codes, decimal, Option, Some, None, IsUtf8, if◌then◌else◌}
+use Rattle.std.specs.Prelude.{◌≡◌, ℕ, ◌<◌, ◌≤◌, Bool, true, false, ◌||◌, ◌⊎◌, List, [], ◌∷◌, ◌++◌, length, codes, decimal, Option, Some, None, IsUtf8, if◌then◌else◌}
 use Rattle.std.specs.List.{list_all}
 use Rattle.std.specs.Char.{is_ascii_alphanumeric, is_ascii_digit}
+use Rattle.std.specs.Int.{is_in_range}
 use Rattle.std.specs.Str.Parse.{digits_value}
 use Rattle.percent_encoding.specs.Percent.{percent_decode}
 use Rattle.git_syntax.specs.Bytes.{dollar_sign, dot, colon, left_bracket, right_bracket, FreeOf, begins_with, lowercase, is_one_of}
@@ -17,11 +18,14 @@ pub data HostSyntax : Type 0 where
 abbrev pub is_dns_byte : ℕ → Bool
 is_dns_byte b = is_ascii_alphanumeric b || is_one_of (codes "-._*") b
 
--- a byte that the host of an HTTP location may have: a letter, a digit or one of `-._~!$&'()*+,;=%`, of which
--- those from `$` to `.` are consecutive
+-- a mark that the host of an HTTP location may have: one of `-._~!$&'()*+,;=%`, of which those from `$` to `.` are
+-- consecutive
+abbrev pub is_http_host_mark : ℕ → Bool
+is_http_host_mark b = is_in_range dollar_sign dot b || is_one_of (codes "!;=_~") b
+
+-- a byte that the host of an HTTP location may have: a letter, a digit or such a mark
 abbrev pub is_http_host_byte : ℕ → Bool
-is_http_host_byte b = is_ascii_alphanumeric b
-    || ((nat_le dollar_sign b && nat_le b dot) || is_one_of (codes "!;=_~") b)
+is_http_host_byte b = is_ascii_alphanumeric b || is_http_host_mark b
 
 -- the normal form of a host: in lower case if it looks like a domain name
 abbrev pub normal_host : List ℕ → List ℕ

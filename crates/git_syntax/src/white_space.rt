@@ -4,6 +4,7 @@
 
 ghost use Rattle.std.specs.Prelude.{◌≡◌, chars, get_or};
 ghost use Rattle.std.specs.Char.{is_whitespace};
+ghost use Rattle.std.specs.Int.{is_in_range};
 ghost use Rattle.std.specs.List.{list_any};
 ghost use Rattle.git_syntax.specs.Internal.WhiteSpace as spec;
 
@@ -45,7 +46,7 @@ fn is_ascii_space(byte: u8) -> bool
 
 /// Whether the byte is one of these two or between them.
 fn is_between(first: u8, last: u8, byte: u8) -> bool
-    ensures { result ≡ spec.is_between first last byte }
+    ensures { result ≡ is_in_range first last byte }
 {
     first <= byte && byte <= last
 }
