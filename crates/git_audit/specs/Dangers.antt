@@ -3,7 +3,7 @@ use Rattle.std.specs.Prelude.{◌≡◌, ◌↔◌, ℕ, Bool, true, false, not,
 use Rattle.std.specs.List.{filter, list_any, list_all, slice_split, starts_with}
 use Rattle.std.specs.Option.{is_some}
 use Rattle.std.specs.Char.{is_ascii_alphanumeric, is_ascii_digit}
-use Rattle.git_syntax.specs.Bytes.{newline, space, hyphen, slash, colon, delete, is_option_like}
+use Rattle.git_syntax.specs.Bytes.{newline, carriage_return, space, hyphen, slash, colon, delete, is_option_like}
 use Rattle.git_syntax.specs.Location.{Scheme, Location}
 use Rattle.git_syntax.specs.Location.Scheme.{http, https, ext}
 use Rattle.git_reads.specs.Git.{GitReading, GitReads}
@@ -99,7 +99,7 @@ is_control_or_space b = nat_le b space || b == delete
 
 -- a byte that ends a line, or a C string
 abbrev pub is_end : ℕ → Bool
-is_end b = b == newline || b == 13 || b == 0
+is_end b = b == newline || b == carriage_return || b == 0
 
 -- the text contains a byte that ends a line, or a C string
 abbrev pub holds_end : List ℕ → Bool

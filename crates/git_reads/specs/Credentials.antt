@@ -2,7 +2,7 @@
 -- model of Git, not proved of it: `tests/witnesses/test_web.py` compares the two.
 use Rattle.std.specs.Prelude.{◌≡◌, ℕ, ◌<◌, Bool, true, false, ◌||◌, ◌==◌, List, [], ◌∷◌, ◌++◌, length, codes, Option, Some, None, IfSome, if◌then◌else◌}
 use Rattle.std.specs.List.{list_all}
-use Rattle.git_syntax.specs.Bytes.{newline, slash, colon, at_sign, Lacks, FreeOf, begins_with, Holds, is_path_start, StartsPath}
+use Rattle.git_syntax.specs.Bytes.{newline, carriage_return, slash, colon, at_sign, Lacks, FreeOf, begins_with, Holds, is_path_start, StartsPath}
 use Rattle.git_reads.specs.Git.{git_decode}
 
 -- a request to helpers; the port is part of the host
@@ -67,7 +67,7 @@ pub record ReadsPieces (authority suffix : List ℕ) (r : CredentialReading) : T
 
 -- a field of one line, without a line feed and a carriage return; Git refuses any other
 abbrev pub IsOneLine : List ℕ → Type 0
-IsOneLine part = Lacks (λ b. b == newline || b == 13) part
+IsOneLine part = Lacks (λ b. b == newline || b == carriage_return) part
 
 -- each field is of one line
 pub record AreOneLine (r : CredentialReading) : Type 0 where

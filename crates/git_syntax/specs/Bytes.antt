@@ -2,6 +2,7 @@
 use Rattle.std.specs.Prelude.{◌≡◌, ℕ, Bool, true, false, ◌&&◌, ◌||◌, ◌==◌, ◌⊎◌, List, [], ◌∷◌, ◌++◌, map, chars, encode_utf8_all}
 use Rattle.std.specs.List.{list_any, list_all}
 use Rattle.std.specs.Char.{to_ascii_lowercase, is_ascii_alphabetic, is_ascii_alphanumeric, is_digit, is_whitespace}
+use Rattle.std.specs.Int.{is_in_range}
 use Rattle.bstr.specs.Utf8.{lossy_chars}
 
 -- `\t`
@@ -11,6 +12,10 @@ tab = 9
 -- `\n`
 abbrev pub newline : ℕ
 newline = 10
+
+-- `\r`
+abbrev pub carriage_return : ℕ
+carriage_return = 13
 
 -- ` `
 abbrev pub space : ℕ
@@ -93,6 +98,10 @@ abbrev pub is_one_of : List ℕ → ℕ → Bool
 is_one_of [] b = false
 is_one_of (c ∷ []) b = b == c
 is_one_of (c ∷ d ∷ cs) b = b == c || is_one_of (d ∷ cs) b
+
+-- white space as C defines it, and that of Unicode in ASCII: from `\t` to `\r`, and ` `
+abbrev pub is_c_space : ℕ → Bool
+is_c_space b = is_in_range tab carriage_return b || b == space
 
 -- no byte of the text passes the test
 abbrev pub Lacks : (ℕ → Bool) → List ℕ → Type 0

@@ -7,6 +7,7 @@ ghost use Rattle.std.specs.Char.{is_whitespace};
 ghost use Rattle.std.specs.Int.{is_in_range};
 ghost use Rattle.std.specs.List.{list_any};
 ghost use Rattle.git_syntax.specs.Internal.WhiteSpace as spec;
+ghost use Rattle.git_syntax.specs.Bytes.{is_c_space};
 
 /// Whether the text has white space.
 pub(crate) fn has_white_space(text: &str) -> bool
@@ -39,7 +40,7 @@ fn may_begin_space(byte: u8) -> bool
 
 /// Whether the byte is white space of ASCII.
 fn is_ascii_space(byte: u8) -> bool
-    ensures { result ≡ spec.is_ascii_space byte }
+    ensures { result ≡ is_c_space byte }
 {
     is_between(b'\t', b'\r', byte) | (byte == b' ')
 }
