@@ -103,6 +103,10 @@ is_one_of (c ∷ d ∷ cs) b = b == c || is_one_of (d ∷ cs) b
 abbrev pub is_c_space : ℕ → Bool
 is_c_space b = is_in_range tab carriage_return b || b == space
 
+-- `/` or `\`
+abbrev pub is_any_slash : ℕ → Bool
+is_any_slash b = b == slash || b == backslash
+
 -- no byte of the text passes the test
 abbrev pub Lacks : (ℕ → Bool) → List ℕ → Type 0
 Lacks test bs = list_any test bs ≡ false
