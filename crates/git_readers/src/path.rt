@@ -4,7 +4,7 @@ ghost use Rattle.std.specs.Prelude.{◌≡◌, ◌↔◌, ◌++◌, ◌⊎◌, I
 ghost use Rattle.std.specs.List.{list_any};
 ghost use Rattle.git_location.specs.GitClass.{AgreesWithGit, is_tilde_second};
 ghost use Rattle.git_location.specs.Settled.{begins_with_slashes};
-ghost use Rattle.git_syntax.specs.Bytes.{Holds};
+ghost use Rattle.git_syntax.specs.Bytes.{Holds, unrooted};
 ghost use Rattle.git_readers.specs.Conditions.{BeginsPlainly, HasPlainBytes, Meets};
 ghost use Rattle.git_readers.specs.Unambiguous as byte;
 ghost use Rattle.git_readers.specs.Unambiguous.{BeginsWithPort, HasDots, HasInnerSlash, HasSlashBefore, IsDots, IsPlainLocal, slashes};
@@ -93,7 +93,7 @@ fn is_tilde_second(text: &[u8]) -> bool
 
 /// The path without a `/` at its front.
 fn after_slash(path: &[u8]) -> &[u8]
-    ensures { result.now ≡ byte.after_slash path.now }
+    ensures { result.now ≡ unrooted path.now }
 {
     match path {
         [b'/', rest @ ..] => rest,

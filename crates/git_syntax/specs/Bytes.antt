@@ -1,5 +1,5 @@
 -- Names of bytes, classes of bytes, tests of texts, and the start of a path.
-use Rattle.std.specs.Prelude.{◌≡◌, ℕ, Bool, true, false, ◌&&◌, ◌||◌, ◌==◌, ◌⊎◌, List, [], ◌∷◌, ◌++◌, map, chars, encode_utf8_all}
+use Rattle.std.specs.Prelude.{◌≡◌, ℕ, Bool, true, false, ◌&&◌, ◌||◌, ◌==◌, ◌⊎◌, List, [], ◌∷◌, ◌++◌, map, chars, encode_utf8_all, if◌then◌else◌}
 use Rattle.std.specs.List.{list_any, list_all}
 use Rattle.std.specs.Char.{to_ascii_lowercase, is_ascii_alphabetic, is_ascii_alphanumeric, is_digit, is_whitespace}
 use Rattle.std.specs.Int.{is_in_range}
@@ -175,10 +175,19 @@ is_helper_name (b ∷ bs) = is_ascii_alphanumeric b && list_all is_name_byte bs
 
 -- ---- the start of a path
 
--- a path may start at the byte: at a `/`, and on the web also at a `?` or a `#`
+-- a query or a fragment may start at the byte: at a `?` or a `#`
+abbrev pub is_query_start : ℕ → Bool
+is_query_start b = b == question_mark || b == number_sign
+
+-- a path may start at the byte: at a `/`, and on the web also where a query may
 abbrev pub is_path_start : Bool → ℕ → Bool
-is_path_start web b = b == slash || (web && (b == question_mark || b == number_sign))
+is_path_start web b = b == slash || (web && is_query_start b)
 
 -- the text is empty or starts as a path may
 abbrev pub StartsPath : Bool → List ℕ → Type 0
 StartsPath web p = (p ≡ []) ⊎ (begins_by (is_path_start web) p ≡ true)
+
+-- the path without a `/` at its front
+abbrev pub unrooted : List ℕ → List ℕ
+unrooted [] = []
+unrooted (b ∷ rest) = if b == slash then rest else b ∷ rest
