@@ -95,6 +95,10 @@ pub record IsPlainHost (text : List ℕ) : Type 0 where
   pub no_colon : FreeOf colon text
   pub no_bracket : begins_with left_bracket text ≡ false
 
+-- a host may end before the text: the text is empty or begins with a colon
+abbrev pub EndsHost : List ℕ → Type 0
+EndsHost rest = (rest ≡ []) ⊎ (begins_with colon rest ≡ true)
+
 -- the text after the user information spells a host and a port
 pub data SpellsHostPort (syntax : HostSyntax) (piece : List ℕ) (host : Option (List ℕ))
     (port : Option ℕ) : Type 0 where
