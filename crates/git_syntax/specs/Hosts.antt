@@ -5,7 +5,7 @@ use Rattle.std.specs.Char.{is_ascii_alphanumeric, is_ascii_digit}
 use Rattle.std.specs.Int.{is_in_range}
 use Rattle.std.specs.Str.Parse.{digits_value}
 use Rattle.percent_encoding.specs.Percent.{percent_decode}
-use Rattle.git_syntax.specs.Bytes.{dollar_sign, dot, colon, left_bracket, right_bracket, FreeOf, begins_with, lowercase, is_one_of}
+use Rattle.git_syntax.specs.Bytes.{dollar_sign, dot, colon, left_bracket, right_bracket, FreeOf, begins_with, lowercase, is_one_of, at_sign}
 use Rattle.git_syntax.specs.Addresses.{IsIpv6Text, Literal}
 
 -- the syntax of a host: that of HTTP, that of Git's own transports, or that of any other scheme
@@ -144,3 +144,8 @@ pub data SpellsHostPort (syntax : HostSyntax) (piece : List ℕ) (host : Option 
 abbrev pub port_part : Option ℕ → List ℕ
 port_part None = []
 port_part (Some port) = colon ∷ decimal port
+
+-- the user and `@`, unescaped, if there is a user
+abbrev pub raw_user : Option (List ℕ) → List ℕ
+raw_user None = []
+raw_user (Some user) = user ++ at_sign ∷ []
