@@ -68,13 +68,17 @@ is_uri_byte b = is_ascii_alphanumeric b || is_one_of (codes "-._~!$&'()*+,;=:@/?
 abbrev pub is_segment_end : ℕ → Bool
 is_segment_end b = b == slash || b == question_mark
 
+-- a segment that readers remove: `.` or `..`
+abbrev pub IsDots : List ℕ → Type 0
+IsDots segment = (segment ≡ codes ".") ⊎ (segment ≡ codes "..")
+
 -- a segment `.` or `..` follows a `/`; readers remove such segments
 pub record HasDotSegment (path : List ℕ) : Type 0 where
   pub front : List ℕ
   pub dots : List ℕ
   pub suffix : List ℕ
   pub joined : path ≡ front ++ slash ∷ (dots ++ suffix)
-  pub segment : (dots ≡ codes ".") ⊎ (dots ≡ codes "..")
+  pub segment : IsDots dots
   pub end : (suffix ≡ []) ⊎ (begins_by is_segment_end suffix ≡ true)
 
 -- a path that all readers cut and decode alike: it begins with one `/`, no reader drops a part of it, and it is

@@ -6,7 +6,7 @@ use Rattle.std.specs.Char.{is_ascii_alphanumeric, is_ascii_lowercase, is_ascii_d
 use Rattle.git_syntax.specs.Bytes.{hyphen, dot, slash, colon, at_sign, backslash, FreeOf, Holds, begins_by, begins_with, is_one_of, is_option_like}
 use Rattle.git_syntax.specs.Schemes.{is_ftp, is_known_scheme}
 use Rattle.git_syntax.specs.Addresses.{IsIpv4Text}
-use Rattle.git_location.specs.WebClass.{is_control}
+use Rattle.git_location.specs.WebClass.{is_control, IsDots}
 
 -- ---- hosts
 
@@ -90,10 +90,6 @@ is_odd_local b = is_control b || (b == colon || b == backslash)
 abbrev pub is_odd_start : List ℕ → Bool
 is_odd_start [] = false
 is_odd_start (b ∷ rest) = b == hyphen || begins_with colon rest
-
--- a segment that readers remove: `.` or `..`
-abbrev pub IsDots : List ℕ → Type 0
-IsDots segment = (segment ≡ codes ".") ⊎ (segment ≡ codes "..")
 
 -- a segment `.` or `..` is the whole path, its first segment, or a later one
 pub data HasDots : List ℕ → Type 0 where

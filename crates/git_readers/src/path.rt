@@ -4,10 +4,11 @@ ghost use Rattle.std.specs.Prelude.{◌≡◌, ◌↔◌, ◌++◌, ◌⊎◌, I
 ghost use Rattle.std.specs.List.{list_any};
 ghost use Rattle.git_location.specs.GitClass.{AgreesWithGit, is_tilde_second};
 ghost use Rattle.git_location.specs.Settled.{begins_with_slashes};
+ghost use Rattle.git_location.specs.WebClass.{IsDots};
 ghost use Rattle.git_syntax.specs.Bytes.{Holds, unrooted};
 ghost use Rattle.git_readers.specs.Conditions.{BeginsPlainly, HasPlainBytes, Meets};
 ghost use Rattle.git_readers.specs.Unambiguous as byte;
-ghost use Rattle.git_readers.specs.Unambiguous.{BeginsWithPort, HasDots, HasInnerSlash, HasSlashBefore, IsDots, IsPlainLocal, slashes};
+ghost use Rattle.git_readers.specs.Unambiguous.{BeginsWithPort, HasDots, HasInnerSlash, HasSlashBefore, IsPlainLocal, slashes};
 ghost use Rattle.git_readers.specs.declared.unambiguous.Condition.TheVariants as condition;
 ghost use Rattle.git_readers.specs.declared.unambiguous.Form.TheVariants as form;
 
