@@ -1,13 +1,14 @@
 -- The dangers and errors in an entry of a `.gitmodules` file beyond those that Git's fsck refuses.
-use Rattle.std.specs.Prelude.{ℕ, Bool, false, ◌&&◌, ◌||◌, ◌==◌, nat_lt, codes, List, is_none, is_some}
+use Rattle.std.specs.Prelude.{ℕ, Bool, false, ◌&&◌, ◌||◌, codes, List, is_none, is_some}
 use Rattle.std.specs.Option.{option_map_or}
 use Rattle.std.specs.List.{list_any, slice_split}
-use Rattle.git_syntax.specs.Bytes.{delete, begins_by, is_option_like, is_any_slash}
+use Rattle.git_syntax.specs.Bytes.{begins_by, is_option_like, is_any_slash}
 use Rattle.git_rules.specs.Words.{is_word}
 use Rattle.git_rules.specs.Config.{ConfigEntry, has_name}
 use Rattle.git_modules.specs.declared.submodules.risk.Risk.{Risk}
 use Rattle.git_modules.specs.declared.submodules.risk.Risk.TheVariants as risk
 use Rattle.git_modules.specs.Submodules.{has_component, submodule_of, value_by}
+use Rattle.git_location.specs.WebClass.{is_control}
 
 -- a component of the text is the word, ignoring letter case
 abbrev pub has_component_word : List ℕ → List ℕ → Bool
@@ -16,10 +17,6 @@ has_component_word word t = list_any (λ part. is_word part word) (slice_split i
 -- the folder of a repository
 abbrev pub git_folder : List ℕ
 git_folder = codes ".git"
-
--- a control character: a byte below the space, or the byte 127
-abbrev pub is_control : ℕ → Bool
-is_control b = nat_lt b 32 || b == delete
 
 -- the entry has one of the names for which Git needs a value
 abbrev pub has_valued_name : ConfigEntry → Bool
