@@ -112,23 +112,23 @@ has_end v = is_some_with holds_end v.user || is_some_with holds_end v.password |
 
 -- ---- hosts
 
--- this is the name of the location's host
-abbrev pub HasHostName : Location → List ℕ → Type 0
-HasHostName v name = option_map host_name v.host ≡ Some name
+-- the location has a host, and the text names it
+abbrev pub NamesHost : Location → List ℕ → Type 0
+NamesHost v named = option_map host_name v.host ≡ Some (host_name named)
 
 -- the text names the location's host with a colon and digits after it
 abbrev pub NamesOwnPort : Location → List ℕ → Type 0
 NamesOwnPort v named = (host : List ℕ) × (digits : List ℕ) × (named ≡ host ++ colon ∷ digits)
-    × (list_all is_ascii_digit digits ≡ true) × HasHostName v (host_name host)
+    × (list_all is_ascii_digit digits ≡ true) × NamesHost v host
 
 -- the text names the location's host, alone or with a port
 abbrev pub NamesOwnHost : Location → List ℕ → Type 0
-NamesOwnHost v named = HasHostName v (host_name named) ⊎ NamesOwnPort v named
+NamesOwnHost v named = NamesHost v named ⊎ NamesOwnPort v named
 
 -- there is a host, and it is not the location's
 abbrev pub IsOtherHost : Location → Option (List ℕ) → Type 0
 IsOtherHost v None = ⊥
-IsOtherHost v (Some host) = ¬ HasHostName v (host_name host)
+IsOtherHost v (Some host) = ¬ NamesHost v host
 
 -- one of Git's transports reads a host in the text that is not the location's
 abbrev pub ReachesOtherHost : List ℕ → Location → Type 0
