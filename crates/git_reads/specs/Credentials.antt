@@ -65,9 +65,13 @@ pub record ReadsPieces (authority suffix : List ℕ) (r : CredentialReading) : T
   pub host : CredentialDecodes named r.host
   pub path : CredentialPath suffix r.path
 
--- a field of one line, without a line feed and a carriage return; Git refuses any other
+-- a line feed or a carriage return
+abbrev pub is_line_end : ℕ → Bool
+is_line_end b = b == newline || b == carriage_return
+
+-- a field of one line; Git refuses any other
 abbrev pub IsOneLine : List ℕ → Type 0
-IsOneLine part = Lacks (λ b. b == newline || b == carriage_return) part
+IsOneLine part = Lacks is_line_end part
 
 -- each field is of one line
 pub record AreOneLine (r : CredentialReading) : Type 0 where

@@ -1,7 +1,7 @@
 -- Definitions for the proofs of this crate.
-use Rattle.std.specs.Prelude.{◌≡◌, ℕ, ◌<◌, Bool, true, false, ◌||◌, ◌==◌, List, ◌∷◌, ◌++◌, length, codes, Option, Some, None, MatchOption}
+use Rattle.std.specs.Prelude.{◌≡◌, ℕ, ◌<◌, true, false, List, ◌∷◌, ◌++◌, length, codes, Option, Some, None, MatchOption}
 use Rattle.std.specs.Borrow.{Bor}
-use Rattle.git_syntax.specs.Bytes.{newline, slash, colon, at_sign, left_bracket, Lacks, FreeOf, Holds, begins_with, is_path_start, StartsPath}
+use Rattle.git_syntax.specs.Bytes.{slash, colon, at_sign, left_bracket, Lacks, FreeOf, Holds, begins_with, is_path_start, StartsPath}
 use Rattle.git_reads.specs.Git.{host_mark, escaped_byte, is_git_escape, CutsPlace}
 use Rattle.git_reads.specs.Credentials.{CredentialDecodes, are_slashes}
 
@@ -65,7 +65,3 @@ pub record StripsSlashes (t rest : List ℕ) : Type 0 where
   pub joined : t ≡ slashes ++ rest
   pub front : are_slashes slashes ≡ true
   pub begins : begins_with slash rest ≡ false
-
--- a line feed or a carriage return
-abbrev pub is_line_end : ℕ → Bool
-is_line_end b = b == newline || b == 13
