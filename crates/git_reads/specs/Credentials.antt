@@ -81,20 +81,25 @@ pub record AreOneLine (r : CredentialReading) : Type 0 where
   pub host : IsOneLine r.host
   pub path : IfSome r.path IsOneLine
 
--- Git's credential code reads this request in the text
-pub record CredentialReads (t : List ℕ) (r : CredentialReading) : Type 0 where
-  pub authority : List ℕ
-  pub suffix : List ℕ
-  pub named : List ℕ
+-- a text is cut into its protocol, its authority and the text after that
+pub record CutsText (t protocol authority suffix : List ℕ) : Type 0 where
   pub whole : FreeOf 0 t
-  pub protocol : 0 < length r.protocol
-  pub no_mark : ¬ Holds (codes "://") r.protocol
-  pub joined : t ≡ r.protocol ++ (codes "://" ++ (authority ++ suffix))
+  pub some : 0 < length protocol
+  pub no_mark : ¬ Holds (codes "://") protocol
+  pub joined : t ≡ protocol ++ (codes "://" ++ (authority ++ suffix))
   pub before_path : Lacks (is_path_start true) authority
   pub path_start : StartsPath true suffix
-  pub cut : CredentialCut authority r.user r.password named
-  pub host : CredentialDecodes named r.host
-  pub path : CredentialPath suffix r.path
+
+-- Git's credential code finds these parts in the text, even if one has several lines
+pub record FindsParts (t : List ℕ) (r : CredentialReading) : Type 0 where
+  pub authority : List ℕ
+  pub suffix : List ℕ
+  pub cut : CutsText t r.protocol authority suffix
+  pub pieces : ReadsPieces authority suffix r
+
+-- Git's credential code reads this request in the text
+pub record CredentialReads (t : List ℕ) (r : CredentialReading) : Type 0 where
+  pub found : FindsParts t r
   pub lines : AreOneLine r
 
 -- a text has at most one reading by Git's credential code

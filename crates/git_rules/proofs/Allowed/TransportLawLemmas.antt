@@ -213,10 +213,10 @@ own_located known v t e h = subst (λ s. HasTransport t (scheme_text s)) e (tran
 -- a text whose credential is asked for by the scheme uses the transport of that scheme
 web_located : (known : Scheme) (v : Location) (t : List ℕ) → v.scheme ≡ known → IsOwnName known (scheme_text known) → ((rest : List ℕ) → is_option_like (scheme_text known ++ (url_mark ++ rest)) ≡ false) → ReadsOwnOverWeb t v → HasTransport t (scheme_text known)
 web_located known v t e own plain h =
-    let asked = h.credential in
-    let joined : t ≡ scheme_text known ++ (url_mark ++ (asked.authority ++ asked.suffix)) = asked.joined ∙ ap (λ s. scheme_text s ++ (url_mark ++ (asked.authority ++ asked.suffix))) e in
+    let asked = h.credential.found in
+    let joined : t ≡ scheme_text known ++ (url_mark ++ (asked.authority ++ asked.suffix)) = asked.cut.joined ∙ ap (λ s. scheme_text s ++ (url_mark ++ (asked.authority ++ asked.suffix))) e in
     record {
-      input = record { whole = asked.whole; no_option = ap is_option_like joined ∙ plain (asked.authority ++ asked.suffix) };
+      input = record { whole = asked.cut.whole; no_option = ap is_option_like joined ∙ plain (asked.authority ++ asked.suffix) };
       uses = UsesTransport.url (scheme_text known) (asked.authority ++ asked.suffix) joined own.named own.other own.name;
     }
 
