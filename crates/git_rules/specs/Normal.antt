@@ -1,14 +1,15 @@
 -- The normal form of a URL, by which Git compares the places of `http.<url>.*` and `credential.<url>.*`
 -- (git-config(1)).
-use Rattle.std.specs.Prelude.{◌≡◌, ℕ, ◌+◌, ◌*◌, Bool, true, false, ◌&&◌, ◌||◌, ◌==◌, nat_le, ◌⊎◌, List, [], ◌∷◌, ◌++◌, map, codes, bytes_eq, Option, Some, None, option_and_then, if◌then◌else◌}
+use Rattle.std.specs.Prelude.{◌≡◌, ℕ, Bool, true, false, ◌&&◌, ◌||◌, ◌==◌, nat_le, ◌⊎◌, List, [], ◌∷◌, ◌++◌, map, codes, bytes_eq, Option, Some, None, option_and_then, if◌then◌else◌}
 use Rattle.std.specs.List.{list_all, slice_split}
-use Rattle.std.specs.Char.{is_ascii_alphanumeric, digit_value}
+use Rattle.std.specs.Char.{is_ascii_alphanumeric}
 use Rattle.percent_encoding.specs.Percent.{percent_encode_byte}
 use Rattle.git_syntax.specs.Bytes.{space, slash, colon, at_sign, percent_sign, right_bracket, delete, Lacks, FreeOf, begins_by, lowercase, is_scheme_text, is_path_start, StartsPath, is_one_of, is_query_start, unrooted}
 use Rattle.git_syntax.specs.Escapes.{is_sound}
 use Rattle.git_syntax.specs.Grammar.{or_root}
 use Rattle.git_syntax.specs.Hosts.{Number}
 use Rattle.git_syntax.specs.Hosts.HostSyntax.{http_hosts}
+use Rattle.git_reads.specs.Git.{escaped_byte}
 
 -- a URL in its normal form, as far as Git compares it: a missing port means the scheme's default port, and the path
 -- includes the query and the fragment
@@ -41,10 +42,6 @@ is_reserved b = is_one_of (codes ":/?#[]@") b || is_sub_delimiter b
 -- delimiter
 abbrev pub normal_byte : Bool → ℕ → List ℕ
 normal_byte escaped b = if is_unsafe b || (escaped && is_reserved b) then percent_encode_byte b else b ∷ []
-
--- the byte of two hexadecimal digits
-abbrev pub escaped_byte : ℕ → ℕ → ℕ
-escaped_byte high low = digit_value high * 16 + digit_value low
 
 -- the normal form of a text with well-formed escapes: that of each byte and each escape
 unfoldable pub normal_text : List ℕ → List ℕ

@@ -2,7 +2,7 @@
 use Rattle.std.proofs.Common.{◌≡◌, ◌∙◌, ℕ, true, false, not, ◌==◌, ◌⊎◌, List, [], ◌∷◌, ◌++◌, Option, Some, sym, ap, subst, append_assoc, arith}
 use Rattle.std.proofs.lemmas.Bool.Decides.{nat_tests}
 use Rattle.git_syntax.specs.Bytes.{slash, colon, at_sign, FreeOf, Lacks, begins_by, begins_with}
-use Rattle.git_reads.specs.Credentials.{CredentialDecodes, CredentialCut, CredentialPath, CredentialReading, CredentialReads, OneCredentialReading, are_slashes, trimmed_path, CutsText, FindsParts, ReadsPieces}
+use Rattle.git_reads.specs.Credentials.{CredentialDecodes, CredentialCut, CredentialPath, CredentialReading, OneCredentialReading, are_slashes, trimmed_path, CutsText, FindsParts, ReadsPieces}
 use Rattle.git_syntax.proofs.Texts.CutLemmas.{class_cut_unique, cut_unique, free-append, lacks_of_all, mark_cut_unique, not_free, path_cut_unique}
 
 -- a piece is decoded in one way

@@ -14,8 +14,9 @@ use Rattle.git_syntax.specs.Bytes.{slash, percent_sign, FreeOf, begins_by, is_qu
 use Rattle.git_syntax.specs.Escapes.{is_sound}
 use Rattle.git_syntax.proofs.Texts.EscapeLemmas.{sound_parts, sound_tail}
 use Rattle.git_syntax.proofs.Texts.CutLemmas.{free-append, free-cons, free_head_tail, last_cut_unique}
-use Rattle.git_rules.specs.Normal.{is_unsafe, is_reserved, normal_byte, normal_text, escaped_byte, stacked_path, without_top, write_segment, write_segments, normal_segments}
+use Rattle.git_rules.specs.Normal.{is_unsafe, is_reserved, normal_byte, normal_text, stacked_path, without_top, write_segment, write_segments, normal_segments}
 use Rattle.git_rules.specs.NormalPieces.{ShowsStack, ShowsFront, CutsBefore}
+use Rattle.git_reads.specs.Git.{escaped_byte}
 
 -- ---- no segment gets a `/`
 
