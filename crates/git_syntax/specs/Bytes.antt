@@ -179,7 +179,7 @@ is_helper_name (b ∷ bs) = is_ascii_alphanumeric b && list_all is_name_byte bs
 abbrev pub is_query_start : ℕ → Bool
 is_query_start b = b == question_mark || b == number_sign
 
--- a path may start at the byte: at a `/`, and on the web also where a query may
+-- a path may start at the byte: at a `/`, and on the web also at a `?` or a `#`
 abbrev pub is_path_start : Bool → ℕ → Bool
 is_path_start web b = b == slash || (web && is_query_start b)
 

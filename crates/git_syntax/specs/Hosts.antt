@@ -18,12 +18,11 @@ pub data HostSyntax : Type 0 where
 abbrev pub is_dns_byte : ℕ → Bool
 is_dns_byte b = is_ascii_alphanumeric b || is_one_of (codes "-._*") b
 
--- a mark that the host of an HTTP location may have: one of `-._~!$&'()*+,;=%`, of which those from `$` to `.` are
--- consecutive
+-- a mark of the host of an HTTP location: one of `-._~!$&'()*+,;=%`, where `$` to `.` are consecutive
 abbrev pub is_http_host_mark : ℕ → Bool
 is_http_host_mark b = is_in_range dollar_sign dot b || is_one_of (codes "!;=_~") b
 
--- a byte that the host of an HTTP location may have: a letter, a digit or such a mark
+-- a byte that the host of an HTTP location may have: a letter, a digit or one of `-._~!$&'()*+,;=%`
 abbrev pub is_http_host_byte : ℕ → Bool
 is_http_host_byte b = is_ascii_alphanumeric b || is_http_host_mark b
 
