@@ -122,7 +122,8 @@ no_host_refused scheme text name port host lacks other (HostFor.missing m f n d)
 
 -- a text that isn't a port has none
 port_refused : (scheme text name port digits host : List ℕ) (p : Option ℕ) → port ≡ digits → IsBadPort scheme text port → HostFor scheme text name digits host → PortFor scheme digits p → ⊥
-port_refused scheme text name port digits host p same (inl bad) h (inl empty) = bad.1.0 (same ∙ empty.0)
+port_refused scheme text name port digits host p same (inl bad) h (inl empty) =
+    let none = ap length (same ∙ empty.0) in let some = bad.1.0 in omega (arith, none, some)
 port_refused scheme text name port digits host p same (inl bad) h (inr number) = bad.1.1 number.0 (subst (λ z. Number http_hosts z number.0) (sym same) number.1)
 port_refused scheme text name port digits host p same (inr some) (HostFor.named l e) k = false≢true (sym l ∙ some.0)
 port_refused scheme text name port digits host p same (inr some) (HostFor.missing m f n d) k = some.2 (same ∙ n)
