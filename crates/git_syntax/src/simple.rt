@@ -142,19 +142,13 @@ fn remote_scheme<'a>(scheme: &[u8]) -> Option<SchemeRef<'a>>
     ensures remote { IfSome result (λ known. IsRemoteScheme (borrowed_scheme known)) }
     ensures text { IfSome result (λ known. scheme.now ≡ scheme_text (borrowed_scheme known)) }
 {
-    if is_named(scheme, "https") {
-        return Some(SchemeRef::Https);
+    match scheme {
+        b"https" => Some(SchemeRef::Https),
+        b"ssh" => Some(SchemeRef::Ssh),
+        b"http" => Some(SchemeRef::Http),
+        b"git" => Some(SchemeRef::Git),
+        _ => None,
     }
-    if is_named(scheme, "ssh") {
-        return Some(SchemeRef::Ssh);
-    }
-    if is_named(scheme, "http") {
-        return Some(SchemeRef::Http);
-    }
-    if is_named(scheme, "git") {
-        return Some(SchemeRef::Git);
-    }
-    None
 }
 
 /// Cuts a simple user and `@` off the front, if there is an `@`.
