@@ -20,3 +20,8 @@ pub mod Hosts
 pub mod Places
 pub mod Pieces
 pub mod Reasons
+pub mod GitHosts
+pub mod Revisions
+pub mod Requests
+pub mod Homes
+pub mod Routes
