@@ -11,12 +11,12 @@ written : (old slashed new segment : List ℕ) (at start end : ℕ) → at + 3 *
     → take end new ≡ take start slashed ++ normal_text segment → start ≤ end → end ≤ start + 3 * length segment → length new ≡ length slashed
     → WritesAfter (take at old) (normal_text segment) new at start end
 written old slashed new segment at start end fits put after same bytes least most kept = record {
-      whole = bytes ∙ ap (λ x. x ++ normal_text segment) put;
-      place = front_length old at (omega (arith, fits));
-      start_is = after;
-      order = least;
-      within = omega (arith, most, after, fits, kept, same);
-    }
+  whole = bytes ∙ ap (λ x. x ++ normal_text segment) put;
+  place = front_length old at (omega (arith, fits));
+  start_is = after;
+  order = least;
+  within = omega (arith, most, after, fits, kept, same);
+}
 
 pub returns-then-is_dot-clause-path : goal.returns-then-is_dot-clause-path
 returns-then-is_dot-clause-path c = λ stack shows flat.
