@@ -39,7 +39,7 @@ TOPICS = {
     "modules": (made(Modules, "file"), 24_000, 2_000, rules_files.checks),
     "used modules": (made(Modules, "used"), 1_500, 125, rules_files.used),
 }
-OTHERS = {"files": [text for text, _, _ in rules_files.CUT]}
+OTHERS = {"files": [*rules_files.CUT]}
 
 
 def scales(whole, sample):

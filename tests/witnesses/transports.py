@@ -14,17 +14,10 @@ import tempfile
 
 from git_classes import HOME, SECURE_URL, Reading
 from second_reading.git_reads import git_port
-from git_runs import alone, ask_loop, git
+from git_runs import alone, in_repositories, run
 from rt_api import read
 
 OWN = ("ssh", "git", "file")
-# Git's reading, and the program to which it passes a text: only the transport `ssh` is allowed.
-ASK_GIT = r"""
-for text; do
-  git ls-remote -- "$text" 2>&1; printf '\0'
-  git fetch-pack --diag-url "$text" 2>&1; printf '\0'
-done
-"""
 # It shows its words, each followed by byte 1, between byte 1 and byte 2.
 SHOW = r"""#!/bin/sh
 { printf '\001'; printf '%s\001' "$@"; printf '\002'; } >&2
@@ -40,12 +33,6 @@ length=$(dd bs=1 count=4 2>/dev/null)
 } >&2
 exit 1
 """
-ASK_PROGRAMS = r"""
-for text; do git ls-remote --upload-pack="$SHOW" -- "$text" 2>&1; printf '\0'; done
-"""
-ASK_SECURE_SHELL = r"""
-while [ $# -gt 0 ]; do ssh -F "$SETTINGS" -G ${2:+-p "$2"} "$1" x 2>&1; printf '\0'; shift 2; done
-"""
 # OpenSSH uses this user if the word names none.
 NO_USER = b"not-named"
 PLAIN_WORD = re.compile(rb"([A-Za-z0-9_-]+@)?[A-Za-z0-9.-]+")
@@ -58,10 +45,21 @@ def shown(answer):
     return found and found[1].split(b"\x01")
 
 
+def in_loops(command, texts, files, **more):
+    """The output of a shell command for each text, `$text`. A shell runs it for many of them, which takes a fourth of the time."""
+    loop = f"for text; do {command} 2>&1; printf '\\0'; done"
+    parts = [texts[at : at + 200] for at in range(0, len(texts), 200)]
+    found = in_repositories(lambda ask, _, some: ask("sh", "-c", loop, "sh", *some).split(b"\0")[:-1], [([], parts)], files, **more)
+    said = [it for some in found for it in some]
+    assert len(said) == len(texts)
+    return said
+
+
 def ask_git(texts):
-    """Git's results for texts: for each the transport with the words for Secure Shell, and the reading."""
-    said = ask_loop(ASK_GIT, texts, {"GIT_SSH": SHOW}, answers=2, GIT_ALLOW_PROTOCOL="ssh", GIT_SSH_VARIANT="ssh")
-    return list(zip(said[::2], said[1::2]))
+    """Git's results for texts, with Secure Shell alone allowed: for each the transport with the words for its program, and the reading."""
+    own = {"GIT_ALLOW_PROTOCOL": "ssh", "GIT_SSH_VARIANT": "ssh"}
+    return [*zip(in_loops('git ls-remote -- "$text"', texts, {"GIT_SSH": SHOW}, **own),
+                 in_loops('git fetch-pack --diag-url "$text"', texts, {"GIT_SSH": SHOW}, **own))]
 
 
 def host_and_port(text):
@@ -145,7 +143,8 @@ def program_faults(readings, answers):
     words; those of `git://` and of this machine are run again, with both allowed."""
     own = {text: it for text, it in readings.items() if isinstance(it, Reading) and it.protocol in (*OWN, HOME)}
     others = [text for text, it in own.items() if it.protocol != "ssh"]
-    said = ask_loop(ASK_PROGRAMS, others, {"SHOW": SHOW, "GIT_PROXY_COMMAND": SHOW_REQUEST}, GIT_ALLOW_PROTOCOL="git:file")
+    programs = {"SHOW": SHOW, "GIT_PROXY_COMMAND": SHOW_REQUEST}
+    said = in_loops('git ls-remote --upload-pack="$SHOW" -- "$text"', others, programs, GIT_ALLOW_PROTOCOL="git:file")
     faults = {text: program_fault(text, it, own[text]) for text, it in {**answers, **dict(zip(others, said))}.items() if text in own}
     return [(text, fault) for text, fault in faults.items() if fault]
 
@@ -154,8 +153,10 @@ def program_faults(readings, answers):
 
 def ask_secure_shell(pairs):
     """OpenSSH's answers to words, each with its port or None."""
-    words = [it for word, port in pairs for it in (word, b"" if port is None else b"%d" % port)]
-    return ask_loop(ASK_SECURE_SHELL, words, {"SETTINGS": f"User {NO_USER.decode()}\n"}, each=2)
+    def said(ask, _, pair):
+        word, port = pair
+        return ask("sh", "-c", 'ssh -F "$SETTINGS" -G "$@" x', "sh", *([] if port is None else ["-p", str(port)]), word)
+    return in_repositories(said, [([], pairs)], {"SETTINGS": f"User {NO_USER.decode()}\n"})
 
 
 def is_heard(answer, reading):
@@ -215,7 +216,7 @@ class Scratch:
         people = {f"GIT_{it}_{part}": "x" for it in ("AUTHOR", "COMMITTER") for part in ("NAME", "EMAIL")}
         self.environment = alone(scratch, GIT_ALLOW_PROTOCOL="file", **people)
         os.makedirs(f"{scratch}/home")
-        git(scratch, self.environment, "init", "--quiet", self.here)
+        run(scratch, self.environment, "git", "init", "--quiet", self.here)
         self.tree = self.said("write-tree")
         self.known = {self.made(it): it for it in REPOSITORIES}
         self.commit = self.said("commit-tree", "-m", "pushed", self.tree)

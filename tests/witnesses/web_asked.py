@@ -15,25 +15,19 @@ import ctypes
 import re
 import socketserver
 import subprocess
-import tempfile
 import threading
 from collections import namedtuple
-from concurrent.futures import ThreadPoolExecutor
 from contextlib import contextmanager
 
 from differences import unlike
 from second_reading.git_reads import decoded
-from git_runs import alone, ask_loop, put
+from git_runs import in_repositories
 from web_reads import Web, credential_cut, credential_reads, curl_reads, cut, escaped, host_and_port
 
 # The helper reports its request between byte 1 and byte 2, and does nothing for `store` and `erase`.
 SETTINGS = r"""[credential]
 useHttpPath = true
 helper = "!f() { test \"$1\" = get || exit 0; printf '\\1' >&2; cat >&2; printf '\\2' >&2; echo username=x; echo password=y; }; f"
-"""
-# If Git refuses to write a part, it ends before the helper does, so the end of both is waited for.
-ASK_CREDENTIAL = r"""
-for text; do said=$(printf 'url=%s\n' "$text" | git credential fill 2>&1); printf '%s\0' "$said"; done
 """
 REFUSALS = {b"warning: url contains a newline": "line end", b"contains carriage return": "carriage return"}
 # The whole URL and its parts, by libcurl's numbers for them.
@@ -55,7 +49,8 @@ def asked(answer):
 
 
 def ask_credential(texts):
-    return [*map(asked, ask_loop(ASK_CREDENTIAL, texts, {"GIT_CONFIG_GLOBAL": SETTINGS}, GIT_TERMINAL_PROMPT="0"))]
+    said = in_repositories(lambda ask, _, it: ask("git", "credential", "fill", given=b"url=%s\n" % it), [([], texts)], {"GIT_CONFIG_GLOBAL": SETTINGS})
+    return [*map(asked, said)]
 
 
 # ---- libcurl
@@ -112,7 +107,6 @@ class Curl:
 
 # ---- the requests that Git sends, and the passwords in them
 
-LANES, SECONDS = 4, 30
 Request = namedtuple("Request", "method host port path")
 # The result of a text: the requests, the requests to the helper, and the users and passwords that are sent.
 Sent = namedtuple("Sent", "requests asked passwords")
@@ -124,7 +118,7 @@ REFUSED = b"HTTP/1.1 %s\r\nWWW-Authenticate: Basic realm=\"here\"\r\nContent-Len
 class Recorder(socketserver.StreamRequestHandler):
     """Records the head of a request, and refuses it."""
 
-    timeout = SECONDS
+    timeout = 30
 
     def handle(self):
         head = [*iter(lambda: self.rfile.readline().rstrip(b"\r\n"), b"")]
@@ -166,20 +160,15 @@ def passwords_of(heads):
     return frozenset(base64.b64decode(it.removeprefix(b"Basic ")) for it in found)
 
 
-def sent(text, scratch):
-    """The requests of `git ls-remote` for a text, to a proxy of its own."""
-    environment = alone(scratch, GIT_CONFIG_GLOBAL=f"{scratch}/settings", GIT_TERMINAL_PROMPT="0", GIT_ALLOW_PROTOCOL="http:https")
+def sent(ask, _, text):
     with recording() as proxy:
-        words = ["git", "-c", f"http.proxy=http://127.0.0.1:{proxy.server_address[1]}", "ls-remote", "--", text]
-        said = subprocess.run(words, cwd=scratch, env=environment, stdin=subprocess.DEVNULL, capture_output=True, timeout=SECONDS).stderr
+        said = ask("git", "-c", f"http.proxy=http://127.0.0.1:{proxy.server_address[1]}", "ls-remote", "--", text)
     return Sent(frozenset(map(request_of, proxy.heads)), asked(said) if b"\1" in said else None, passwords_of(proxy.heads))
 
 
 def all_sent(texts):
-    """The requests of `git ls-remote` for each text, some of them in parallel."""
-    with tempfile.TemporaryDirectory(prefix="wire-") as scratch, ThreadPoolExecutor(LANES) as lanes:
-        put(f"{scratch}/settings", SETTINGS)
-        return [*lanes.map(lambda it: sent(it, scratch), texts)]
+    """The requests of `git ls-remote` for each text, to a proxy of its own."""
+    return in_repositories(sent, [([], texts)], {"GIT_CONFIG_GLOBAL": SETTINGS}, GIT_EXEC_PATH=None, GIT_ALLOW_PROTOCOL="http:https")
 
 
 # ---- by the rules
