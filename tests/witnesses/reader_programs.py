@@ -10,7 +10,7 @@ import shutil
 import subprocess
 from collections import namedtuple
 
-from rt_api import ROOT, read
+from rt_api import ROOT, rows_of
 
 FOLDER, OUT = f"{ROOT}/tests/witnesses/readers", f"{ROOT}/out/readers"
 JGIT = ":".join(f"/usr/share/java/{it}.jar" for it in ("org.eclipse.jgit", "slf4j-api", "slf4j-nop"))
@@ -25,7 +25,7 @@ Reader = namedtuple("Reader", "name packages kind decoded shows build command")
 
 def lines(topic):
     """The lines of a table of `vectors/readers/`."""
-    return [json.loads(line) for line in read(f"vectors/readers/{topic}.jsonl").splitlines()]
+    return rows_of(f"vectors/readers/{topic}.jsonl")
 
 
 READERS = [Reader(it["reader"], *map(it.get, Reader._fields[1:])) for it in lines("readers") if "command" in it]

@@ -8,8 +8,7 @@ command `sh` must read the words of the program, by default only the service, an
 Git's own events (`GIT_TRACE2_EVENT`) show which programs `git ls-remote` starts: the words of each start, and whether a shell
 runs them. Programs in a folder of the test's own, the only one in which Git finds them, replace Secure Shell: they end with a
 status of their own if they get `-G`, otherwise they show their words and fail. The location has a port, for which the variants
-have different options; if Git starts nothing, as for `simple`, it is run again without one. `plink` and `putty` have the same
-words, so the setting decides between the two.
+have different options; if Git starts nothing, as for `simple`, it is run again without one.
 """
 import json
 import os
@@ -119,19 +118,16 @@ def asked_of_git(asked):
     return in_repositories(words, [([], asked)], GIT_SSH_COMMAND=SHOW)
 
 
-def call_of(run):
-    return CALLS[0] if (run.family, run.program) == (None, None) else CALLS[1]
-
-
-def order_of(call, text, run):
+def order_of(text, run, call=None):
+    own = CALLS[0] if (run.family, run.program) == (None, None) else CALLS[1]
     given = {**run._asdict(), "program": None if run.program is None else text_of(run.program)}
-    return {"call": call, "url": text_of(text), **{name: it for name, it in given.items() if it is not None}}
+    return {"call": call or own, "url": text_of(text), **{name: it for name, it in given.items() if it is not None}}
 
 
 def asked_of_library(asked):
     """The library's words for the locations in texts, None if it returns none."""
-    read = [(text, run) for text, run in asked if grammar.spells(text) is not None]
-    said = answers([*(order_of(call_of(run), text, run) for text, run in read), *(order_of(CALLS[2], text, run) for text, run in read)])
+    read = [it for it in asked if grammar.spells(it[0]) is not None]
+    said = answers([order_of(*it, call) for call in (None, CALLS[2]) for it in read])
     found = {it: None if isinstance(words, dict) else [bytes_of(word) for word in (str(variable or ""), *words)]
              for it, words, variable in zip(read, said, said[len(read) :])}
     return map(found.get, asked)
@@ -162,11 +158,6 @@ def cut(found, run):
     return "empty user" if host is None else reading, port, [*found[:at], *found[at + 2 : -2], found[-1][: len(program_of(run)) + 2]]
 
 
-def is_alike(case):
-    """Whether the library has Git's words, or neither has any."""
-    return case.own == (None if isinstance(case.git, str) else case.git)
-
-
 def class_of(case, location, reason):
     """The class of a text for which the library has other words than Git, or none: None without a class, and if the library's
     words aren't for the location's own parts, or otherwise differ from Git's."""
@@ -195,7 +186,7 @@ def judged(cases):
         location, is_given = grammar.spells(it.text), it.own is not None
         reason = next((name for name, is_so in REASONS.items() if is_so(location, it.run)), None)
         example = f"{it.text!r}, {it.run}: Git has {it.git}, and the library {it.own}"
-        if not is_alike(it):
+        if it.own != (None if isinstance(it.git, str) else it.git):
             yield None if is_own(it.text) and reason not in OF_PROGRAMS else class_of(it, location, reason), example
         if is_given == (reason is not None):
             yield None, example
@@ -216,7 +207,7 @@ def orders(asked):
     """The calls of the library for texts, each with its run, and Git's words."""
     for it in commands(asked):
         outcome = {"refused": True} if isinstance(it.git, str) else [*map(text_of, it.git[1:])]
-        yield order_of(call_of(it.run), it.text, it.run), outcome
+        yield order_of(it.text, it.run), outcome
 
 
 # ---- the program
@@ -247,11 +238,6 @@ def stopped(entries, said):
     return {"error": "NoValue", "at": len(listed(entries[:at]))}
 
 
-def kept_variant(entries, setting):
-    own = [it.value for it in entries if it.place is None and is_named(it, b"ssh", b"variant")]
-    return setting.variant if setting.variant is not None else own[-1] if own else None
-
-
 def variant_of(entries, setting, starts, ended):
     """The variant that Git takes the program for, by the words of its starts and the status of the first: it runs a program with `-G`,
     and takes the status for an answer."""
@@ -265,7 +251,10 @@ def variant_of(entries, setting, starts, ended):
         return "TortoisePlink"
     if "-p" in starts[0]:
         return "Ssh"
-    return "Putty" if kept_variant(entries, setting) == b"putty" else "Plink"
+    # `plink` and `putty` have the same words.
+    own = [it.value for it in entries if it.place is None and is_named(it, b"ssh", b"variant")]
+    kept = setting.variant if setting.variant is not None else own[-1] if own else None
+    return "Putty" if kept == b"putty" else "Plink"
 
 
 def outcome(entries, setting, said, more):
