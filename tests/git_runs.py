@@ -3,6 +3,7 @@
 A list of entries is a repository without commits, so that they are the repository's own. Git gets no other settings. It looks for
 its helper programs in an empty folder, so that only those of the configuration are started.
 """
+import functools
 import os
 import re
 import subprocess
@@ -21,8 +22,16 @@ def alone(scratch, **more):
 
 
 def run(folder, environment, *words, given=b""):
+    """A run of a command, whose output has its reports in it."""
     stdin = {"input": given} if given else {"stdin": subprocess.DEVNULL}
-    return subprocess.run(words, cwd=folder, env=environment, stdout=subprocess.PIPE, stderr=subprocess.STDOUT, check=False, **stdin)
+    streams = {"stdout": subprocess.PIPE, "stderr": subprocess.STDOUT, **stdin}
+    return subprocess.run(words, cwd=folder, env=environment, check=False, **streams)
+
+
+def output(folder, environment, *words, given=b"", **more):
+    """The output of a command with more variables, of which None is one that isn't set."""
+    variables = {name: it for name, it in {**environment, **more}.items() if it is not None}
+    return run(folder, variables, *words, given=given).stdout
 
 
 def put(path, text, mode=0o600):
@@ -47,27 +56,21 @@ def repository(folder, entries):
 def in_repositories(answer, configurations, files=(), **more):
     """The results of `answer` for lists of entries, each with questions, in parallel.
 
-    It gets a function that runs a command, with variables of which None is one that isn't set, in a repository with the entries,
-    and returns its output; the entries; and a question. Variables name files with these texts, which may be scripts.
+    It gets a function that returns the output of a command in a repository with the entries (`output`), the entries,
+    and a question. Variables name files with these texts, which may be scripts; there may be more variables.
     """
     with tempfile.TemporaryDirectory(prefix="rules-") as scratch:
-        for it in ("home", "empty"):
-            os.makedirs(f"{scratch}/{it}")
-        words = {"XDG_CONFIG_HOME": f"{scratch}/home", "GIT_EXEC_PATH": f"{scratch}/empty", "GIT_TERMINAL_PROMPT": "0"}
-        own = alone(scratch, **words) | {name: put(f"{scratch}/{name}", it, 0o700) for name, it in dict(files).items()} | more
-        for at, (entries, _) in enumerate(configurations):
-            repository(f"{scratch}/{at}", entries)
-
-        def answered(it):
-            at, entries, question = it
-
-            def ask(*words, given=b"", **variables):
-                environment = own | {"GIT_DIR": f"{scratch}/{at}"} | variables
-                return run(scratch, {name: one for name, one in environment.items() if one is not None}, *words, given=given).stdout
-
-            return answer(ask, entries, question)
-
-        return in_parallel(answered, [(at, entries, it) for at, (entries, asked) in enumerate(configurations) for it in asked])
+        home, empty, asked = f"{scratch}/home", f"{scratch}/empty", []
+        os.makedirs(home)
+        os.makedirs(empty)
+        environment = alone(scratch, XDG_CONFIG_HOME=home, GIT_EXEC_PATH=empty, GIT_TERMINAL_PROMPT="0")
+        environment.update({name: put(f"{scratch}/{name}", text, 0o700) for name, text in dict(files).items()})
+        for at, (entries, questions) in enumerate(configurations):
+            folder = f"{scratch}/{at}"
+            repository(folder, entries)
+            ask = functools.partial(output, scratch, {**environment, "GIT_DIR": folder, **more})
+            asked += [(ask, entries, it) for it in questions]
+        return in_parallel(lambda it: answer(*it), asked)
 
 
 # ---- entries
@@ -109,7 +112,10 @@ def is_named(entry, section, *names):
 
 def listing_faults(configurations):
     """The lists of entries that Git writes differently from `listed`."""
-    said = in_repositories(lambda ask, *_: ask("git", "config", "--local", "--list", "-z"), [(it, [None]) for it in configurations])
+    def list_of(ask, *_):
+        return ask("git", "config", "--local", "--list", "-z")
+
+    said = in_repositories(list_of, [(it, [None]) for it in configurations])
     for entries, found in zip(configurations, said):
         if found != listed(entries):
             yield f"git config --list -z writes {found!r}, and not {listed(entries)!r}"

@@ -39,16 +39,18 @@ PICTURED = [
     b"ssh://git@example.com/~/notes"]
 # In a sample so many bytes of most long lines are looked at, and of the remotes each this many.
 MOST_LONG, STEP = 20_000, 20
-# Lines that would run, break or hide something in a page that is written carelessly: `markup`, which is put into each of the `parts` of a
-# location, other `texts`, `bytes`, and `long` lines of up to a megabyte each; titles; and faults that are put into a page, each of which the
-# test has to find: the pattern that is replaced at its first place in a page of hostile lines, and the bytes in its place.
+# Lines that would run, break or hide something in a page that is written carelessly: `markup`, which is put into each
+# of the `parts` of a location, other `texts`, `bytes`, and `long` lines of up to a megabyte each; titles; and faults,
+# each of which the test has to find: the pattern that is replaced at its first place in a page of these lines, and the
+# new bytes.
 HOSTILE = joined(json.loads(read("tests/page/hostile.json")))
 LONG, FAULTS = in_bytes(HOSTILE["long"]), in_bytes(HOSTILE["faults"])
-# The first long lines are seen whole in a sample too: letters, and words of Hebrew and Chinese in turn, which take a browser longest. A query
-# has a row for each of the fields, however many.
+# The first long lines are seen whole in a sample too: letters, and words of Hebrew and Chinese in turn, which take a
+# browser longest. A query has a row for each of the fields, however many.
 WHOLE, FIELD = 2, b"a=b&"
-# Configurations, the variables of the environment, and lines, for which a page shows the answers of `explain --json --config`.
-CONFIGURATIONS, VARIABLES = rows_of("tests/page/configurations.jsonl"), ("GIT_ALLOW_PROTOCOL", "GIT_PROTOCOL_FROM_USER")
+# Configurations, the variables of the environment, and lines.
+CONFIGURATIONS = rows_of("tests/page/configurations.jsonl")
+VARIABLES = ("GIT_ALLOW_PROTOCOL", "GIT_PROTOCOL_FROM_USER")
 # How soon a page with a line of a megabyte has to be seen, on a slow machine that does other work as well, and how many points
 # high its row may be: other lines are beside it.
 MOST_SECONDS, MOST_HEIGHT = 60, 400
@@ -64,7 +66,8 @@ def texts_that_surprise():
 
 def hostile_lines():
     """The lines, each once. Some have a line feed, so all end with byte 0 in the input; lines with byte 0 are cut."""
-    texts = in_bytes([part.replace("{}", it) for it in HOSTILE["markup"] for part in HOSTILE["parts"]] + HOSTILE["texts"])
+    marked = [part.replace("{}", it) for it in HOSTILE["markup"] for part in HOSTILE["parts"]]
+    texts = in_bytes([*marked, *HOSTILE["texts"]])
     cut = [*in_bytes(HOSTILE["bytes"]), bytes(range(1, 256)), b"/" + bytes(range(256))]
     return list(dict.fromkeys([*texts, *(piece for it in cut for piece in it.split(b"\0"))]))
 
@@ -165,10 +168,9 @@ def test_title(page, title):
     assert not shown_faults(page, written(page, [b"h:p"], title), [b"h:p"], second_reading([b"h:p"]), title)
 
 
-@pytest.mark.parametrize("number", range(len(CONFIGURATIONS)), ids=lambda it: ascii(in_bytes(CONFIGURATIONS[it]["lines"])[0]))
-def test_rules(page, number):
-    """Also the status, and what is reported on standard error, are the same as without a page, and no secret is shown."""
-    case = CONFIGURATIONS[number]
+@pytest.mark.parametrize("number, case", enumerate(CONFIGURATIONS))
+def test_rules(page, number, case):
+    """The status and the reports are those without a page too, and no secret is shown."""
     lines, words = in_bytes(case["lines"]), ["--config", put(f"{page.folder}/config", in_bytes(joined(case["config"])))]
     variables = {name: it for name, it in os.environ.items() if name not in VARIABLES} | case["variables"]
     with patch.dict(os.environ, variables, clear=True):

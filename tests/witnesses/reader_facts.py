@@ -165,17 +165,19 @@ def condition_table():
 
 
 def confusion_tables():
-    """The texts that name the host of a stranger, to which either Git or others connect; and all of them. A reader is named, or many are
-    counted."""
+    """The texts that name the host of a stranger, to which either Git or others connect; and all of them."""
+    def named(places):
+        counted = {place: ", ".join(of) if len(of) <= MANY else f"{len(of)} readers" for place, of in places.items()}
+        return [f"{cell(place) if place else 'no host'}: {readers}" for place, readers in counted.items()]
+
     attacks, every = [], []
     for it in lines("confusions"):
-        hosts, parts = (
-            [f"{cell(place) if place else 'no host'}: {', '.join(of) if len(of) <= MANY else f'{len(of)} readers'}" for place, of in it[member].items()]
-            for member in ("hosts", "parts"))
+        hosts, parts = named(it["hosts"]), named(it["parts"])
         git = "nothing" if it["git"] is None else LOCAL if it["git"] == LOCAL else cell(it["git"])
         if STRANGER in it["text"] and hosts:
             attacks.append((cell(it["text"]), git, "; ".join(hosts)))
-        every.append((cell(it["text"]), ", ".join(f"`{name}`" for name in it["conditions"]), git, "; ".join([*hosts, *parts])))
+        conditions = ", ".join(f"`{name}`" for name in it["conditions"])
+        every.append((cell(it["text"]), conditions, git, "; ".join([*hosts, *parts])))
     heads = ("Text", "Git connects to", "Others read")
     return {"attacks": page_table(heads, attacks), "confusions": page_table((heads[0], "Condition", *heads[1:]), every)}
 

@@ -156,7 +156,8 @@ def own_readers():
         yield ("Git", git.split()[-1], lambda text, form: form not in ("http", "other") and pieces(text).path != b"",
                lambda texts: [shown_place(said) for _, said in ask_git(texts)])
         yield ("Git credential", git.split()[-1], lambda text, form: form == "http" and can_be_a_line(text),
-               lambda texts: [place(*it[:-1], b"/" + it.path) if isinstance(it, Web) else REFUSED for it in ask_credential(texts)])
+               lambda texts: [place(*it[:-1], b"/" + it.path) if isinstance(it, Web) else REFUSED
+                              for it in ask_credential(texts)])
         yield ("libcurl", curl.version.partition("/")[2], lambda text, form: form == "http",
                lambda texts: [REFUSED if it is None else place(*it) for it in map(curl.reads, texts)])
     if secure:

@@ -23,7 +23,8 @@ from row_text import text_of
 
 REFUSED = re.compile(rb"fatal: bad config line (\d+) in standard input")
 # Texts with a byte 0 that is read differently from Git, and the offset of the byte.
-CUT = {b"[a \"b\0c\"]\nd = 1\n": 5, b"[a \"b\\\0c\"]\nd = 1\n": 6, b"[a]b=x\0y": 6, b"[a]\nb = \"\0\"\n": 9, b"[a]\r\nb = x\\\n\0 z\r\n": 12}
+CUT = {b"[a \"b\0c\"]\nd = 1\n": 5, b"[a \"b\\\0c\"]\nd = 1\n": 6, b"[a]b=x\0y": 6, b"[a]\nb = \"\0\"\n": 9,
+       b"[a]\r\nb = x\\\n\0 z\r\n": 12}
 
 
 def outcome(text, said):
@@ -61,18 +62,20 @@ def checks(configurations):
     with tempfile.TemporaryDirectory(prefix="rules-") as scratch:
         environment = alone(scratch)
         run(scratch, environment, "git", "init", "--quiet", "--bare")
-        run(scratch, environment, "git", "fast-import", "--quiet", "--export-marks=marks", given=b"".join([*blobs, head, *places]))
+        stream = b"".join([*blobs, head, *places])
+        run(scratch, environment, "git", "fast-import", "--quiet", "--export-marks=marks", given=stream)
         with open(f"{scratch}/marks", "rb") as it:
             marks = dict(line.split() for line in it.read().splitlines())
         said = defaultdict(list)
         for oid, reason in REFUSED_BY_FSCK.findall(run(scratch, environment, "git", "fsck", "--no-dangling").stdout):
             said[oid].append(reason.decode())
-    return [({"call": "refusal::check", "config": text_of(listed(it))}, said[marks[b":%d" % (at + 1)]]) for at, it in enumerate(configurations)]
+    return [({"call": "refusal::check", "config": text_of(listed(it))}, said[marks[b":%d" % at]])
+            for at, it in enumerate(configurations, 1)]
 
 
 @contextmanager
 def with_submodules(modules, paths, config=b""):
-    """Runs Git in a repository with this file `.gitmodules`, a link of its index at each path, and more lines of configuration."""
+    """Runs Git in a repository with this `.gitmodules`, links in its index at the paths, and more configuration."""
     with tempfile.TemporaryDirectory(prefix="submodules-") as scratch:
         def git(*words, **given):
             return run(scratch, alone(scratch), "git", *words, **given)
@@ -97,16 +100,16 @@ def configured(git):
 
 
 def used_of(entries):
-    paths = {it.value for it in entries if it.section == b"submodule" and it.name.lower() == b"path" and not it.value.startswith(b"-")}
-    with with_submodules(file_of(entries), sorted(paths)) as git:
+    paths = {it.value for it in entries if it.section == b"submodule" and it.name.lower() == b"path"}
+    with with_submodules(file_of(entries), sorted(it for it in paths if not it.startswith(b"-"))) as git:
         for path in git("ls-files", "-z").stdout.split(b"\0")[:-1]:
             git("submodule", "init", "--", path)
         return {"call": "submodules::submodules", "config": text_of(listed(entries))}, configured(git)
 
 
 def used(configurations):
-    """The calls of the library for files, each with the values that `git submodule init` writes: the URL of each submodule with a path, and
-    its way to update."""
+    """The calls of the library for files, each with the values that `git submodule init` writes: the URL of each
+    submodule with a path, and its way to update."""
     return in_parallel(used_of, configurations)
 
 
@@ -122,12 +125,13 @@ def quoted_tab(text):
 
 
 def resolved_of(pair):
-    """The calls of the library for the URLs of one parent, each with Git's outcome. Git takes them in their order, and stops at the first
-    that it doesn't store."""
+    """The calls of the library for the URLs of one parent, each with Git's outcome. Git takes them in their order, and
+    stops at the first that it doesn't store."""
     parent, urls = pair
-    names = ["%06d" % at for at in range(len(urls))]
-    modules = b"".join(b'[submodule "%s"]\n\tpath = %s\n\turl = %s\n' % (it.encode(), it.encode(), quoted_tab(url)) for it, url in zip(names, urls))
-    config, reasons = b'[remote "origin"]\n\turl = ' + quoted_tab(parent) + b"\n", {}
+    names, reasons = ["%06d" % at for at in range(len(urls))], {}
+    modules = b"".join(b'[submodule "%06d"]\n\tpath = %06d\n\turl = %s\n' % (at, at, quoted_tab(url))
+                       for at, url in enumerate(urls))
+    config = b'[remote "origin"]\n\turl = ' + quoted_tab(parent) + b"\n"
     with with_submodules(modules, [it.encode() for it in names], config) as git:
         ran = git("submodule", "init")
         while ran.returncode:
@@ -136,7 +140,8 @@ def resolved_of(pair):
             git("update-index", "--force-remove", stopped)
             ran = git("submodule--helper", "init")
         found = {name: it["url"] for name, it in configured(git).items()} | reasons
-    return [({"call": "resolve::resolve", "parent": text_of(parent), "url": text_of(url)}, found[it]) for it, url in zip(names, urls)]
+    order = {"call": "resolve::resolve", "parent": text_of(parent)}
+    return [({**order, "url": text_of(url)}, found[it]) for it, url in zip(names, urls)]
 
 
 def resolved(pairs):

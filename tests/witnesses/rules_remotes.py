@@ -31,7 +31,8 @@ def both_ways(ask, _, case):
 
 def rewritten(configurations):
     return in_repositories(both_ways, [
-        ([*entries, *of_texts(asked)], [(entries, at, *it) for at, it in enumerate(asked)]) for entries, asked in configurations])
+        ([*entries, *of_texts(asked)], [(entries, at, *it) for at, it in enumerate(asked)])
+        for entries, asked in configurations])
 
 
 def is_ended(case):

@@ -198,7 +198,8 @@ def misread(cases):
         program = program_of(it.run)
         own = PROGRAMS.get(program, [program])
         if isinstance(it.git, list) and own:
-            read = subprocess.run(["sh", "-c", READ, "sh", it.git[-1]], stdout=subprocess.PIPE, check=False).stdout.split(b"\1")[:-1]
+            said = subprocess.run(["sh", "-c", READ, "sh", it.git[-1]], stdout=subprocess.PIPE, check=False).stdout
+            read = said.split(b"\1")[:-1]
             if read != [*own, path_of(it.git[-1], it.run)]:
                 yield f"a shell reads {read!r}: {it}"
 
@@ -239,8 +240,8 @@ def stopped(entries, said):
 
 
 def variant_of(entries, setting, starts, ended):
-    """The variant that Git takes the program for, by the words of its starts and the status of the first: it runs a program with `-G`,
-    and takes the status for an answer."""
+    """The variant that Git takes the program for, by the words of its starts and the status of the first: it runs a
+    program with `-G`, and takes the status for an answer."""
     if not starts:
         return "Simple"
     if starts[0][1] == "-G":
@@ -264,12 +265,13 @@ def outcome(entries, setting, said, more):
     if stop is not None:
         return stop
     started = next(it for it in (*found, *events(more)) if it["event"] == "child_start")
-    starts, ended = [it["argv"] for it in found if it["event"] == "child_start"], [it["code"] for it in found if it["event"] == "child_exit"]
+    starts = [it["argv"] for it in found if it["event"] == "child_start"]
+    ended = next((it["code"] for it in found if it["event"] == "child_exit"), None)
     words = shown(said)
     if words and not started["use_shell"] and words != [it.encode("utf-8", "surrogateescape") for it in starts[-1][1:]]:
         raise ValueError(f"the program gets other words than Git says: {said!r}")
     text = started["argv"][0].encode("utf-8", "surrogateescape")
-    variant = variant_of(entries, setting, starts, next(iter(ended), None))
+    variant = variant_of(entries, setting, starts, ended)
     return {"text": text_of(text), "is_command_line": started["use_shell"], "variant": variant}
 
 
@@ -280,7 +282,8 @@ def program(ask, entries, setting):
     said = ask("git", "ls-remote", "ssh://u@h:22/p", **variables)
     more = b"" if b'"child_start"' in said else ask("git", "ls-remote", "ssh://u@h/p", **variables)
     given = {name.lower(): text_of(it) for name, it in values.items() if it is not None}
-    return {"call": "SshProgram::of", "config": text_of(listed(entries)), **given}, outcome(entries, setting, said, more)
+    order = {"call": "SshProgram::of", "config": text_of(listed(entries)), **given}
+    return order, outcome(entries, setting, said, more)
 
 
 def programs(configurations):
@@ -291,6 +294,8 @@ def programs(configurations):
 
         for name in Programs.NAMES:
             put(f"{scratch}/{name.decode()}", FAKE, 0o700)
-        asked = [([it._replace(value=placed(it.value)) for it in entries], [Setting(*map(placed, some), status) for *some, status in settings])
-                 for entries, settings in configurations]
+        asked = [
+            ([it._replace(value=placed(it.value)) for it in entries],
+             [Setting(*map(placed, some), status) for *some, status in settings])
+            for entries, settings in configurations]
         return in_repositories(program, asked, PATH=f"{scratch}:{os.environ['PATH']}")

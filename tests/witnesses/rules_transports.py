@@ -94,8 +94,8 @@ def names(texts):
 
 def boolean(ask, _, text):
     said = ask("git", "-c", b"a.b=" + text, "config", "--type=bool", "a.b")
-    is_refused = said.startswith(b"fatal: bad boolean config value")
-    return {"call": "boolean::read_boolean", "text": text_of(text)}, None if is_refused else {b"true\n": True, b"false\n": False}[said]
+    order, values = {"call": "boolean::read_boolean", "text": text_of(text)}, {b"true\n": True, b"false\n": False}
+    return order, None if said.startswith(b"fatal: bad boolean config value") else values[said]
 
 
 def booleans(texts):

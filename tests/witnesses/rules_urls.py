@@ -6,6 +6,7 @@ configuration has names. It doesn't print the normal forms by which it compares 
 `http.extraHeader` accumulate: `git ls-remote` runs with a proxy on 127.0.0.1, which records the headers of a request and refuses it. Each
 entry names a header of its own, and the user agent names the case.
 """
+import itertools
 import re
 
 from git_runs import Entry, in_repositories, listed
@@ -38,11 +39,13 @@ def matching(ask, _, url):
 
 def matches(configurations):
     """The calls of the library for sets of entries and URLs, each with Git's outcome."""
-    found = in_repositories(matching, [([it for entries in sets for it in entries], urls) for sets, urls in configurations])
-    for (sets, url), values in zip([(sets, url) for sets, urls in configurations for url in urls], found):
+    asked = [(sets, url) for sets, urls in configurations for url in urls]
+    found = in_repositories(matching, [(itertools.chain(*sets), urls) for sets, urls in configurations])
+    for (sets, url), values in zip(asked, found):
         for every in sets:
             # The entries of a name, and the value that Git uses as a text: None without one.
-            entries, outcome = [it for it in every if it.section.lower() == b"http"], REFUSED if values is None else values.get(every[0].name)
+            entries = [it for it in every if it.section.lower() == b"http"]
+            outcome = REFUSED if values is None else values.get(every[0].name)
             if entries:
                 config = {"config": text_of(listed(entries)), "section": "http", "name": text_of(entries[0].name)}
                 yield {"call": "entries::best_entry", **config, "text": text_of(url)}, outcome
@@ -55,17 +58,21 @@ def matches(configurations):
 # ---- headers
 
 def header(ask, entries, url):
-    """The call of the library for a URL, with the headers that arrive; None if no request does. Git compares a URL with a `/` at its
-    end (`remote-curl.c`)."""
+    """The call of the library for a URL, with the headers that arrive; None if no request does. Git compares a URL with
+    a `/` at its end (`remote-curl.c`)."""
     with recording() as proxy:
         ask("git", "ls-remote", url, http_proxy=f"http://127.0.0.1:{proxy.server_address[1]}", GIT_EXEC_PATH=None)
     if not proxy.heads:
         return None
     text = url.removesuffix(b"/") + b"/"
+    order = {"config": text_of(listed(entries)), "name": "extraHeader"}
     # Git refuses to compare a URL without a normal form.
-    own = {"call": "settings::settings_without_place"} if matching(ask, entries, text) is None else {"call": "settings::settings_for", "text": text_of(text)}
+    if matching(ask, entries, text) is None:
+        order.update(call="settings::settings_without_place")
+    else:
+        order.update(call="settings::settings_for", text=text_of(text))
     found = [int(it[1]) for it in map(re.compile(rb"X-([0-9]+):").match, proxy.heads[0]) if it]
-    return {**own, "config": text_of(listed(entries)), "name": "extraHeader"}, found
+    return order, found
 
 
 def headers(configurations):
@@ -83,18 +90,21 @@ def filled(said):
 
 
 def credential(ask, entries, url):
-    """The call of the library for a URL, with Git's outcome. Helpers only get the path of HTTP by a setting, and always that of another
-    protocol; so a case is left out that has such a setting, and a URL without a path or of another protocol. Only Git accepts a carriage
-    return in a path that helpers don't get."""
+    """The call of the library for a URL, with Git's outcome. Helpers only get the path of HTTP by a setting, and always
+    that of another protocol; so a case is left out that has such a setting, and a URL without a path or of another
+    protocol. Only Git accepts a carriage return in a path that helpers don't get."""
     found, pieces = filled(ask("git", "credential", "fill", given=b"url=%s\n" % url)), pieces_of(url)
     is_shown = url.startswith((b"http://", b"https://")) and pieces[3]
     is_set = any(it.name.lower() == b"usehttppath" for it in entries)
     if found is None or b"\r" in b"".join(it or b"" for it in pieces) or is_set and not is_shown:
         return None
     helpers, user, path = found
-    outcome = {"helpers": helpers, **({} if user is None else {"user": text_of(user)}), "use_http_path": bool(is_shown) and path is not None}
+    outcome = {"helpers": helpers, "use_http_path": bool(is_shown) and path is not None}
+    if user is not None:
+        outcome["user"] = text_of(user)
     # The last entry is the helper that shows what it gets.
-    return {"call": "credentials::credentials_for", "config": text_of(listed(entries[:-1])), "text": text_of(url)}, outcome
+    config = text_of(listed(entries[:-1]))
+    return {"call": "credentials::credentials_for", "config": config, "text": text_of(url)}, outcome
 
 
 def credentials(configurations):

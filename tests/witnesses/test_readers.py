@@ -215,7 +215,8 @@ def test_outside_of_the_class(run):
     listed = facts.conditions()
     assert not [f"{reader.name} {reader.version} reads {it} in {case.text!r}, and Git {case.wanted}; it breaks {case.broken}"
                 for reader in run.known for case, it in reader.differing.values()
-                if case.wanted is not None and not any(reader.name in listed[name].get(kind, ()) for name in case.broken for kind in (*facts.KINDS, "beside"))]
+                if case.wanted is not None and not any(reader.name in listed[name].get(kind, ())
+                                                       for name in case.broken for kind in (*facts.KINDS, "beside"))]
 
 
 def test_confusions(run):
@@ -230,7 +231,8 @@ def test_each_condition_and_shape_is_needed(run):
     """In a whole run over the repository's remotes."""
     if run.is_whole:
         found, listed = run.alone(), facts.conditions()
-        assert not [name for name in CONDITIONS if not found[name] and any(listed[name].get(kind) for kind in facts.KINDS)]
+        needed = [name for name in CONDITIONS if any(listed[name].get(kind) for kind in facts.KINDS)]
+        assert not [name for name in needed if not found[name]]
     if run.is_whole and run.is_own:
         assert not [*groups.shape_faults(run.known)]
         assert not [*facts.count_faults(run.known)]

@@ -45,17 +45,21 @@ def shown(answer):
 
 
 def in_loops(command, texts, files, **more):
-    """The output of a shell command for each text, `$text`. A shell runs it for many of them, which takes a fourth of the time."""
+    """The output of a command for each `$text`. A shell runs it for many of them, which takes a fourth of the time."""
     loop = f"for text; do {command} 2>&1; printf '\\0'; done"
     parts = [texts[at : at + 200] for at in range(0, len(texts), 200)]
-    found = in_repositories(lambda ask, _, some: ask("sh", "-c", loop, "sh", *some).split(b"\0")[:-1], [([], parts)], files, **more)
-    said = [it for some in found for it in some]
+
+    def said_of(ask, _, some):
+        return ask("sh", "-c", loop, "sh", *some).split(b"\0")[:-1]
+
+    said = [it for some in in_repositories(said_of, [([], parts)], files, **more) for it in some]
     assert len(said) == len(texts)
     return said
 
 
 def ask_git(texts):
-    """Git's results for texts, with Secure Shell alone allowed: for each the transport with the words for its program, and the reading."""
+    """Git's results for texts, if only Secure Shell is allowed: for each the transport with the words for its program,
+    and the reading."""
     own = {"GIT_ALLOW_PROTOCOL": "ssh", "GIT_SSH_VARIANT": "ssh"}
     return [*zip(in_loops('git ls-remote -- "$text"', texts, {"GIT_SSH": SHOW}, **own),
                  in_loops('git fetch-pack --diag-url "$text"', texts, {"GIT_SSH": SHOW}, **own))]
@@ -77,7 +81,8 @@ def diagnosed(said):
     if found := re.search(rb"\nDiag: userandhost=(.*)\nDiag: port=(.*)\nDiag: path=(.*)\n\Z", said, re.S):
         user, at, host = found[1].rpartition(b"@")
         protocol = SECURE_URL if (user or host).startswith(b"ssh://") else "ssh"
-        return Reading(protocol, user if at else None, None, host or None, None if found[2] == b"NONE" else int(found[2]), found[3])
+        port = None if found[2] == b"NONE" else int(found[2])
+        return Reading(protocol, user if at else None, None, host or None, port, found[3])
     found = re.search(rb"\nDiag: protocol=(git|file)\nDiag: hostandport=(.*)\nDiag: path=(.*)\n\Z", said, re.S)
     if found is None:
         return None
@@ -114,8 +119,9 @@ def words_wanted(reading):
 def program_fault(text, answer, reading):
     """The fault of the words that a program got for a reading, if there is one.
 
-    Git refuses a text of `git://` by rules of its own: for an end of a line, or, before such a program, for a host or a port that
-    begins with `-`. After an empty path Git reads the byte after the text's end, which may be a `~`, so there the path isn't compared.
+    Git refuses a text of `git://` by rules of its own: for an end of a line, or, before such a program, for a host or a
+    port that begins with `-`. After an empty path Git reads the byte after the text's end, which may be a `~`, so there
+    the path isn't compared.
     """
     words = shown(answer)
     if reading.protocol == "git" and (b"%0a" in text.lower() or words is None):
@@ -153,23 +159,25 @@ def ask_secure_shell(pairs):
 def heard_fault(answer, reading):
     """The fault of OpenSSH's reading of the word for Git's reading, if there is one.
 
-    It must refuse a word with an empty user, and read a word that is a URL as another user and host; it may refuse others, as with
-    port 0. Its host is the one that it shows itself, not the host that it would look up, which is in lower case.
+    It must refuse a word with an empty user, and read a word that is a URL as another user and host; it may refuse
+    others, as with port 0. Its host is the one that it shows itself, not the host that it would look up, which is in
+    lower case.
     """
     is_refused = not re.search(rb"\nport [0-9]+\n", answer)
     if reading == "empty user":
         return None if is_refused else "OpenSSH doesn't refuse it"
     found = re.search(rb"(?:\A|\n)host (.*?)\nuser (.*?)\nhostname .*?\nport ([0-9]+)\n", answer, re.S)
-    wanted = (reading.host or b"", NO_USER if reading.user is None else reading.user, b"%d" % (SECURE_PORT if reading.port is None else reading.port))
-    is_heard = found is not None and found.groups() == wanted
+    user = NO_USER if reading.user is None else reading.user
+    port = SECURE_PORT if reading.port is None else reading.port
+    is_heard = found is not None and (found[1], found[2], int(found[3])) == (reading.host or b"", user, port)
     if reading.protocol == SECURE_URL:
         return "OpenSSH doesn't read the word as a URL" if is_heard else None
     return None if is_refused or is_heard else f"OpenSSH reads {answer[:200]!r}"
 
 
 def secure_faults(readings, answers):
-    """The texts whose word OpenSSH reads differently, each with the fault, if it is installed. Of the words that are a plain user
-    and a plain host, it gets every tenth."""
+    """The texts whose word OpenSSH reads differently, each with the fault, if it is installed. Of the words that are a
+    plain user and a plain host, it gets every tenth."""
     if not shutil.which("ssh"):
         return
     named = [text for text, it in readings.items() if it == "empty user" or isinstance(it, Reading) and it.protocol in ("ssh", SECURE_URL)]
@@ -206,8 +214,8 @@ class Scratch:
         self.commit = self.said("commit-tree", "-m", "pushed", self.tree)
 
     def said(self, *words):
-        ran = subprocess.run(["git", *words], cwd=self.here, env=self.environment, stdin=subprocess.DEVNULL, capture_output=True, text=True)
-        return ran.stdout.strip()
+        how = {"cwd": self.here, "env": self.environment, "stdin": subprocess.DEVNULL, "capture_output": True}
+        return subprocess.run(["git", *words], check=False, **how).stdout.decode().strip()
 
     def name(self, path):
         found = os.path.relpath(os.path.realpath(os.path.join(self.here, path.decode())), self.scratch)

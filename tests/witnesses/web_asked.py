@@ -49,8 +49,10 @@ def asked(answer):
 
 
 def ask_credential(texts):
-    said = in_repositories(lambda ask, _, it: ask("git", "credential", "fill", given=b"url=%s\n" % it), [([], texts)], {"GIT_CONFIG_GLOBAL": SETTINGS})
-    return [*map(asked, said)]
+    def filled(ask, _, text):
+        return asked(ask("git", "credential", "fill", given=b"url=%s\n" % text))
+
+    return in_repositories(filled, [([], texts)], {"GIT_CONFIG_GLOBAL": SETTINGS})
 
 
 # ---- libcurl
@@ -168,7 +170,8 @@ def sent(ask, _, text):
 
 def all_sent(texts):
     """The requests of `git ls-remote` for each text, to a proxy of its own."""
-    return in_repositories(sent, [([], texts)], {"GIT_CONFIG_GLOBAL": SETTINGS}, GIT_EXEC_PATH=None, GIT_ALLOW_PROTOCOL="http:https")
+    allowed = {"GIT_EXEC_PATH": None, "GIT_ALLOW_PROTOCOL": "http:https"}
+    return in_repositories(sent, [([], texts)], {"GIT_CONFIG_GLOBAL": SETTINGS}, **allowed)
 
 
 # ---- by the rules
