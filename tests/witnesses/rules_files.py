@@ -1,17 +1,15 @@
 """The entries of configuration files, entries of `.gitmodules` files, and URLs of submodules.
 
-`git config -f FILE --list -z` returns Git's entries. The files are assembled from pieces, sound ones and broken ones, so that most are
-read to the end and many are refused. A byte 0 in a subsection or a value, which Git takes for the end of a text, is an error of the
-library: those files are separate.
+`git config --list -z` returns the entries of a file. A byte 0 in a subsection or a value, which Git takes for the end
+of a text, is an error of the library: those files are separate.
 
-Git's fsck reports which entries of `.gitmodules` it refuses, and `git submodule init` which values it uses. All files for fsck are in one
-repository, as `.gitmodules` of folders of their own, since it looks at no others. It names the file and the reason of each entry that it
-refuses. A byte 255 ends its reading of a file, so none of these has one. `git submodule init` runs in a repository for each file, whose
-index has a submodule at each path.
+Git's fsck reports which entries of `.gitmodules` it refuses. All files for it are in one repository, as `.gitmodules`
+of folders of their own, since it looks at no others. A byte 255 ends its reading of a file, so none of these has one.
 
-What URLs of submodules `git submodule init` stores, it shows in a repository whose remote has the parent as its URL. Its index has a link
-for each submodule, and `.gitmodules` their URLs. Git stops at the first one that it doesn't resolve. It runs again without that one, until
-it no longer stops: by the program that `git submodule init` starts, which takes a tenth of the time.
+`git submodule init` uses the other values in a repository for each file, whose index has a submodule at each path.
+What URLs it stores, it shows in a repository whose remote has the parent as its URL. Git stops at the first URL that
+it doesn't resolve. It runs again without that one, until it no longer stops: by the program that `git submodule init`
+starts, which takes a tenth of the time.
 """
 import re
 import tempfile

@@ -1,10 +1,10 @@
 """Settings of a URL: `http.<url>.*`, `credential.<url>.*`, and the headers that Git sends.
 
-`git config --get-urlmatch SECTION URL` returns the entry that Git uses for each name, so one run covers as many sets of entries as a
-configuration has names. It doesn't print the normal forms by which it compares URLs. `git credential fill` shows what Git does by
-`credential.*`: each entry is a helper that reports its number, a name for the user, or whether helpers get the path of HTTP. The values of
-`http.extraHeader` accumulate: `git ls-remote` runs with a proxy on 127.0.0.1, which records the headers of a request and refuses it. Each
-entry names a header of its own, and the user agent names the case.
+`git config --get-urlmatch SECTION URL` returns the entry that Git uses for each name, so one run covers as many sets
+of entries as a configuration has names. `git credential fill` shows what Git does by `credential.*`: each entry is a
+helper that reports its number, a name for the user, or whether helpers get the path of HTTP. The values of
+`http.extraHeader` accumulate: `git ls-remote` runs with a proxy on 127.0.0.1, which records the headers of a request
+and refuses it. Each entry names a header of its own.
 """
 import itertools
 import re
