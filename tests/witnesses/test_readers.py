@@ -50,13 +50,8 @@ class Enough(Exception):
     """As many texts are made as are asked for."""
 
 
-class Text(bytes):
-    """A text, with what makes it again."""
-
-    again: tuple = ()
-
-
 def made(maker):
+    """A strategy of texts, each with what makes it again."""
     def by_draws(draw):
         it, numbers = maker(None), []
 
@@ -66,18 +61,20 @@ def made(maker):
             return found
 
         it.below, it.one_of = lambda count: number(below, count), lambda some: some[number(index, len(some))]
-        text = Text(it.text())
-        text.again = Made(maker, "text"), lambda: (lambda _, left=iter(numbers): next(left))
-        return text
+        return it.text(), Made(maker, "text"), lambda: (lambda _, left=iter(numbers): next(left))
 
     # Of a function without a name hypothesis would read the source each time.
     return strategies.composite(by_draws)()
 
 
+def is_argument(it):
+    return can_be_an_argument(it[0])
+
+
 class Drawn:
     """Texts by draws of hypothesis, since `groups.jsonl` counts those."""
 
-    TEXTS = strategies.one_of([made(NearMaker)] * 4 + [made(WebMaker), made(LocationMaker)]).filter(can_be_an_argument)
+    TEXTS = strategies.one_of([made(NearMaker)] * 4 + [made(WebMaker), made(LocationMaker)]).filter(is_argument)
 
     @functools.cache
     def examples(self, count):
@@ -86,7 +83,7 @@ class Drawn:
             wanted = min(count, len(found) + ROUND)
 
             def take(it):
-                found.setdefault(repr(it), (bytes(it), *it.again))
+                found.setdefault(repr(it[0]), it)
                 if len(found) >= wanted:
                     raise Enough
 
