@@ -6,13 +6,12 @@ repositories are commands that fail, and remote helpers aren't found. `git confi
 is asked of a command that reads the entry: `ls-remote` over HTTP, and for a text of the transport, `credential fill`, and `remote`.
 """
 import itertools
-import json
 import re
 
 from second_reading.git_reads import git_reads
 from git_runs import Entry, in_repositories, listed
 from row_text import text_of
-from rt_api import read
+from rt_api import rows_of
 from second_reading import grammar
 from texts import Policies
 
@@ -24,8 +23,6 @@ ENDS = {b"unknown value for config": "UnknownAllowance", b"bad config variable":
 # Git's refusals before it looks at the transport: of a text that has none, by the library's names, or of a text whose form has one.
 REASONS = {b"git-over-rsync": "Rsync", b"is not supported": "UnknownScheme"}
 REFUSALS = (b"no path specified", b"strange pathname", b"newline is forbidden")
-
-
 # Programs that fail replace those of the transports.
 FAILING = {"GIT_SSH_COMMAND": "false", "GIT_SSH_VARIANT": "simple", "GIT_PROXY_COMMAND": "false"}
 
@@ -36,20 +33,15 @@ def used(ask, text, allow_list, from_user=None):
     return ask("git", "ls-remote", "--upload-pack=false", "--", text, **variables)
 
 
-def decision(said, name):
-    ends = next((word for words, word in ENDS.items() if words in said), None)
-    refused = NAMED.search(said)
-    if refused and refused[1] != name:
-        return f"the transport {refused[1]!r} is refused"
-    return ends or ("Refused" if refused else "Allowed")
-
-
 def permission(ask, entries, policy):
     allow_list, from_user, name, text = policy
+    said = used(ask, text, allow_list, from_user)
+    refused, ends = NAMED.search(said), next((word for words, word in ENDS.items() if words in said), None)
+    decision = ends or ("Refused" if refused else "Allowed")
     variables = {"allow_list": allow_list, "from_user": from_user}
     given = {key: text_of(it) for key, it in variables.items() if it is not None}
     order = {"call": "Protocols::permission", "config": text_of(listed(entries)), "name": text_of(name), **given}
-    return order, decision(used(ask, text, allow_list, from_user), name)
+    return order, decision if not refused or refused[1] == name else f"the transport {refused[1]!r} is refused"
 
 
 def permissions(policies):
@@ -61,8 +53,10 @@ def permissions(policies):
 
 # ---- names
 
-def name_of(said):
-    """The transport that Git names, or the reason why the text has none; None if Git refuses the text for another reason."""
+def name_of(ask, _, text):
+    """The transport that Git names, or the reason why the text has none; None if Git refuses the text for another
+    reason."""
+    said = used(ask, text, "none-of-these")
     if refused := NAMED.search(said):
         return text_of(refused[1])
     if reason := next((it for words, it in REASONS.items() if words in said), None):
@@ -82,8 +76,7 @@ def is_of_its_scheme(text):
 def names(texts):
     """The calls of the library for the texts, and for those that it reads as locations, each with the transport that Git names. After `--` a
     text that begins with `-` isn't an option."""
-    named = in_repositories(lambda ask, _, text: name_of(used(ask, text, "none-of-these")), [([], texts)], **FAILING)
-    for text, found in zip(texts, named):
+    for text, found in zip(texts, in_repositories(name_of, [([], texts)], **FAILING)):
         if found is not None and not text.startswith(b"-"):
             yield {"call": "text::transport_of", "text": text_of(text)}, found
         if isinstance(found, str) and is_of_its_scheme(text):
@@ -110,7 +103,7 @@ SAID = {b"missing value for": "NoValue", b"bad boolean config value": "NoBoolean
 
 def entries():
     """Those of `vectors/texts/stops.jsonl`, which has names, places and values."""
-    for line in map(json.loads, read("vectors/texts/stops.jsonl").splitlines()):
+    for line in rows_of("vectors/texts/stops.jsonl"):
         for some in itertools.product([line["section"]], line["names"], line["values"], line["places"]):
             section, name, value, place = (it if it is None else it.encode() for it in some)
             yield Entry(section, place, name, value)

@@ -24,8 +24,9 @@ REFUSED = {"refused": True}
 
 # ---- the entry that is used
 
-def used(said):
+def used(ask, _, url):
     """The value that Git uses for each name, None if the URL is refused."""
+    said = ask("git", "config", "--get-urlmatch", "http", url)
     if not said.startswith(b"fatal: "):
         return {name: text_of(value) for name, value in re.findall(rb"^http\.(\S+) (.*)$", said, re.M)}
     if not any(it in said for it in REFUSALS):
@@ -33,14 +34,10 @@ def used(said):
     return None
 
 
-def matching(ask, _, url):
-    return used(ask("git", "config", "--get-urlmatch", "http", url))
-
-
 def matches(configurations):
     """The calls of the library for sets of entries and URLs, each with Git's outcome."""
     asked = [(sets, url) for sets, urls in configurations for url in urls]
-    found = in_repositories(matching, [(itertools.chain(*sets), urls) for sets, urls in configurations])
+    found = in_repositories(used, [([*itertools.chain(*sets)], urls) for sets, urls in configurations])
     for (sets, url), values in zip(asked, found):
         for every in sets:
             # The entries of a name, and the value that Git uses as a text: None without one.
@@ -67,7 +64,7 @@ def header(ask, entries, url):
     text = url.removesuffix(b"/") + b"/"
     order = {"config": text_of(listed(entries)), "name": "extraHeader"}
     # Git refuses to compare a URL without a normal form.
-    if matching(ask, entries, text) is None:
+    if used(ask, entries, text) is None:
         order.update(call="settings::settings_without_place")
     else:
         order.update(call="settings::settings_for", text=text_of(text))
