@@ -57,14 +57,11 @@ def build(reader):
     return ran.returncode == 0
 
 
-def said_of(line):
-    found = json.loads(line.decode("utf-8", "surrogateescape"), strict=False)
-    return {name: str(it).encode("utf-8", "surrogateescape") for name, it in found.items() if it is not None}
-
-
 def ask(reader, texts):
     ran = sh(reader.command, b"".join(it + b"\n" for it in texts))
     lines = ran.stdout.split(b"\n")[:-1]
     if ran.returncode or len(lines) != len(texts):
         raise ValueError(f"{reader.name} answers {len(lines)} of {len(texts)} texts: {ran.stderr[-500:]!r}")
-    return [*map(said_of, lines)]
+    said = (json.loads(it.decode("utf-8", "surrogateescape"), strict=False) for it in lines)
+    return [{name: str(part).encode("utf-8", "surrogateescape") for name, part in it.items() if part is not None}
+            for it in said]

@@ -173,21 +173,17 @@ def class_of(case, location, reason):
     return git_classes.class_of(Compared(case.text, of_git, ours), git_classes.CLASSES)
 
 
-def is_own(text):
-    """Whether a text is the one written for a location for which `agrees_with_git` is true."""
-    location = grammar.spells(text)
-    return location is not None and git_class.agrees_with_git(location) and writing.text(location) == text
-
-
 def judged(cases):
-    """The cases in which the library has other words than Git, each with its class, and with None those with a fault: the
-    library has to return a command if no reason is against it, and Git's words if `agrees_with_git` is true."""
+    """The cases in which the library has other words than Git, each with its class, and with None those with a fault:
+    the library has to return a command if no reason is against it, and Git's words if `agrees_with_git` is true of the
+    location for which the text is written."""
     for it in cases:
         location, is_given = grammar.spells(it.text), it.own is not None
         reason = next((name for name, is_so in REASONS.items() if is_so(location, it.run)), None)
         example = f"{it.text!r}, {it.run}: Git has {it.git}, and the library {it.own}"
         if it.own != (None if isinstance(it.git, str) else it.git):
-            yield None if is_own(it.text) and reason not in OF_PROGRAMS else class_of(it, location, reason), example
+            is_own = location is not None and git_class.agrees_with_git(location) and writing.text(location) == it.text
+            yield None if is_own and reason not in OF_PROGRAMS else class_of(it, location, reason), example
         if is_given == (reason is not None):
             yield None, example
 
@@ -206,9 +202,8 @@ def misread(cases):
 
 def orders(asked):
     """The calls of the library for texts, each with its run, and Git's words."""
-    for it in commands(asked):
-        outcome = {"refused": True} if isinstance(it.git, str) else [*map(text_of, it.git[1:])]
-        yield order_of(it.text, it.run), outcome
+    for it, git in zip(asked, asked_of_git(asked)):
+        yield order_of(*it), {"refused": True} if isinstance(git, str) else [*map(text_of, git[1:])]
 
 
 # ---- the program
