@@ -13,7 +13,7 @@ from second_reading.git_reads import decoded, git_reads
 from second_reading.unambiguous import pieces
 from texts import can_be_a_line
 from transports import NO_USER, ask_git, ask_secure_shell, diagnosed
-from web_asked import Curl, ask_credential, library_of_git
+from web_asked import ask_credential, curl_of_git
 from web_reads import curl_reads, Web
 
 # A reading; a part that is empty is None. `REFUSED` isn't a place, nor is `SILENT`: the reader finds no host in a text.
@@ -149,9 +149,8 @@ def first_line(*command):
 
 def own_readers():
     """For each reader its name, its version, the texts of a form that it is run on, and how."""
-    git, secure = first_line("git", "--version"), first_line("ssh", "-V")
-    if git and library_of_git():
-        curl = Curl(library_of_git())
+    git, secure, curl = first_line("git", "--version"), first_line("ssh", "-V"), curl_of_git()
+    if git and curl:
         # After the end of an empty path of the scp form Git looks for a `~`, in other bytes.
         yield ("Git", git.split()[-1], lambda text, form: form not in ("http", "other") and pieces(text).path != b"",
                lambda texts: [shown_place(said) for _, said in ask_git(texts)])

@@ -12,6 +12,7 @@ It answers a request without a password with 401, so that Git asks its helper, a
 """
 import base64
 import ctypes
+import functools
 import re
 import socketserver
 import subprocess
@@ -57,17 +58,6 @@ def ask_credential(texts):
 
 # ---- libcurl
 
-def library_of_git():
-    """The libcurl that `git-remote-http` is linked to; None if there is none."""
-    try:
-        folder = subprocess.run(["git", "--exec-path"], stdout=subprocess.PIPE, check=True, text=True).stdout.strip()
-        said = subprocess.run(["ldd", f"{folder}/git-remote-http"], capture_output=True, check=True, text=True).stdout
-    except (OSError, subprocess.CalledProcessError):
-        return None
-    found = re.search(r"libcurl\S* => (/\S+)", said)
-    return found and found[1]
-
-
 class Curl:
     def __init__(self, file):
         self.calls = ctypes.CDLL(file)
@@ -105,6 +95,18 @@ class Curl:
             host = host[:-1] + b"%" + zone + b"]"
         user, password = (it if it is None else decoded(it) for it in (user, password))
         return Web(scheme, user, password, host, port, path + (b"?" + escaped(query) if query else b""))
+
+
+@functools.cache
+def curl_of_git():
+    """The libcurl that `git-remote-http` is linked to; None if there is none."""
+    try:
+        folder = subprocess.run(["git", "--exec-path"], capture_output=True, check=True, text=True).stdout.strip()
+        said = subprocess.run(["ldd", f"{folder}/git-remote-http"], capture_output=True, check=True, text=True).stdout
+    except (OSError, subprocess.CalledProcessError):
+        return None
+    found = re.search(r"libcurl\S* => (/\S+)", said)
+    return found and Curl(found[1])
 
 
 # ---- the requests that Git sends, and the passwords in them
@@ -182,7 +184,7 @@ def requested(place):
     return Request(b"GET", host, port, place.path) if place.scheme == b"http" else Request(b"CONNECT", host, port, None)
 
 
-def expected(text, curl):
+def expected(text):
     """The expected requests for a text, by the readings of the credential code and of libcurl."""
     base = text if text.endswith(b"/") else text + b"/"
     tail = b"info/refs" + (b"&" if b"?" in base else b"?") + b"service=git-upload-pack"
@@ -201,12 +203,12 @@ def expected(text, curl):
         return Sent(frozenset({first}), None, frozenset(own))
     # If libcurl writes the URL differently, Git takes that for a redirection: it asks its helpers for the new place, and then
     # libcurl reads the new URL.
-    again = curl.parts(base + tail)[0]
+    again = curl_of_git().parts(base + tail)[0]
     named = credential_reads(again.removesuffix(tail))
     if not isinstance(named, Web):
         return Sent(frozenset({first}), named, frozenset(own))
     return Sent(frozenset({first, requested(curl_reads(again))}), named, frozenset({*own, b"x:y"}))
 
 
-def wire_faults(texts, curl):
-    return unlike("git ls-remote sends", texts, dict(zip(texts, all_sent(texts))).get, lambda it: expected(it, curl))
+def wire_faults(texts):
+    return unlike("git ls-remote sends", texts, dict(zip(texts, all_sent(texts))).get, expected)
