@@ -25,7 +25,7 @@ def run(folder, environment, *words, given=b""):
     """A run of a command, whose output has its reports in it."""
     stdin = {"input": given} if given else {"stdin": subprocess.DEVNULL}
     streams = {"stdout": subprocess.PIPE, "stderr": subprocess.STDOUT, **stdin}
-    return subprocess.run(words, cwd=folder, env=environment, check=False, **streams)
+    return subprocess.run(words, cwd=folder, env=environment, check=False, timeout=600, **streams)
 
 
 def output(folder, environment, *words, given=b"", **more):
