@@ -3,13 +3,13 @@
 A list of entries is a repository without commits, so that they are the repository's own. Git gets no other settings. It looks for
 its helper programs in an empty folder, so that only those of the configuration are started.
 """
+import functools
 import os
 import re
 import subprocess
 import tempfile
 from collections import namedtuple
 from concurrent.futures import ThreadPoolExecutor
-from contextlib import contextmanager
 
 # The subsection is `place`, None if there is none; the value is None if the key has none.
 Entry = namedtuple("Entry", "section place name value")
@@ -21,8 +21,17 @@ def alone(scratch, **more):
             "GIT_CONFIG_GLOBAL": os.devnull, **more}
 
 
-def git(folder, environment, *words, given=b""):
-    return subprocess.run(["git", *words], cwd=folder, env=environment, input=given, stdout=subprocess.PIPE, stderr=subprocess.STDOUT, check=False)
+def run(folder, environment, *words, given=b""):
+    """A run of a command, whose output has its reports in it."""
+    stdin = {"input": given} if given else {"stdin": subprocess.DEVNULL}
+    streams = {"stdout": subprocess.PIPE, "stderr": subprocess.STDOUT, **stdin}
+    return subprocess.run(words, cwd=folder, env=environment, check=False, timeout=600, **streams)
+
+
+def output(folder, environment, *words, given=b"", **more):
+    """The output of a command with more variables, of which None is one that isn't set."""
+    variables = {name: it for name, it in {**environment, **more}.items() if it is not None}
+    return run(folder, variables, *words, given=given).stdout
 
 
 def put(path, text, mode=0o600):
@@ -32,40 +41,9 @@ def put(path, text, mode=0o600):
     return path
 
 
-def answers_of(ask, scratch, environment, words, each=1, answers=1):
-    """The answers of a shell loop to words, run in parallel: this many answers for each group of this many words."""
-    def said(some):
-        ran = subprocess.run(["sh", "-c", ask, "sh", *some], cwd=scratch, env=environment, stdin=subprocess.DEVNULL, stdout=subprocess.PIPE,
-                             stderr=subprocess.DEVNULL, check=False)
-        found = ran.stdout.split(b"\0")
-        if len(found) != len(some) * answers // each + 1:
-            raise ValueError("not each text is answered")
-        return found[:-1]
-
-    size = 200 // each * each
-    parts = [words[at : at + size] for at in range(0, len(words), size)]
+def in_parallel(ask, some):
     with ThreadPoolExecutor(os.cpu_count()) as lanes:
-        return [it for found in lanes.map(said, parts) for it in found]
-
-
-def ask_loop(ask, words, programs, each=1, answers=1, **more):
-    """The answers of a shell loop to words, in a repository of its own: variables name files with these texts, which may be
-    scripts that replace programs."""
-    with tempfile.TemporaryDirectory(prefix="witness-") as scratch:
-        environment = alone(scratch, **{name: put(f"{scratch}/{name}", text, 0o700) for name, text in programs.items()}, **more)
-        git(scratch, environment, "init", "--quiet")
-        return answers_of(ask, scratch, environment, words, each, answers)
-
-
-@contextmanager
-def scratch_folders(configurations, **more):
-    """A folder with a repository for each list of entries: the folder, an environment, and the folders of the repositories."""
-    with tempfile.TemporaryDirectory(prefix="rules-") as scratch:
-        for it in ("home", "empty"):
-            os.makedirs(f"{scratch}/{it}")
-        folders = [repository(f"{scratch}/{at}", entries) for at, entries in enumerate(configurations)]
-        words = {"XDG_CONFIG_HOME": f"{scratch}/home", "GIT_EXEC_PATH": f"{scratch}/empty", "GIT_TERMINAL_PROMPT": "0", **more}
-        yield scratch, alone(scratch, **words), folders
+        return [*lanes.map(ask, some)]
 
 
 def repository(folder, entries):
@@ -73,7 +51,26 @@ def repository(folder, entries):
     os.makedirs(f"{folder}/refs")
     put(f"{folder}/HEAD", "ref: refs/heads/main\n")
     put(f"{folder}/config", file_of(entries))
-    return folder.encode()
+
+
+def in_repositories(answer, configurations, files=(), **more):
+    """The results of `answer` for lists of entries, each with questions, in parallel.
+
+    It gets a function that returns the output of a command in a repository with the entries (`output`), the entries,
+    and a question. Variables name files with these texts, which may be scripts; there may be more variables.
+    """
+    with tempfile.TemporaryDirectory(prefix="rules-") as scratch:
+        home, empty, asked = f"{scratch}/home", f"{scratch}/empty", []
+        os.makedirs(home)
+        os.makedirs(empty)
+        environment = alone(scratch, XDG_CONFIG_HOME=home, GIT_EXEC_PATH=empty, GIT_TERMINAL_PROMPT="0")
+        environment.update({name: put(f"{scratch}/{name}", text, 0o700) for name, text in dict(files).items()})
+        for at, (entries, questions) in enumerate(configurations):
+            folder = f"{scratch}/{at}"
+            repository(folder, entries)
+            ask = functools.partial(output, scratch, {**environment, "GIT_DIR": folder, **more})
+            asked += [(ask, entries, it) for it in questions]
+        return in_parallel(lambda it: answer(*it), asked)
 
 
 # ---- entries
@@ -113,14 +110,12 @@ def is_named(entry, section, *names):
     return entry.section.lower() == section and entry.name.lower() in names
 
 
-LISTED = r"""
-for folder; do GIT_DIR="$folder" git config --local --list -z | tr '\000' '\001'; printf '\0'; done
-"""
-
-
 def listing_faults(configurations):
     """The lists of entries that Git writes differently from `listed`."""
-    with scratch_folders(configurations) as (scratch, environment, folders):
-        for entries, said in zip(configurations, answers_of(LISTED, scratch, environment, folders)):
-            if said.replace(b"\1", b"\0") != listed(entries):
-                yield f"git config --list -z writes {said!r}, and not {listed(entries)!r}"
+    def list_of(ask, *_):
+        return ask("git", "config", "--local", "--list", "-z")
+
+    said = in_repositories(list_of, [(it, [None]) for it in configurations])
+    for entries, found in zip(configurations, said):
+        if found != listed(entries):
+            yield f"git config --list -z writes {found!r}, and not {listed(entries)!r}"

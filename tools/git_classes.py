@@ -5,7 +5,6 @@ differently, and of texts that only one side refuses. A case is a text and its r
 differ because of it. A difference belongs to the classes that together return all of its parts, and is counted in the first of them.
 """
 import re
-from collections import namedtuple
 from functools import cached_property
 
 from row_text import text_of

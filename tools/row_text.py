@@ -36,6 +36,15 @@ def piece(it):
     return "".join(joined(it)) if isinstance(it, dict) else it if isinstance(it, str) else it[0] * it[1]
 
 
+# What the value of a member alone in a record spells, by the member's name.
+SPELLED = {
+    "entries": lambda given: "".join("\n".join(it) + "\0" for it in given),
+    "joined": lambda given: "".join(map(piece, given)),
+    "repeated": lambda given: [joined(given[0])] * given[1],
+    "numbered": lambda given: [placed(given[0], place) for place in range(given[1])],
+}
+
+
 def joined(value):
     """A value with its texts and its lists assembled.
 
@@ -43,16 +52,10 @@ def joined(value):
     the value; `{"numbered": [value, count]}` is the same with its index put into each (`placed`); and `{"entries": [[key,
     value], [key]]}` is the text that `git config --list -z` writes for the entries.
     """
-    if isinstance(value, dict) and set(value) == {"entries"}:
-        return "".join("\n".join(it) + "\0" for it in value["entries"])
-    if isinstance(value, dict) and set(value) == {"joined"}:
-        return "".join(map(piece, value["joined"]))
-    if isinstance(value, dict) and set(value) == {"repeated"}:
-        repeated, count = value["repeated"]
-        return [joined(repeated)] * count
-    if isinstance(value, dict) and set(value) == {"numbered"}:
-        numbered, count = value["numbered"]
-        return [placed(numbered, place) for place in range(count)]
-    if isinstance(value, dict):
-        return {name: joined(it) for name, it in value.items()}
-    return [joined(it) for it in value] if isinstance(value, list) else value
+    if isinstance(value, list):
+        return [joined(it) for it in value]
+    if not isinstance(value, dict):
+        return value
+    if len(value) == 1 and value.keys() <= SPELLED.keys():
+        return next(SPELLED[name](it) for name, it in value.items())
+    return {name: joined(it) for name, it in value.items()}

@@ -13,7 +13,8 @@ import subprocess
 import sys
 
 import pytest
-from rt_api import program
+from row_text import joined
+from rt_api import program, rows_of
 from runs import SUMMARY
 from texts import realistic
 
@@ -30,30 +31,8 @@ MOST_SECONDS = 120
 SETTLED, REFUSED = b"settled\t", b"refused\t"
 CHUNK = 1 << 20
 
-# The start of a line, the repeated text and its end, by its answer: the front of the line again, or a refusal.
-SHAPES = [(*it, SETTLED) for it in (
-    (b"", b"a", b""), (b"", b"@", b""), (b"", b"/", b""), (b"", b"%41", b""), (b"", b"[", b""), (b"", b" ", b""), (b"http://h/", b"?a=b&", b""),
-    (b"http://h/", b"%41", b""), (b"ssh://h/", b"/", b""), (b"", b"@", b"h:p"), (b"a::", b":", b""), (b"file://", b"[", b"/p"))]
-SHAPES += [(b"", b":", b"", REFUSED + b"BadUrl HostRequired\n"), *((b"http://", it, b"", REFUSED + b"TooLong\n") for it in (b"@", b"/"))]
-# Calls over texts of some MB: the repeated text in the call's input, the order by that text, and the outcome by the number of
-# repetitions.
-CALLS = [
-    ("b%41=c+d&", lambda text: {"call": "Url::path_query_fragment", "url": f"http://h/?{text}"},
-     lambda count: {"path": "/", "query": [["bA", {"owned": "c d"}]] * count}),
-    ("+", lambda text: {"call": "Url::path_query_fragment", "url": f"http://h/?{text}"},
-     lambda count: {"path": "/", "query": [[{"owned": " " * count}, ""]]}),
-    ("%41", lambda text: {"call": "Url::path_query_fragment", "url": f"http://h/{text}#b"},
-     lambda count: {"path": "/" + "A" * count, "fragment": "b"}),
-    ("/./a", lambda text: {"call": "expand_path::expand_path", "path": text, "user": "~", "home": "/h"}, lambda count: "/h" + "/a" * count),
-    ("//.", lambda text: {"call": "expand_path::expand_path", "path": "/p", "user": "~u", "home": f"/g/h{text}"}, lambda count: "/g/u/p"),
-    ("~/", lambda text: {"call": "expand_path::parse", "text": f"/~u/{text}"}, lambda count: ["~u", "/" + "~/" * count]),
-    ("%41 ", lambda text: {"call": "Url::from_stored", "record": record(f"/{text}", f"/{text}")},
-     lambda count: record("/" + "A " * count, "/" + "%41%20" * count)),
-]
-
-
-def record(path, spelling):
-    return {"scheme": "Http", "host": "h", "path": path, "spelling": spelling}
+ROWS = rows_of("tests/hostile/sizes.jsonl")
+SHAPES, CALLS = ([it for it in ROWS if ("order" in it) == is_call] for is_call in (False, True))
 
 
 def chunks(begin, repeated, count, end):
@@ -109,9 +88,9 @@ class Ran:
 
 def line_of(shape, size):
     """The pieces of a line of a shape, and of its answer."""
-    begin, repeated, end, answer = shape
+    begin, repeated, end = (shape[it].encode() for it in ("begin", "repeated", "end"))
     count = (size - len(begin) - len(end)) // len(repeated)
-    shown = chunks(SETTLED + begin, repeated, count, end + b"\n") if answer == SETTLED else [answer]
+    shown = [shape["answer"].encode()] if "answer" in shape else chunks(SETTLED + begin, repeated, count, end + b"\n")
     return chunks(begin, repeated, count, end + b"\n"), shown
 
 
@@ -121,9 +100,9 @@ def compact(*values):
 
 def order_of(call, size):
     """The pieces of an order over a text of a size, and of its outcome."""
-    repeated, order, outcome = call
-    count = size // len(repeated)
-    return compact(order(repeated * count), outcome(count))
+    count = size // len(call["repeated"])
+    row = joined(json.loads(json.dumps(call).replace('"N"', str(count))))
+    return compact(row["order"], row["is"])
 
 
 def remotes_of(size):
@@ -177,7 +156,7 @@ def compare(words, folder, make, large, most_bytes=None, most_seconds=MOST_SECON
     assert whole.reads <= OWN_READS + whole.size // LEAST_READ
 
 
-@pytest.mark.parametrize("shape", SHAPES, ids=lambda it: repr(b"".join([it[0], it[1], b"..", it[2]]))[2:-1])
+@pytest.mark.parametrize("shape", SHAPES, ids=lambda it: f"{it['begin']}{it['repeated']}..{it['end']}")
 def test_lines_of_a_shape(shape, tmp_path):
     compare(["locations"], tmp_path, lambda size: line_of(shape, size), LARGE, MOST_BYTES)
 
@@ -186,7 +165,7 @@ def test_lines_of_a_byte(tmp_path):
     compare(["locations"], tmp_path, lambda count: (chunks(b"", b"a\n", count, b""), chunks(b"", b"settled\ta\n", count, b"")), 5_000_000, MOST_BYTES)
 
 
-@pytest.mark.parametrize("call", CALLS, ids=lambda it: f"{it[1]('')['call']} over {it[0]}..")
+@pytest.mark.parametrize("call", CALLS, ids=lambda it: f"{it['order']['call']} over {it['repeated']}..")
 def test_calls(call, tmp_path):
     compare(["answers"], tmp_path, lambda size: order_of(call, size), LARGE_ORDER)
 

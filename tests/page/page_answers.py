@@ -49,15 +49,6 @@ def words_of_verdict(answer):
     return verdict(answer) + (f": {reason}" if reason else "") + "".join(said)
 
 
-def words_of_dangers(answer):
-    return ", ".join(dangers.WORDS[it] for it in answer["dangers"]) or REWRITTEN * ("danger" in answer["findings"])
-
-
-def rank(answer):
-    """The place of a line: with a danger, with something else that was found, or neither."""
-    return 0 if "danger" in answer["findings"] else 1 if answer["findings"] else 2
-
-
 def text_of(shown):
     """The text that is shown so, with U+FFFD as JSON has it."""
     return unescaped(shown).decode("utf-8", "replace")
@@ -65,7 +56,8 @@ def text_of(shown):
 
 def row_faults(row, answer):
     number, text, *cells, at_host = row
-    wanted = [str(answer["line"]), words_of_verdict(answer), words_of_dangers(answer)]
+    words = ", ".join(dangers.WORDS[it] for it in answer["dangers"]) or REWRITTEN * ("danger" in answer["findings"])
+    wanted = [str(answer["line"]), words_of_verdict(answer), words]
     if cells != wanted or text_of(text.replace("\0", "")) != answer["input"] or text_of(at_host) != (host(answer) or ""):
         yield f"the row {row} isn't {[number, answer['input'], *wanted, host(answer)]}"
 
@@ -157,7 +149,9 @@ def faults_of(page, lines, wanted, title=None, script=True):
     if json.loads(data) != wanted:
         yield from (f"line {it['line']}: the object is {found}" for found, it in zip(json.loads(data), wanted) if found != it)
         yield "the objects are others"
-    if [it[0] for it in rows] != sorted(range(1, len(lines) + 1), key=lambda it: (rank(wanted[it - 1]), it)):
+    # Lines with a danger, with something else that was found, and with neither.
+    ranks = [0 if "danger" in it["findings"] else 1 if it["findings"] else 2 for it in wanted]
+    if [it[0] for it in rows] != sorted(range(1, len(lines) + 1), key=lambda it: (ranks[it - 1], it)):
         yield f"the rows are in another order, or some are missing: {[it[0] for it in rows][:20]}"
         return
     yield from (f"line {it[0]}: {fault}" for it in rows for fault in row_faults(it, wanted[it[0] - 1]))

@@ -31,15 +31,11 @@ def cases(wanted):
         yield {"f-form": word}, [form(it) == word for it in wanted]
     for word in ("settled", "not settled", "refused", "withheld"):
         yield {"f-verdict": word}, [verdict(it) == word for it in wanted]
-    yield {"f-danger": "any d"}, [*map(is_dangerous, wanted)]
+    yield {"f-danger": "any d"}, ["danger" in it["findings"] for it in wanted]
     yield {"f-danger": WORDS["password"]}, ["password" in it["dangers"] for it in wanted]
     yield {"f-form": "URL", "f-verdict": "settled", "f-danger": "any d"}, [
-        form(it) == "URL" and verdict(it) == "settled" and is_dangerous(it) for it in wanted]
+        form(it) == "URL" and verdict(it) == "settled" and "danger" in it["findings"] for it in wanted]
     yield {"f-text": "no line has this text"}, [False] * len(wanted)
-
-
-def is_dangerous(answer):
-    return "danger" in answer["findings"]
 
 
 def use(page, controls):
@@ -63,7 +59,8 @@ def faults_of(page, wanted):
         reach(page, "reset")
         page.press(Keys.ENTER)
         page.ask("drawn")
-        yield from (f"after {controls}: {it}" for it in hidden_faults(page, len(wanted)))
+        if page.ask("shown") != [[*range(1, len(wanted) + 1)], f"{len(wanted)} of {len(wanted)} lines shown"]:
+            yield f"after {controls} {page.ask('shown')} is shown"
 
 
 def detail_faults(page):
@@ -74,13 +71,6 @@ def detail_faults(page):
         if page.ask("opened") != is_open:
             yield f"the details are {'closed' if is_open else 'open'}"
         page.press(Keys.ENTER)
-
-
-def hidden_faults(page, lines):
-    """Whether a line isn't shown."""
-    shown = page.ask("shown")
-    if shown != [[*range(1, lines + 1)], f"{lines} of {lines} lines shown"]:
-        yield f"{len(shown[0])} of {lines} lines are shown, and it says {shown[1]!r}"
 
 
 def plain_faults(page, lines):

@@ -10,11 +10,13 @@ import os
 import re
 import shutil
 import time
+from unittest.mock import patch
 
 import pytest
 from git_runs import put
-from rt_api import ROOT, stored
-from runs import ended, explain, explained
+from row_text import in_bytes, joined
+from rt_api import ROOT, read, rows_of, stored
+from runs import ended, explain, explained, run
 from second_reading import explain_lines, explain_tables, short_inputs, stored_run
 from texts import realistic
 
@@ -22,9 +24,7 @@ pytest.importorskip("selenium")
 pytest.importorskip("PIL")
 import page_answers
 import page_filter
-import page_hostile
 import page_look
-import page_rules
 from page_browser import Browser
 from PIL import Image, PngImagePlugin
 from selenium.common.exceptions import WebDriverException
@@ -39,6 +39,18 @@ PICTURED = [
     b"ssh://git@example.com/~/notes"]
 # In a sample so many bytes of most long lines are looked at, and of the remotes each this many.
 MOST_LONG, STEP = 20_000, 20
+# Lines that would run, break or hide something in a page that is written carelessly: `markup`, which is put into each
+# of the `parts` of a location, other `texts`, `bytes`, and `long` lines of up to a megabyte each; titles; and faults,
+# each of which the test has to find: the pattern that is replaced at its first place in a page of these lines, and the
+# new bytes.
+HOSTILE = joined(json.loads(read("tests/page/hostile.json")))
+LONG, FAULTS = in_bytes(HOSTILE["long"]), in_bytes(HOSTILE["faults"])
+# The first long lines are seen whole in a sample too: letters, and words of Hebrew and Chinese in turn, which take a
+# browser longest. A query has a row for each of the fields, however many.
+WHOLE, FIELD = 2, b"a=b&"
+# Configurations, the variables of the environment, and lines.
+CONFIGURATIONS = rows_of("tests/page/configurations.jsonl")
+VARIABLES = ("GIT_ALLOW_PROTOCOL", "GIT_PROTOCOL_FROM_USER")
 # How soon a page with a line of a megabyte has to be seen, on a slow machine that does other work as well, and how many points
 # high its row may be: other lines are beside it.
 MOST_SECONDS, MOST_HEIGHT = 60, 400
@@ -50,6 +62,14 @@ SIZES, TRIES, MOST_FILTERED = {1: (10_000_000, 2_000), 10: (100_000_000, 5_000)}
 def texts_that_surprise():
     """The texts of the table in docs/GRAMMAR.md."""
     return [row[0].strip("`").encode() for row in explain_tables.table()]
+
+
+def hostile_lines():
+    """The lines, each once. Some have a line feed, so all end with byte 0 in the input; lines with byte 0 are cut."""
+    marked = [part.replace("{}", it) for it in HOSTILE["markup"] for part in HOSTILE["parts"]]
+    texts = in_bytes([*marked, *HOSTILE["texts"]])
+    cut = [*in_bytes(HOSTILE["bytes"]), bytes(range(1, 256)), b"/" + bytes(range(256))]
+    return list(dict.fromkeys([*texts, *(piece for it in cut for piece in it.split(b"\0"))]))
 
 
 def second_reading(lines):
@@ -126,34 +146,40 @@ def test_answers(page, is_whole):
 
 
 def test_hostile_lines(page):
-    lines = page_hostile.lines()
+    lines = hostile_lines()
     assert not shown_faults(page, written(page, lines, end=b"\0"), lines, second_reading(lines))
 
 
 @pytest.mark.parametrize("is_whole", SCALES)
-@pytest.mark.parametrize("number", range(len(page_hostile.LONG)))
+@pytest.mark.parametrize("number", range(len(LONG)))
 def test_long_line(page, number, is_whole):
     """A long line among others, of which in a sample only the first are whole."""
-    line = page_hostile.LONG[number][: None if is_whole or number < page_hostile.WHOLE else MOST_LONG]
+    line = LONG[number][: None if is_whole or number < WHOLE else MOST_LONG]
     lines = [b"h:p", line, b"h:q"]
     file, started = written(page, lines), time.monotonic()
     page.open(file)
     page.ask("drawn")
     assert time.monotonic() - started <= MOST_SECONDS
-    assert not shown_faults(page, file, lines, explained(lines), most=None if page_hostile.FIELD in line else MOST_HEIGHT)
+    assert not shown_faults(page, file, lines, explained(lines), most=None if FIELD in line else MOST_HEIGHT)
 
 
-@pytest.mark.parametrize("title", page_hostile.TITLES, ids=lambda it: ascii(it[:12]))
+@pytest.mark.parametrize("title", HOSTILE["titles"], ids=lambda it: ascii(it[:12]))
 def test_title(page, title):
     assert not shown_faults(page, written(page, [b"h:p"], title), [b"h:p"], second_reading([b"h:p"]), title)
 
 
-@pytest.mark.parametrize("case", page_rules.CASES, ids=lambda it: ascii(it.lines[0]))
-def test_rules(page, case):
-    with page_rules.given(case, f"{page.folder}/config") as words:
-        file, wanted = written(page, case.lines, more=words), explained(case.lines, *words)
-        assert not [*shown_faults(page, file, case.lines, wanted), *page_rules.faults_of(case, words)]
-        assert case is not page_rules.CASES[0] or not [*page_look.contrast_faults(page)]
+@pytest.mark.parametrize("number, case", enumerate(CONFIGURATIONS))
+def test_rules(page, number, case):
+    """The status and the reports are those without a page too, and no secret is shown."""
+    lines, words = in_bytes(case["lines"]), ["--config", put(f"{page.folder}/config", in_bytes(joined(case["config"])))]
+    variables = {name: it for name, it in os.environ.items() if name not in VARIABLES} | case["variables"]
+    with patch.dict(os.environ, variables, clear=True):
+        file, wanted = written(page, lines, more=words), explained(lines, *words)
+        assert not shown_faults(page, file, lines, wanted)
+        ran = [run("explain", [*layout, *words], ended(lines)) for layout in ([], ["--json"], ["--html"])]
+    assert len({(it.returncode, it.stderr) for it in ran}) == 1
+    assert not any(b"S3cr3t" in it.stdout + it.stderr for it in ran)
+    assert number or not [*page_look.contrast_faults(page)]
 
 
 @pytest.mark.parametrize("is_whole", SCALES)
@@ -188,13 +214,13 @@ def test_large(page, times):
 
 
 @pytest.mark.whole
-@pytest.mark.parametrize("fault", [None, *page_hostile.FAULTS], ids=str)
+@pytest.mark.parametrize("fault", [None, *FAULTS], ids=str)
 def test_finds(page, fault):
     """A fault that is put into a page, and none without one."""
-    lines = page_hostile.lines()
+    lines = hostile_lines()
     file = written(page, lines, end=b"\0")
     if fault:
-        pattern, new = page_hostile.FAULTS[fault]
+        pattern, new = FAULTS[fault]
         put(file, re.sub(pattern, new, stored(file), count=1))
     found = shown_faults(page, file, lines, second_reading(lines), widths=())
     page.found()

@@ -36,12 +36,6 @@ def test_examples_of_git_are_let_by_if_they_are_alike():
     assert not [*example_faults(rows("git"))]
 
 
-def is_large(row):
-    """Whether a row of a table of large texts has one, in its order or in its outcome."""
-    is_listed = row.place.partition(".")[0].endswith("large")
-    return is_listed and max(len(row.order()), len(json.dumps(row.expected))) > LARGE
-
-
 @pytest.mark.quick
 def test_each_call_has_a_row():
     """Each call of the libraries and of the program, and one with a large text if it requests memory; and no other call has one."""
@@ -52,4 +46,6 @@ def test_each_call_has_a_row():
     named = {it.members.get("call") for it in table}
     assert (contracts().keys() | made) <= named <= made
     assert OF_LAYERS <= passed_calls().keys()
-    assert {it.members.get("call") for it in table if it.requests} <= {it.members.get("call") for it in table if is_large(it)}
+    listed = [it for it in table if it.place.partition(".")[0].endswith("large")]
+    large = {it.members.get("call") for it in listed if max(len(it.order()), len(json.dumps(it.expected))) > LARGE}
+    assert {it.members.get("call") for it in table if it.requests} <= large

@@ -52,14 +52,6 @@ def texts():
     return [text for *_, text, _ in shown_lines()]
 
 
-def is_listed(condition, reader):
-    return any(reader in condition.get(kind, ()) for kind in (*KINDS, "beside"))
-
-
-def has_readers(condition):
-    return any(condition.get(kind) for kind in KINDS)
-
-
 # ---- findings
 
 def in_order(found):
@@ -86,10 +78,6 @@ def unlike(wanted, it):
     return ", ".join(f"{name} {text_of(part) if isinstance(part, bytes) else part}" for name, first, part in both if first != part)
 
 
-def kind(case, it):
-    return "refused" if it == REFUSED else "other" if it.host == case.wanted.host else "host"
-
-
 def place_of(text, cases, readers):
     """The part of a line about its text: whether Git connects, the host, and the hosts of readers."""
     wanted = next((it.wanted for it in cases if it.text == text), None)
@@ -104,7 +92,9 @@ def condition_line(line, same, cases, readers, found, beside):
     """A line with what is found, and with what it had of readers of the same versions."""
     name, by_kind = line["name"], {it: [] for it in KINDS}
     for reader in readers:
-        kinds = {kind(*it) for it in found[name][reader.name]} | {it for it in KINDS if reader.name in same and reader.name in line[it]}
+        kinds = {it for it in KINDS if reader.name in same and reader.name in line[it]}
+        for case, it in found[name][reader.name]:
+            kinds.add("refused" if it == REFUSED else "other" if it.host == case.wanted.host else "host")
         if kinds:
             by_kind[next(it for it in KINDS if it in kinds)].append(reader.name)
     more = dict.fromkeys([*(it for it in line["beside"] if it in same), *beside[name]])
@@ -174,24 +164,20 @@ def condition_table():
     return "".join(out)
 
 
-def named(place, readers):
-    """A place, and the readers that take it by their names, or their number."""
-    return f"{cell(place) if place else 'no host'}: {', '.join(readers) if len(readers) <= MANY else f'{len(readers)} readers'}"
-
-
-def git_place(line):
-    """The place that Git connects to, in a table."""
-    return "nothing" if line["git"] is None else LOCAL if line["git"] == LOCAL else cell(line["git"])
-
-
 def confusion_tables():
     """The texts that name the host of a stranger, to which either Git or others connect; and all of them."""
+    def named(places):
+        counted = {place: ", ".join(of) if len(of) <= MANY else f"{len(of)} readers" for place, of in places.items()}
+        return [f"{cell(place) if place else 'no host'}: {readers}" for place, readers in counted.items()]
+
     attacks, every = [], []
     for it in lines("confusions"):
-        hosts, parts = ([*map(named, *zip(*it[member].items()))] if it[member] else [] for member in ("hosts", "parts"))
+        hosts, parts = named(it["hosts"]), named(it["parts"])
+        git = "nothing" if it["git"] is None else LOCAL if it["git"] == LOCAL else cell(it["git"])
         if STRANGER in it["text"] and hosts:
-            attacks.append((cell(it["text"]), git_place(it), "; ".join(hosts)))
-        every.append((cell(it["text"]), ", ".join(f"`{name}`" for name in it["conditions"]), git_place(it), "; ".join([*hosts, *parts])))
+            attacks.append((cell(it["text"]), git, "; ".join(hosts)))
+        conditions = ", ".join(f"`{name}`" for name in it["conditions"])
+        every.append((cell(it["text"]), conditions, git, "; ".join([*hosts, *parts])))
     heads = ("Text", "Git connects to", "Others read")
     return {"attacks": page_table(heads, attacks), "confusions": page_table((heads[0], "Condition", *heads[1:]), every)}
 

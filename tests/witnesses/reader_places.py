@@ -13,7 +13,7 @@ from second_reading.git_reads import decoded, git_reads
 from second_reading.unambiguous import pieces
 from texts import can_be_a_line
 from transports import NO_USER, ask_git, ask_secure_shell, diagnosed
-from web_asked import Curl, ask_credential, library_of_git
+from web_asked import ask_credential, curl_of_git
 from web_reads import curl_reads, Web
 
 # A reading; a part that is empty is None. `REFUSED` isn't a place, nor is `SILENT`: the reader finds no host in a text.
@@ -78,16 +78,18 @@ def said_place(reader, form, said):
     return place(scheme, parts.get("user"), parts.get("password"), parts.get("host"), parts.get("port"), path)
 
 
+def place_of(it, protocol):
+    """The place of a reading of Git's transports."""
+    return place(protocol.encode(), it.user, None, it.host, None if it.port is None else b"%d" % it.port, it.path)
+
+
 def git_place(text, form):
     """The place that Git connects to; None if it connects to none."""
     if form == "http":
         found = curl_reads(text)
         return place(*found) if isinstance(found, Web) else None
-    found = git_reads(text)
-    if len(found) != 1:
-        return None
-    protocol, user, _, host, port, path = next(iter(found))
-    return place(protocol.encode(), user, None, host, None if port is None else b"%d" % port, path)
+    found = [*git_reads(text)]
+    return place_of(found[0], found[0].protocol) if len(found) == 1 else None
 
 
 def with_decoded_path(it):
@@ -119,23 +121,7 @@ def shown_place(said):
     """The place that `git fetch-pack --diag-url` shows. A path below a home folder, and a word that OpenSSH reads as a URL, are compared as
     Git has them."""
     it = diagnosed(said)
-    if it is None:
-        return REFUSED
-    protocol = {HOME: "file", SECURE_URL: "ssh"}.get(it.protocol, it.protocol)
-    return place(protocol.encode(), it.user, None, it.host, None if it.port is None else b"%d" % it.port, it.path)
-
-
-def git_places(texts):
-    return [shown_place(said) for _, said in ask_git(texts)]
-
-
-def credential_places(texts):
-    return [place(*it[:-1], b"/" + it.path) if isinstance(it, Web) else REFUSED for it in ask_credential(texts)]
-
-
-def curl_places(texts):
-    curl = Curl(library_of_git())
-    return [REFUSED if it is None else place(*it) for it in map(curl.reads, texts)]
+    return REFUSED if it is None else place_of(it, {HOME: "file", SECURE_URL: "ssh"}.get(it.protocol, it.protocol))
 
 
 def secure_place(text, said):
@@ -161,17 +147,17 @@ def first_line(*command):
     return ran.stdout.partition("\n")[0].strip()
 
 
-def can_ask_git(text, form):
-    """Whether Git's transports are run: after the end of an empty path of the scp form Git looks for a `~`, in other bytes."""
-    return form not in ("http", "other") and pieces(text).path != b""
-
-
 def own_readers():
     """For each reader its name, its version, the texts of a form that it is run on, and how."""
-    git, secure = first_line("git", "--version"), first_line("ssh", "-V")
-    if git and library_of_git():
-        yield "Git", git.split()[-1], can_ask_git, git_places
-        yield "Git credential", git.split()[-1], lambda text, form: form == "http" and can_be_a_line(text), credential_places
-        yield "libcurl", Curl(library_of_git()).version.partition("/")[2], lambda text, form: form == "http", curl_places
+    git, secure, curl = first_line("git", "--version"), first_line("ssh", "-V"), curl_of_git()
+    if git and curl:
+        # After the end of an empty path of the scp form Git looks for a `~`, in other bytes.
+        yield ("Git", git.split()[-1], lambda text, form: form not in ("http", "other") and pieces(text).path != b"",
+               lambda texts: [shown_place(said) for _, said in ask_git(texts)])
+        yield ("Git credential", git.split()[-1], lambda text, form: form == "http" and can_be_a_line(text),
+               lambda texts: [place(*it[:-1], b"/" + it.path) if isinstance(it, Web) else REFUSED
+                              for it in ask_credential(texts)])
+        yield ("libcurl", curl.version.partition("/")[2], lambda text, form: form == "http",
+               lambda texts: [REFUSED if it is None else place(*it) for it in map(curl.reads, texts)])
     if secure:
         yield "OpenSSH", re.sub(r"OpenSSH_([^ ,]*).*", r"\1", secure), lambda text, form: text.startswith(b"ssh://"), secure_places

@@ -10,7 +10,7 @@ import shutil
 import subprocess
 from collections import namedtuple
 
-from rt_api import ROOT, read
+from rt_api import ROOT, rows_of
 
 FOLDER, OUT = f"{ROOT}/tests/witnesses/readers", f"{ROOT}/out/readers"
 JGIT = ":".join(f"/usr/share/java/{it}.jar" for it in ("org.eclipse.jgit", "slf4j-api", "slf4j-nop"))
@@ -25,7 +25,7 @@ Reader = namedtuple("Reader", "name packages kind decoded shows build command")
 
 def lines(topic):
     """The lines of a table of `vectors/readers/`."""
-    return [json.loads(line) for line in read(f"vectors/readers/{topic}.jsonl").splitlines()]
+    return rows_of(f"vectors/readers/{topic}.jsonl")
 
 
 READERS = [Reader(it["reader"], *map(it.get, Reader._fields[1:])) for it in lines("readers") if "command" in it]
@@ -57,14 +57,11 @@ def build(reader):
     return ran.returncode == 0
 
 
-def said_of(line):
-    found = json.loads(line.decode("utf-8", "surrogateescape"), strict=False)
-    return {name: str(it).encode("utf-8", "surrogateescape") for name, it in found.items() if it is not None}
-
-
 def ask(reader, texts):
     ran = sh(reader.command, b"".join(it + b"\n" for it in texts))
     lines = ran.stdout.split(b"\n")[:-1]
     if ran.returncode or len(lines) != len(texts):
         raise ValueError(f"{reader.name} answers {len(lines)} of {len(texts)} texts: {ran.stderr[-500:]!r}")
-    return [*map(said_of, lines)]
+    said = (json.loads(it.decode("utf-8", "surrogateescape"), strict=False) for it in lines)
+    return [{name: str(part).encode("utf-8", "surrogateescape") for name, part in it.items() if part is not None}
+            for it in said]

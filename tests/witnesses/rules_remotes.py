@@ -5,25 +5,11 @@ with `--push`, the URLs of a remote. It answers for a remote that its repository
 """
 from collections import namedtuple
 
-from git_runs import Entry, answers_of, is_named, listed, scratch_folders
+from git_runs import Entry, in_repositories, is_named, listed
 from row_text import text_of
 from texts import lacks_value
 
 NO_VALUE, NO_URL = b"bad config variable", b"fatal: no URLs configured for remote"
-ASK = r"""
-while [ $# -gt 0 ]; do
-  GIT_DIR="$1" git ls-remote --get-url -- "$3" 2>&1; printf '\0'
-  GIT_DIR="$1" git remote get-url --push "$2" 2>&1; printf '\0'
-  shift 3
-done
-"""
-ASK_REMOTES = r"""
-while [ $# -gt 0 ]; do
-  GIT_DIR="$1" git remote get-url --all -- "$2" 2>&1; printf '\0'
-  GIT_DIR="$1" git remote get-url --all --push -- "$2" 2>&1; printf '\0'
-  shift 2
-done
-"""
 # Entries, a text, the push URL of its remote or None, and Git's rewritten texts: None if it ends.
 Rewritten = namedtuple("Rewritten", "entries text push_url fetch push")
 READ = (b"url", b"pushurl", b"vcs", b"proxy", b"uploadpack", b"receivepack")
@@ -37,13 +23,16 @@ def of_texts(asked):
             yield Entry(b"remote", b"r%d" % at, b"pushurl", push_url)
 
 
+def both_ways(ask, _, case):
+    entries, at, text, push_url = case
+    said = ask("git", "ls-remote", "--get-url", "--", text), ask("git", "remote", "get-url", "--push", f"r{at}")
+    return Rewritten(entries, text, push_url, *(None if NO_VALUE in it else it.removesuffix(b"\n") for it in said))
+
+
 def rewritten(configurations):
-    with scratch_folders([[*entries, *of_texts(asked)] for entries, asked in configurations]) as (scratch, environment, folders):
-        words = [word for folder, (_, asked) in zip(folders, configurations)
-                 for at, (text, _) in enumerate(asked) for word in (folder, b"r%d" % at, text)]
-        said = [None if NO_VALUE in it else it.removesuffix(b"\n") for it in answers_of(ASK, scratch, environment, words, each=3, answers=2)]
-    asked = [(entries, *it) for entries, texts in configurations for it in texts]
-    return [Rewritten(*it, *both) for it, *both in zip(asked, said[::2], said[1::2])]
+    return in_repositories(both_ways, [
+        ([*entries, *of_texts(asked)], [(entries, at, *it) for at, it in enumerate(asked)])
+        for entries, asked in configurations])
 
 
 def is_ended(case):
@@ -89,11 +78,12 @@ def outcome_of(entries, name, fetched, pushed):
     return {"urls": fetched, "push_urls": pushed, **({"vcs": text_of(helpers[-1])} if helpers else {})}
 
 
+def remote(ask, entries, name):
+    fetched, pushed = (urls(ask("git", "remote", "get-url", "--all", *way, "--", name)) for way in ([], ["--push"]))
+    order = {"call": "Remote::of", "config": text_of(listed(entries)), "name": text_of(name)}
+    return order, outcome_of(entries, name, fetched, pushed)
+
+
 def remotes(configurations):
     """The calls of the library for remotes, each with Git's outcome."""
-    with scratch_folders([entries for entries, _ in configurations]) as (scratch, environment, folders):
-        words = [word for folder, (_, names) in zip(folders, configurations) for name in names for word in (folder, name)]
-        said = [*map(urls, answers_of(ASK_REMOTES, scratch, environment, words, each=2, answers=2))]
-    asked = [(entries, name) for entries, names in configurations for name in names]
-    return [({"call": "Remote::of", "config": text_of(listed(it[0])), "name": text_of(it[1])}, outcome_of(*it, *both))
-            for it, *both in zip(asked, said[::2], said[1::2])]
+    return in_repositories(remote, configurations)

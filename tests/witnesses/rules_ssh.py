@@ -8,12 +8,13 @@ command `sh` must read the words of the program, by default only the service, an
 Git's own events (`GIT_TRACE2_EVENT`) show which programs `git ls-remote` starts: the words of each start, and whether a shell
 runs them. Programs in a folder of the test's own, the only one in which Git finds them, replace Secure Shell: they end with a
 status of their own if they get `-G`, otherwise they show their words and fail. The location has a port, for which the variants
-have different options; if Git starts nothing, as for `simple`, it is run again without one. `plink` and `putty` have the same
-words, so the setting decides between the two.
+have different options; if Git starts nothing, as for `simple`, it is run again without one.
 """
 import json
+import os
 import random
 import re
+import subprocess
 import tempfile
 from collections import namedtuple
 
@@ -21,7 +22,7 @@ import git_classes
 from git_classes import Case as Compared
 from git_classes import Reading
 from second_reading.git_reads import user_cuts
-from git_runs import answers_of, is_named, listed, put, scratch_folders
+from git_runs import in_repositories, is_named, listed, put
 from row_text import bytes_of, text_of
 from runs import answers
 from second_reading import git_class, grammar, writing
@@ -29,24 +30,8 @@ from texts import Programs
 from transports import shown
 
 SHOW = r"""f() { { printf '\001'; printf '%s\001' "$@"; printf '%s\001\002' "$GIT_PROTOCOL"; } >&2; false; }; f"""
-ASK = r"""
-while [ $# -gt 0 ]; do
-  export GIT_SSH_VARIANT="$1"
-  case $3$4 in
-  git-upload-pack) git -c protocol.version="$2" ls-remote ${5:+"--upload-pack$5"} -- "$6" 2>&1 ;;
-  git-upload-pack*) git -c protocol.version="$2" fetch "-$4" ${5:+"--upload-pack$5"} -- "$6" 2>&1 ;;
-  git-receive-pack) git -c protocol.version="$2" send-pack ${5:+"--receive-pack$5"} --all -- "$6" 2>&1 ;;
-  git-receive-pack*) git -c protocol.version="$2" push "-$4" ${5:+"--receive-pack$5"} -- "$6" :refs/heads/x 2>&1 ;;
-  *) git -c protocol.version="$2" archive ${5:+"--exec$5"} --remote="$6" HEAD 2>&1 ;;
-  esac
-  printf '\0'
-  shift 6
-done
-"""
-# A shell reads commands, and writes the words that it reads.
-READ = r"""
-for command; do eval "set -- $command"; printf '%s\001' "$@"; printf '\0'; done
-"""
+# A shell reads a command, and writes the words that it reads.
+READ = r'eval "set -- $1"; printf "%s\001" "$@"'
 SERVICES = ("git-upload-pack", "git-receive-pack", "git-upload-archive")
 VARIANTS = ("ssh", "plink", "putty", "tortoiseplink", "simple")
 # The programs that may replace a service, with the words that a shell reads in them; None if it expands something.
@@ -111,30 +96,38 @@ def answer(said):
     return next((name for it, name in REFUSALS.items() if it in said), said.decode("latin-1"))
 
 
+def command_of(text, run):
+    """The command of Git that makes a run for a text."""
+    def program(option):
+        return [] if run.program is None else [option + b"=" + run.program]
+
+    git = ["git", "-c", f"protocol.version={run.version}"]
+    if run.service == "git-upload-archive":
+        return [*git, "archive", *program(b"--exec"), b"--remote=" + text, "HEAD"]
+    if run.service == "git-upload-pack":
+        words = ["fetch", f"-{run.family}"] if run.family else ["ls-remote"]
+        return [*git, *words, *program(b"--upload-pack"), "--", text]
+    words, rest = (["push", f"-{run.family}"], [":refs/heads/x"]) if run.family else (["send-pack", "--all"], [])
+    return [*git, *words, *program(b"--receive-pack"), "--", text, *rest]
+
+
 def asked_of_git(asked):
     """The words that Git passes to Secure Shell for texts, each with its run."""
-    with scratch_folders([[]], GIT_SSH_COMMAND=SHOW) as (scratch, environment, (folder,)):
-        given = [word for text, run in asked for word in (*words_of(run), text)]
-        return map(answer, answers_of(ASK, scratch, {**environment, "GIT_DIR": folder.decode()}, given, each=6))
+    def words(ask, _, it):
+        return answer(ask(*command_of(*it), GIT_SSH_VARIANT=it[1].variant))
+    return in_repositories(words, [([], asked)], GIT_SSH_COMMAND=SHOW)
 
 
-def words_of(run):
-    return run.variant, str(run.version), run.service, str(run.family or ""), b"" if run.program is None else b"=" + run.program
-
-
-def call_of(run):
-    return CALLS[0] if (run.family, run.program) == (None, None) else CALLS[1]
-
-
-def order_of(call, text, run):
+def order_of(text, run, call=None):
+    own = CALLS[0] if (run.family, run.program) == (None, None) else CALLS[1]
     given = {**run._asdict(), "program": None if run.program is None else text_of(run.program)}
-    return {"call": call, "url": text_of(text), **{name: it for name, it in given.items() if it is not None}}
+    return {"call": call or own, "url": text_of(text), **{name: it for name, it in given.items() if it is not None}}
 
 
 def asked_of_library(asked):
     """The library's words for the locations in texts, None if it returns none."""
-    read = [(text, run) for text, run in asked if grammar.spells(text) is not None]
-    said = answers([*(order_of(call_of(run), text, run) for text, run in read), *(order_of(CALLS[2], text, run) for text, run in read)])
+    read = [it for it in asked if grammar.spells(it[0]) is not None]
+    said = answers([order_of(*it, call) for call in (None, CALLS[2]) for it in read])
     found = {it: None if isinstance(words, dict) else [bytes_of(word) for word in (str(variable or ""), *words)]
              for it, words, variable in zip(read, said, said[len(read) :])}
     return map(found.get, asked)
@@ -165,11 +158,6 @@ def cut(found, run):
     return "empty user" if host is None else reading, port, [*found[:at], *found[at + 2 : -2], found[-1][: len(program_of(run)) + 2]]
 
 
-def is_alike(case):
-    """Whether the library has Git's words, or neither has any."""
-    return case.own == (None if isinstance(case.git, str) else case.git)
-
-
 def class_of(case, location, reason):
     """The class of a text for which the library has other words than Git, or none: None without a class, and if the library's
     words aren't for the location's own parts, or otherwise differ from Git's."""
@@ -185,66 +173,48 @@ def class_of(case, location, reason):
     return git_classes.class_of(Compared(case.text, of_git, ours), git_classes.CLASSES)
 
 
-def is_own(text):
-    """Whether a text is the one written for a location for which `agrees_with_git` is true."""
-    location = grammar.spells(text)
-    return location is not None and git_class.agrees_with_git(location) and writing.text(location) == text
-
-
 def judged(cases):
-    """The cases in which the library has other words than Git, each with its class, and with None those with a fault: the
-    library has to return a command if no reason is against it, and Git's words if `agrees_with_git` is true."""
+    """The cases in which the library has other words than Git, each with its class, and with None those with a fault:
+    the library has to return a command if no reason is against it, and Git's words if `agrees_with_git` is true of the
+    location for which the text is written."""
     for it in cases:
         location, is_given = grammar.spells(it.text), it.own is not None
         reason = next((name for name, is_so in REASONS.items() if is_so(location, it.run)), None)
         example = f"{it.text!r}, {it.run}: Git has {it.git}, and the library {it.own}"
-        if not is_alike(it):
-            yield None if is_own(it.text) and reason not in OF_PROGRAMS else class_of(it, location, reason), example
+        if it.own != (None if isinstance(it.git, str) else it.git):
+            is_own = location is not None and git_class.agrees_with_git(location) and writing.text(location) == it.text
+            yield None if is_own and reason not in OF_PROGRAMS else class_of(it, location, reason), example
         if is_given == (reason is not None):
             yield None, example
 
 
 def misread(cases):
     """The commands in which a shell reads other words than the program's and the path."""
-    ran = [it for it in cases if not isinstance(it.git, str) and PROGRAMS.get(program_of(it.run), [program_of(it.run)])]
-    with scratch_folders([]) as (scratch, environment, _):
-        read = answers_of(READ, scratch, environment, [it.git[-1] for it in ran])
-    for it, words in zip(ran, read):
-        own = PROGRAMS.get(program_of(it.run), [program_of(it.run)])
-        if words != b"".join(word + b"\x01" for word in (*own, path_of(it.git[-1], it.run))):
-            yield f"a shell reads {words!r}: {it}"
+    for it in cases:
+        program = program_of(it.run)
+        own = PROGRAMS.get(program, [program])
+        if isinstance(it.git, list) and own:
+            said = subprocess.run(["sh", "-c", READ, "sh", it.git[-1]], stdout=subprocess.PIPE, check=False).stdout
+            read = said.split(b"\1")[:-1]
+            if read != [*own, path_of(it.git[-1], it.run)]:
+                yield f"a shell reads {read!r}: {it}"
 
 
 def orders(asked):
     """The calls of the library for texts, each with its run, and Git's words."""
-    for it in commands(asked):
-        outcome = {"refused": True} if isinstance(it.git, str) else [*map(text_of, it.git[1:])]
-        yield order_of(call_of(it.run), it.text, it.run), outcome
+    for it, git in zip(asked, asked_of_git(asked)):
+        yield order_of(*it), {"refused": True} if isinstance(git, str) else [*map(text_of, git[1:])]
 
 
 # ---- the program
 
-# Each case is five words: the repository, the variables, with `=` before them if they are set, and the status of `-G`.
-ASK_PROGRAM = r"""
-while [ $# -gt 0 ]; do
-  unset GIT_SSH_COMMAND GIT_SSH GIT_SSH_VARIANT
-  case $2 in =*) export GIT_SSH_COMMAND="${2#=}" ;; esac
-  case $3 in =*) export GIT_SSH="${3#=}" ;; esac
-  case $4 in =*) export GIT_SSH_VARIANT="${4#=}" ;; esac
-  export GIT_DIR="$1" STATUS="$5" GIT_TRACE2_EVENT=1
-  said=$(git ls-remote ssh://u@h:22/p 2>&1)
-  case $said in *'"child_start"'*) more= ;; *) more=$(git ls-remote ssh://u@h/p 2>&1) ;; esac
-  printf '%s\n\0%s\n\0' "$said" "$more"
-  shift 5
-done
-"""
 FAKE = r"""#!/bin/sh
 case " $* " in *" -G "*) exit "$STATUS" ;; esac
 { printf '\001'; printf '%s\001' "$@"; printf '\002\n'; } >&2
 exit 1
 """
-# The input of Git: the entries, the variables, None if they aren't set, and the status that a program has for `-G`.
-Setting = namedtuple("Setting", "entries command path variant status")
+# The three variables, None if they aren't set, and the status that a program has for `-G`.
+Setting = namedtuple("Setting", "command path variant status")
 
 
 def events(said):
@@ -253,70 +223,74 @@ def events(said):
     return [it for it in found if it["event"] in ("child_start", "child_exit", "error")]
 
 
-def stopped(case, said):
+def stopped(entries, said):
     """The place of the entry that Git stops at, None if it doesn't."""
     found = re.search(rb"bad config variable '([a-z.]+)' in file '.*' at line ([0-9]+)", said)
     if not found:
         return None
     at = int(found[2]) // 2 - 1
-    entry = case.entries[at]
-    if not is_named(entry, *found[1].split(b".")) or entry.value is not None:
+    if not is_named(entries[at], *found[1].split(b".")) or entries[at].value is not None:
         raise ValueError(f"Git stops at another entry: {said!r}")
-    return {"error": "NoValue", "at": len(listed(case.entries[:at]))}
+    return {"error": "NoValue", "at": len(listed(entries[:at]))}
 
 
-def kept_variant(case):
-    own = [it.value for it in case.entries if it.place is None and is_named(it, b"ssh", b"variant")]
-    return case.variant if case.variant is not None else own[-1] if own else None
-
-
-def variant_of(case, found):
-    """The variant that Git takes the program for, by its starts: it runs a program with `-G`, and takes the status for an answer."""
-    words = next((it["argv"] for it in found if it["event"] == "child_start"), None)
-    if words is None:
+def variant_of(entries, setting, starts, ended):
+    """The variant that Git takes the program for, by the words of its starts and the status of the first: it runs a
+    program with `-G`, and takes the status for an answer."""
+    if not starts:
         return "Simple"
-    if words[1] == "-G":
-        ended = next(it["code"] for it in found if it["event"] == "child_exit")
-        if (ended == 0) != any("-p" in it["argv"][1:2] + it["argv"][3:4] for it in found if it["event"] == "child_start" and it["argv"][1] != "-G"):
-            raise ValueError(f"Git takes the status otherwise: {case}")
+    if starts[0][1] == "-G":
+        if (ended == 0) != any("-p" in it[1:2] + it[3:4] for it in starts if it[1] != "-G"):
+            raise ValueError(f"Git takes the status otherwise: {entries}, {setting}")
         return "Asked"
-    if "-batch" in words:
+    if "-batch" in starts[0]:
         return "TortoisePlink"
-    if "-p" in words:
+    if "-p" in starts[0]:
         return "Ssh"
-    return "Putty" if kept_variant(case) == b"putty" else "Plink"
+    # `plink` and `putty` have the same words.
+    own = [it.value for it in entries if it.place is None and is_named(it, b"ssh", b"variant")]
+    kept = setting.variant if setting.variant is not None else own[-1] if own else None
+    return "Putty" if kept == b"putty" else "Plink"
 
 
-def outcome(case, said, more):
+def outcome(entries, setting, said, more):
     """Git's behaviour: it stops at an entry, or starts a program."""
     found = events(said)
-    stop = stopped(case, said)
+    stop = stopped(entries, said)
     if stop is not None:
         return stop
     started = next(it for it in (*found, *events(more)) if it["event"] == "child_start")
-    text = started["argv"][0].encode("utf-8", "surrogateescape")
-    words, last = shown(said), [it["argv"] for it in found if it["event"] == "child_start"][-1:]
-    if words and not started["use_shell"] and words != [it.encode("utf-8", "surrogateescape") for it in last[0][1:]]:
+    starts = [it["argv"] for it in found if it["event"] == "child_start"]
+    ended = next((it["code"] for it in found if it["event"] == "child_exit"), None)
+    words = shown(said)
+    if words and not started["use_shell"] and words != [it.encode("utf-8", "surrogateescape") for it in starts[-1][1:]]:
         raise ValueError(f"the program gets other words than Git says: {said!r}")
-    return {"text": text_of(text), "is_command_line": started["use_shell"], "variant": variant_of(case, found)}
+    text = started["argv"][0].encode("utf-8", "surrogateescape")
+    variant = variant_of(entries, setting, starts, ended)
+    return {"text": text_of(text), "is_command_line": started["use_shell"], "variant": variant}
+
+
+def program(ask, entries, setting):
+    """The call of the library for a setting, with Git's outcome."""
+    values = dict(zip(("GIT_SSH_COMMAND", "GIT_SSH", "GIT_SSH_VARIANT"), setting))
+    variables = {**values, "STATUS": setting.status, "GIT_TRACE2_EVENT": "1"}
+    said = ask("git", "ls-remote", "ssh://u@h:22/p", **variables)
+    more = b"" if b'"child_start"' in said else ask("git", "ls-remote", "ssh://u@h/p", **variables)
+    given = {name.lower(): text_of(it) for name, it in values.items() if it is not None}
+    order = {"call": "SshProgram::of", "config": text_of(listed(entries)), **given}
+    return order, outcome(entries, setting, said, more)
 
 
 def programs(configurations):
-    """The calls of the library for settings, each with Git's outcome."""
+    """The calls of the library for settings; in their texts `@` is the folder of the programs."""
     with tempfile.TemporaryDirectory(prefix="programs-") as scratch:
         def placed(value):
             return value and value.replace(b"@", scratch.encode())
 
         for name in Programs.NAMES:
             put(f"{scratch}/{name.decode()}", FAKE, 0o700)
-        files = [[it._replace(value=placed(it.value)) for it in entries] for entries, _ in configurations]
-        with scratch_folders(files) as (place, environment, folders):
-            environment["PATH"] = f"{scratch}:{environment['PATH']}"
-            asked = [(folder, Setting(entries, *map(placed, some), status))
-                     for folder, entries, (_, settings) in zip(folders, files, configurations) for *some, status in settings]
-            words = [word for folder, it in asked for word in (folder, *(b"" if one is None else b"=" + one for one in it[1:4]), it.status)]
-            said = answers_of(ASK_PROGRAM, place, environment, words, each=5, answers=2)
-    for (_, it), *both in zip(asked, said[::2], said[1::2]):
-        given = {"git_ssh_command": it.command, "git_ssh": it.path, "git_ssh_variant": it.variant}
-        values = {name: text_of(value) for name, value in given.items() if value is not None}
-        yield {"call": "SshProgram::of", "config": text_of(listed(it.entries)), **values}, outcome(it, *both)
+        asked = [
+            ([it._replace(value=placed(it.value)) for it in entries],
+             [Setting(*map(placed, some), status) for *some, status in settings])
+            for entries, settings in configurations]
+        return in_repositories(program, asked, PATH=f"{scratch}:{os.environ['PATH']}")

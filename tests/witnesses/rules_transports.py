@@ -6,40 +6,15 @@ repositories are commands that fail, and remote helpers aren't found. `git confi
 is asked of a command that reads the entry: `ls-remote` over HTTP, and for a text of the transport, `credential fill`, and `remote`.
 """
 import itertools
-import json
 import re
 
 from second_reading.git_reads import git_reads
-from git_runs import Entry, answers_of, listed, scratch_folders
+from git_runs import Entry, in_repositories, listed
 from row_text import text_of
-from rt_api import read
+from rt_api import rows_of
 from second_reading import grammar
 from texts import Policies
 
-# The configuration, the list or nothing, the user's variable or nothing, and the text: a word after a `=` is a value.
-ASK = r"""
-while [ $# -gt 0 ]; do
-  unset GIT_ALLOW_PROTOCOL GIT_PROTOCOL_FROM_USER
-  case $2 in =*) export GIT_ALLOW_PROTOCOL="${2#=}";; esac
-  case $3 in =*) export GIT_PROTOCOL_FROM_USER="${3#=}";; esac
-  GIT_DIR="$1" git ls-remote --upload-pack=false -- "$4" 2>&1; printf '\0'
-  shift 4
-done
-"""
-ASK_BOOLEAN = r"""
-for text; do git -c a.b="$text" config --type=bool a.b 2>&1; printf '\0'; done
-"""
-# No server listens at the port.
-ASK_STOPS = r"""
-while [ $# -gt 0 ]; do
-  case $2 in
-    credential) said=$(printf 'url=http://h/p\n' | GIT_DIR="$1" git credential fill 2>&1) ;;
-    remote | url) said=$(GIT_DIR="$1" git remote -v 2>&1) ;;
-    *) said=$(GIT_DIR="$1" git ls-remote "$2" 2>&1) ;;
-  esac
-  printf '%s\0' "$said"; shift 2
-done
-"""
 NAMED = re.compile(rb"^fatal: transport '(.*)' not allowed$", re.M | re.S)
 # The reasons why Git ends before it decides, by the library's names: a value that isn't a policy, none, and a variable without
 # a truth value.
@@ -48,41 +23,40 @@ ENDS = {b"unknown value for config": "UnknownAllowance", b"bad config variable":
 # Git's refusals before it looks at the transport: of a text that has none, by the library's names, or of a text whose form has one.
 REASONS = {b"git-over-rsync": "Rsync", b"is not supported": "UnknownScheme"}
 REFUSALS = (b"no path specified", b"strange pathname", b"newline is forbidden")
+# Programs that fail replace those of the transports.
+FAILING = {"GIT_SSH_COMMAND": "false", "GIT_SSH_VARIANT": "simple", "GIT_PROXY_COMMAND": "false"}
 
 
-def ask(asked):
-    """Git's results for configurations with their variables and texts."""
-    configurations = [*dict.fromkeys(tuple(it[0]) for it in asked)]
-    scratch_for = scratch_folders(configurations, GIT_SSH_COMMAND="false", GIT_SSH_VARIANT="simple", GIT_PROXY_COMMAND="false")
-    with scratch_for as (scratch, environment, folders):
-        folder_of = dict(zip(configurations, folders))
-        words = [word for entries, *values, text in asked for word in
-                 (folder_of[tuple(entries)], *(b"" if it is None else b"=" + it for it in values), text)]
-        return answers_of(ASK, scratch, environment, words, each=4)
+def used(ask, text, allow_list, from_user=None):
+    """What Git says of a text with the values of the two variables."""
+    variables = {"GIT_ALLOW_PROTOCOL": allow_list, "GIT_PROTOCOL_FROM_USER": from_user}
+    return ask("git", "ls-remote", "--upload-pack=false", "--", text, **variables)
 
 
-def decision(said, name):
-    ends = next((word for words, word in ENDS.items() if words in said), None)
-    refused = NAMED.search(said)
-    if refused and refused[1] != name:
-        return f"the transport {refused[1]!r} is refused"
-    return ends or ("Refused" if refused else "Allowed")
+def permission(ask, entries, policy):
+    allow_list, from_user, name, text = policy
+    said = used(ask, text, allow_list, from_user)
+    refused, ends = NAMED.search(said), next((word for words, word in ENDS.items() if words in said), None)
+    decision = ends or ("Refused" if refused else "Allowed")
+    variables = {"allow_list": allow_list, "from_user": from_user}
+    given = {key: text_of(it) for key, it in variables.items() if it is not None}
+    order = {"call": "Protocols::permission", "config": text_of(listed(entries)), "name": text_of(name), **given}
+    return order, decision if not refused or refused[1] == name else f"the transport {refused[1]!r} is refused"
 
 
 def permissions(policies):
     """The calls of the library for policies, each with Git's outcome for a text that uses the transport: each of its texts in turn."""
     texts = [Policies.texts_of(name) for *_, name in policies]
-    said = ask([(*it[:-1], some[at % len(some)]) for at, (it, some) in enumerate(zip(policies, texts))])
-    for (entries, allow_list, from_user, name), found in zip(policies, said):
-        variables = {"allow_list": allow_list, "from_user": from_user}
-        given = {key: text_of(it) for key, it in variables.items() if it is not None}
-        yield {"call": "Protocols::permission", "config": text_of(listed(entries)), "name": text_of(name), **given}, decision(found, name)
+    asked = [(it[0], [(*it[1:], some[at % len(some)])]) for at, (it, some) in enumerate(zip(policies, texts))]
+    return in_repositories(permission, asked, **FAILING)
 
 
 # ---- names
 
-def name_of(said):
-    """The transport that Git names, or the reason why the text has none; None if Git refuses the text for another reason."""
+def name_of(ask, _, text):
+    """The transport that Git names, or the reason why the text has none; None if Git refuses the text for another
+    reason."""
+    said = used(ask, text, "none-of-these")
     if refused := NAMED.search(said):
         return text_of(refused[1])
     if reason := next((it for words, it in REASONS.items() if words in said), None):
@@ -102,7 +76,7 @@ def is_of_its_scheme(text):
 def names(texts):
     """The calls of the library for the texts, and for those that it reads as locations, each with the transport that Git names. After `--` a
     text that begins with `-` isn't an option."""
-    for text, found in zip(texts, map(name_of, ask([([], b"none-of-these", None, it) for it in texts]))):
+    for text, found in zip(texts, in_repositories(name_of, [([], texts)], **FAILING)):
         if found is not None and not text.startswith(b"-"):
             yield {"call": "text::transport_of", "text": text_of(text)}, found
         if isinstance(found, str) and is_of_its_scheme(text):
@@ -111,13 +85,15 @@ def names(texts):
 
 # ---- values
 
+def boolean(ask, _, text):
+    said = ask("git", "-c", b"a.b=" + text, "config", "--type=bool", "a.b")
+    order, values = {"call": "boolean::read_boolean", "text": text_of(text)}, {b"true\n": True, b"false\n": False}
+    return order, None if said.startswith(b"fatal: bad boolean config value") else values[said]
+
+
 def booleans(texts):
     """The calls of the library for texts, each with its value by Git, None if Git refuses it."""
-    values = {b"true\n": True, b"false\n": False}
-    with scratch_folders([]) as (scratch, environment, _):
-        said = answers_of(ASK_BOOLEAN, scratch, environment, texts)
-    return [({"call": "boolean::read_boolean", "text": text_of(text)}, None if it.startswith(b"fatal: bad boolean config value") else values[it])
-            for text, it in zip(texts, said)]
+    return in_repositories(boolean, [([], texts)])
 
 
 # Git's messages when it stops, and the library's reasons.
@@ -127,18 +103,24 @@ SAID = {b"missing value for": "NoValue", b"bad boolean config value": "NoBoolean
 
 def entries():
     """Those of `vectors/texts/stops.jsonl`, which has names, places and values."""
-    for line in map(json.loads, read("vectors/texts/stops.jsonl").splitlines()):
+    for line in rows_of("vectors/texts/stops.jsonl"):
         for some in itertools.product([line["section"]], line["names"], line["values"], line["places"]):
             section, name, value, place = (it if it is None else it.encode() for it in some)
             yield Entry(section, place, name, value)
 
 
+def stop(ask, entries, section):
+    if section == b"credential":
+        said = ask("git", "credential", "fill", given=b"url=http://h/p\n")
+    elif section in (b"remote", b"url"):
+        said = ask("git", "remote", "-v")
+    else:
+        # No server listens at the port.
+        said = ask("git", "ls-remote", {b"http": "http://127.0.0.1:1/", b"protocol": "/none"}.get(section, section))
+    order = {"call": "stops::stop_at", "config": text_of(listed(entries))}
+    return order, next((name for words, name in SAID.items() if words in said), None)
+
+
 def stops(some):
     """The calls of the library for entries, each with the reason for which Git stops, None if it doesn't stop for it."""
-    commands = {b"http": b"http://127.0.0.1:1/", b"protocol": b"/none"}
-    with scratch_folders([[it] for it in some], GIT_EXEC_PATH="") as (scratch, environment, folders):
-        del environment["GIT_EXEC_PATH"]
-        words = [word for folder, it in zip(folders, some) for word in (folder, commands.get(it.section, it.section))]
-        said = answers_of(ASK_STOPS, scratch, environment, words, each=2)
-    return [({"call": "stops::stop_at", "config": text_of(listed([it]))}, next((name for words, name in SAID.items() if words in one), None))
-            for it, one in zip(some, said)]
+    return in_repositories(stop, [([it], [it.section]) for it in some], GIT_EXEC_PATH=None)

@@ -50,13 +50,8 @@ class Enough(Exception):
     """As many texts are made as are asked for."""
 
 
-class Text(bytes):
-    """A text, with what makes it again."""
-
-    again: tuple = ()
-
-
 def made(maker):
+    """A strategy of texts, each with what makes it again."""
     def by_draws(draw):
         it, numbers = maker(None), []
 
@@ -66,18 +61,20 @@ def made(maker):
             return found
 
         it.below, it.one_of = lambda count: number(below, count), lambda some: some[number(index, len(some))]
-        text = Text(it.text())
-        text.again = Made(maker, "text"), lambda: (lambda _, left=iter(numbers): next(left))
-        return text
+        return it.text(), Made(maker, "text"), lambda: (lambda _, left=iter(numbers): next(left))
 
     # Of a function without a name hypothesis would read the source each time.
     return strategies.composite(by_draws)()
 
 
+def is_argument(it):
+    return can_be_an_argument(it[0])
+
+
 class Drawn:
     """Texts by draws of hypothesis, since `groups.jsonl` counts those."""
 
-    TEXTS = strategies.one_of([made(NearMaker)] * 4 + [made(WebMaker), made(LocationMaker)]).filter(can_be_an_argument)
+    TEXTS = strategies.one_of([made(NearMaker)] * 4 + [made(WebMaker), made(LocationMaker)]).filter(is_argument)
 
     @functools.cache
     def examples(self, count):
@@ -86,7 +83,7 @@ class Drawn:
             wanted = min(count, len(found) + ROUND)
 
             def take(it):
-                found.setdefault(repr(it), (bytes(it), *it.again))
+                found.setdefault(repr(it[0]), it)
                 if len(found) >= wanted:
                     raise Enough
 
@@ -114,10 +111,6 @@ def asked_of(name, found, cases, places, same):
     return Asked(name, found, [*groups.seen(name, cases, places)], {case.text: (case, it) for case, it in zip(cases, places) if not same(case, it)})
 
 
-def some(cases, count):
-    return cases[:: max(1, len(cases) // count)][:count]
-
-
 def ask_program(reader, cases):
     found = version(reader)
     if found is None or not build(reader):
@@ -133,7 +126,8 @@ def ask_own(own, cases, count):
     if name != "libcurl":
         inside = [it for it in fitting if not it.broken]
         outside = [it for it in fitting if it.broken and it.wanted is not None and not it.text.startswith(b"-")]
-        fitting = [*dict.fromkeys([*(it for it in fitting if it.text in shown), *some(inside, count), *some(outside, count)])]
+        chosen = [it for some in (inside, outside) for it in some[:: max(1, len(some) // count)][:count]]
+        fitting = [*dict.fromkeys([*(it for it in fitting if it.text in shown), *chosen])]
     seen = with_decoded_path if name == "Git credential" else lambda it: it
     return asked_of(name, found, fitting, places([it.text for it in fitting]), lambda case, it: case.wanted and seen(case.wanted) == it)
 
@@ -172,24 +166,14 @@ class Run:
     """All texts of a scale, and what the readers read in them."""
 
     def __init__(self, name, files):
-        count, self.started = SCALES[name]
+        count, started = SCALES[name]
         self.is_whole, self.is_own = name == "whole", not files
         lines = [it for file in files for it in open(file, "rb").read().splitlines()] or remotes()
         more = changed_texts() if self.is_whole else []
         others = [*filter(can_be_an_argument, [*facts.texts(), *GIVEN, *lines, *texts_of_rows(LONGEST), *more])]
-        self.found = functools.cache(lambda: asked(tuple(compare(Drawn(), count, lambda texts: faults(texts, self.started), others)), self.started))
-
-    @property
-    def cases(self):
-        return self.found()[0]
-
-    @property
-    def readers(self):
-        return self.found()[1]
-
-    @property
-    def known(self):
-        return [it for it in self.readers if facts.versions().get(it.name) == it.version]
+        texts = compare(Drawn(), count, lambda texts: faults(texts, started), others)
+        self.cases, self.readers = asked(tuple(texts), started)
+        self.known = [it for it in self.readers if facts.versions().get(it.name) == it.version]
 
     def alone(self):
         """By conditions and readers, the differences in texts that break only this condition."""
@@ -228,7 +212,8 @@ def test_outside_of_the_class(run):
     listed = facts.conditions()
     assert not [f"{reader.name} {reader.version} reads {it} in {case.text!r}, and Git {case.wanted}; it breaks {case.broken}"
                 for reader in run.known for case, it in reader.differing.values()
-                if case.wanted is not None and not any(facts.is_listed(listed[name], reader.name) for name in case.broken)]
+                if case.wanted is not None and not any(reader.name in listed[name].get(kind, ())
+                                                       for name in case.broken for kind in (*facts.KINDS, "beside"))]
 
 
 def test_confusions(run):
@@ -243,7 +228,8 @@ def test_each_condition_and_shape_is_needed(run):
     """In a whole run over the repository's remotes."""
     if run.is_whole:
         found, listed = run.alone(), facts.conditions()
-        assert not [name for name in CONDITIONS if not found[name] and facts.has_readers(listed[name])]
+        needed = [name for name in CONDITIONS if any(listed[name].get(kind) for kind in facts.KINDS)]
+        assert not [name for name in needed if not found[name]]
     if run.is_whole and run.is_own:
         assert not [*groups.shape_faults(run.known)]
         assert not [*facts.count_faults(run.known)]

@@ -39,31 +39,31 @@ TOPICS = {
     "modules": (made(Modules, "file"), 24_000, 2_000, rules_files.checks),
     "used modules": (made(Modules, "used"), 1_500, 125, rules_files.used),
 }
-OTHERS = {"files": [text for text, _, _ in rules_files.CUT]}
+OTHERS = {"files": [*rules_files.CUT]}
 
 
-def scales(whole, sample):
-    return [pytest.param(sample, marks=pytest.mark.sample, id="sample"), pytest.param(whole, marks=pytest.mark.whole, id="whole")]
+SCALES = [pytest.param(False, marks=pytest.mark.sample, id="sample"),
+          pytest.param(True, marks=pytest.mark.whole, id="whole")]
 
 
-@pytest.mark.parametrize("topic, count", [
-    pytest.param(topic, count, marks=mark, id=f"{topic}-{mark.name}") for topic, it in TOPICS.items()
-    for count, mark in ((it[1], pytest.mark.whole), (it[2], pytest.mark.sample))])
-def test_topic(topic, count):
-    strategy, _, _, ask = TOPICS[topic]
-    compare(strategy, count, lambda some: library_faults(ask(some)), OTHERS.get(topic, ()))
+@pytest.mark.parametrize("is_whole", SCALES)
+@pytest.mark.parametrize("topic", TOPICS)
+def test_topic(topic, is_whole):
+    source, whole, sample, ask = TOPICS[topic]
+    compare(source, whole if is_whole else sample, lambda some: library_faults(ask(some)), OTHERS.get(topic, ()))
 
 
-@pytest.mark.parametrize("count", scales(1_200, 150))
-def test_rewriting(count):
+@pytest.mark.parametrize("is_whole", SCALES)
+def test_rewriting(is_whole):
     """If Git ends, it does for an entry without a value, and both ways."""
     def faults(some):
         cases = rules_remotes.rewritten(some)
-        yield from ((None, f"{it} is in no class") for it in cases if None in (it.fetch, it.push) and not rules_remotes.is_ended(it))
+        ended = [it for it in cases if None in (it.fetch, it.push)]
+        yield from ((None, f"{it} is in no class") for it in ended if not rules_remotes.is_ended(it))
         yield from library_faults(rules_remotes.rewritten_orders(cases))
 
-    configurations = compare(made(Rules, CONFIGURATION), count, faults)
-    assert count < 1_000 or any(map(rules_remotes.is_ended, rules_remotes.rewritten(configurations)))
+    configurations = compare(made(Rules, CONFIGURATION), 1_200 if is_whole else 150, faults)
+    assert not is_whole or any(map(rules_remotes.is_ended, rules_remotes.rewritten(configurations)))
 
 
 @pytest.mark.parametrize("maker", [Rules, Remotes], ids=lambda it: it.__name__)
@@ -72,27 +72,33 @@ def test_lists_of_entries(maker):
     assert not [*listing_faults([entries for entries, _ in examples(made(maker, CONFIGURATION), 150)])]
 
 
-@pytest.mark.parametrize("step", scales(1, 9))
-def test_values_at_which_git_stops(step):
-    assert not [*library_faults(rules_transports.stops([*rules_transports.entries()][::step]))]
+@pytest.mark.parametrize("is_whole", SCALES)
+def test_values_at_which_git_stops(is_whole):
+    entries = [*rules_transports.entries()][:: 1 if is_whole else 9]
+    assert not [*library_faults(rules_transports.stops(entries))]
 
 
-@pytest.mark.parametrize("count", scales(4_400, 1_100))
-def test_names_of_transports(count):
-    compare(made(LocationMaker, "or_addressed"), count, lambda some: library_faults(rules_transports.names(some)), remotes() if count > 4_000 else ())
+@pytest.mark.parametrize("is_whole", SCALES)
+def test_names_of_transports(is_whole):
+    def faults(some):
+        return library_faults(rules_transports.names(some))
+
+    count, others = (4_400, remotes()) if is_whole else (1_100, ())
+    compare(made(LocationMaker, "or_addressed"), count, faults, others)
 
 
-@pytest.mark.parametrize("count", scales(150, 12))
-def test_urls_of_submodules(count):
+@pytest.mark.parametrize("is_whole", SCALES)
+def test_urls_of_submodules(is_whole):
     """The parents that are written out come first."""
     parents = [*Pairs.PARENTS, *examples(made(Pairs, "parent"), 150 - len(Pairs.PARENTS))]
-    pairs = [*zip(parents, examples(made(Pairs, "urls"), 150))][:: 150 // count]
-    assert not [*library_faults(rules_files.resolved(pairs))]
+    pairs = [*zip(parents, examples(made(Pairs, "urls"), 150))]
+    assert not [*library_faults(rules_files.resolved(pairs[:: 1 if is_whole else 12]))]
 
 
-@pytest.mark.parametrize("count", scales(10_000, 1_500))
-def test_words_for_secure_shell(count):
-    """Git has the library's words, or the difference is in a class, each of which is needed. For an address family Git has no words either."""
+@pytest.mark.parametrize("is_whole", SCALES)
+def test_words_for_secure_shell(is_whole):
+    """Git has the library's words, or the difference is in a class, each of which is needed. For an address family Git
+    has no words either."""
     def judge(texts):
         cases = rules_ssh.commands([*rules_ssh.runs_of(texts)])
         found.update(name for name, _ in rules_ssh.judged(cases))
@@ -100,9 +106,10 @@ def test_words_for_secure_shell(count):
         yield from ((None, fault) for fault in rules_ssh.misread(cases))
 
     found = Counter()
-    others = filter(SecureMaker.FOR_SECURE_SHELL.match, remotes() if count == 10_000 else [])
-    compare(made(SecureMaker, "or_location"), count, judge, [*table("Given", "SSH"), *others])
-    assert count < 10_000 or {*rules_ssh.CLASSES} <= found.keys()
+    others = filter(SecureMaker.FOR_SECURE_SHELL.match, remotes() if is_whole else [])
+    source, count = made(SecureMaker, "or_location"), 10_000 if is_whole else 1_500
+    compare(source, count, judge, [*table("Given", "SSH"), *others])
+    assert not is_whole or {*rules_ssh.CLASSES} <= found.keys()
 
 
 # ---- the documents

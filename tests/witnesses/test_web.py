@@ -28,11 +28,11 @@ from second_reading.web_defined import credential_readings, own_faults, uri_read
 from second_reading.web_plain import CONDITIONS, STRICTER
 from tables import rows, texts_of_rows
 from texts import WebMaker, can_be_a_line, compare, examples, made, remotes, table
-from web_asked import Curl, ask_credential, library_of_git, wire_faults
+from web_asked import ask_credential, curl_of_git, wire_faults
 from web_classes import CLASSES, cases_of
 from web_reads import as_defined, credential_reads, curl_reads, for_transfer, is_number, literal
 
-pytestmark = pytest.mark.needs("git", library_of_git)
+pytestmark = pytest.mark.needs("git", curl_of_git)
 COUNT, TEXTS = 26_000, made(WebMaker)
 # The number of texts for Git's credential code, and for `git ls-remote`; None for all.
 SCALES = [pytest.param(3_000, 120, marks=pytest.mark.sample, id="sample"), pytest.param(None, 500, marks=pytest.mark.whole, id="whole")]
@@ -53,11 +53,6 @@ def some(texts, count):
 def given():
     """A text with byte 0 can't be an argument of a command."""
     return [it for it in dict.fromkeys([*remotes(), *texts_of_rows(LONGEST), *table("Given", "WEB")]) if HTTP.match(it) and 0 not in it]
-
-
-@functools.cache
-def curl():
-    return Curl(library_of_git())
 
 
 @functools.lru_cache(2)
@@ -84,7 +79,7 @@ def unmet():
 
 def rule_faults(texts, count):
     """A rule has another reading than the program; some texts are always compared."""
-    yield from unlike("libcurl reads", texts, curl().reads, curl_reads)
+    yield from unlike("libcurl reads", texts, curl_of_git().reads, curl_reads)
     always = {it.text for it in web_examples(rows("git"))} & {*texts}
     asked = [*dict.fromkeys([*always, *some([*filter(can_be_a_line, texts)], count)])]
     yield from unlike("Git's credential code reads", asked, dict(zip(asked, ask_credential(asked))).get, credential_reads)
@@ -143,7 +138,7 @@ def test_requests(count, sent):
     chosen = dict.fromkeys([*shown, *(it.text for cases in groups for it in some(cases, sent // len(groups)))])
     more = some([it for it in (*given(), *examples(TEXTS, COUNT)) if it not in chosen], max(0, sent - len(chosen)))
     careful = some([it.text for it, names in unmet() if not names], sent)
-    assert not [*wire_faults([*chosen, *more, *careful], curl())]
+    assert not [*wire_faults([*chosen, *more, *careful])]
 
 
 def test_each_class_is_needed():

@@ -5,7 +5,6 @@ Scripts that show their arguments and exit replace Secure Shell, the connection 
 to its end and connects to nothing. `ssh -G` reports how OpenSSH reads a word; it doesn't connect either. The repositories are
 made each time in a folder of their own, which also has the home folder.
 """
-import json
 import os
 import re
 import shutil
@@ -14,17 +13,10 @@ import tempfile
 
 from git_classes import HOME, SECURE_URL, Reading
 from second_reading.git_reads import git_port
-from git_runs import alone, ask_loop, git
-from rt_api import read
+from git_runs import alone, in_repositories
+from rt_api import rows_of
 
 OWN = ("ssh", "git", "file")
-# Git's reading, and the program to which it passes a text: only the transport `ssh` is allowed.
-ASK_GIT = r"""
-for text; do
-  git ls-remote -- "$text" 2>&1; printf '\0'
-  git fetch-pack --diag-url "$text" 2>&1; printf '\0'
-done
-"""
 # It shows its words, each followed by byte 1, between byte 1 and byte 2.
 SHOW = r"""#!/bin/sh
 { printf '\001'; printf '%s\001' "$@"; printf '\002'; } >&2
@@ -40,12 +32,6 @@ length=$(dd bs=1 count=4 2>/dev/null)
 } >&2
 exit 1
 """
-ASK_PROGRAMS = r"""
-for text; do git ls-remote --upload-pack="$SHOW" -- "$text" 2>&1; printf '\0'; done
-"""
-ASK_SECURE_SHELL = r"""
-while [ $# -gt 0 ]; do ssh -F "$SETTINGS" -G ${2:+-p "$2"} "$1" x 2>&1; printf '\0'; shift 2; done
-"""
 # OpenSSH uses this user if the word names none.
 NO_USER = b"not-named"
 PLAIN_WORD = re.compile(rb"([A-Za-z0-9_-]+@)?[A-Za-z0-9.-]+")
@@ -58,10 +44,25 @@ def shown(answer):
     return found and found[1].split(b"\x01")
 
 
+def in_loops(command, texts, files, **more):
+    """The output of a command for each `$text`. A shell runs it for many of them, which takes a fourth of the time."""
+    loop = f"for text; do {command} 2>&1; printf '\\0'; done"
+    parts = [texts[at : at + 200] for at in range(0, len(texts), 200)]
+
+    def said_of(ask, _, some):
+        return ask("sh", "-c", loop, "sh", *some).split(b"\0")[:-1]
+
+    said = [it for some in in_repositories(said_of, [([], parts)], files, **more) for it in some]
+    assert len(said) == len(texts)
+    return said
+
+
 def ask_git(texts):
-    """Git's results for texts: for each the transport with the words for Secure Shell, and the reading."""
-    said = ask_loop(ASK_GIT, texts, {"GIT_SSH": SHOW}, answers=2, GIT_ALLOW_PROTOCOL="ssh", GIT_SSH_VARIANT="ssh")
-    return list(zip(said[::2], said[1::2]))
+    """Git's results for texts, if only Secure Shell is allowed: for each the transport with the words for its program,
+    and the reading."""
+    own = {"GIT_ALLOW_PROTOCOL": "ssh", "GIT_SSH_VARIANT": "ssh"}
+    return [*zip(in_loops('git ls-remote -- "$text"', texts, {"GIT_SSH": SHOW}, **own),
+                 in_loops('git fetch-pack --diag-url "$text"', texts, {"GIT_SSH": SHOW}, **own))]
 
 
 def host_and_port(text):
@@ -75,24 +76,20 @@ def host_and_port(text):
     return text if port is None and (digits or not colon) else name, port
 
 
-def secure_reading(said):
-    found = re.search(rb"\nDiag: userandhost=(.*)\nDiag: port=(.*)\nDiag: path=(.*)\n\Z", said, re.S)
-    user, at, host = found[1].rpartition(b"@")
-    return Reading("ssh", user if at else None, None, host or None, None if found[2] == b"NONE" else int(found[2]), found[3])
-
-
 def diagnosed(said):
     """The reading that `git fetch-pack --diag-url` shows; None if it shows none."""
-    if b"\nDiag: protocol=ssh\n" in said:
-        found = secure_reading(said)
-        return found._replace(protocol=SECURE_URL) if (found.user or found.host or b"").startswith(b"ssh://") else found
-    shown = re.search(rb"\nDiag: protocol=(git|file)\nDiag: hostandport=(.*)\nDiag: path=(.*)\n\Z", said, re.S)
-    if shown is None:
+    if found := re.search(rb"\nDiag: userandhost=(.*)\nDiag: port=(.*)\nDiag: path=(.*)\n\Z", said, re.S):
+        user, at, host = found[1].rpartition(b"@")
+        protocol = SECURE_URL if (user or host).startswith(b"ssh://") else "ssh"
+        port = None if found[2] == b"NONE" else int(found[2])
+        return Reading(protocol, user if at else None, None, host or None, port, found[3])
+    found = re.search(rb"\nDiag: protocol=(git|file)\nDiag: hostandport=(.*)\nDiag: path=(.*)\n\Z", said, re.S)
+    if found is None:
         return None
     # Git opens the path of a file URL on this machine, whatever its host.
-    host, port = host_and_port(shown[2]) if shown[1] == b"git" else (None, None)
-    protocol = HOME if shown[1] == b"file" and shown[3].startswith(b"~") else shown[1].decode()
-    return Reading(protocol, None, None, host or None, port, shown[3])
+    host, port = host_and_port(found[2]) if found[1] == b"git" else (None, None)
+    protocol = HOME if found[1] == b"file" and found[3].startswith(b"~") else found[1].decode()
+    return Reading(protocol, None, None, host or None, port, found[3])
 
 
 def quoted(text):
@@ -119,20 +116,17 @@ def words_wanted(reading):
     return (host, GIT_PORT if port is None else port, path) if reading.protocol == "git" else (path,)
 
 
-def is_blocked(text, answer):
-    """Whether Git refuses a text of `git://` by a rule of its own: for an end of a line, or, before such a program, for a host
-    or a port that begins with `-`."""
-    if b"%0a" in text.lower():
-        return answer.startswith(b"fatal: newline is forbidden")
-    return re.match(rb"fatal: strange (hostname|port) '-", answer) is not None
-
-
 def program_fault(text, answer, reading):
-    """The fault of the words that a program got for a reading, if there is one. After an empty path Git reads
-    the byte after the text's end, which may be a `~`, so there the path isn't compared."""
+    """The fault of the words that a program got for a reading, if there is one.
+
+    Git refuses a text of `git://` by rules of its own: for an end of a line, or, before such a program, for a host or a
+    port that begins with `-`. After an empty path Git reads the byte after the text's end, which may be a `~`, so there
+    the path isn't compared.
+    """
     words = shown(answer)
     if reading.protocol == "git" and (b"%0a" in text.lower() or words is None):
-        return None if words is None and is_blocked(text, answer) else f"Git answers {answer!r}"
+        refusal = rb"fatal: newline is forbidden" if b"%0a" in text.lower() else rb"fatal: strange (hostname|port) '-"
+        return None if words is None and re.match(refusal, answer) else f"Git answers {answer!r}"
     if words is None:
         return f"no program is started: {answer!r}"
     if reading.path == b"" or text.endswith(b":") and reading.path.startswith(b"~"):
@@ -145,57 +139,55 @@ def program_faults(readings, answers):
     words; those of `git://` and of this machine are run again, with both allowed."""
     own = {text: it for text, it in readings.items() if isinstance(it, Reading) and it.protocol in (*OWN, HOME)}
     others = [text for text, it in own.items() if it.protocol != "ssh"]
-    said = ask_loop(ASK_PROGRAMS, others, {"SHOW": SHOW, "GIT_PROXY_COMMAND": SHOW_REQUEST}, GIT_ALLOW_PROTOCOL="git:file")
-    faults = {text: program_fault(text, it, own[text]) for text, it in {**answers, **dict(zip(others, said))}.items() if text in own}
-    return [(text, fault) for text, fault in faults.items() if fault]
+    programs = {"SHOW": SHOW, "GIT_PROXY_COMMAND": SHOW_REQUEST}
+    said = in_loops('git ls-remote --upload-pack="$SHOW" -- "$text"', others, programs, GIT_ALLOW_PROTOCOL="git:file")
+    for text, answer in {**answers, **dict(zip(others, said))}.items():
+        if text in own and (fault := program_fault(text, answer, own[text])):
+            yield text, fault
 
 
 # ---- OpenSSH
 
 def ask_secure_shell(pairs):
     """OpenSSH's answers to words, each with its port or None."""
-    words = [it for word, port in pairs for it in (word, b"" if port is None else b"%d" % port)]
-    return ask_loop(ASK_SECURE_SHELL, words, {"SETTINGS": f"User {NO_USER.decode()}\n"}, each=2)
-
-
-def is_heard(answer, reading):
-    """Whether OpenSSH reads a word as the reading. Its host is the one that it shows itself, not the host that it would look
-    up, which is in lower case."""
-    found = re.search(rb"(?:\A|\n)host (.*?)\nuser (.*?)\nhostname .*?\nport ([0-9]+)\n", answer, re.S)
-    user, port = NO_USER if reading.user is None else reading.user, SECURE_PORT if reading.port is None else reading.port
-    return found is not None and (found[1], found[2], int(found[3])) == (reading.host or b"", user, port)
-
-
-def is_refused(answer):
-    return not re.search(rb"\nport [0-9]+\n", answer)
+    def said(ask, _, pair):
+        word, port = pair
+        return ask("sh", "-c", 'ssh -F "$SETTINGS" -G "$@" x', "sh", *([] if port is None else ["-p", str(port)]), word)
+    return in_repositories(said, [([], pairs)], {"SETTINGS": f"User {NO_USER.decode()}\n"})
 
 
 def heard_fault(answer, reading):
-    """The fault of OpenSSH's reading of the word for Git's reading, if there is one. It must refuse a word with an empty user,
-    and read a word that is a URL as another user and host; it may refuse others, as with port 0."""
+    """The fault of OpenSSH's reading of the word for Git's reading, if there is one.
+
+    It must refuse a word with an empty user, and read a word that is a URL as another user and host; it may refuse
+    others, as with port 0. Its host is the one that it shows itself, not the host that it would look up, which is in
+    lower case.
+    """
+    is_refused = not re.search(rb"\nport [0-9]+\n", answer)
     if reading == "empty user":
-        return None if is_refused(answer) else "OpenSSH doesn't refuse it"
+        return None if is_refused else "OpenSSH doesn't refuse it"
+    found = re.search(rb"(?:\A|\n)host (.*?)\nuser (.*?)\nhostname .*?\nport ([0-9]+)\n", answer, re.S)
+    user = NO_USER if reading.user is None else reading.user
+    port = SECURE_PORT if reading.port is None else reading.port
+    is_heard = found is not None and (found[1], found[2], int(found[3])) == (reading.host or b"", user, port)
     if reading.protocol == SECURE_URL:
-        return "OpenSSH doesn't read the word as a URL" if is_heard(answer, reading) else None
-    return None if is_refused(answer) or is_heard(answer, reading) else f"OpenSSH reads {answer[:200]!r}"
-
-
-def chosen(pairs):
-    """The words for OpenSSH: those with anything but a plain user and a plain host, and every tenth of the others."""
-    plain = [it for it in pairs if PLAIN_WORD.fullmatch(it[0])]
-    return [*{*pairs}.difference(plain), *plain[::10]]
+        return "OpenSSH doesn't read the word as a URL" if is_heard else None
+    return None if is_refused or is_heard else f"OpenSSH reads {answer[:200]!r}"
 
 
 def secure_faults(readings, answers):
-    """The texts whose word OpenSSH reads differently, each with the fault, if it is installed."""
+    """The texts whose word OpenSSH reads differently, each with the fault, if it is installed. Of the words that are a
+    plain user and a plain host, it gets every tenth."""
     if not shutil.which("ssh"):
-        return []
+        return
     named = [text for text, it in readings.items() if it == "empty user" or isinstance(it, Reading) and it.protocol in ("ssh", SECURE_URL)]
     pairs = {text: words_got("ssh", shown(answers[text]))[:2] for text in named}
-    asked = chosen(dict.fromkeys(pairs.values()))
+    plain = [it for it in dict.fromkeys(pairs.values()) if PLAIN_WORD.fullmatch(it[0])]
+    asked = {*pairs.values()} - {*plain} | {*plain[::10]}
     heard = dict(zip(asked, ask_secure_shell(asked)))
-    faults = ((text, heard_fault(heard[pair], readings[text])) for text, pair in pairs.items() if pair in heard)
-    return [(text, fault) for text, fault in faults if fault]
+    for text, pair in pairs.items():
+        if pair in heard and (fault := heard_fault(heard[pair], readings[text])):
+            yield text, fault
 
 
 # ---- repositories
@@ -204,7 +196,7 @@ def secure_faults(readings, answers):
 REPOSITORIES = ("home/x", "here/x", "here/~/x", "here/~no-such-user/x", "here/a:b", "here/]/c", "here/a@[b]/c")
 # A text, with the folder's path for `{}`; the repository that `git ls-remote`, `git fetch` and `git push` open, and the one
 # that `git clone` opens: None if it is refused.
-OPENED = [json.loads(it) for it in read("vectors/texts/opened.jsonl").splitlines()]
+OPENED = rows_of("vectors/texts/opened.jsonl")
 
 
 class Scratch:
@@ -214,15 +206,16 @@ class Scratch:
         self.scratch, self.here = scratch, f"{scratch}/here"
         people = {f"GIT_{it}_{part}": "x" for it in ("AUTHOR", "COMMITTER") for part in ("NAME", "EMAIL")}
         self.environment = alone(scratch, GIT_ALLOW_PROTOCOL="file", **people)
-        os.makedirs(f"{scratch}/home")
-        git(scratch, self.environment, "init", "--quiet", self.here)
+        for it in ("home", "here"):
+            os.makedirs(f"{scratch}/{it}")
+        self.said("init", "--quiet")
         self.tree = self.said("write-tree")
         self.known = {self.made(it): it for it in REPOSITORIES}
         self.commit = self.said("commit-tree", "-m", "pushed", self.tree)
 
     def said(self, *words):
-        quiet = {"stdin": subprocess.DEVNULL, "stderr": subprocess.DEVNULL}
-        return subprocess.run(["git", *words], cwd=self.here, env=self.environment, stdout=subprocess.PIPE, check=False, **quiet).stdout.decode().strip()
+        how = {"cwd": self.here, "env": self.environment, "stdin": subprocess.DEVNULL, "capture_output": True}
+        return subprocess.run(["git", *words], check=False, **how).stdout.decode().strip()
 
     def name(self, path):
         found = os.path.relpath(os.path.realpath(os.path.join(self.here, path.decode())), self.scratch)

@@ -12,28 +12,23 @@ It answers a request without a password with 401, so that Git asks its helper, a
 """
 import base64
 import ctypes
+import functools
 import re
 import socketserver
 import subprocess
-import tempfile
 import threading
 from collections import namedtuple
-from concurrent.futures import ThreadPoolExecutor
 from contextlib import contextmanager
 
 from differences import unlike
 from second_reading.git_reads import decoded
-from git_runs import alone, ask_loop, put
+from git_runs import in_repositories
 from web_reads import Web, credential_cut, credential_reads, curl_reads, cut, escaped, host_and_port
 
 # The helper reports its request between byte 1 and byte 2, and does nothing for `store` and `erase`.
 SETTINGS = r"""[credential]
 useHttpPath = true
 helper = "!f() { test \"$1\" = get || exit 0; printf '\\1' >&2; cat >&2; printf '\\2' >&2; echo username=x; echo password=y; }; f"
-"""
-# If Git refuses to write a part, it ends before the helper does, so the end of both is waited for.
-ASK_CREDENTIAL = r"""
-for text; do said=$(printf 'url=%s\n' "$text" | git credential fill 2>&1); printf '%s\0' "$said"; done
 """
 REFUSALS = {b"warning: url contains a newline": "line end", b"contains carriage return": "carriage return"}
 # The whole URL and its parts, by libcurl's numbers for them.
@@ -55,21 +50,13 @@ def asked(answer):
 
 
 def ask_credential(texts):
-    return [*map(asked, ask_loop(ASK_CREDENTIAL, texts, {"GIT_CONFIG_GLOBAL": SETTINGS}, GIT_TERMINAL_PROMPT="0"))]
+    def filled(ask, _, text):
+        return asked(ask("git", "credential", "fill", given=b"url=%s\n" % text))
+
+    return in_repositories(filled, [([], texts)], {"GIT_CONFIG_GLOBAL": SETTINGS})
 
 
 # ---- libcurl
-
-def library_of_git():
-    """The libcurl that `git-remote-http` is linked to; None if there is none."""
-    try:
-        folder = subprocess.run(["git", "--exec-path"], stdout=subprocess.PIPE, check=True, text=True).stdout.strip()
-        said = subprocess.run(["ldd", f"{folder}/git-remote-http"], capture_output=True, check=True, text=True).stdout
-    except (OSError, subprocess.CalledProcessError):
-        return None
-    found = re.search(r"libcurl\S* => (/\S+)", said)
-    return found and found[1]
-
 
 class Curl:
     def __init__(self, file):
@@ -110,9 +97,20 @@ class Curl:
         return Web(scheme, user, password, host, port, path + (b"?" + escaped(query) if query else b""))
 
 
+@functools.cache
+def curl_of_git():
+    """The libcurl that `git-remote-http` is linked to; None if there is none."""
+    try:
+        folder = subprocess.run(["git", "--exec-path"], capture_output=True, check=True, text=True).stdout.strip()
+        said = subprocess.run(["ldd", f"{folder}/git-remote-http"], capture_output=True, check=True, text=True).stdout
+    except (OSError, subprocess.CalledProcessError):
+        return None
+    found = re.search(r"libcurl\S* => (/\S+)", said)
+    return found and Curl(found[1])
+
+
 # ---- the requests that Git sends, and the passwords in them
 
-LANES, SECONDS = 4, 30
 Request = namedtuple("Request", "method host port path")
 # The result of a text: the requests, the requests to the helper, and the users and passwords that are sent.
 Sent = namedtuple("Sent", "requests asked passwords")
@@ -124,7 +122,7 @@ REFUSED = b"HTTP/1.1 %s\r\nWWW-Authenticate: Basic realm=\"here\"\r\nContent-Len
 class Recorder(socketserver.StreamRequestHandler):
     """Records the head of a request, and refuses it."""
 
-    timeout = SECONDS
+    timeout = 30
 
     def handle(self):
         head = [*iter(lambda: self.rfile.readline().rstrip(b"\r\n"), b"")]
@@ -166,20 +164,16 @@ def passwords_of(heads):
     return frozenset(base64.b64decode(it.removeprefix(b"Basic ")) for it in found)
 
 
-def sent(text, scratch):
-    """The requests of `git ls-remote` for a text, to a proxy of its own."""
-    environment = alone(scratch, GIT_CONFIG_GLOBAL=f"{scratch}/settings", GIT_TERMINAL_PROMPT="0", GIT_ALLOW_PROTOCOL="http:https")
+def sent(ask, _, text):
     with recording() as proxy:
-        words = ["git", "-c", f"http.proxy=http://127.0.0.1:{proxy.server_address[1]}", "ls-remote", "--", text]
-        said = subprocess.run(words, cwd=scratch, env=environment, stdin=subprocess.DEVNULL, capture_output=True, timeout=SECONDS).stderr
+        said = ask("git", "-c", f"http.proxy=http://127.0.0.1:{proxy.server_address[1]}", "ls-remote", "--", text)
     return Sent(frozenset(map(request_of, proxy.heads)), asked(said) if b"\1" in said else None, passwords_of(proxy.heads))
 
 
 def all_sent(texts):
-    """The requests of `git ls-remote` for each text, some of them in parallel."""
-    with tempfile.TemporaryDirectory(prefix="wire-") as scratch, ThreadPoolExecutor(LANES) as lanes:
-        put(f"{scratch}/settings", SETTINGS)
-        return [*lanes.map(lambda it: sent(it, scratch), texts)]
+    """The requests of `git ls-remote` for each text, to a proxy of its own."""
+    allowed = {"GIT_EXEC_PATH": None, "GIT_ALLOW_PROTOCOL": "http:https"}
+    return in_repositories(sent, [([], texts)], {"GIT_CONFIG_GLOBAL": SETTINGS}, **allowed)
 
 
 # ---- by the rules
@@ -190,7 +184,7 @@ def requested(place):
     return Request(b"GET", host, port, place.path) if place.scheme == b"http" else Request(b"CONNECT", host, port, None)
 
 
-def expected(text, curl):
+def expected(text):
     """The expected requests for a text, by the readings of the credential code and of libcurl."""
     base = text if text.endswith(b"/") else text + b"/"
     tail = b"info/refs" + (b"&" if b"?" in base else b"?") + b"service=git-upload-pack"
@@ -209,12 +203,12 @@ def expected(text, curl):
         return Sent(frozenset({first}), None, frozenset(own))
     # If libcurl writes the URL differently, Git takes that for a redirection: it asks its helpers for the new place, and then
     # libcurl reads the new URL.
-    again = curl.parts(base + tail)[0]
+    again = curl_of_git().parts(base + tail)[0]
     named = credential_reads(again.removesuffix(tail))
     if not isinstance(named, Web):
         return Sent(frozenset({first}), named, frozenset(own))
     return Sent(frozenset({first, requested(curl_reads(again))}), named, frozenset({*own, b"x:y"}))
 
 
-def wire_faults(texts, curl):
-    return unlike("git ls-remote sends", texts, dict(zip(texts, all_sent(texts))).get, lambda it: expected(it, curl))
+def wire_faults(texts):
+    return unlike("git ls-remote sends", texts, dict(zip(texts, all_sent(texts))).get, expected)
