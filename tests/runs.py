@@ -19,10 +19,10 @@ def run(name, words=(), given=b"", timeout=60, **how):
     return subprocess.run([program(name), *words], input=given, capture_output=True, timeout=timeout, check=False, **how)
 
 
-def explain(words=(), given=b"", timeout=300, **how):
-    """What `explain` writes; it must end with 0 or 1."""
-    ran = run("explain", words, given, timeout, **how)
-    assert ran.returncode in (0, 1), f"explain {words} ended with {ran.returncode}: {ran.stderr!r}"
+def explain(words=(), given=b"", timeout=300, statuses=(0, 1)):
+    """What `explain` writes; it must end with one of these statuses."""
+    ran = run("explain", words, given, timeout)
+    assert ran.returncode in statuses, f"explain {words} ended with {ran.returncode}: {ran.stderr!r}"
     return ran.stdout
 
 
@@ -41,7 +41,7 @@ def outcomes(command, orders):
 
 
 def answers(orders):
-    """The outcomes of orders, by one run of the program `answers`: a call and its inputs, in the form of the rows of docs/VECTORS.md."""
+    """The outcomes of orders, in the form of the rows of docs/VECTORS.md, by one run of the program `answers`."""
     return [*map(json.loads, outcomes(program("answers"), [*map(json.dumps, orders)]))]
 
 

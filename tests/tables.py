@@ -48,10 +48,8 @@ def keeps(outcome, text):
     """The outcome with the text that an error keeps, if the row leaves it out: the text of the call."""
     if not isinstance(outcome, dict) or not isinstance(text, str) or "kept" in outcome:
         return outcome
-    name = str(outcome.get("error", "")).split(" ")[0]
-    if name in KEEPING:
-        return {**outcome, "kept": text}
-    return outcome
+    is_kept = str(outcome.get("error", "")).split(" ")[0] in KEEPING
+    return {**outcome, "kept": text} if is_kept else outcome
 
 
 def is_refusal(told):
@@ -114,6 +112,15 @@ def put(members, name, value):
     return {**members, first: put(members.get(first, {}), rest, value) if rest else value}
 
 
+def changed(value, kind, change):
+    """A value in which each value of this kind is changed."""
+    if isinstance(value, dict):
+        return {name: changed(it, kind, change) for name, it in value.items()}
+    if isinstance(value, list):
+        return [changed(it, kind, change) for it in value]
+    return change(value) if isinstance(value, kind) else value
+
+
 def choices(members, over):
     """The rows of all choices of values, one for each member that is named."""
     for values in itertools.product(*over.values()):
@@ -136,17 +143,10 @@ def characters(ends):
     return [chr(it) for it in range(ord(first), ord(last) + 1)]
 
 
-def filled(value, character):
-    """A value with a character for each `*` in its texts."""
-    if isinstance(value, dict):
-        return {name: filled(it, character) for name, it in value.items()}
-    return value.replace("*", character) if isinstance(value, str) else value
-
-
 def each(members, ends):
     """The rows of all these characters, with the outcomes of the second reading."""
-    wanted = members["settled"]
-    found = [filled({name: it for name, it in members.items() if name != "settled"}, it) for it in characters(ends)]
+    wanted, own = members["settled"], {name: it for name, it in members.items() if name != "settled"}
+    found = [changed(own, str, lambda it, one=one: it.replace("*", one)) for one in characters(ends)]
     settled = sum(settled_class.settled(location(it["url"])) for it in found)
     if wanted != settled:
         raise ValueError(f"the locations of {settled} of the {len(found)} rows are settled")
@@ -161,18 +161,9 @@ def texts_of(members, table):
     return [{**it, "is": outcome(it)} for it in found]
 
 
-def in_texts(value):
-    """A value with its bytes as texts of a row."""
-    if isinstance(value, dict):
-        return {name: in_texts(it) for name, it in value.items()}
-    if isinstance(value, list):
-        return [in_texts(it) for it in value]
-    return text_of(value) if isinstance(value, bytes) else value
-
-
 def random_rows(members, number):
     for given, found in plain_paths.cases(members["call"], number):
-        yield {**members, **in_texts(given), "is": in_texts(found)}
+        yield changed({**members, **given, "is": found}, bytes, text_of)
 
 
 WAYS = {"in_order": pairs, "over": choices, "fronts": fronts, "each": each, "texts_of": texts_of, "random": random_rows}

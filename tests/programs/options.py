@@ -9,6 +9,9 @@ GIVEN = {
     "TEXT": "h:p", "--file": "--file=/dev/null", "--null": "--null", "--crlf": "--crlf", "--config": "--config=/dev/null", "--remotes": "--remotes",
     "--gitmodules": "--gitmodules=/dev/null", "--parent": "--parent=https://h/p", "--json": "--json", "--sarif": "--sarif",
     "--html": "--html=x", "--only": "--only=host", "--ssh": "--ssh", "--summary": "--summary", "--quiet": "--quiet", "--fail-on": "--fail-on=policy", "--color": "--color=never"}
+HELP = read("crates/explain/help")
+# The long options that the help names.
+LISTED = {*re.findall(r"(?m)^ +(?:-\w, )?(--[\w-]+)", HELP)}
 # The option that an option requires.
 NEEDED = {"--parent": "--gitmodules"}
 # The options by which `explain` prints a text about itself, and the files of its crate with the same text.
@@ -17,7 +20,6 @@ OF_ITSELF = {"--help": "help", "-h": "help", "--version": "version", "-V": "vers
 
 def excluded():
     """The pairs that can't be combined, as the help lists them."""
-    text = read("crates/explain/help").partition("These can't be given together:\n")[2].partition("\n\n")[0]
-    for line in text.splitlines():
+    for line in HELP.partition("These can't be given together:\n")[2].partition("\n\n")[0].splitlines():
         first, rest = (re.findall(r"TEXT|--[\w-]+", it) for it in line.partition(" with ")[::2])
         yield from map(frozenset, itertools.product(first, rest) if rest else itertools.combinations(first, 2))

@@ -9,8 +9,8 @@ import os
 import urllib.parse
 
 import pytest
-import runs
 from rt_api import read
+from runs import explain
 from texts import plain
 
 jsonschema = pytest.importorskip("jsonschema")
@@ -23,9 +23,7 @@ CONTROLS = {*map(chr, range(32)), "\x7f"}
 
 
 def run(words, given=b"", status=0):
-    ran = runs.run("explain", words, given, timeout=120)
-    assert ran.returncode == status, ran
-    return ran.stdout
+    return explain(words, given, statuses=[status])
 
 
 def objects(words, given=b"", status=0):
