@@ -331,7 +331,6 @@ class SecureMaker(Maker, of="LocationMaker"):
 # ---- secrets
 
 SECRET = b"S3cr3tZ"
-TOKEN = b"ghp_0123456789%b0123456789" % SECRET
 SHAPES = table("Secrets", "SHAPES")
 
 

@@ -1,6 +1,7 @@
 """Checks that the structs, the numbers and the calls of the package gix_url are those of the headers, as a C compiler
 sees them."""
 import ctypes
+import enum
 import os
 import re
 import subprocess
@@ -13,29 +14,24 @@ from gix_url import _calls, _library, rules
 
 INCLUDE = f"{os.path.dirname(os.path.realpath(__file__))}/../c/include"
 COMPILER = os.environ.get("CC", "cc")
-STRUCTS = {
-    "gix_url": _library.Location, "gix_url_problem": _library.Problem, "gix_url_seen": _library.Look,
-    "gix_url_components": _library.Parts, "gix_url_text": _library.Text, "gix_url_entry": _calls.Entry,
-    "gix_url_stop": _calls.Stop, "gix_url_rewritten": _calls.Rewritten, "gix_url_remote": _calls.Remote,
-    "gix_url_transport": _calls.Transport, "gix_url_policy": _calls.Policy,
-    "gix_url_permission": _calls.Permission, "gix_url_piece": _calls.Piece, "gix_url_git_place": _calls.Place,
-    "gix_url_request": _calls.Request, "gix_url_ssh_request": _calls.SshRequest,
-    "gix_url_ssh_command": _calls.SshCommand, "gix_url_ssh_variables": _calls.SshVariables,
-    "gix_url_ssh_program": _calls.SshProgram, "gix_url_settings": _calls.Settings,
-    "gix_url_credentials": _calls.Credentials, "gix_url_resolved": _calls.Resolved,
-    "gix_url_submodule_check": _calls.Check, "gix_url_submodule": _calls.Submodule}
-# Numbers, each with the prefix of its names in C.
-NUMBERS = {
-    "gix_url_scheme": (gix_url.Scheme, ""), "gix_url_argument": (gix_url.Argument, ""),
-    "gix_url_condition": (gix_url.Condition, "CONDITION_"), "gix_url_flaw": (rules.Flaw, "FLAW_"),
-    "gix_url_no_transport": (rules.NoTransport, "TRANSPORT_"), "gix_url_decision": (rules.Decision, ""),
-    "gix_url_decider": (rules.Decider, ""), "gix_url_danger": (rules.Danger, "DANGER_"),
-    "gix_url_unread": (rules.Unread, "UNREAD_"), "gix_url_protocol": (rules.Protocol, "PROTOCOL_"),
-    "gix_url_service": (rules.Service, ""), "gix_url_ssh_variant": (rules.Variant, "SSH_"),
-    "gix_url_family": (rules.Family, ""), "gix_url_ssh_refusal": (rules.SshRefusal, "SSH_"),
-    "gix_url_abnormal": (rules.Abnormal, "ABNORMAL_"),
-    "gix_url_unresolved": (rules.Unresolved, "UNRESOLVED_"),
-    "gix_url_submodule_refusal": (rules.SubmoduleRefusal, "SUBMODULE_")}
+# The names in C of structs and enumerations whose names in Python aren't the same words.
+NAMES = {"Location": "gix_url", "Look": "gix_url_seen", "Parts": "gix_url_components", "Variant": "gix_url_ssh_variant"}
+# What begins the names of the numbers of enumerations in C.
+FRONTS = {
+    "condition": "CONDITION_", "flaw": "FLAW_", "no_transport": "TRANSPORT_", "danger": "DANGER_", "unread": "UNREAD_",
+    "protocol": "PROTOCOL_", "ssh_variant": "SSH_", "ssh_refusal": "SSH_", "abnormal": "ABNORMAL_",
+    "unresolved": "UNRESOLVED_", "submodule_refusal": "SUBMODULE_"}
+
+
+def types_of(kind, *modules):
+    """The types of this kind in modules of the package, by their names in C."""
+    every = (it for module in modules for it in vars(module).items())
+    found = {name: it for name, it in every if isinstance(it, type) and issubclass(it, kind)}
+    return {NAMES.get(name) or re.sub("([A-Z])", r"_\1", f"gix_url{name}").lower(): it for name, it in found.items()}
+
+
+STRUCTS = types_of(ctypes.Structure, _library, _calls)
+NUMBERS = {name: it for name, it in types_of(enum.IntEnum, gix_url, rules).items() if list(it)}
 # Calls of the headers that the package doesn't use.
 UNUSED = {"danger_name"}
 TYPES = {_library.Size: "size_t", _library.Truth: "_Bool", _library.Number: "int", ctypes.c_uint8: "uint8_t",
@@ -92,6 +88,10 @@ def parameter(text):
     return "int" if f"typedef enum {kind} " in HEADER else kind
 
 
+def test_all_are_compared():
+    assert (len(STRUCTS), len(NUMBERS)) == (24, 17)
+
+
 @pytest.mark.parametrize("name", STRUCTS)
 def test_structs_have_the_members_of_the_headers(name):
     fields = [it[0] for it in STRUCTS[name]._fields_]
@@ -112,7 +112,7 @@ def test_members_are_at_their_places():
 
 @pytest.mark.parametrize("name", NUMBERS)
 def test_numbers_are_those_of_the_headers(name):
-    kind, front = NUMBERS[name]
+    kind, front = NUMBERS[name], FRONTS.get(name.removeprefix("gix_url_"), "")
     found = dict(it.split() for it in ran(f'printf("{it} %d\\n", {it});' for it in numbers(name)))
     named, wanted = {short(it, front): int(value) for it, value in found.items()}, {it.name: it.value for it in kind}
     assert {it: value for it, value in named.items() if value or it in wanted} == wanted
