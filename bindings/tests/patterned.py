@@ -65,8 +65,12 @@ def located(export):
     return made
 
 
-if __name__ == "__main__":
+def main():
     _calls.lib, _calls._START = types.SimpleNamespace(**{f"gix_url_{it}": checked(it) for it in _calls.CALLS}), 1
     for name in ("parse", "from_parts", "write", "display", "path_query_fragment", "reason_name", "reason_words"):
         setattr(gix_url.lib, f"gix_url_{name}", located(getattr(gix_url.lib, f"gix_url_{name}")))
     vectors.main()
+
+
+if __name__ == "__main__":
+    main()

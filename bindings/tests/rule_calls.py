@@ -154,6 +154,10 @@ def is_relative(order):
     return isinstance(found, rules.Unresolved) or found.is_relative
 
 
+def climbs(order):
+    return rules.resolve_submodule(order["parent"], order["url"]).climbs
+
+
 def submodules(order):
     """The submodules with a path and a URL."""
     listed = [it for it in config(order).submodules() if it.path and it.url]
@@ -206,7 +210,7 @@ CALLS = {
     "danger::dangers": dangers,
     "entries::best_entry": best_entry,
     "refusal::check": refusals,
-    "resolve::climbs": lambda order: rules.resolve_submodule(order["parent"], order["url"]).climbs,
+    "resolve::climbs": climbs,
     "resolve::is_relative": is_relative,
     "resolve::resolve": lambda order: told_or_error(resolved(order)),
     "secret::secrets": secrets,

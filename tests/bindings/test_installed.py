@@ -24,16 +24,12 @@ def said(words):
     return sh(words).decode().split()
 
 
-@pytest.mark.parametrize("compiler", ["cc", "clang"])
-def test_headers_in_c99(compiler):
+@pytest.mark.parametrize("compiler, language, version, file", [
+    *((it, "c", "c99", "-") for it in ("cc", "clang")), *((it, "c++", "c++11", "bindings/tests/header.cc") for it in ("c++", "clang++"))])
+def test_headers(compiler, language, version, file):
     warnings = said('echo "${warnings[@]}"')
-    run(compiler, "-x", "c", "-std=c99", "-pedantic", *warnings, "-Ibindings/c/include", "-fsyntax-only", "-", given=HEADERS)
-
-
-@pytest.mark.parametrize("compiler", ["c++", "clang++"])
-def test_headers_in_cpp(compiler):
-    warnings = said('echo "${warnings[@]}"')
-    run(compiler, "-x", "c++", "-std=c++11", "-pedantic", *warnings, "-Ibindings/c/include", "-fsyntax-only", "bindings/tests/header.cc")
+    words = ["-x", language, f"-std={version}", "-pedantic", *warnings, "-Ibindings/c/include", "-fsyntax-only", file]
+    run(compiler, *words, given=HEADERS)
 
 
 @pytest.mark.parametrize("library, flag, words", [
