@@ -1,9 +1,9 @@
 """Runs of the built programs: over lines, and over orders for calls of the library."""
 import json
+import re
 import subprocess
 
 from rt_api import program
-
 
 # The numbers in a summary: lines, URLs, scp forms, local paths, remote helpers; settled, not settled, refused, dangerous.
 SUMMARY = (b"lines: %d\nform\n%8d  URL\n%8d  scp form\n%8d  local path\n%8d  remote helper\n"
@@ -29,6 +29,11 @@ def explain(words=(), given=b"", timeout=300, statuses=(0, 1)):
 def explained(lines, *words, end=b"\n"):
     """The objects that `explain --json` answers to lines."""
     return [json.loads(it) for it in explain(["--json", *words], ended(lines, end)).split(b"\n")[:-1]]
+
+
+def shown(lines):
+    """What `explain` answers to lines, each with its heading and its rows."""
+    return re.split(rb"(?m)^(?=line \d+: )", explain(given=ended(lines)))[1:]
 
 
 def outcomes(command, orders):

@@ -5,10 +5,9 @@ import re
 from rt_api import read
 
 # Each option and TEXT with a value, so that a run ends at once and succeeds.
-GIVEN = {
-    "TEXT": "h:p", "--file": "--file=/dev/null", "--null": "--null", "--crlf": "--crlf", "--config": "--config=/dev/null", "--remotes": "--remotes",
-    "--gitmodules": "--gitmodules=/dev/null", "--parent": "--parent=https://h/p", "--json": "--json", "--sarif": "--sarif",
-    "--html": "--html=x", "--only": "--only=host", "--ssh": "--ssh", "--summary": "--summary", "--quiet": "--quiet", "--fail-on": "--fail-on=policy", "--color": "--color=never"}
+GIVEN = {"TEXT": "h:p", **{it.partition("=")[0]: it for it in (
+    "--file=/dev/null --null --crlf --config=/dev/null --remotes --gitmodules=/dev/null --parent=https://h/p --json "
+    "--sarif --html=x --only=host --ssh --summary --quiet --fail-on=policy --color=never").split()}}
 HELP = read("crates/explain/help")
 # The long options that the help names.
 LISTED = {*re.findall(r"(?m)^ +(?:-\w, )?(--[\w-]+)", HELP)}

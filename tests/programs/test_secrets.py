@@ -12,7 +12,7 @@ import pytest
 from pieces import is_of_fields, named
 from row_text import bytes_of, joined
 from rt_api import rows_of
-from runs import ended, explain, run
+from runs import ended, explain, run, shown
 from second_reading import explain as second
 from second_reading import grammar, hidden, short_inputs
 from second_reading.seen import seen
@@ -49,9 +49,8 @@ def faults_of(line, told, answer):
 
 def faults_of_lines(lines):
     told = explain(["--json"], ended(lines)).decode().split("\n")[:-1]
-    shown = re.split(r"(?m)^(?=line \d+: )", explain((), ended(lines)).decode())[1:]
-    for line, *answers in zip(lines, told, shown, strict=True):
-        yield from ((line, f"{it}: {line!r}") for it in faults_of(line, *answers))
+    for line, answer, it in zip(lines, told, shown(lines), strict=True):
+        yield from ((line, f"{fault}: {line!r}") for fault in faults_of(line, answer, it.decode()))
 
 
 @pytest.mark.sample
