@@ -1,5 +1,5 @@
-"""The rows of the tables in `vectors/`: docs/VECTORS.md describes them, and `row_text.py` how a line spells long texts. A line is a
-row, or many rows by a member that is a name in WAYS.
+"""The rows of the tables in `vectors/`: docs/VECTORS.md describes them, and `row_text.py` how a line spells long texts. A
+line is a row, or many rows by a member that is a name in WAYS.
 
 For refused JSON a row may expect less than the whole: `{"refused": true}`, whatever the words are; words that end in `…`, which
 are the front of the returned ones; and a `column` of two numbers, between which that column lies. The rows of
@@ -83,7 +83,7 @@ COMPARED = {"Url:Ord": "url", "Scheme:Ord": "scheme", "ForUser:Ord": "user"}
 
 
 def pairs(members, values):
-    """All pairs of a list of values. Each value is less than those after it, equal only to itself, and has a hash of its own."""
+    """All pairs of a list of values. Each is less than those after it, equal only to itself, and has its own hash."""
     name = COMPARED[members["call"]]
     for one, other in itertools.product(range(len(values)), repeat=2):
         word = "Less" if one < other else "Greater" if one > other else "Equal"
@@ -107,8 +107,8 @@ def changed(value, kind, change):
 
 
 def choices(members, over):
-    """All choices of a value for each member that is named, as in `{"style": ["{:#}", null], "url.password": ["x", ""]}`; null
-    means that it is absent."""
+    """All choices of a value for each member that is named, as in `{"style": ["{:#}", null], "url.password": ["x"]}`;
+    null means that it is absent."""
     for values in itertools.product(*over.values()):
         row = members
         for name, value in zip(over, values):
@@ -131,8 +131,8 @@ def characters(ends):
 
 
 def each(members, ends):
-    """Every `*` in the texts of the line is each of these characters in turn. The outcomes are those of the second reading, and
-    `settled` is the number of rows in which `url` is settled."""
+    """Every `*` in the texts of the line is each of these characters in turn. The outcomes are those of the second
+    reading, and `settled` is the number of rows in which `url` is settled."""
     wanted, own = members["settled"], {name: it for name, it in members.items() if name != "settled"}
     found = [changed(own, str, lambda it, one=one: it.replace("*", one)) for one in characters(ends)]
     settled = sum(settled_class.settled(location(it["url"])) for it in found)

@@ -49,7 +49,8 @@ class Maker:
 
     def __init_subclass__(cls, spelled=bytes_of, of=None):
         own = {**TABLES[of or cls.__name__], **TABLES[cls.__name__]}
-        cls.kind, cls.TEXTS = staticmethod(spelled), {**cls.TEXTS, **{name: pieces(it, str) for name, it in own.items()}}
+        cls.kind = staticmethod(spelled)
+        cls.TEXTS = {**cls.TEXTS, **{name: pieces(it, str) for name, it in own.items()}}
         for name, given in own.items():
             setattr(cls, name, pieces(given, spelled))
 
@@ -63,9 +64,9 @@ class Maker:
         return some[self.below(len(some))]
 
     def put(self, piece):
-        """A piece with its references filled in: `<NAME>` is one of a table, `<NAME:6>` one of its first six, `<NAME*3>` are
-        none to three of them, `<NAME+3>` one to three, `<NAME?3@>` is in one of three cases one with `@` after it, and
-        `<name>` is the result of a method."""
+        """A piece with its references filled in: `<NAME>` is one of a table, `<NAME:6>` one of its first six, `<NAME*3>`
+        are none to three of them, `<NAME+3>` one to three, `<NAME?3@>` is in one of three cases one with `@` after it,
+        and `<name>` is the result of a method."""
         def referred(it):
             name, first, sign, most, end = it.groups("")
             if name.islower():

@@ -149,7 +149,7 @@ for call in (
 
 
 def ran_by(lines, program):
-    """The output of a program in Python, and the last line of its errors, with a library that these lines of C build."""
+    """The output of a program in Python, and the last line of its errors, over a library of these lines of C."""
     names = ("error_name", "fault_name", "kind_name", "write_fault_name", "error_words", "version")
     texts = (f'const char *gix_url_{it}(void) {{ return "0"; }}' for it in names)
     with tempfile.TemporaryDirectory() as folder:

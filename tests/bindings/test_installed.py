@@ -25,7 +25,8 @@ def said(words):
 
 
 @pytest.mark.parametrize("compiler, language, version, file", [
-    *((it, "c", "c99", "-") for it in ("cc", "clang")), *((it, "c++", "c++11", "bindings/tests/header.cc") for it in ("c++", "clang++"))])
+    ("cc", "c", "c99", "-"), ("clang", "c", "c99", "-"),
+    ("c++", "c++", "c++11", "bindings/tests/header.cc"), ("clang++", "c++", "c++11", "bindings/tests/header.cc")])
 def test_headers(compiler, language, version, file):
     warnings = said('echo "${warnings[@]}"')
     words = ["-x", language, f"-std={version}", "-pedantic", *warnings, "-Ibindings/c/include", "-fsyntax-only", file]

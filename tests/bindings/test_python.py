@@ -1,6 +1,6 @@
 """The package for Python: a wheel, installed without a registry into an environment of its own, and the package that
-`scripts/bindings --install` puts below a prefix, which finds its library there. Faults are planted in the package, which the rows and the
-tests of calls over a configuration have to find."""
+`scripts/bindings --install` puts below a prefix, which finds its library there. Faults are planted in the package, which
+the rows and the tests of calls over a configuration have to find."""
 import functools
 import os
 
@@ -67,5 +67,6 @@ def test_finds(fault, monkeypatch):
     for name, value in {"PYTHONPATH": folder, "GIX_URL_LIB": f"{OUT}/lib", **FOUND}.items():
         monkeypatch.setenv(name, value)
     run("python3", "-c", "import gix_url.audit")
-    own = (lambda it=it: run("python3", "-W", "error", "-m", "pytest", f"bindings/tests/{it}.py") for it in ("rules", "layouts"))
+    command = ("python3", "-W", "error", "-m", "pytest")
+    own = (lambda it=it: run(*command, f"bindings/tests/{it}.py") for it in ("rules", "layouts"))
     assert is_caught(lambda: check(Python().faults(VECTORS, *RULE_TABLES)), *own)

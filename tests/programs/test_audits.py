@@ -19,7 +19,8 @@ SECRET = "S3cr3t"
 # The lines of a file, and the names of what is found in each.
 FILE = [(text, names.split()) for text, _, names in (it.partition(" => ") for it in read("tests/programs/audited.txt").splitlines())]
 PARENT = "https://example.com/group/super.git"
-CONFIG = next(bytes_of(joined(it["audited"])) for it in rows_of("tests/programs/configurations.jsonl") if "audited" in it)
+ROWS = rows_of("tests/programs/configurations.jsonl")
+CONFIG = next(bytes_of(joined(it["audited"])) for it in ROWS if "audited" in it)
 # The characters that no text of a log may contain.
 CONTROLS = {*map(chr, range(32)), "\x7f"}
 

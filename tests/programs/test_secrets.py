@@ -20,7 +20,8 @@ from texts import SECRET, SHAPES, Secrets, compare, examples, made, realistic
 
 # The number of changed lines.
 COUNT = 3_000
-ENTRIES = next(bytes_of(joined(it["secrets"])) for it in rows_of("tests/programs/configurations.jsonl") if "secrets" in it)
+ROWS = rows_of("tests/programs/configurations.jsonl")
+ENTRIES = next(bytes_of(joined(it["secrets"])) for it in ROWS if "secrets" in it)
 LAYOUTS: tuple[list[str], ...] = (
     [], ["--json"], ["--html=t", "--"], ["--sarif"], ["--summary"], ["--ssh"], ["--color=always"],
     *([f"--only={it}"] for it in ("scheme", "user", "host", "port", "path", "query", "fragment")))
