@@ -1,9 +1,9 @@
 """Runs of the built programs: over lines, and over orders for calls of the library."""
 import json
+import re
 import subprocess
 
 from rt_api import program
-
 
 # The numbers in a summary: lines, URLs, scp forms, local paths, remote helpers; settled, not settled, refused, dangerous.
 SUMMARY = (b"lines: %d\nform\n%8d  URL\n%8d  scp form\n%8d  local path\n%8d  remote helper\n"
@@ -19,16 +19,21 @@ def run(name, words=(), given=b"", timeout=60, **how):
     return subprocess.run([program(name), *words], input=given, capture_output=True, timeout=timeout, check=False, **how)
 
 
-def explain(words=(), given=b"", timeout=300, **how):
-    """What `explain` writes; it must end with 0 or 1."""
-    ran = run("explain", words, given, timeout, **how)
-    assert ran.returncode in (0, 1), f"explain {words} ended with {ran.returncode}: {ran.stderr!r}"
+def explain(words=(), given=b"", timeout=300, statuses=(0, 1)):
+    """What `explain` writes; it must end with one of these statuses."""
+    ran = run("explain", words, given, timeout)
+    assert ran.returncode in statuses, f"explain {words} ended with {ran.returncode}: {ran.stderr!r}"
     return ran.stdout
 
 
 def explained(lines, *words, end=b"\n"):
     """The objects that `explain --json` answers to lines."""
     return [json.loads(it) for it in explain(["--json", *words], ended(lines, end)).split(b"\n")[:-1]]
+
+
+def shown(lines):
+    """What `explain` answers to lines, each with its heading and its rows."""
+    return re.split(rb"(?m)^(?=line \d+: )", explain(given=ended(lines)))[1:]
 
 
 def outcomes(command, orders):
@@ -41,7 +46,7 @@ def outcomes(command, orders):
 
 
 def answers(orders):
-    """The outcomes of orders, by one run of the program `answers`: a call and its inputs, in the form of the rows of docs/VECTORS.md."""
+    """The outcomes of orders, in the form of the rows of docs/VECTORS.md, by one run of the program `answers`."""
     return [*map(json.loads, outcomes(program("answers"), [*map(json.dumps, orders)]))]
 
 

@@ -1,25 +1,9 @@
-"""The rows of the tables in `vectors/`: a line of JSON each, a call with its inputs, and the expected outcome.
-
-In addition to the call and its members a row has `is`, the outcome, `from`, the source of the expectation, and `requests` and
-`bytes` if the requests of the call for memory are counted, and their bytes. `row_text.py` describes how a line spells long texts.
+"""The rows of the tables in `vectors/`: docs/VECTORS.md describes them, and `row_text.py` how a line spells long texts. A
+line is a row, or many rows by a member that is a name in WAYS.
 
 For refused JSON a row may expect less than the whole: `{"refused": true}`, whatever the words are; words that end in `…`, which
 are the front of the returned ones; and a `column` of two numbers, between which that column lies. The rows of
 `vectors/git.jsonl` that read a text have `class` and `git`, or for HTTP `class`, `credential` and `curl` (`examples.py`).
-
-A line can be many rows, by the member that marks it:
-
-  in_order   a list of values for a call that compares two: all pairs of them. Each is less than those after it, equal only
-             to itself, and has a hash of its own
-  over       all choices of a value for each member that it names, as in `{"style": ["{:#}", null], "url.password": ["x", ""]}`;
-             null means that it is absent
-  fronts     the name of a text, which is truncated at each length but its own
-  each       the first and the last of some characters, or `"bytes"` for all bytes: every `*` in the texts of the line is each
-             of them in turn. The outcomes are those of the second reading, and `settled` is the number of rows in which `url` is
-             settled
-  texts_of   the name of a table: the call is over each text that this table reads by `parse::parse`, with the outcome of the
-             second reading
-  random     the number of random paths for the call, the same each time, with the outcomes that `plain_paths.py` computes
 """
 import functools
 import glob
@@ -48,10 +32,8 @@ def keeps(outcome, text):
     """The outcome with the text that an error keeps, if the row leaves it out: the text of the call."""
     if not isinstance(outcome, dict) or not isinstance(text, str) or "kept" in outcome:
         return outcome
-    name = str(outcome.get("error", "")).split(" ")[0]
-    if name in KEEPING:
-        return {**outcome, "kept": text}
-    return outcome
+    is_kept = str(outcome.get("error", "")).split(" ")[0] in KEEPING
+    return {**outcome, "kept": text} if is_kept else outcome
 
 
 def is_refusal(told):
@@ -101,6 +83,7 @@ COMPARED = {"Url:Ord": "url", "Scheme:Ord": "scheme", "ForUser:Ord": "user"}
 
 
 def pairs(members, values):
+    """All pairs of a list of values. Each is less than those after it, equal only to itself, and has its own hash."""
     name = COMPARED[members["call"]]
     for one, other in itertools.product(range(len(values)), repeat=2):
         word = "Less" if one < other else "Greater" if one > other else "Equal"
@@ -114,8 +97,18 @@ def put(members, name, value):
     return {**members, first: put(members.get(first, {}), rest, value) if rest else value}
 
 
+def changed(value, kind, change):
+    """A value in which each value of this kind is changed."""
+    if isinstance(value, dict):
+        return {name: changed(it, kind, change) for name, it in value.items()}
+    if isinstance(value, list):
+        return [changed(it, kind, change) for it in value]
+    return change(value) if isinstance(value, kind) else value
+
+
 def choices(members, over):
-    """The rows of all choices of values, one for each member that is named."""
+    """All choices of a value for each member that is named, as in `{"style": ["{:#}", null], "url.password": ["x"]}`;
+    null means that it is absent."""
     for values in itertools.product(*over.values()):
         row = members
         for name, value in zip(over, values):
@@ -124,29 +117,24 @@ def choices(members, over):
 
 
 def fronts(members, name):
+    """The text with this name, truncated at each length but its own."""
     whole = joined(members[name])
     return ({**members, name: whole[:size]} for size in range(len(whole)))
 
 
 def characters(ends):
-    """The characters from the first to the last of two, or those for all bytes."""
+    """The characters from the first to the last of two, or for `"bytes"` those for all bytes."""
     if ends == "bytes":
         return [text_of(bytes([it])) for it in range(256)]
     first, last = ends
     return [chr(it) for it in range(ord(first), ord(last) + 1)]
 
 
-def filled(value, character):
-    """A value with a character for each `*` in its texts."""
-    if isinstance(value, dict):
-        return {name: filled(it, character) for name, it in value.items()}
-    return value.replace("*", character) if isinstance(value, str) else value
-
-
 def each(members, ends):
-    """The rows of all these characters, with the outcomes of the second reading."""
-    wanted = members["settled"]
-    found = [filled({name: it for name, it in members.items() if name != "settled"}, it) for it in characters(ends)]
+    """Every `*` in the texts of the line is each of these characters in turn. The outcomes are those of the second
+    reading, and `settled` is the number of rows in which `url` is settled."""
+    wanted, own = members["settled"], {name: it for name, it in members.items() if name != "settled"}
+    found = [changed(own, str, lambda it, one=one: it.replace("*", one)) for one in characters(ends)]
     settled = sum(settled_class.settled(location(it["url"])) for it in found)
     if wanted != settled:
         raise ValueError(f"the locations of {settled} of the {len(found)} rows are settled")
@@ -156,23 +144,15 @@ def each(members, ends):
 
 
 def texts_of(members, table):
-    """The rows of all texts that a table reads, with the outcomes of the second reading."""
+    """The call over each text that a table reads by `parse::parse`, with the outcome of the second reading."""
     found = [{**members, "text": joined(it["text"])} for _, it in lines(table) if it["call"] == "parse::parse" and "text" in it]
     return [{**it, "is": outcome(it)} for it in found]
 
 
-def in_texts(value):
-    """A value with its bytes as texts of a row."""
-    if isinstance(value, dict):
-        return {name: in_texts(it) for name, it in value.items()}
-    if isinstance(value, list):
-        return [in_texts(it) for it in value]
-    return text_of(value) if isinstance(value, bytes) else value
-
-
 def random_rows(members, number):
+    """The call over this many random paths, the same each time, with the outcomes that `plain_paths.py` computes."""
     for given, found in plain_paths.cases(members["call"], number):
-        yield {**members, **in_texts(given), "is": in_texts(found)}
+        yield changed({**members, **given, "is": found}, bytes, text_of)
 
 
 WAYS = {"in_order": pairs, "over": choices, "fronts": fronts, "each": each, "texts_of": texts_of, "random": random_rows}

@@ -38,11 +38,20 @@ def table(maker, name):
     return pieces(TABLES[maker][name], bytes_of)
 
 
+# A reference in a piece.
+REFERENCE = re.compile(r"<(\w+)(?::(\d+))?(?:([*+?])(\d)([^>]*))?>")
+
+
 class Maker:
     """Makes texts by a function that returns numbers of so many bits. Its tables are bytes, or texts."""
 
+    TEXTS: dict[str, tuple] = {}
+
     def __init_subclass__(cls, spelled=bytes_of, of=None):
-        for name, given in {**TABLES[of or cls.__name__], **TABLES[cls.__name__]}.items():
+        own = {**TABLES[of or cls.__name__], **TABLES[cls.__name__]}
+        cls.kind = staticmethod(spelled)
+        cls.TEXTS = {**cls.TEXTS, **{name: pieces(it, str) for name, it in own.items()}}
+        for name, given in own.items():
             setattr(cls, name, pieces(given, spelled))
 
     def __init__(self, bits):
@@ -54,11 +63,23 @@ class Maker:
     def one_of(self, some):
         return some[self.below(len(some))]
 
+    def put(self, piece):
+        """A piece with its references filled in: `<NAME>` is one of a table, `<NAME:6>` one of its first six, `<NAME*3>`
+        are none to three of them, `<NAME+3>` one to three, `<NAME?3@>` is in one of three cases one with `@` after it,
+        and `<name>` is the result of a method."""
+        def referred(it):
+            name, first, sign, most, end = it.groups("")
+            if name.islower():
+                return getattr(self, name)()
+            chosen = self.below(int(most) + (sign == "*")) if sign else 0
+            times = {"": 1, "*": chosen, "+": 1 + chosen, "?": chosen == 0}[sign]
+            some = self.TEXTS[name][: int(first) if first else None]
+            return "".join(self.put(self.one_of(some)) + end for _ in range(times))
+
+        return REFERENCE.sub(referred, piece)
+
     def filled(self, name):
-        """A piece of a table, in which `<NAME>` is such a piece of another, and `<NAME*3>` are none to three of them."""
-        def put(it):
-            return b"".join(self.filled(it[1].decode()) for _ in range(self.below(int(it[2]) + 1) if it[2] else 1))
-        return re.sub(rb"<([A-Z_]+)(?:\*(\d))?>", put, self.one_of(getattr(self, name)))
+        return self.kind(self.put(self.one_of(self.TEXTS[name])))
 
     def text(self):
         return self.filled("TEXT")
@@ -179,24 +200,9 @@ def can_be_an_argument(text):
 
 
 class LocationMaker(Maker, spelled=str):
-    """Makes forms of locations, of the pieces that matter."""
+    """Makes forms of locations, of the pieces that matter. One text in so many is broken."""
 
-    def user(self, chance):
-        return self.one_of(self.USERS) + "@" if self.below(chance) == 0 else ""
-
-    def url(self):
-        return f"{self.one_of(self.SCHEMES)}://{self.user(3)}{self.one_of(self.HOSTS)}{self.one_of(self.PORTS)}{self.one_of(self.PATHS)}"
-
-    def scp(self):
-        return f"{self.user(2)}{self.one_of(self.HOSTS)}:{self.one_of(self.SCP_PATHS)}"
-
-    def local(self):
-        return self.one_of(self.LOCALS)
-
-    def loose(self):
-        """Pieces alone, after a scheme or not."""
-        front = f"{self.one_of(self.SCHEMES)}://" if self.below(2) == 0 else ""
-        return front + "".join(self.one_of(self.PIECES) for _ in range(1 + self.below(7)))
+    BROKEN = 3
 
     def broken(self, text):
         """The text with a piece inserted or a character removed, at a place or two."""
@@ -206,8 +212,9 @@ class LocationMaker(Maker, spelled=str):
         return text
 
     def text(self):
-        form = self.one_of([self.url] * 5 + [self.scp] * 3 + [self.loose] * 2 + [self.local])
-        return (self.broken(form()) if self.below(3) == 0 else form()).encode()
+        form, is_broken = self.one_of(self.FORMS), self.below(self.BROKEN) == 0
+        text = self.put(form)
+        return (self.broken(text) if is_broken else text).encode()
 
     def or_addressed(self):
         """A text, of which one in eleven has a host in brackets."""
@@ -221,14 +228,7 @@ class Addresses(Maker, of="LocationMaker"):
 class WebMaker(LocationMaker, spelled=str):
     """Makes HTTP texts, of the pieces by which the readings of three readers differ."""
 
-    def located(self, schemes, user, hosts, ports, paths):
-        return f"{self.one_of(schemes)}://{user()}{self.one_of(hosts)}{self.one_of(ports)}{self.one_of(paths)}"
-
-    def plain(self):
-        return self.located(self.SCHEMES, lambda: self.user(3), self.HOSTS[:6], self.PORTS[:8], self.PATHS)
-
-    def address(self):
-        return self.located(self.SCHEMES[:2], lambda: self.user(3) if self.below(2) else "", self.HOSTS, self.PORTS, self.PATHS[:8])
+    BROKEN = 4
 
     def near(self):
         """A text that all readers read alike, or nearly so."""
@@ -243,9 +243,6 @@ class WebMaker(LocationMaker, spelled=str):
         host = ".".join(self.one_of(forms).format(it) for it in numbers)
         return f"http://{host}{self.one_of(('', '', '.', 'h'))}{self.one_of(self.PORTS[:8])}/p"
 
-    def free(self):
-        return self.located(self.SCHEMES, lambda: self.user(3), self.HOSTS, self.PORTS, self.PATHS)
-
     def loose(self):
         return f"{self.one_of(self.SCHEMES[:2])}://" + "".join(self.one_of((*self.PIECES, "h")) for _ in range(1 + self.below(8)))
 
@@ -254,14 +251,11 @@ class WebMaker(LocationMaker, spelled=str):
         scheme, mark, rest = text.partition("://")
         return scheme + mark + super().broken(rest)
 
-    def text(self):
-        often = [self.plain] * 5 + [self.address] * 4 + [self.near] * 4
-        form = self.one_of(often + [self.free] * 3 + [self.number_host] + [self.loose] * 2)
-        return (self.broken(form()) if self.below(4) == 0 else form()).encode()
-
 
 class NearMaker(LocationMaker, spelled=str):
     """Makes texts of the class, most of them with one piece outside of it."""
+
+    BROKEN = 6
 
     def part(self, name, given):
         """A piece of a table: one outside of the class if its part is the given one."""
@@ -282,7 +276,7 @@ class NearMaker(LocationMaker, spelled=str):
         return ("" if user is None else f"{user}{password}@") + host + port
 
     def near(self):
-        form, bad = self.one_of(self.FORMS), self.one_of(("user", "password", "host", "host", "host", "port", "path", "path", "path", *[None] * 4))
+        form, bad = self.one_of(self.KINDS), self.one_of(self.BAD)
         if form == "local":
             return self.part("local", bad) + self.one_of(("", "", "/a", "/b.git", "/-", "/x y"))
         if form == "scp":
@@ -297,7 +291,7 @@ class NearMaker(LocationMaker, spelled=str):
 
     def free(self):
         """A text of the bytes of the class, mostly inside it; those that matter to readers occur more often."""
-        form = self.one_of(self.FORMS)
+        form = self.one_of(self.KINDS)
         if form == "local":
             return self.one_of(("/", "./", "../", "")) + self.some(self.LOCAL, 9)
         user = self.some(self.WORD, 5) + "@" if form in ("http", "https", "ssh", "scp") and self.below(3) == 0 else ""
@@ -312,10 +306,6 @@ class NearMaker(LocationMaker, spelled=str):
     def other(self):
         scheme = self.one_of(self.SCHEMES)
         return f"{scheme}://{self.named('ssh', None)}{self.one_of(self.URL_PATHS)}" if self.below(4) else self.one_of(self.HELPERS)
-
-    def text(self):
-        form = self.one_of([self.near] * 9 + [self.free] * 5 + [self.other])
-        return (self.broken(form()) if self.below(6) == 0 else form()).encode()
 
 
 def changed_texts():
@@ -342,7 +332,6 @@ class SecureMaker(Maker, of="LocationMaker"):
 # ---- secrets
 
 SECRET = b"S3cr3tZ"
-TOKEN = b"ghp_0123456789%b0123456789" % SECRET
 SHAPES = table("Secrets", "SHAPES")
 
 

@@ -1,70 +1,59 @@
-#!/usr/bin/env python3
-"""Checks that the structs, the numbers and the calls of the package gix_url are those of the headers, as a C
-compiler sees them."""
+"""Checks that the structs, the numbers and the calls of the package gix_url are those of the headers, as a C compiler
+sees them."""
 import ctypes
+import enum
 import os
 import re
 import subprocess
 import sys
 import tempfile
-import unittest
 
-sys.dont_write_bytecode = True
-HERE = os.path.dirname(os.path.realpath(__file__))
-sys.path.append(f"{HERE}/../python")
 import gix_url
+import pytest
 from gix_url import _calls, _library, rules
 
-INCLUDE = f"{HERE}/../c/include"
+INCLUDE = f"{os.path.dirname(os.path.realpath(__file__))}/../c/include"
 COMPILER = os.environ.get("CC", "cc")
-STRUCTS = {
-    "gix_url": _library.Location, "gix_url_problem": _library.Problem, "gix_url_seen": _library.Look,
-    "gix_url_components": _library.Parts, "gix_url_text": _library.Text, "gix_url_entry": _calls.Entry,
-    "gix_url_stop": _calls.Stop, "gix_url_rewritten": _calls.Rewritten, "gix_url_remote": _calls.Remote,
-    "gix_url_transport": _calls.Transport, "gix_url_policy": _calls.Policy,
-    "gix_url_permission": _calls.Permission, "gix_url_piece": _calls.Piece, "gix_url_git_place": _calls.Place,
-    "gix_url_request": _calls.Request, "gix_url_ssh_request": _calls.SshRequest,
-    "gix_url_ssh_command": _calls.SshCommand, "gix_url_ssh_variables": _calls.SshVariables,
-    "gix_url_ssh_program": _calls.SshProgram, "gix_url_settings": _calls.Settings,
-    "gix_url_credentials": _calls.Credentials, "gix_url_resolved": _calls.Resolved,
-    "gix_url_submodule_check": _calls.Check, "gix_url_submodule": _calls.Submodule}
-# Numbers, each with the prefix of its names in C.
-NUMBERS = {
-    "gix_url_scheme": (gix_url.Scheme, ""), "gix_url_argument": (gix_url.Argument, ""),
-    "gix_url_condition": (gix_url.Condition, "CONDITION_"), "gix_url_flaw": (rules.Flaw, "FLAW_"),
-    "gix_url_no_transport": (rules.NoTransport, "TRANSPORT_"), "gix_url_decision": (rules.Decision, ""),
-    "gix_url_decider": (rules.Decider, ""), "gix_url_danger": (rules.Danger, "DANGER_"),
-    "gix_url_unread": (rules.Unread, "UNREAD_"), "gix_url_protocol": (rules.Protocol, "PROTOCOL_"),
-    "gix_url_service": (rules.Service, ""), "gix_url_ssh_variant": (rules.Variant, "SSH_"),
-    "gix_url_family": (rules.Family, ""), "gix_url_ssh_refusal": (rules.SshRefusal, "SSH_"),
-    "gix_url_abnormal": (rules.Abnormal, "ABNORMAL_"),
-    "gix_url_unresolved": (rules.Unresolved, "UNRESOLVED_"),
-    "gix_url_submodule_refusal": (rules.SubmoduleRefusal, "SUBMODULE_")}
+# The names in C of structs and enumerations whose names in Python aren't the same words.
+NAMES = {"Location": "gix_url", "Look": "gix_url_seen", "Parts": "gix_url_components", "Variant": "gix_url_ssh_variant"}
+# What begins the names of the numbers of enumerations in C.
+FRONTS = {
+    "condition": "CONDITION_", "flaw": "FLAW_", "no_transport": "TRANSPORT_", "danger": "DANGER_", "unread": "UNREAD_",
+    "protocol": "PROTOCOL_", "ssh_variant": "SSH_", "ssh_refusal": "SSH_", "abnormal": "ABNORMAL_",
+    "unresolved": "UNRESOLVED_", "submodule_refusal": "SUBMODULE_"}
+
+
+def types_of(kind, *modules):
+    """The types of this kind in modules of the package, by their names in C."""
+    every = (it for module in modules for it in vars(module).items())
+    found = {name: it for name, it in every if isinstance(it, type) and issubclass(it, kind)}
+    return {NAMES.get(name) or re.sub("([A-Z])", r"_\1", f"gix_url{name}").lower(): it for name, it in found.items()}
+
+
+STRUCTS = types_of(ctypes.Structure, _library, _calls)
+NUMBERS = {name: it for name, it in types_of(enum.IntEnum, gix_url, rules).items() if list(it)}
 # Calls of the headers that the package doesn't use.
 UNUSED = {"danger_name"}
-TYPES = {
-    _library.Size: "size_t", _library.Truth: "_Bool", _library.Number: "int", ctypes.c_uint8: "uint8_t",
-    ctypes.c_char: "char"
-}
-TYPES.update({it: name for name, it in STRUCTS.items()})
+TYPES = {_library.Size: "size_t", _library.Truth: "_Bool", _library.Number: "int", ctypes.c_uint8: "uint8_t",
+         ctypes.c_char: "char", **{it: name for name, it in STRUCTS.items()}}
+
+
+def output(*command, given=""):
+    """The output of a command, which must succeed, for an input."""
+    return subprocess.run(command, input=given, stdout=subprocess.PIPE, text=True, check=True).stdout
 
 
 def preprocessed(header):
-    command = [COMPILER, "-E", "-P", "-xc", "-"]
-    given = f'#include "{INCLUDE}/{header}"\n'
-    return subprocess.run(command, input=given, capture_output=True, text=True, check=True).stdout
+    return output(COMPILER, "-E", "-P", "-xc", "-", given=f'#include "{INCLUDE}/{header}"\n')
 
 
 def ran(lines):
     """The output of a program in C with these lines."""
     begin = '#include <stdio.h>\n#include "gix_url_rules.h"\nint main(void) {'
-    text = "\n".join([begin, *lines, "}\n"])
     with tempfile.TemporaryDirectory() as folder:
-        program = f"{folder}/program"
-        subprocess.run(
-            [COMPILER, "-xc", "-", f"-I{INCLUDE}", "-o", program], input=text, text=True, check=True
-        )
-        return subprocess.run([program], capture_output=True, text=True, check=True).stdout.split("\n")[:-1]
+        text = "\n".join([begin, *lines, "}\n"])
+        output(COMPILER, "-xc", "-", f"-I{INCLUDE}", "-o", f"{folder}/program", given=text)
+        return output(f"{folder}/program").split("\n")[:-1]
 
 
 HEADER = preprocessed("gix_url_rules.h")
@@ -99,45 +88,46 @@ def parameter(text):
     return "int" if f"typedef enum {kind} " in HEADER else kind
 
 
-class Layouts(unittest.TestCase):
-    def test_structs_have_the_members_of_the_headers(self):
-        for name, kind in STRUCTS.items():
-            fields = [it[0] for it in kind._fields_]
-            self.assertEqual([re.search(r"\w+$", it)[0] for it in members("struct", name)], fields, name)
+def test_all_are_compared():
+    assert (len(STRUCTS), len(NUMBERS)) == (24, 17)
 
-    def test_members_are_at_their_places(self):
-        lines, wanted = [], []
-        for name, kind in STRUCTS.items():
-            lines.append(f'printf("{name} %zu\\n", sizeof({name}));')
-            wanted.append(f"{name} {ctypes.sizeof(kind)}")
-            for field, _ in kind._fields_:
-                place = f"offsetof({name}, {field}), sizeof((({name} *)0)->{field})"
-                lines.append(f'printf("{name}.{field} %zu %zu\\n", {place});')
-                wanted.append(f"{name}.{field} {getattr(kind, field).offset} {getattr(kind, field).size}")
-        self.assertEqual(ran(lines), wanted)
 
-    def test_numbers_are_those_of_the_headers(self):
-        for name, (kind, front) in NUMBERS.items():
-            found = dict(it.split() for it in ran(f'printf("{it} %d\\n", {it});' for it in numbers(name)))
-            named = {short(it, front): int(value) for it, value in found.items()}
-            wanted = {it.name: it.value for it in kind}
-            self.assertEqual(
-                {it: value for it, value in named.items() if value or it in wanted}, wanted, name
-            )
+@pytest.mark.parametrize("name", STRUCTS)
+def test_structs_have_the_members_of_the_headers(name):
+    fields = [it[0] for it in STRUCTS[name]._fields_]
+    assert [re.search(r"\w+$", it)[0] for it in members("struct", name)] == fields
 
-    def test_errors_are_those_of_the_headers(self):
-        names = ("_".join(re.findall("[A-Z][a-z]+", it.__name__)).upper() for it in rules._STOPS.values())
-        self.assertEqual(
-            ran(f'printf("%d\\n", GIX_URL_{it});' for it in names), [str(it) for it in rules._STOPS]
-        )
 
-    def test_calls_are_those_of_the_header(self):
-        others = {it[1] for it in CALL.finditer(preprocessed("gix_url.h"))}
-        found = {it[1]: it[2].split(",") for it in CALL.finditer(HEADER) if it[1] not in others}
-        declared = {name: [parameter(it) for it in given] for name, given in found.items()}
-        self.assertEqual({*declared} - UNUSED, {*_calls.CALLS})
-        for name, call in _calls.CALLS.items():
-            self.assertEqual([in_c(it) for it in call.types()], declared[name], name)
+def test_members_are_at_their_places():
+    lines, wanted = [], []
+    for name, kind in STRUCTS.items():
+        lines.append(f'printf("{name} %zu\\n", sizeof({name}));')
+        wanted.append(f"{name} {ctypes.sizeof(kind)}")
+        for field, _ in kind._fields_:
+            place = f"offsetof({name}, {field}), sizeof((({name} *)0)->{field})"
+            lines.append(f'printf("{name}.{field} %zu %zu\\n", {place});')
+            wanted.append(f"{name}.{field} {getattr(kind, field).offset} {getattr(kind, field).size}")
+    assert ran(lines) == wanted
+
+
+@pytest.mark.parametrize("name", NUMBERS)
+def test_numbers_are_those_of_the_headers(name):
+    kind, front = NUMBERS[name], FRONTS.get(name.removeprefix("gix_url_"), "")
+    found = dict(it.split() for it in ran(f'printf("{it} %d\\n", {it});' for it in numbers(name)))
+    named, wanted = {short(it, front): int(value) for it, value in found.items()}, {it.name: it.value for it in kind}
+    assert {it: value for it, value in named.items() if value or it in wanted} == wanted
+
+
+def test_errors_are_those_of_the_headers():
+    names = ("_".join(re.findall("[A-Z][a-z]+", it.__name__)).upper() for it in rules._STOPS.values())
+    assert ran(f'printf("%d\\n", GIX_URL_{it});' for it in names) == [str(it) for it in rules._STOPS]
+
+
+def test_calls_are_those_of_the_header():
+    others = {it[1] for it in CALL.finditer(preprocessed("gix_url.h"))}
+    found = {it[1]: it[2].split(",") for it in CALL.finditer(HEADER) if it[1] not in others}
+    declared = {name: [parameter(it) for it in given] for name, given in found.items() if name not in UNUSED}
+    assert declared == {name: [in_c(it) for it in call.types()] for name, call in _calls.CALLS.items()}
 
 
 # Calls of each kind, and the errors that they raise.
@@ -159,14 +149,12 @@ for call in (
 
 
 def ran_by(lines, program):
-    """The output of a program in Python, and the last line of its errors, with a library that these lines of
-    C build."""
+    """The output of a program in Python, and the last line of its errors, over a library of these lines of C."""
     names = ("error_name", "fault_name", "kind_name", "write_fault_name", "error_words", "version")
     texts = (f'const char *gix_url_{it}(void) {{ return "0"; }}' for it in names)
     with tempfile.TemporaryDirectory() as folder:
         library = f"{folder}/libgix_url.so"
-        command = [COMPILER, "-shared", "-fPIC", "-xc", "-", "-o", library]
-        subprocess.run(command, input="\n".join([*texts, *lines, ""]), text=True, check=True)
+        output(COMPILER, "-shared", "-fPIC", "-xc", "-", "-o", library, given="\n".join([*texts, *lines, ""]))
         searched = os.path.dirname(os.path.dirname(gix_url.__file__))
         environment = {**os.environ, "GIX_URL_LIB": library, "PYTHONPATH": searched}
         command = [sys.executable, "-B", "-c", program]
@@ -174,18 +162,14 @@ def ran_by(lines, program):
     return ran.stdout.split() + ran.stderr.split("\n")[-2:-1]
 
 
-class OtherLibraries(unittest.TestCase):
-    def test_a_library_without_the_calls_is_named(self):
-        self.assertEqual(ran_by((), "import gix_url; print(gix_url.__version__)"), ["0"])
-        error, = ran_by((), "import gix_url.rules")
-        self.assertRegex(error, "^ImportError: gix_url: the library lacks a call: .*gix_url_read_listing$")
-
-    def test_no_error_is_taken_for_a_result(self):
-        wanted_of = {1: "MemoryError", 101: "Error", 102: "Error", 103: "Error", 999: "Error"}
-        for number, wanted in wanted_of.items():
-            lines = [f"int gix_url_{it}(void) {{ return {number}; }}" for it in _calls.CALLS]
-            self.assertEqual(ran_by(lines, CALLS), [wanted] * 9, number)
+def test_a_library_without_the_calls_is_named():
+    assert ran_by((), "import gix_url; print(gix_url.__version__)") == ["0"]
+    error, = ran_by((), "import gix_url.rules")
+    assert re.match("ImportError: gix_url: the library lacks a call: .*gix_url_read_listing$", error)
 
 
-if __name__ == "__main__":
-    unittest.main()
+@pytest.mark.parametrize("number, wanted", [
+    (1, "MemoryError"), (101, "Error"), (102, "Error"), (103, "Error"), (999, "Error")])
+def test_no_error_is_taken_for_a_result(number, wanted):
+    lines = [f"int gix_url_{it}(void) {{ return {number}; }}" for it in _calls.CALLS]
+    assert ran_by(lines, CALLS) == [wanted] * 9

@@ -5,6 +5,7 @@ calls over a configuration begin with one element, so that most are too short at
 import ctypes
 import os
 import sys
+import types
 
 sys.dont_write_bytecode = True
 sys.path.append(f"{os.path.dirname(os.path.realpath(__file__))}/../python")
@@ -26,56 +27,48 @@ def is_blank(items, used=0):
     return set(bytes(memoryview(items).cast("B"))[used:]) <= {PATTERN}
 
 
-class Checked:
+def checked(name):
     """An export over a configuration or a text, whose buffers and results are checked around each call."""
+    call, export = _calls.CALLS[name], getattr(_library.lib, f"gix_url_{name}")
 
-    def __init__(self, name):
-        self.name, self.call, self.export = name, _calls.CALLS[name], getattr(_library.lib, f"gix_url_{name}")
-
-    def __call__(self, *given):
-        count, first = len(self.call.buffers), len(self.call.given)
+    def made(*given):
+        count, first = len(call.buffers), len(call.given)
         buffers = [fill(it) for it in given[first : first + 2 * count : 2]]
         stored = [it._obj for it in given[first + 2 * count :]]
-        results, sizes = stored[: bool(self.call.result)], stored[bool(self.call.result) :][:count]
+        results, sizes = stored[: bool(call.result)], stored[bool(call.result) :][:count]
         for it in (*results, *sizes):
             fill(it)
-        error = self.export(*given)
-        used = [it.value for it in (sizes[::-1] if self.call.is_turned else sizes)]
-        assert error == 0 or all(map(is_blank, (*buffers, *results))), f"{self.name} changes a buffer or a result with error {error}"
-        assert error in (0, _calls._NO_ROOM) or all(map(is_blank, sizes)), f"{self.name} stores a length with error {error}"
+        error = export(*given)
+        used = [it.value for it in (sizes[::-1] if call.is_turned else sizes)]
+        is_kept = all(map(is_blank, (*buffers, *results)))
+        assert error == 0 or is_kept, f"{name} changes a buffer or a result with error {error}"
+        is_kept = all(map(is_blank, sizes))
+        assert error in (0, _calls._NO_ROOM) or is_kept, f"{name} stores a length with error {error}"
         after = (is_blank(it, number * ctypes.sizeof(it._type_)) for it, number in zip(buffers, used))
-        assert error or all(after), f"{self.name} writes after its result"
+        assert error or all(after), f"{name} writes after its result"
         # The package made what isn't stored 0.
         for it in () if error == 0 else results if error == _calls._NO_ROOM else (*results, *sizes):
             ctypes.memset(ctypes.byref(it), 0, ctypes.sizeof(it))
         return error
 
-
-class Library:
-    """The library with checked calls."""
-
-    def __init__(self):
-        for name in _calls.CALLS:
-            setattr(self, f"gix_url_{name}", Checked(name))
+    return made
 
 
-class Located:
+def located(export):
     """An export over locations: the buffer that it takes holds the pattern until it succeeds."""
-
-    def __init__(self, export):
-        self.export = export
-
-    def __call__(self, *given):
+    def made(*given):
         buffers = [fill(it) for it in given if isinstance(it, ctypes.Array)]
-        error = self.export(*given)
+        error = export(*given)
         assert error == 0 or all(map(is_blank, buffers)), f"a buffer is changed with error {error}"
         return error
 
+    return made
+
 
 def main():
-    _calls.lib, _calls._START = Library(), 1
+    _calls.lib, _calls._START = types.SimpleNamespace(**{f"gix_url_{it}": checked(it) for it in _calls.CALLS}), 1
     for name in ("parse", "from_parts", "write", "display", "path_query_fragment", "reason_name", "reason_words"):
-        setattr(gix_url.lib, f"gix_url_{name}", Located(getattr(gix_url.lib, f"gix_url_{name}")))
+        setattr(gix_url.lib, f"gix_url_{name}", located(getattr(gix_url.lib, f"gix_url_{name}")))
     vectors.main()
 
 

@@ -1,5 +1,4 @@
-"""Executes orders of calls over a configuration, and over texts that Git reads, by the module
-`gix_url.rules`."""
+"""Executes orders of calls over a configuration, and over texts that Git reads, by the module `gix_url.rules`."""
 import itertools
 
 import gix_url
@@ -8,6 +7,8 @@ from gix_url.rules import Configuration, Decider, Decision
 
 SERVICES = {f"git-{it}".replace("_", "-").encode(): it for it in rules.Service}
 VARIANTS = {b"ssh": rules.Variant.OPENSSH, **{str(it).encode(): it for it in list(rules.Variant)[1:]}}
+# The names of variants that differ from those here.
+VARIANT_NAMES = {rules.Variant.OPENSSH: "Ssh", rules.Variant.TORTOISEPLINK: "TortoisePlink"}
 # A style in which the result of a call is printed.
 WHOLE = b"{:?}"
 
@@ -18,33 +19,38 @@ def named(of):
 
 
 def told(value):
-    """A value as it is printed: each byte that isn't ASCII as U+EF00 plus the byte."""
-    return None if value is None else "".join(chr(it if it < 128 else 0xEF00 + it) for it in value)
+    """A value as it is printed: in a text each byte that isn't ASCII as U+EF00 plus the byte."""
+    if isinstance(value, str):
+        value = value.encode()
+    return "".join(chr(it if it < 128 else 0xEF00 + it) for it in value) if isinstance(value, bytes) else value
+
+
+def told_or_error(found):
+    """A text, or the name of the reason why there is none."""
+    return {"error": named(found)} if isinstance(found, int) else told(found)
 
 
 def members(of, *names):
-    """The fields with these names, if they exist."""
-    values = {it: getattr(of, it) for it in names}
-    return {name: told(it) if isinstance(it, bytes) else it for name, it in values.items() if it is not None}
+    """The fields with these names that aren't None."""
+    return {it: told(getattr(of, it)) for it in names if getattr(of, it) is not None}
+
+
+def given(order, *names):
+    return {it: order.get(it) for it in names}
 
 
 def config(order):
     return Configuration.from_listing(order["config"])
 
 
+def told_entries(of, *more):
+    return [members(it, "section", "subsection", "name", "value", *more) for it in of.entries]
+
+
 def indices(entries, of):
     """The indices of entries in a configuration, by their positions."""
     places = {it.at: index for index, it in enumerate(of.entries)}
     return [places[it.at] for it in entries]
-
-
-def read_listing(order):
-    return [members(it, "section", "subsection", "name", "value", "at") for it in config(order).entries]
-
-
-def read_file(order):
-    entries = Configuration.from_file(order["file"]).entries
-    return [members(it, "section", "subsection", "name", "value") for it in entries]
 
 
 def rewritten(order):
@@ -55,6 +61,10 @@ def rewritten(order):
     return found
 
 
+def rewritten_push(order):
+    return config(order).rewrite_push(order["text"], order.get("has_push_url") == b"true")
+
+
 def remote(order):
     found = config(order).remote(order["name"])
     lists = {name: [told(it) for it in getattr(found, name)] for name in ("urls", "push_urls")}
@@ -62,30 +72,16 @@ def remote(order):
 
 
 def permission(order):
-    given = {it: order.get(it) for it in ("allow_list", "from_user")}
-    return config(order).permission(order["name"], **given)
+    return config(order).permission(order["name"], **given(order, "allow_list", "from_user"))
 
 
 def told_permission(order):
     """The decision, and if the style asks for it the setting that decides."""
     found = permission(order)
-    if order.get("style") != WHOLE:
-        return named(found.decision)
     entry = f"{{ at: {found.at} }}"
-    by = {
-        Decider.BY_LIST: "(AllowList)", Decider.BY_ENTRY: f"(Entry {entry})", Decider.BY_DEFAULT: "(Default)",
-        None: ""
-    }[found.by]
-    return {
-        "shown": named(found.decision) + (f" {entry}" if found.decision == Decision.UNKNOWN_ALLOWANCE else by)
-    }
-
-
-def told_or_error(found):
-    """A text, or the name of the reason why there is none."""
-    if isinstance(found, int):
-        return {"error": named(found)}
-    return told(found.encode() if isinstance(found, str) else found)
+    by = {Decider.BY_LIST: "(AllowList)", Decider.BY_ENTRY: f"(Entry {entry})", Decider.BY_DEFAULT: "(Default)"}
+    shown = f" {entry}" if found.decision == Decision.UNKNOWN_ALLOWANCE else by.get(found.by, "")
+    return {"shown": named(found.decision) + shown} if order.get("style") == WHOLE else named(found.decision)
 
 
 def location(order):
@@ -95,12 +91,9 @@ def location(order):
 
 def ssh_command(order):
     """The command for the request of an order, in the form of the library: a family is a number."""
-    request = {
-        "program": order.get("program"), "variant": VARIANTS[order["variant"]],
-        "version": int(order["version"])
-    }
-    family = rules.Family(int(order.get("family", b"0")))
-    return rules.ssh_words(location(order), SERVICES[order["service"]], family=family, **request)
+    numbers = {"version": int(order["version"]), "family": rules.Family(int(order.get("family", b"0")))}
+    service, variant = SERVICES[order["service"]], VARIANTS[order["variant"]]
+    return rules.ssh_words(location(order), service, variant=variant, program=order.get("program"), **numbers)
 
 
 def ssh_words(order):
@@ -114,17 +107,13 @@ def git_protocol(order):
 
 
 def ssh_program(order):
-    given = {it: order.get(it) for it in ("git_ssh_command", "git_ssh", "git_ssh_variant")}
-    found = config(order).ssh_program(**given)
-    variant = {
-        rules.Variant.OPENSSH: "Ssh", rules.Variant.TORTOISEPLINK: "TortoisePlink"
-    }.get(found.variant, named(found.variant))
-    return {"text": told(found.text), "is_command_line": found.is_command_line, "variant": variant}
+    found = config(order).ssh_program(**given(order, "git_ssh_command", "git_ssh", "git_ssh_variant"))
+    variant = VARIANT_NAMES.get(found.variant, named(found.variant))
+    return {**members(found, "text", "is_command_line"), "variant": variant}
 
 
 def settings(order):
-    """The indices of the entries that count; without a text, those that count if no entry with a URL
-    applies."""
+    """The indices of the entries that count; without a text, those that count if no entry with a URL applies."""
     of = config(order)
     return indices(of.settings(order["name"], order.get("text", b"")).entries, of)
 
@@ -137,16 +126,10 @@ def best_entry(order):
     return told(found.entries[0].value) if found.entries else None
 
 
-def abnormal(order):
-    return told_or_error(Configuration().settings(b"k", order["text"]).why)
-
-
 def credentials(order):
     of = config(order)
     found = of.credentials(order["text"])
-    if found is None:
-        return None
-    return {"helpers": indices(found.helpers, of), **members(found, "user", "use_http_path")}
+    return found and {"helpers": indices(found.helpers, of), **members(found, "user", "use_http_path")}
 
 
 def git_reading(order):
@@ -172,9 +155,7 @@ def is_relative(order):
 
 
 def climbs(order):
-    found = rules.resolve_submodule(order["parent"], order["url"])
-    assert not isinstance(found, rules.Unresolved)
-    return found.climbs
+    return rules.resolve_submodule(order["parent"], order["url"]).climbs
 
 
 def submodules(order):
@@ -199,36 +180,31 @@ def refusals(order):
 def secrets(order):
     """The pieces of a text. Neighbours of one kind are joined."""
     pieces = rules.secrets(order["text"])
-    assert rules.redacted(order["text"]) == b"".join(
-        b"redacted" if it.is_hidden else it.text for it in pieces
-    ).decode(errors="replace")
+    redacted = b"".join(b"redacted" if it.is_hidden else it.text for it in pieces)
+    assert rules.redacted(order["text"]) == redacted.decode(errors="replace")
     joined = itertools.groupby(pieces, lambda it: it.is_hidden)
-    return [
-        {"hidden" if is_hidden else "shown": told(b"".join(it.text for it in of))} for is_hidden, of in joined
-    ]
+    return [{"hidden" if is_hidden else "shown": told(b"".join(it.text for it in of))} for is_hidden, of in joined]
 
 
 CALLS = {
     "Danger::name": lambda order: str(danger(order)),
     "Danger::words": lambda order: danger(order).words,
-    "NormalUrl::parse_in": abnormal,
+    "NormalUrl::parse_in": lambda order: told_or_error(Configuration().settings(b"k", order["text"]).why),
     "Permission::is_allowed": lambda order: permission(order).decision == Decision.ALLOWED,
     "Protocols::permission": told_permission,
-    "Reader::new": read_listing,
+    "Reader::new": lambda order: told_entries(config(order), "at"),
     "Refused::as_str": lambda order: str(rules.SubmoduleRefusal[order["error"].decode().upper()]),
     "Remote::of": remote,
     "Resolved::to_bstring": lambda order: told(resolved(order)),
     "Rewrites::rewrite_fetch": lambda order: told(rewritten(order).text),
-    "Rewrites::rewrite_push": lambda order: told(
-        config(order).rewrite_push(order["text"], order.get("has_push_url") == b"true").text
-    ),
+    "Rewrites::rewrite_push": lambda order: told(rewritten_push(order).text),
     "Rewritten::is_rewritten": lambda order: rewritten(order).is_rewritten,
     "Rewritten::to_bstring": lambda order: told(rewritten(order).text),
     "SshCommand::git_protocol": git_protocol,
     "SshCommand::to_words": ssh_words,
     "SshProgram::of": ssh_program,
-    "config::entries": read_listing,
-    "config_file::entries": read_file,
+    "config::entries": lambda order: told_entries(config(order), "at"),
+    "config_file::entries": lambda order: told_entries(Configuration.from_file(order["file"])),
     "credential::reading": credential_reading,
     "credentials::credentials_for": credentials,
     "danger::dangers": dangers,

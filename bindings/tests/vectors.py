@@ -10,19 +10,16 @@ sys.dont_write_bytecode = True
 sys.path.append(f"{os.path.dirname(os.path.realpath(__file__))}/../python")
 import gix_url
 import rule_calls
+from rule_calls import named, told
 
 SCHEMES = {"File": 0, "Git": 1, "Ssh": 2, "Http": 3, "Https": 4, "Ext": 5, "Helper": 6, "HelperUrl": 7}
 NAMES = {number: name for name, number in SCHEMES.items()}
 
 
-def unescaped(value):
-    """The bytes of a value: `\\x` with two digits is a byte."""
-    return re.sub(rb"\\x(..)", lambda it: bytes([int(it[1], 16)]), value)
-
-
 def order_of(line):
+    """The members of an order. In their values `\\x` with two digits is a byte."""
     members = (it.partition(b"=") for it in line.split(b"\t"))
-    return {name.decode(): unescaped(value) for name, _, value in members}
+    return {name.decode(): re.sub(rb"\\x(..)", lambda it: bytes([int(it[1], 16)]), value) for name, _, value in members}
 
 
 def location(order, whole):
@@ -35,18 +32,11 @@ def location(order, whole):
     return gix_url.Url(gix_url.Scheme(SCHEMES[scheme]), name=name if space else None, port=port, **texts, **more)
 
 
-def told(value):
-    """A value as it is printed: each byte that isn't ASCII as U+EF00 plus the byte, and nothing for a missing value."""
-    if isinstance(value, str):
-        value = value.encode()
-    return "".join(chr(it if it < 128 else 0xEF00 + it) for it in value) if isinstance(value, bytes) else value
-
-
 def told_url(url):
     spelling = url.look().original_path
     name = NAMES[url.scheme] + (f" {told(url.name)}" if url.name is not None else "")
-    parts = {"user": url.user, "password": url.password, "host": url.host, "port": url.port, "alternative": url.alternative or None, "path": url.path}
-    parts["spelling"] = spelling if spelling != url.path else None
+    own = {"alternative": url.alternative or None, "spelling": spelling if spelling != url.path else None}
+    parts = {**{it: getattr(url, it) for it in ("user", "password", "host", "port", "path")}, **own}
     return {"scheme": name, **{it: told(part) for it, part in parts.items() if part is not None}}
 
 
@@ -85,7 +75,7 @@ def unmet_condition(url):
     """The first condition that isn't met, by its name here, which is the library's name with `_` between words."""
     unmet = url.unmet_condition()
     assert (unmet is None) == url.is_unambiguous()
-    return None if unmet is None else unmet.name.title().replace("_", "")
+    return None if unmet is None else named(unmet)
 
 
 def told_order(one, other):

@@ -8,7 +8,6 @@ import re
 import shutil
 import subprocess
 
-import pytest
 from git_runs import put
 from rt_api import ROOT, program, read, stored
 from runs import ended
@@ -94,6 +93,3 @@ def is_caught(*tests):
 
 def check(faults):
     assert not faults, f"{len(faults)} faults\n" + "\n".join(faults[:10])
-
-
-needs_cargo = pytest.mark.needs("cc", "cargo")

@@ -20,6 +20,7 @@ pytestmark = pytest.mark.needs("cc", "ar")
 # The files that tests in C share, and those of the tests of memory, with their flags.
 SHARED = "told orders rule_calls rule_configs"
 OF_MEMORY = {"borrowed": ("told", ""), "buffers": ("told heap", "-Wl,--wrap=malloc,--wrap=realloc,--wrap=free")}
+QUICK = ("nulls", "rule_nulls", *OF_MEMORY)
 
 
 @functools.cache
@@ -41,17 +42,12 @@ def compiled(folder, name):
 
 @pytest.fixture(scope="module")
 def folder():
-    return programs(f"{OUT}/c", "nulls", "rule_nulls", *OF_MEMORY, "answers", "vectors", "members")
+    return programs(f"{OUT}/c", *QUICK, "answers", "vectors", "members")
 
 
-@pytest.mark.parametrize("name", ["nulls", "rule_nulls"])
-def test_null_pointers(name, folder):
-    run(f"{folder}/{name}")
-
-
-@pytest.mark.parametrize("name", OF_MEMORY)
-def test_memory(name, folder):
-    """What calls leave in buffers and in the heap, and the bytes that parts point to."""
+@pytest.mark.parametrize("name", QUICK)
+def test_own_tests(name, folder):
+    """Null pointers, what calls leave in buffers and in the heap, and the bytes that parts point to."""
     run(f"{folder}/{name}")
 
 
@@ -89,7 +85,7 @@ def test_finds(fault):
     plant(copy, *faults_of("c")[fault][1:])
     programs.cache_clear()
     folder = programs(f"{OUT}/plant", sources=copy)
-    made = (compiled(folder, it) for it in ("nulls", "rule_nulls", *OF_MEMORY))
+    made = (compiled(folder, it) for it in QUICK)
     if not any(is_caught(lambda it=it: run(it)) for it in made):
         compiled(folder, "answers")
         vectors = compiled(folder, "vectors")

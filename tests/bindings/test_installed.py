@@ -24,16 +24,13 @@ def said(words):
     return sh(words).decode().split()
 
 
-@pytest.mark.parametrize("compiler", ["cc", "clang"])
-def test_headers_in_c99(compiler):
+@pytest.mark.parametrize("compiler, language, version, file", [
+    ("cc", "c", "c99", "-"), ("clang", "c", "c99", "-"),
+    ("c++", "c++", "c++11", "bindings/tests/header.cc"), ("clang++", "c++", "c++11", "bindings/tests/header.cc")])
+def test_headers(compiler, language, version, file):
     warnings = said('echo "${warnings[@]}"')
-    run(compiler, "-x", "c", "-std=c99", "-pedantic", *warnings, "-Ibindings/c/include", "-fsyntax-only", "-", given=HEADERS)
-
-
-@pytest.mark.parametrize("compiler", ["c++", "clang++"])
-def test_headers_in_cpp(compiler):
-    warnings = said('echo "${warnings[@]}"')
-    run(compiler, "-x", "c++", "-std=c++11", "-pedantic", *warnings, "-Ibindings/c/include", "-fsyntax-only", "bindings/tests/header.cc")
+    words = ["-x", language, f"-std={version}", "-pedantic", *warnings, "-Ibindings/c/include", "-fsyntax-only", file]
+    run(compiler, *words, given=HEADERS)
 
 
 @pytest.mark.parametrize("library, flag, words", [

@@ -1,6 +1,6 @@
-"""The package for Python: a wheel, installed without a registry into an empty environment, and the package that `scripts/bindings --install`
-puts below a prefix, which finds its library there. Faults are planted in the package, which the rows and the tests of calls over a
-configuration have to find."""
+"""The package for Python: a wheel, installed without a registry into an environment of its own, and the package that
+`scripts/bindings --install` puts below a prefix, which finds its library there. Faults are planted in the package, which
+the rows and the tests of calls over a configuration have to find."""
 import functools
 import os
 
@@ -20,7 +20,7 @@ PATTERNED = f"{ROOT}/bindings/tests/patterned.py"
 def installed():
     """The variables by which the wheel is used."""
     built()
-    sh(f"rm -rf {OUT}/dist {OUT}/venv; wheel {OUT}/dist; python3 -m venv {OUT}/venv; {OUT}/venv/bin/pip install --quiet --no-index"
+    sh(f"rm -rf {OUT}/dist {OUT}/venv; wheel {OUT}/dist; python3 -m venv --system-site-packages {OUT}/venv; {OUT}/venv/bin/pip install --quiet --no-index"
        f' --disable-pip-version-check {OUT}/dist/gix_url-"$(version)"-py3-none-linux_x86_64.whl')
     return {"PATH": f"{OUT}/venv/bin:{os.environ['PATH']}", **FOUND}
 
@@ -37,7 +37,7 @@ def test_rows(monkeypatch):
 
 @pytest.mark.parametrize("name", ["values", "package", "rules", "layouts"])
 def test_own_tests(name):
-    python(f"bindings/tests/{name}.py")
+    python("-m", "pytest", f"bindings/tests/{name}.py")
 
 
 def test_programs_of_the_page():
@@ -67,5 +67,6 @@ def test_finds(fault, monkeypatch):
     for name, value in {"PYTHONPATH": folder, "GIX_URL_LIB": f"{OUT}/lib", **FOUND}.items():
         monkeypatch.setenv(name, value)
     run("python3", "-c", "import gix_url.audit")
-    assert is_caught(lambda: check(Python().faults(VECTORS, *RULE_TABLES)), lambda: run("python3", "-W", "error", "bindings/tests/rules.py"),
-                     lambda: run("python3", "bindings/tests/layouts.py"))
+    command = ("python3", "-W", "error", "-m", "pytest")
+    own = (lambda it=it: run(*command, f"bindings/tests/{it}.py") for it in ("rules", "layouts"))
+    assert is_caught(lambda: check(Python().faults(VECTORS, *RULE_TABLES)), *own)

@@ -6,12 +6,12 @@ import shutil
 
 import pytest
 from binding_rows import Rust
-from build import CRATE, OUT, RULE_TABLES, TEXTS, built, check, copied, faults_of, inputs, is_caught, needs_cargo, of_page, plant, run
+from build import CRATE, OUT, RULE_TABLES, TEXTS, built, check, copied, faults_of, inputs, is_caught, of_page, plant, run
 from git_runs import put
 from members import check_members
 from rt_api import ROOT, stored
 
-pytestmark = needs_cargo
+pytestmark = pytest.mark.needs("cc", "cargo")
 # These tables take only a part of the time of all.
 TABLES = ("git", "parts", "reading", "shown", "unambiguous")
 

@@ -9,8 +9,9 @@ import os
 import urllib.parse
 
 import pytest
-import runs
-from rt_api import read
+from row_text import bytes_of, joined
+from rt_api import read, rows_of
+from runs import explain
 from texts import plain
 
 jsonschema = pytest.importorskip("jsonschema")
@@ -18,14 +19,14 @@ SECRET = "S3cr3t"
 # The lines of a file, and the names of what is found in each.
 FILE = [(text, names.split()) for text, _, names in (it.partition(" => ") for it in read("tests/programs/audited.txt").splitlines())]
 PARENT = "https://example.com/group/super.git"
+ROWS = rows_of("tests/programs/configurations.jsonl")
+CONFIG = next(bytes_of(joined(it["audited"])) for it in ROWS if "audited" in it)
 # The characters that no text of a log may contain.
 CONTROLS = {*map(chr, range(32)), "\x7f"}
 
 
 def run(words, given=b"", status=0):
-    ran = runs.run("explain", words, given, timeout=120)
-    assert ran.returncode == status, ran
-    return ran.stdout
+    return explain(words, given, statuses=[status])
 
 
 def objects(words, given=b"", status=0):
@@ -92,12 +93,6 @@ def test_logs_of_lines(tmp_path):
     assert {it["locations"][0]["logicalLocations"][0]["name"] for it in log(["h:p", "ext::x"], status=1)["results"]} == {"argument 2"}
     lacking = log(["-f", "/no/such/file", "-f", os.devnull], status=2)
     assert lacking["invocations"] == [{"executionSuccessful": False}] and not lacking["results"]
-
-
-CONFIG = (
-    b"remote.origin.url\nhttps://github.com/a/b\0remote.bad.url\next::sh -c x\0submodule.a.url\nhttps://u:" + SECRET.encode()
-    + b"@example.com/a\0submodule.a.active\ntrue\0submodule.b.url\n-u./payload\0submodule.c.url\nhttps://github.com/a/c\0submodule.c.update\n!x\0"
-    + b"submodule.../d.url\nx\0")
 
 
 def test_remotes():

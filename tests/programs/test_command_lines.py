@@ -8,7 +8,7 @@ import re
 import subprocess
 
 import pytest
-from options import GIVEN, NEEDED, OF_ITSELF, excluded
+from options import GIVEN, LISTED, NEEDED, OF_ITSELF, excluded
 from row_text import in_bytes
 from rt_api import program, read, rows_of, stored
 from runs import run
@@ -46,7 +46,7 @@ def test_version():
 
 @pytest.mark.quick
 def test_each_option_is_tried_in_pairs():
-    assert {*re.findall(r"(?m)^ +(?:-\w, )?(--[\w-]+)", read("crates/explain/help"))} <= {*GIVEN, *OF_ITSELF}
+    assert LISTED <= {*GIVEN, *OF_ITSELF}
     assert not [it for it, count in collections.Counter(excluded()).items() if count > 1]
 
 
@@ -56,7 +56,5 @@ def test_pair(pair):
     is_excluded = frozenset(pair) in {*excluded()}
     needed = set() if is_excluded else {NEEDED[it] for it in pair if it in NEEDED}
     ran = run("explain", [GIVEN[it] for it in sorted({*pair, *needed})])
-    if is_excluded:
-        assert ran.returncode == 2 and b" cannot be used with " in ran.stderr
-    else:
-        assert ran.returncode == 0 and not ran.stderr
+    assert ran.returncode == 2 * is_excluded
+    assert b" cannot be used with " in ran.stderr if is_excluded else not ran.stderr

@@ -8,7 +8,7 @@ import shutil
 import subprocess
 
 import pytest
-from options import excluded
+from options import LISTED, excluded
 from rt_api import ROOT, read
 
 pytestmark = pytest.mark.quick
@@ -53,7 +53,7 @@ def test_options(file, pattern):
     text = read(f"completions/{file}")
     if file.endswith(".bash"):
         text = " ".join(re.findall(r'_gix_url_words "(--[^"]*)"', text))
-    assert {*re.findall(pattern, text)} == {*re.findall(r"(?m)^ +(?:-\w, )?--([\w-]+)", read("crates/explain/help"))}
+    assert {f"--{it}" for it in re.findall(pattern, text)} == LISTED
 
 
 def test_pairs_that_exclude_each_other_in_zsh():

@@ -201,9 +201,8 @@ def cases_of_git():
 
 
 def run(case, *words):
-    variables = {"GIT_ALLOW_PROTOCOL": case.allow_list, "GIT_PROTOCOL_FROM_USER": case.from_user}
-    environment = {name: value for name, value in os.environ.items() if name not in variables}
-    environment.update({name: os.fsdecode(value) for name, value in variables.items() if value is not None})
+    variables = {**os.environb, b"GIT_ALLOW_PROTOCOL": case.allow_list, b"GIT_PROTOCOL_FROM_USER": case.from_user}
+    environment = {name: it for name, it in variables.items() if it is not None}
     return runs.run("explain", words, ended(case.lines), env=environment)
 
 

@@ -11,7 +11,7 @@ import re
 import pytest
 import terminal
 from rt_api import stored
-from runs import ended, explained, run
+from runs import explained, run, shown
 from second_reading import short_inputs, stored_run, text_answers
 from texts import plain, realistic
 
@@ -28,11 +28,6 @@ DOTS = re.compile(rb"https://.*/\.\.?(/|\Z)")
 # In the row of Git all but that the same is read, and that it was not compared; rows of what others read.
 READ_ALIKE = rb"reads the same in its text|passes its text to a remote helper"
 ALARM = re.compile(rb"; danger: |: refused: |, not settled|^ +git +(?! |" + READ_ALIKE + rb")|^ +(helpers|curl|readers|hint) ", re.M)
-
-
-def shown(lines):
-    """The answers to lines, each with its heading and its rows."""
-    return re.split(rb"(?m)^(?=line \d+: )", run("explain", given=ended(lines)).stdout)[1:]
 
 
 @pytest.mark.quick

@@ -10,21 +10,18 @@ import re
 
 import pytest
 from pieces import is_of_fields, named
-from runs import ended, explain, run
+from row_text import bytes_of, joined
+from rt_api import rows_of
+from runs import ended, explain, run, shown
 from second_reading import explain as second
 from second_reading import grammar, hidden, short_inputs
 from second_reading.seen import seen
-from texts import SECRET, SHAPES, TOKEN, Secrets, compare, examples, made, realistic
+from texts import SECRET, SHAPES, Secrets, compare, examples, made, realistic
 
 # The number of changed lines.
 COUNT = 3_000
-ENTRIES = [
-    (b"url.https://u:%b@h/.insteadof" % SECRET, b"gh:"), (b"http.extraheader", b"Authorization: " + SECRET), (b"http.https://h/.extraheader", b"X: " + SECRET),
-    (b"http.proxy", b"socks5://u:%b@p" % SECRET), (b"http.https://u:%b@h/.sslverify" % SECRET, b"1"), (b"http.cookiefile", b"/c/" + TOKEN),
-    (b"credential.helper", b"!echo password=" + SECRET), (b"credential.https://h.helper", b"!echo " + SECRET), (b"credential.https://h.username", TOKEN),
-    (b"remote.%b.url" % TOKEN, b"https://u:%b@h/x" % SECRET), (b"remote.o.url", b"u:%b@h:x" % SECRET), (b"remote.o.proxy", b"u:%b@p:1" % SECRET),
-    (b"submodule.%b.url" % TOKEN, b"https://u%%3A%b@h/x" % SECRET), (b"core.sshcommand", b"ssh -o X=u:%b@h" % SECRET)]
-ENTRIES_GIVEN = b"".join(b"%b\n%b\0" % it for it in ENTRIES)
+ROWS = rows_of("tests/programs/configurations.jsonl")
+ENTRIES = next(bytes_of(joined(it["secrets"])) for it in ROWS if "secrets" in it)
 LAYOUTS: tuple[list[str], ...] = (
     [], ["--json"], ["--html=t", "--"], ["--sarif"], ["--summary"], ["--ssh"], ["--color=always"],
     *([f"--only={it}"] for it in ("scheme", "user", "host", "port", "path", "query", "fragment")))
@@ -53,9 +50,8 @@ def faults_of(line, told, answer):
 
 def faults_of_lines(lines):
     told = explain(["--json"], ended(lines)).decode().split("\n")[:-1]
-    shown = re.split(r"(?m)^(?=line \d+: )", explain((), ended(lines)).decode())[1:]
-    for line, *answers in zip(lines, told, shown, strict=True):
-        yield from ((line, f"{it}: {line!r}") for it in faults_of(line, *answers))
+    for line, answer, it in zip(lines, told, shown(lines), strict=True):
+        yield from ((line, f"{fault}: {line!r}") for fault in faults_of(line, answer, it.decode()))
 
 
 @pytest.mark.sample
@@ -78,8 +74,8 @@ def test_layouts(words):
     lines = [*SHAPES, *filter(is_secret, examples(made(Secrets), COUNT))]
     texts = [it.decode() for it in (*SHAPES, b"https://h/x", b"gh:x") if it.isascii()]
     assert not shows_the_secret(words, ended(lines))
-    assert not shows_the_secret([*words, "--config=-", *texts], ENTRIES_GIVEN)
+    assert not shows_the_secret([*words, "--config=-", *texts], ENTRIES)
 
 
 def test_remotes():
-    assert not shows_the_secret(["--remotes"], ENTRIES_GIVEN)
+    assert not shows_the_secret(["--remotes"], ENTRIES)

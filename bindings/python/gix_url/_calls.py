@@ -24,7 +24,7 @@ Policy = struct(allow_list=Text, from_user=Text)
 Permission = struct(decision=Number, by=Number, at=Size)
 Piece = struct(len=Size, is_hidden=Size)
 _parts = {"user": Text, "host": Text, "path": Text}
-Place = struct(why=Number, protocol=Number, **_parts, has_port=Truth, port=ctypes.c_uint16)
+GitPlace = struct(why=Number, protocol=Number, **_parts, has_port=Truth, port=ctypes.c_uint16)
 Request = struct(is_read=Truth, protocol=Text, user=Text, password=Text, host=Text, path=Text)
 SshRequest = struct(service=Number, program=Text, variant=Number, version=_Byte, family=Number)
 SshCommand = struct(refusal=Number, word_count=Size, git_protocol=_Byte)
@@ -33,7 +33,7 @@ SshProgram = struct(text=Text, is_command_line=Truth, variant=Number)
 Settings = struct(why=Number, setting_count=Size)
 Credentials = struct(is_read=Truth, helper_count=Size, user=Text, use_http_path=Truth)
 Resolved = struct(why=Number, is_relative=Truth, climbs=Truth, url=Text)
-Check = struct(name=Number, value=Number)
+SubmoduleCheck = struct(name=Number, value=Number)
 Submodule = struct(name=Text, path=Size, url=Size, update=Size, branch=Size)
 
 
@@ -76,14 +76,14 @@ CALLS = {
     "dangers_of": Call((*_text, _url), (_Byte,)),
     "danger_words": Call((Number,), (_char,)),
     "secrets_of": Call(_text, (Piece,)),
-    "git_reading": Call(_text, (_char,), Place),
+    "git_reading": Call(_text, (_char,), GitPlace),
     "credential_reading": Call(_text, (_char,), Request),
     "ssh_words": Call((_url, ctypes.POINTER(SshRequest)), (_char, Text), SshCommand),
     "ssh_program_of": Call((*_config, ctypes.POINTER(SshVariables)), (_char,), SshProgram, stops=True),
     "settings_of": Call((*_config, *_text, *_text), (Size,), Settings, stops=True),
     "credentials_of": Call((*_config, *_text), (_char, Size), Credentials, stops=True),
     "resolve_submodule": Call((*_text, *_text), (_char,), Resolved),
-    "check_submodule": Call((ctypes.POINTER(Entry),), (), Check),
+    "check_submodule": Call((ctypes.POINTER(Entry),), (), SubmoduleCheck),
     "submodules_of": Call(_config, (_char, Submodule), is_turned=True),
 }
 for _name, _call in CALLS.items():

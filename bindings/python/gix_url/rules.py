@@ -77,8 +77,7 @@ class NoConfiguration(ConfigurationError):
     """The text isn't a configuration."""
 
 
-_STOPS = {
-    _calls.NO_VALUE: NoValue, _calls.NO_BOOLEAN: NoBoolean, _calls.NO_CONFIGURATION: NoConfiguration}
+_STOPS = {_calls.NO_VALUE: NoValue, _calls.NO_BOOLEAN: NoBoolean, _calls.NO_CONFIGURATION: NoConfiguration}
 
 
 def _made(name: str, *given: Any) -> _calls.Made:
@@ -149,9 +148,8 @@ class Configuration:
         count, pushed = made.fields.pop("url_count"), made.fields.pop("push_url_count")
         return Remote(tuple(made.items[:count]), tuple(made.items[count : count + pushed]), **made.fields)
 
-    def permission(
-        self, transport: Text, *, allow_list: Text | None = None, from_user: Text | None = None
-    ) -> Permission:
+    def permission(self, transport: Text, *, allow_list: Text | None = None,
+                   from_user: Text | None = None) -> Permission:
         """Whether Git may use the transport with this name, which `transport_of` returns: git-config(1),
         protocol.allow. The variables GIT_ALLOW_PROTOCOL, `allow_list`, and GIT_PROTOCOL_FROM_USER,
         `from_user`, are None if they aren't set. Raises Error, whose name is NoLocation, for a transport that
@@ -180,10 +178,8 @@ class Configuration:
             return None
         return Credentials(helpers, made.fields["user"], made.fields["use_http_path"])
 
-    def ssh_program(
-        self, *, git_ssh_command: Text | None = None, git_ssh: Text | None = None,
-        git_ssh_variant: Text | None = None
-    ) -> SshProgram:
+    def ssh_program(self, *, git_ssh_command: Text | None = None, git_ssh: Text | None = None,
+                    git_ssh_variant: Text | None = None) -> SshProgram:
         """The program that Git runs for Secure Shell: git-config(1), core.sshCommand and ssh.variant. The
         variables GIT_SSH_COMMAND, GIT_SSH and GIT_SSH_VARIANT are None if they aren't set. Raises NoValue at
         the last core.sshCommand or ssh.variant if that counts and has no value."""
