@@ -8,7 +8,7 @@ the text that is written, and whether the library reports that Git agrees.
 """
 from collections import namedtuple
 
-from git_classes import Reading, told
+from git_classes import Reading, reported
 from row_text import bytes_of, text_of
 
 # The calls over a text that is read.
@@ -53,9 +53,9 @@ def example_faults(table):
         if isinstance(ours, Reading) and None in said[it]:
             yield f"{it.place}: over the text that it reads there is no row for one of {', '.join(CALLS)}"
         is_let_by = said[it][1:] == [text_of(it.text), True]
-        if len({is_let_by, told(ours) == git, it.class_name == "alike"}) > 1:
+        if len({is_let_by, reported(ours) == git, it.class_name == "alike"}) > 1:
             words = "let by" if is_let_by else "not let by"
-            yield f"{it.place}: {it.class_name}, {words}: Git reads {git!r}, and here is read {told(ours)!r}"
+            yield f"{it.place}: {it.class_name}, {words}: Git reads {git!r}, and here is read {reported(ours)!r}"
     for it in web_examples(table):
         _, written, agrees = said[it]
         if agrees is None:

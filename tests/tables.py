@@ -36,21 +36,21 @@ def keeps(outcome, text):
     return {**outcome, "kept": text} if is_kept else outcome
 
 
-def is_refusal(told):
+def is_refusal(reported):
     """Whether an outcome is an error other than refused memory."""
-    return isinstance(told, dict) and "error" in told and told != MEMORY
+    return isinstance(reported, dict) and "error" in reported and reported != MEMORY
 
 
-def fits(expected, told):
+def fits(expected, reported):
     """Whether an outcome is the expected one; for refused JSON, whether it contains everything that is expected of it."""
     if expected == {"refused": True}:
-        return is_refusal(told)
+        return is_refusal(reported)
     if isinstance(expected, dict) and str(expected.get("error", "")).endswith("…"):
         first, last = expected.get("column", (0, float("inf")))
-        begins = is_refusal(told) and told["error"].startswith(expected["error"][:-1])
-        return begins and first <= told.get("column", 0) <= last
+        begins = is_refusal(reported) and reported["error"].startswith(expected["error"][:-1])
+        return begins and first <= reported.get("column", 0) <= last
     # Compared as JSON, since Python takes 1 for true.
-    return json.dumps(told, sort_keys=True) == json.dumps(expected, sort_keys=True)
+    return json.dumps(reported, sort_keys=True) == json.dumps(expected, sort_keys=True)
 
 
 class Row:

@@ -34,7 +34,7 @@ def class_of(case, classes):
     return next(name for name, found in named.items() if found)
 
 
-def told(reading):
+def reported(reading):
     """A reading in one line, in the form of the examples."""
     if not isinstance(reading, tuple):
         return f"refused {reading or ''}".strip()
@@ -50,7 +50,7 @@ class Case:
         self.text, self.git, self.ours = text, git, ours
         self.is_settled, self.agrees, self.written = is_settled, agrees, written
         self.is_same = is_settled and written == text
-        self.readings, self.said = {"Git": git, "here": ours}, (told(git), ours)
+        self.readings, self.said = {"Git": git, "here": ours}, (reported(git), ours)
         # The protocols that Git and this library read, None if there is no reading.
         self.git_protocol, self.protocol = (it.protocol if isinstance(it, Reading) else None for it in (git, ours))
         url = URL.fullmatch(text)

@@ -10,10 +10,10 @@ typedef struct made {
     size_t name, user, password, host, path, spelling;
 } made;
 
-typedef struct told {
+typedef struct reported {
     uint8_t kind, fault, reason;
     size_t shown, total, at, len;
-} told;
+} reported;
 
 typedef struct seen {
     uint8_t user, host;
@@ -26,13 +26,13 @@ typedef struct parted {
     size_t path, fragment, pairs, bytes;
 } parted;
 
-uint32_t gix_url_c_read(const char *, size_t, made *, char *, size_t, told *);
-uint32_t gix_url_c_from_parts(const given *, made *, char *, size_t, told *);
+uint32_t gix_url_c_read(const char *, size_t, made *, char *, size_t, reported *);
+uint32_t gix_url_c_from_parts(const given *, made *, char *, size_t, reported *);
 uint32_t gix_url_c_is_settled(const given *, bool *);
 uint32_t gix_url_c_agrees_with_git(const given *, bool *);
 uint32_t gix_url_c_unmet_condition(const given *, uint8_t *);
-uint32_t gix_url_c_write(const given *, char *, size_t, size_t *, told *);
-uint32_t gix_url_c_display(const given *, char *, size_t, size_t *, told *);
+uint32_t gix_url_c_write(const given *, char *, size_t, size_t *, reported *);
+uint32_t gix_url_c_display(const given *, char *, size_t, size_t *, reported *);
 uint32_t gix_url_c_look(const given *, seen *);
 uint32_t gix_url_c_components(const given *, parted *, char *, size_t, size_t *, size_t);
 uint32_t gix_url_c_reason_name(uint8_t, char *, size_t, size_t *);
@@ -56,17 +56,17 @@ static gix_url located(const made *made, const char *buffer) {
 }
 
 /* Stores the details of an error. */
-static void tell(uint32_t error, const told *told, gix_url_problem *problem) {
+static void tell(uint32_t error, const reported *reported, gix_url_problem *problem) {
     if (!problem) return;
     memset(problem, 0, sizeof *problem);
-    problem->kind = (gix_url_kind)told->kind;
-    if (error == GIX_URL_UNWRITABLE) problem->write_fault = (gix_url_write_fault)told->fault;
-    else problem->fault = (gix_url_fault)told->fault;
-    problem->reason = (gix_url_reason)told->reason;
-    problem->shown = told->shown;
-    problem->total = told->total;
-    problem->at = told->at;
-    problem->len = told->len;
+    problem->kind = (gix_url_kind)reported->kind;
+    if (error == GIX_URL_UNWRITABLE) problem->write_fault = (gix_url_write_fault)reported->fault;
+    else problem->fault = (gix_url_fault)reported->fault;
+    problem->reason = (gix_url_reason)reported->reason;
+    problem->shown = reported->shown;
+    problem->total = reported->total;
+    problem->at = reported->at;
+    problem->len = reported->len;
 }
 
 /* The error for a null pointer that must not be null. It has no details. */
@@ -77,11 +77,11 @@ static gix_url_error null_pointer(gix_url_problem *problem) {
 
 /* Returns the location that was made in the buffer, or the error. */
 static gix_url_error hand_out(uint32_t error, const made *made, const char *buffer, gix_url *url, size_t *needed,
-                              const told *told, gix_url_problem *problem) {
+                              const reported *reported, gix_url_problem *problem) {
     if (error == GIX_URL_OK) *url = located(made, buffer);
     if ((error == GIX_URL_OK || error == GIX_URL_NO_ROOM) && needed)
         *needed = made->name + made->user + made->password + made->host + made->path + made->spelling;
-    tell(error, told, problem);
+    tell(error, reported, problem);
     return (gix_url_error)error;
 }
 
@@ -91,9 +91,9 @@ gix_url_error gix_url_parse(const char *input, size_t len, char *buffer, size_t 
     if (!input) input = nowhere, len = 0;
     if (!buffer) buffer = nowhere, buffer_len = 0;
     made made = {0};
-    told told = {0};
-    uint32_t error = gix_url_c_read(input, len, &made, buffer, buffer_len, &told);
-    return hand_out(error, &made, buffer, url, needed, &told, problem);
+    reported reported = {0};
+    uint32_t error = gix_url_c_read(input, len, &made, buffer, buffer_len, &reported);
+    return hand_out(error, &made, buffer, url, needed, &reported, problem);
 }
 
 gix_url_error gix_url_from_parts(const gix_url *parts, char *buffer, size_t buffer_len, gix_url *url, size_t *needed,
@@ -101,10 +101,10 @@ gix_url_error gix_url_from_parts(const gix_url *parts, char *buffer, size_t buff
     if (!parts || !url) return null_pointer(problem);
     if (!buffer) buffer = nowhere, buffer_len = 0;
     made made = {0};
-    told told = {0};
+    reported reported = {0};
     given given = given_of(parts);
-    uint32_t error = gix_url_c_from_parts(&given, &made, buffer, buffer_len, &told);
-    return hand_out(error, &made, buffer, url, needed, &told, problem);
+    uint32_t error = gix_url_c_from_parts(&given, &made, buffer, buffer_len, &reported);
+    return hand_out(error, &made, buffer, url, needed, &reported, problem);
 }
 
 gix_url_error gix_url_is_settled(const gix_url *url, bool *settled) {
@@ -139,20 +139,20 @@ gix_url_error gix_url_is_unambiguous(const gix_url *url, bool *unambiguous) {
 gix_url_error gix_url_write(const gix_url *url, char *buffer, size_t buffer_len, size_t *len, gix_url_problem *problem) {
     if (!url || !len) return null_pointer(problem);
     if (!buffer) buffer = nowhere, buffer_len = 0;
-    told told = {0};
+    reported reported = {0};
     given given = given_of(url);
-    uint32_t error = gix_url_c_write(&given, buffer, buffer_len, len, &told);
-    tell(error, &told, problem);
+    uint32_t error = gix_url_c_write(&given, buffer, buffer_len, len, &reported);
+    tell(error, &reported, problem);
     return (gix_url_error)error;
 }
 
 gix_url_error gix_url_display(const gix_url *url, char *buffer, size_t buffer_len, size_t *len, gix_url_problem *problem) {
     if (!url || !len) return null_pointer(problem);
     if (!buffer) buffer = nowhere, buffer_len = 0;
-    told told = {0};
+    reported reported = {0};
     given given = given_of(url);
-    uint32_t error = gix_url_c_display(&given, buffer, buffer_len, len, &told);
-    tell(error, &told, problem);
+    uint32_t error = gix_url_c_display(&given, buffer, buffer_len, len, &reported);
+    tell(error, &reported, problem);
     return (gix_url_error)error;
 }
 

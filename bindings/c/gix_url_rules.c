@@ -97,12 +97,12 @@ static const gix_url_entry *whole(const gix_url_entry *entries, size_t *count) {
 }
 
 /* Stores the position at which Git stops. */
-static void tell(const stop *told, gix_url_stop *stop) {
+static void tell(const stop *reported, gix_url_stop *stop) {
     if (!stop) return;
     memset(stop, 0, sizeof *stop);
-    stop->at = told->at;
-    stop->line = told->line;
-    stop->flaw = (gix_url_flaw)told->flaw;
+    stop->at = reported->at;
+    stop->line = reported->line;
+    stop->flaw = (gix_url_flaw)reported->flaw;
 }
 
 /* The error for a null pointer that must not be null. */
@@ -167,7 +167,7 @@ gix_url_error gix_url_read_file(const char *text, size_t len, char *buffer, size
 
 /* Returns the text that was rewritten into the buffer, or the error. */
 static gix_url_error hand_out(uint32_t error, const rewrite *made, const char *buffer, gix_url_rewritten *rewritten,
-                              size_t *needed, const stop *told, gix_url_stop *stop) {
+                              size_t *needed, const stop *reported, gix_url_stop *stop) {
     if (is_measured(error)) store(needed, made->len);
     if (error == GIX_URL_OK) {
         memset(rewritten, 0, sizeof *rewritten);
@@ -175,7 +175,7 @@ static gix_url_error hand_out(uint32_t error, const rewrite *made, const char *b
         rewritten->is_rewritten = made->is_rewritten;
         rewritten->base_len = made->base;
     }
-    tell(told, stop);
+    tell(reported, stop);
     return (gix_url_error)error;
 }
 

@@ -1,6 +1,6 @@
 /* Prints a result for each line of the standard input as the program `locations` does, by calls of the library, and
  * checks that the calls agree with one another. */
-#include "told.h"
+#include "reported.h"
 
 #include <string.h>
 
@@ -86,9 +86,9 @@ static void answer_read(line *out, const gix_url *url) {
     gix_url_text text;
     bool settled;
     is_seen(url);
-    line told = {0};
-    tell_components(&told, url);
-    free(told.at);
+    line reported = {0};
+    tell_components(&reported, url);
+    free(reported.at);
     HOLDS(gix_url_is_settled(url, &settled) == GIX_URL_OK);
     is_for_git(url, settled);
     char *buffer = text_of_location(gix_url_write, url, &text.len, &error, &problem);

@@ -3,7 +3,7 @@
  * buffer and the parts are unchanged, so no part of a refused text is in the buffer, and no password. The crate for Rust calls
  * this export; the headers don't have it. */
 #include "../c/parts.h"
-#include "told.h"
+#include "reported.h"
 
 typedef struct problem {
     uint8_t kind, fault, reason;
@@ -74,10 +74,10 @@ static void of_text(size_t number) {
     char buffer[64];
     gix_url_text text = {texts[number].text, strlen(texts[number].text)}, whole_buffer = {buffer, text.len};
     given borrowed;
-    problem told;
+    problem reported;
     about(text);
     memset(buffer, 0xA5, sizeof buffer);
-    HOLDS(gix_url_c_read_in(text.at, text.len, buffer, text.len, &borrowed, &told) == GIX_URL_OK);
+    HOLDS(gix_url_c_read_in(text.at, text.len, buffer, text.len, &borrowed, &reported) == GIX_URL_OK);
     lies(borrowed.name, NAME, number, text, whole_buffer);
     lies(borrowed.user, USER, number, text, whole_buffer);
     lies(borrowed.password, PASSWORD, number, text, whole_buffer);
@@ -94,11 +94,11 @@ static void leaves(gix_url_text text, size_t len, bool is_short) {
         char buffer[64];
         given borrowed;
     } got, kept;
-    problem told;
+    problem reported;
     memset(&got, 0xA5, sizeof got);
     memset(&kept, 0xA5, sizeof kept);
     about(text);
-    uint32_t error = gix_url_c_read_in(text.at, text.len, got.buffer, len, &got.borrowed, &told);
+    uint32_t error = gix_url_c_read_in(text.at, text.len, got.buffer, len, &got.borrowed, &reported);
     HOLDS(is_short ? error == GIX_URL_NO_ROOM : is_refusal((gix_url_error)error));
     HOLDS(memcmp(&got, &kept, sizeof got) == 0);
 }

@@ -4,7 +4,7 @@
  * returns, it gives back all memory that it requested. Each call has to return each error that the headers list for it. */
 #include "../c/include/gix_url_rules.h"
 #include "heap.h"
-#include "told.h"
+#include "reported.h"
 
 #include <string.h>
 

@@ -3,7 +3,7 @@
 #define FUZZ_RULES_H
 
 #include "../c/include/gix_url_rules.h"
-#include "told.h"
+#include "reported.h"
 
 /* Makes each call over a configuration and a text, which a byte 0x1e separates, and checks what it promises. */
 void by_rules(gix_url_text input);

@@ -2,7 +2,7 @@
  * hexadecimal digits after a `.`, and `-` for a missing value. tests/bindings/members.py compares the output with
  * explain's. */
 #define _GNU_SOURCE
-#include "told.h"
+#include "reported.h"
 
 #include <string.h>
 #include <sys/types.h>

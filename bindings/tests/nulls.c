@@ -1,7 +1,7 @@
 /* Checks what each call stores: with each pointer null in turn, with structs that aren't a location, with a location
  * without a text, and with a buffer that is one byte too short. Each byte that a call may store into is compared with
  * its previous value. */
-#include "told.h"
+#include "reported.h"
 
 #include <string.h>
 

@@ -43,13 +43,13 @@ bool is_word(gix_url_text text, const char *word) {
 const char *const schemes[] = {"File", "Git", "Ssh", "Http", "Https", "Ext", "Helper", "HelperUrl"};
 
 /* Stores the scheme of this text, in which a name follows a space. */
-void set_scheme(gix_url *url, gix_url_text told) {
-    HOLDS(told.at);
-    const char *space = memchr(told.at, ' ', told.len);
-    size_t len = space ? (size_t)(space - told.at) : told.len;
-    if (space) url->name = (gix_url_text){space + 1, told.len - len - 1};
+void set_scheme(gix_url *url, gix_url_text reported) {
+    HOLDS(reported.at);
+    const char *space = memchr(reported.at, ' ', reported.len);
+    size_t len = space ? (size_t)(space - reported.at) : reported.len;
+    if (space) url->name = (gix_url_text){space + 1, reported.len - len - 1};
     for (int i = 0; i < 8; i++)
-        if (is_word((gix_url_text){told.at, len}, schemes[i])) url->scheme = (gix_url_scheme)i;
+        if (is_word((gix_url_text){reported.at, len}, schemes[i])) url->scheme = (gix_url_scheme)i;
 }
 
 /* The part of a location: the member `url.host` for the location `url` and the part `host`. */

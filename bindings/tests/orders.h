@@ -3,7 +3,7 @@
 #ifndef ORDERS_H
 #define ORDERS_H
 
-#include "told.h"
+#include "reported.h"
 
 /* An order: members, each a name and a value. */
 enum { MOST = 16 };
@@ -26,7 +26,7 @@ gix_url_text value(const order *order, const char *name);
 bool is_word(gix_url_text text, const char *word);
 
 /* Stores the scheme of this text, in which a name follows a space. */
-void set_scheme(gix_url *url, gix_url_text told);
+void set_scheme(gix_url *url, gix_url_text reported);
 
 /* The location with these parts, as they are. */
 gix_url location(const order *order, const char *whole);

@@ -18,21 +18,21 @@ def named(of):
     return of.name.title().replace("_", "")
 
 
-def told(value):
+def reported(value):
     """A value as it is printed: in a text each byte that isn't ASCII as U+EF00 plus the byte."""
     if isinstance(value, str):
         value = value.encode()
     return "".join(chr(it if it < 128 else 0xEF00 + it) for it in value) if isinstance(value, bytes) else value
 
 
-def told_or_error(found):
+def reported_or_error(found):
     """A text, or the name of the reason why there is none."""
-    return {"error": named(found)} if isinstance(found, int) else told(found)
+    return {"error": named(found)} if isinstance(found, int) else reported(found)
 
 
 def members(of, *names):
     """The fields with these names that aren't None."""
-    return {it: told(getattr(of, it)) for it in names if getattr(of, it) is not None}
+    return {it: reported(getattr(of, it)) for it in names if getattr(of, it) is not None}
 
 
 def given(order, *names):
@@ -43,7 +43,7 @@ def config(order):
     return Configuration.from_listing(order["config"])
 
 
-def told_entries(of, *more):
+def reported_entries(of, *more):
     return [members(it, "section", "subsection", "name", "value", *more) for it in of.entries]
 
 
@@ -67,7 +67,7 @@ def rewritten_push(order):
 
 def remote(order):
     found = config(order).remote(order["name"])
-    lists = {name: [told(it) for it in getattr(found, name)] for name in ("urls", "push_urls")}
+    lists = {name: [reported(it) for it in getattr(found, name)] for name in ("urls", "push_urls")}
     return {**lists, **members(found, "vcs", "proxy", "uploadpack", "receivepack")}
 
 
@@ -75,7 +75,7 @@ def permission(order):
     return config(order).permission(order["name"], **given(order, "allow_list", "from_user"))
 
 
-def told_permission(order):
+def reported_permission(order):
     """The decision, and if the style asks for it the setting that decides."""
     found = permission(order)
     entry = f"{{ at: {found.at} }}"
@@ -98,7 +98,7 @@ def ssh_command(order):
 
 def ssh_words(order):
     found = ssh_command(order)
-    return told_or_error(found) if isinstance(found, rules.SshRefusal) else [told(it) for it in found.words]
+    return reported_or_error(found) if isinstance(found, rules.SshRefusal) else [reported(it) for it in found.words]
 
 
 def git_protocol(order):
@@ -122,8 +122,8 @@ def best_entry(order):
     """The value of the entry that counts, or why no entry with a URL applies."""
     found = config(order).settings(order["name"], order["text"])
     if found.why is not None:
-        return told_or_error(found.why)
-    return told(found.entries[0].value) if found.entries else None
+        return reported_or_error(found.why)
+    return reported(found.entries[0].value) if found.entries else None
 
 
 def credentials(order):
@@ -135,7 +135,7 @@ def credentials(order):
 def git_reading(order):
     found = rules.git_reading(order["text"])
     if isinstance(found, rules.Unread):
-        return told_or_error(found)
+        return reported_or_error(found)
     return {"protocol": named(found.protocol), **members(found, "user", "host", "port", "path")}
 
 
@@ -161,8 +161,8 @@ def climbs(order):
 def submodules(order):
     """The submodules with a path and a URL."""
     listed = [it for it in config(order).submodules() if it.path and it.url]
-    update = {it.name: {"update": told(it.update.value)} if it.update else {} for it in listed}
-    return {told(it.name): {"url": told(it.url.value), **update[it.name]} for it in listed}
+    update = {it.name: {"update": reported(it.update.value)} if it.update else {} for it in listed}
+    return {reported(it.name): {"url": reported(it.url.value), **update[it.name]} for it in listed}
 
 
 def dangers(order):
@@ -183,28 +183,28 @@ def secrets(order):
     redacted = b"".join(b"redacted" if it.is_hidden else it.text for it in pieces)
     assert rules.redacted(order["text"]) == redacted.decode(errors="replace")
     joined = itertools.groupby(pieces, lambda it: it.is_hidden)
-    return [{"hidden" if is_hidden else "shown": told(b"".join(it.text for it in of))} for is_hidden, of in joined]
+    return [{"hidden" if is_hidden else "shown": reported(b"".join(it.text for it in of))} for is_hidden, of in joined]
 
 
 CALLS = {
     "Danger::name": lambda order: str(danger(order)),
     "Danger::words": lambda order: danger(order).words,
-    "NormalUrl::parse_in": lambda order: told_or_error(Configuration().settings(b"k", order["text"]).why),
+    "NormalUrl::parse_in": lambda order: reported_or_error(Configuration().settings(b"k", order["text"]).why),
     "Permission::is_allowed": lambda order: permission(order).decision == Decision.ALLOWED,
-    "Protocols::permission": told_permission,
-    "Reader::new": lambda order: told_entries(config(order), "at"),
+    "Protocols::permission": reported_permission,
+    "Reader::new": lambda order: reported_entries(config(order), "at"),
     "Refused::as_str": lambda order: str(rules.SubmoduleRefusal[order["error"].decode().upper()]),
     "Remote::of": remote,
-    "Resolved::to_bstring": lambda order: told(resolved(order)),
-    "Rewrites::rewrite_fetch": lambda order: told(rewritten(order).text),
-    "Rewrites::rewrite_push": lambda order: told(rewritten_push(order).text),
+    "Resolved::to_bstring": lambda order: reported(resolved(order)),
+    "Rewrites::rewrite_fetch": lambda order: reported(rewritten(order).text),
+    "Rewrites::rewrite_push": lambda order: reported(rewritten_push(order).text),
     "Rewritten::is_rewritten": lambda order: rewritten(order).is_rewritten,
-    "Rewritten::to_bstring": lambda order: told(rewritten(order).text),
+    "Rewritten::to_bstring": lambda order: reported(rewritten(order).text),
     "SshCommand::git_protocol": git_protocol,
     "SshCommand::to_words": ssh_words,
     "SshProgram::of": ssh_program,
-    "config::entries": lambda order: told_entries(config(order), "at"),
-    "config_file::entries": lambda order: told_entries(Configuration.from_file(order["file"])),
+    "config::entries": lambda order: reported_entries(config(order), "at"),
+    "config_file::entries": lambda order: reported_entries(Configuration.from_file(order["file"])),
     "credential::reading": credential_reading,
     "credentials::credentials_for": credentials,
     "danger::dangers": dangers,
@@ -212,7 +212,7 @@ CALLS = {
     "refusal::check": refusals,
     "resolve::climbs": climbs,
     "resolve::is_relative": is_relative,
-    "resolve::resolve": lambda order: told_or_error(resolved(order)),
+    "resolve::resolve": lambda order: reported_or_error(resolved(order)),
     "secret::secrets": secrets,
     "settings::settings_for": settings,
     "settings::settings_without_place": settings,
@@ -220,7 +220,7 @@ CALLS = {
     "ssh::ssh_command_for": ssh_words,
     "ssh::ssh_words": ssh_words,
     "submodules::submodules": submodules,
-    "text::transport_of": lambda order: told_or_error(rules.transport_of(order["text"])),
+    "text::transport_of": lambda order: reported_or_error(rules.transport_of(order["text"])),
     "transport::reading": git_reading,
 }
 

@@ -2,7 +2,7 @@
  * pointer, with buffers and arrays that are one element too short, and with each error. Each byte that a call may store
  * into is compared with its previous value. */
 #include "../c/include/gix_url_rules.h"
-#include "told.h"
+#include "reported.h"
 
 #include <string.h>
 

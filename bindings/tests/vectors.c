@@ -237,10 +237,10 @@ static void fmt_error(line *out, const order *order) {
     free(buffer);
 }
 
-static void scheme_text(line *out, gix_url_text told) {
+static void scheme_text(line *out, gix_url_text reported) {
     gix_url url;
     memset(&url, 0, sizeof url);
-    set_scheme(&url, told);
+    set_scheme(&url, reported);
     put_quoted(out, gix_url_scheme_text(&url));
 }
 

@@ -18,8 +18,8 @@ from rt_api import ROOT, read, stored
 
 pytestmark = pytest.mark.needs("cc", "ar")
 # The files that tests in C share, and those of the tests of memory, with their flags.
-SHARED = "told orders rule_calls rule_configs"
-OF_MEMORY = {"borrowed": ("told", ""), "buffers": ("told heap", "-Wl,--wrap=malloc,--wrap=realloc,--wrap=free")}
+SHARED = "reported orders rule_calls rule_configs"
+OF_MEMORY = {"borrowed": ("reported", ""), "buffers": ("reported heap", "-Wl,--wrap=malloc,--wrap=realloc,--wrap=free")}
 QUICK = ("nulls", "rule_nulls", *OF_MEMORY)
 
 

@@ -34,18 +34,18 @@ class Ran:
     """A run of a program whose requests are counted, with one of them refused; with none for 0."""
 
     def __init__(self, words, shim, given, refused):
-        with open(os.memfd_create("requests"), "rb") as told:
-            env = {"LD_PRELOAD": shim, "REFUSED": str(refused), "REQUESTS_TO": str(told.fileno())}
-            ran = subprocess.run(words, input=given, env=env, pass_fds=[told.fileno()], capture_output=True, timeout=60)
-            told.seek(0)
-            self.told = told.read()
+        with open(os.memfd_create("requests"), "rb") as reported:
+            env = {"LD_PRELOAD": shim, "REFUSED": str(refused), "REQUESTS_TO": str(reported.fileno())}
+            ran = subprocess.run(words, input=given, env=env, pass_fds=[reported.fileno()], capture_output=True, timeout=60)
+            reported.seek(0)
+            self.reported = reported.read()
         self.status, self.out, self.err = ran.returncode, ran.stdout, ran.stderr
         # The bytes of each request, and the bytes held at the end.
-        self.requests = [*map(int, re.findall(rb"(\d+)[+-]", self.told))]
-        self.held = int((re.findall(rb"(\d+)=", self.told) or [0])[-1])
+        self.requests = [*map(int, re.findall(rb"(\d+)[+-]", self.reported))]
+        self.held = int((re.findall(rb"(\d+)=", self.reported) or [0])[-1])
 
     def is_refused(self):
-        return b"-" in self.told
+        return b"-" in self.reported
 
 
 @pytest.fixture(scope="module")

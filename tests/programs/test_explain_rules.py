@@ -20,7 +20,7 @@ from rt_api import rows_of, stored
 from runs import ended, together
 from second_reading import grammar, hidden
 from second_reading.dangers import dangers
-from second_reading.explain import lossy, shown_line, told
+from second_reading.explain import lossy, shown_line, reported
 from second_reading.hidden import redacted
 from texts import Places, Remotes, Rules, examples, lacks_value, made
 
@@ -149,7 +149,7 @@ def remote(case, name):
 def found_in(text, way):
     """The names of the findings in a text that Git connects with, for which a run may fail."""
     v = grammar.spells(text)
-    report = {"settled": True, "agrees_with_git": True} if v is None else told(v)
+    report = {"settled": True, "agrees_with_git": True} if v is None else reported(v)
     is_used = way["transport"] is not None and way["transport"]["permission"] == "allowed"
     found = (way["dangers"], not report["settled"], v is None, not report["agrees_with_git"], not is_used)
     return [name for name, it in zip(FOUND, found) if it]

@@ -33,15 +33,15 @@ def is_secret(line):
     return not any(SECRET in it for it in hidden.shown_parts(line))
 
 
-def faults_of(line, told, answer):
+def faults_of(line, reported, answer):
     v, other = grammar.spells(line), seen(line)
     if CONTROL.search(answer):
         yield "a control character is shown"
-    if is_secret(line) and SECRET.decode() in told + answer:
+    if is_secret(line) and SECRET.decode() in reported + answer:
         yield "the secret is shown"
-    if json.loads(told)["input"] != second.shown_line(line):
+    if json.loads(reported)["input"] != second.shown_line(line):
         yield f"`input` isn't {second.shown_line(line)!r}"
-    if (json.loads(told)["location"] is None) != (v is None or other is None):
+    if (json.loads(reported)["location"] is None) != (v is None or other is None):
         yield "what it is read as is withheld, or isn't"
     if v is not None and other is not None and len(answer.split("\n")[1]) <= 204:
         if not is_of_fields(grammar.spells(other), named(answer), other):
@@ -49,8 +49,8 @@ def faults_of(line, told, answer):
 
 
 def faults_of_lines(lines):
-    told = explain(["--json"], ended(lines)).decode().split("\n")[:-1]
-    for line, answer, it in zip(lines, told, shown(lines), strict=True):
+    reported = explain(["--json"], ended(lines)).decode().split("\n")[:-1]
+    for line, answer, it in zip(lines, reported, shown(lines), strict=True):
         yield from ((line, f"{fault}: {line!r}") for fault in faults_of(line, answer, it.decode()))
 
 

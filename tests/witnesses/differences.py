@@ -5,7 +5,7 @@ reader's name (`readings`), and the example's version of that (`said`).
 """
 import json
 
-from git_classes import class_of, told
+from git_classes import class_of, reported
 from runs import answers
 from tables import fits
 
@@ -14,7 +14,7 @@ def lost(cases, classes):
     """The differences in no class, each with its readings."""
     for it in cases:
         if it.differing and class_of(it, classes) is None:
-            yield it, f"in no class: {it.text!r}" + "".join(f"\n    {name}: {told(found)}" for name, found in it.readings.items())
+            yield it, f"in no class: {it.text!r}" + "".join(f"\n    {name}: {reported(found)}" for name, found in it.readings.items())
 
 
 def needless(cases, classes):

@@ -7,7 +7,7 @@ spelled differently, and of texts that one reader refuses.
 import re
 from functools import cached_property
 
-from git_classes import of, told
+from git_classes import of, reported
 from second_reading import settled_class, writing
 from second_reading.web_defined import trimmed_path
 from second_reading.web_plain import broken
@@ -22,7 +22,7 @@ class WebCase:
         self.text, self.location, self.host = text, location, location.host
         self.credential, self.curl = credential_reads(text), curl_reads(text)
         self.readings = {"credential code": self.credential, "libcurl": self.curl}
-        self.said = told(self.credential), told(self.curl)
+        self.said = reported(self.credential), reported(self.curl)
         # The location in the form of Git's credential code.
         self.own = for_credential(location)
         # The text before the last `@`, None if there is none.

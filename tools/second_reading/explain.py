@@ -205,7 +205,7 @@ def shown_line(line):
     return lossy(hidden.redacted(line))
 
 
-def told(v):
+def reported(v):
     spelled = v.path if writing.matching(v) is None else v.spelling
     return {
         "form": form(v), "scheme": lossy(grammar.as_str(v.scheme)), "user": lossy(v.user),

@@ -8,7 +8,7 @@ import re
 
 from rt_api import ROOT
 from second_reading import errors, fault_places, grammar, hidden, reason_examples
-from second_reading.explain import told
+from second_reading.explain import reported
 from second_reading.hint_sentences import EXAMPLES, SENTENCES
 from second_reading.hints import HINTS, hints
 
@@ -60,7 +60,7 @@ def cells(line):
     if v is None:
         name, _, fault = errors.refusal(line)
         return ["refused: `" + (name if fault is None else f"{name} {fault}") + "`", ""]
-    it = told(v)
+    it = reported(v)
     parts = ["user", "password", "host", "port", "path"] if it["form"] in ("scp", "local") else ["scheme", "user", "password", "host", "port", "path"]
     there = [f"{name} `{it[name]}`" for name in parts if it[name] is not None]
     written = [] if it["text"].encode() == line else [f"`{it['text']}`"]

@@ -10,37 +10,37 @@ from row_text import bytes_of, text_of
 from second_reading import errors, fault_places, git_class, grammar, hosts, laws, line_answers, records, settled_class, writing
 
 
-def scheme(told):
+def scheme(reported):
     """The scheme that a row names, as in `Http` or `Helper a`."""
-    variant, mark, name = told.partition(" ")
+    variant, mark, name = reported.partition(" ")
     return (variant, bytes_of(name)) if mark else (variant,)
 
 
-def told_scheme(of):
+def reported_scheme(of):
     return text_of(b" ".join([of[0].encode(), *of[1:]]))
 
 
-def location(told):
+def location(reported):
     """The location of a row: the reading of a text, or the given fields."""
-    if isinstance(told, str):
-        found = grammar.spells(bytes_of(told))
+    if isinstance(reported, str):
+        found = grammar.spells(bytes_of(reported))
         if found is None:
-            raise ValueError(f"{told!r} is refused by the second reading")
+            raise ValueError(f"{reported!r} is refused by the second reading")
         return found
-    text = {name: bytes_of(it) for name, it in told.items() if isinstance(it, str)}
+    text = {name: bytes_of(it) for name, it in reported.items() if isinstance(it, str)}
     return grammar.location(
-        scheme(told["scheme"]), text.get("path", b""), told.get("alternative", False), text.get("user"),
-        text.get("password"), text.get("host"), told.get("port"), text.get("spelling"))
+        scheme(reported["scheme"]), text.get("path", b""), reported.get("alternative", False), text.get("user"),
+        text.get("password"), text.get("host"), reported.get("port"), text.get("spelling"))
 
 
-def told_location(of):
+def reported_location(of):
     """A location in the form of rows: the fields that are present, and the escaped path if it differs from the path."""
-    return told_parts(of, None if writing.matching(of) == of.path else writing.matching(of))
+    return reported_parts(of, None if writing.matching(of) == of.path else writing.matching(of))
 
 
-def told_parts(of, spelling):
+def reported_parts(of, spelling):
     """The fields that are present, with this escaped path."""
-    parts = {"scheme": told_scheme(of.scheme), "user": of.user, "password": of.password, "host": of.host,
+    parts = {"scheme": reported_scheme(of.scheme), "user": of.user, "password": of.password, "host": of.host,
              "port": of.port, "alternative": of.flag or None, "path": of.path, "spelling": spelling}
     return {name: text_of(it) if isinstance(it, bytes) else it for name, it in parts.items() if it is not None}
 
@@ -57,7 +57,7 @@ def refused(given):
 
 def read(given):
     found = grammar.spells(given)
-    return refused(given) if found is None else told_location(found)
+    return refused(given) if found is None else reported_location(found)
 
 
 def read_in(row):
@@ -104,7 +104,7 @@ def original_path(of):
 def reread(of):
     """The reading of the text of a location; a settled one has to come back."""
     if settled_class.settled(of) and laws.comes_back(of) is None:
-        raise ValueError(f"{told_location(of)} is settled, and its text isn't read as the same")
+        raise ValueError(f"{reported_location(of)} is settled, and its text isn't read as the same")
     return written(of, read)
 
 
@@ -122,17 +122,17 @@ def from_parts(parts):
 
 def record(of):
     """A location in the form of its record: with its retained escaped path, whether or not that still decodes to its path."""
-    return told_parts(of, of.spelling)
+    return reported_parts(of, of.spelling)
 
 
 def json_again(text):
     """The record of the location that is restored from the JSON of a record, as JSON in the order of the record's members."""
     names = ["scheme", "user", "password", "host", "serialize_alternative_form", "port", "path", "path_with_percent_escapes"]
-    told = {name: json.loads(text).get(name) for name in names}
-    path, spelling = (None if told[it] is None else bytes(told[it]) for it in names[-2:])
+    reported = {name: json.loads(text).get(name) for name in names}
+    path, spelling = (None if reported[it] is None else bytes(reported[it]) for it in names[-2:])
     back = records.migrated(grammar.location(None, path, False, spelling=spelling))
     path, spelling = list(back.path), None if back.spelling is None else list(back.spelling)
-    return json.dumps({**told, "path": path, "path_with_percent_escapes": spelling}, separators=(",", ":"), ensure_ascii=False)
+    return json.dumps({**reported, "path": path, "path_with_percent_escapes": spelling}, separators=(",", ":"), ensure_ascii=False)
 
 
 def display(of):
@@ -175,12 +175,12 @@ CALLS = {
     "Url::original_path": over_url(original_path),
     "UrlRef::original_path": over_url(original_path),
     "Url::as_ref": over_url(record),
-    "Url::clone": over_url(told_location),
-    "Url::with_request_alternate_form": lambda row: told_location(location(row["url"])._replace(flag=row["alternative"])),
+    "Url::clone": over_url(reported_location),
+    "Url::with_request_alternate_form": lambda row: reported_location(location(row["url"])._replace(flag=row["alternative"])),
     "Url::path_is_root": over_url(lambda url: url.path == b"/"),
     "UrlRef::path_is_root": over_url(lambda url: url.path == b"/"),
     "Url::to_stored": over_url(record),
-    "Url::from_stored": lambda row: told_location(records.migrated(location(row["record"]))),
+    "Url::from_stored": lambda row: reported_location(records.migrated(location(row["record"]))),
     "StoredUrl:again": lambda row: json_again(row["json"]),
     "Url::is_settled": over_url(settled_class.settled),
     "UrlRef::is_settled": over_url(settled_class.settled),
@@ -190,10 +190,10 @@ CALLS = {
     "Url::from_parts": lambda row: from_parts(row["record"]),
     "Url:fmt": over_url(display),
     "UrlRef:fmt": over_url(display),
-    "Scheme::from_text": over_text(lambda text: told_scheme(grammar.scheme_of(text))),
+    "Scheme::from_text": over_text(lambda text: reported_scheme(grammar.scheme_of(text))),
     "Scheme::as_str": over_scheme(lambda it: text_of(grammar.as_str(it))),
     "SchemeRef::as_str": over_scheme(lambda it: text_of(grammar.as_str(it))),
-    "Scheme::as_ref": over_scheme(told_scheme),
+    "Scheme::as_ref": over_scheme(reported_scheme),
     "Scheme:fmt": over_scheme(lambda it: {"shown": text_of(grammar.as_str(it))}),
     "ipv6::is_ipv6": over_text(hosts.ip6),
     "Error::refusal": over_text(refusal),

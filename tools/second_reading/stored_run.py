@@ -5,7 +5,7 @@ import json
 
 from second_reading import grammar, hidden
 from second_reading.dangers import dangers
-from second_reading.explain import WITHHELD, refusal_of_line, shown_line, told
+from second_reading.explain import WITHHELD, refusal_of_line, shown_line, reported
 from second_reading.explain_lines import (
     CURL, FILES, GIT, HELPERS, IN_REFUSED, LOCALS, MISREAD, PLACED, READ, REFUSED, REWRITTEN, SCPS, SECRETS, SLIPS, URLS, WEB)
 from second_reading.explain_tables import table
@@ -19,14 +19,14 @@ def found(line, v):
     """The names of the findings in a line, for which a run may fail."""
     if v is None:
         return ["refused"]
-    is_found = {"danger": dangers(line, v), "unsettled": not told(v)["settled"], "git-differs": not told(v)["agrees_with_git"]}
+    is_found = {"danger": dangers(line, v), "unsettled": not reported(v)["settled"], "git-differs": not reported(v)["agrees_with_git"]}
     return [name for name, it in is_found.items() if it]
 
 
 def object_of(number, line):
     """The object of a line. For a location the reading of the line as it is shown is reported."""
     v, other = grammar.spells(line), seen(line)
-    location = None if v is None or other is None else told(grammar.spells(other))
+    location = None if v is None or other is None else reported(grammar.spells(other))
     refusal = refusal_of_line(line) if v is None else WITHHELD if other is None else None
     return {"line": number, "input": shown_line(line), "location": location, "refusal": refusal,
           "readers": None if other is None else readers(line, v), "dangers": [] if v is None else dangers(line, v), "findings": found(line, v),

@@ -9,7 +9,7 @@ import re
 
 from second_reading import grammar, hidden
 from second_reading.dangers import WORDS, dangers
-from second_reading.explain import form, told
+from second_reading.explain import form, reported
 from second_reading.explain_tables import NAMES
 from second_reading.git_class import agrees_with_git
 from second_reading.git_reads import git_reads
@@ -129,7 +129,7 @@ def instead_of(name, here, there):
 
 def read_by_git(v):
     """The row of Git's reading of the text of a location."""
-    it, is_web = told(v), v.scheme in grammar.HTTP_SCHEMES
+    it, is_web = reported(v), v.scheme in grammar.HTTP_SCHEMES
     if it["agrees_with_git"]:
         return "reads the same in its text" + (", as curl does" if is_web else "")
     if it["git_reads"] is None or it["git_reads"]["why"] == "RemoteHelper":
@@ -166,7 +166,7 @@ def read_over_web(v):
     """The rows of the readings of Git's credential code and curl, if these may differ."""
     if v.scheme not in grammar.HTTP_SCHEMES or agrees_with_git(v):
         return
-    it = told(v)
+    it = reported(v)
     asked, reads = it["credential"], it["curl"]
     if asked is None:
         raise KeyError("no line has words for helpers that are asked for nothing")
@@ -215,7 +215,7 @@ def read_here(line, w):
 # ---- rows of a location, of a refused line and of hints
 
 def rows_of_parts(v):
-    it, is_web = told(v), v.scheme in grammar.HTTP_SCHEMES
+    it, is_web = reported(v), v.scheme in grammar.HTTP_SCHEMES
     yield "scheme", shown(grammar.as_str(v.scheme))
     if v.user is not None:
         yield "user", quoted(v.user)

@@ -272,18 +272,18 @@ def _refusal(number: int, problem: Any, kind: type[_Kind]) -> _Kind:
     error.shown, error.total, error.at, error.len = problem.shown, problem.total, problem.at, problem.len
     if problem.reason:
         calls = (lib.gix_url_reason_name, lib.gix_url_reason_words)
-        error.reason, error.words = (bytes(_filled(it, problem.reason, is_told=False)).decode() for it in calls)
+        error.reason, error.words = (bytes(_filled(it, problem.reason, is_reported=False)).decode() for it in calls)
     return error
 
 
-def _filled(call: Any, *given: Any, stored: Any = (), is_told: bool = True) -> Any:
+def _filled(call: Any, *given: Any, stored: Any = (), is_reported: bool = True) -> Any:
     """The buffer that a call filled. The call first returns how many bytes it needs, and usually reports the
     problem."""
     needed, problem = Size(), Problem()
-    told = [ref(problem)] if is_told else []
+    reported = [ref(problem)] if is_reported else []
     filled: Any = None
     for _ in range(2):
-        _check(call(*given, filled, needed, *stored, ref(needed), *told), problem)
+        _check(call(*given, filled, needed, *stored, ref(needed), *reported), problem)
         filled = filled or buffer(needed.value)
     return filled
 

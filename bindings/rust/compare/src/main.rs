@@ -27,14 +27,14 @@ mod price {
 
 /// The results of one of the two crates for a text: the same code for both, as in any program that changes its
 /// dependency.
-macro_rules! told_by {
+macro_rules! reported_by {
     ($name:ident) => {
         mod $name {
             use bstr::ByteSlice;
             use $name::{PathComponents, Url};
 
             /// The results of all calls for a text; `None` if it is refused.
-            pub fn told(text: &[u8]) -> Option<String> {
+            pub fn reported(text: &[u8]) -> Option<String> {
                 let url = Url::from_bytes(text.as_bstr()).ok()?;
                 Some([fields(&url), answers(&url), components(&url)].join("\n"))
             }
@@ -60,8 +60,8 @@ macro_rules! told_by {
     };
 }
 
-told_by!(gix_url);
-told_by!(gix_url_proved);
+reported_by!(gix_url);
+reported_by!(gix_url_proved);
 
 /// Pseudo-random numbers, the same in each run.
 struct Chance(u64);
@@ -118,7 +118,7 @@ fn main() {
     let (mut asked, mut known, mut different) = (0, 0, 0);
     for text in lines.iter().map(|line| line.to_vec()).chain(changed) {
         asked += 1;
-        let (theirs, ours) = (gix_url::told(&text), gix_url_proved::told(&text));
+        let (theirs, ours) = (gix_url::reported(&text), gix_url_proved::reported(&text));
         if theirs == ours {
             continue;
         }

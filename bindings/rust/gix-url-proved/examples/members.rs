@@ -6,7 +6,7 @@ use gix_url_proved::{parse, ArgumentSafety, PathComponents, Url};
 use std::io::Read;
 
 fn bytes(bytes: &[u8]) -> String {
-    bytes.iter().fold(".".to_string(), |told, byte| told + &format!("{byte:02x}"))
+    bytes.iter().fold(".".to_string(), |reported, byte| reported + &format!("{byte:02x}"))
 }
 
 fn member(part: Option<&str>) -> String {
@@ -27,22 +27,22 @@ fn judged(judged: ArgumentSafety<'_>) -> &'static str {
 
 /// The path, the names and values of the query and the fragment, in one text.
 fn components(parts: PathComponents<'_>) -> Vec<u8> {
-    let mut told = parts.path.to_vec();
+    let mut reported = parts.path.to_vec();
     if let Some(query) = parts.query {
-        told.extend_from_slice(b" ?");
+        reported.extend_from_slice(b" ?");
         for (name, value) in query {
             for (front, part, suffix) in [(" <", name, ">="), ("<", value, ">")] {
-                told.extend_from_slice(front.as_bytes());
-                told.extend_from_slice(&part);
-                told.extend_from_slice(suffix.as_bytes());
+                reported.extend_from_slice(front.as_bytes());
+                reported.extend_from_slice(&part);
+                reported.extend_from_slice(suffix.as_bytes());
             }
         }
     }
     if let Some(fragment) = parts.fragment {
-        told.extend_from_slice(b" #");
-        told.extend_from_slice(fragment);
+        reported.extend_from_slice(b" #");
+        reported.extend_from_slice(fragment);
     }
-    told
+    reported
 }
 
 fn members(url: &Url) -> String {
@@ -65,7 +65,7 @@ fn members(url: &Url) -> String {
         shown.map_or("-".to_string(), |text| bytes(text.as_bytes())),
         bytes(&components(url.path_query_fragment())),
     ];
-    words.iter().fold("read".to_string(), |told, word| told + " " + word)
+    words.iter().fold("read".to_string(), |reported, word| reported + " " + word)
 }
 
 /// The names of the error, of its fault and of its kind, the position of the flaw and the name of the reason.

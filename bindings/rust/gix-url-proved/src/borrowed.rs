@@ -10,18 +10,18 @@ use std::borrow::Cow;
 const EMPTY_FIELDS: usize = 8;
 
 /// The components in these bytes, borrowed from the path as far as possible.
-pub(crate) fn borrowed<'a>(whole: &'a [u8], told: &Parted, mut bytes: &[u8], lengths: &[usize]) -> PathComponents<'a> {
+pub(crate) fn borrowed<'a>(whole: &'a [u8], reported: &Parted, mut bytes: &[u8], lengths: &[usize]) -> PathComponents<'a> {
     // If there is no path before the query and the fragment, the path is `/`, which isn't part of `whole`.
-    let path = if whole.starts_with(next(&mut bytes, told.path)) { &whole[..told.path] } else { b"/" };
-    next(&mut bytes, told.fragment);
-    let (query, fragment) = whole.split_at(whole.len() - told.fragment);
-    let mut query = query.get(told.path..).unwrap_or(query);
+    let path = if whole.starts_with(next(&mut bytes, reported.path)) { &whole[..reported.path] } else { b"/" };
+    next(&mut bytes, reported.fragment);
+    let (query, fragment) = whole.split_at(whole.len() - reported.fragment);
+    let mut query = query.get(reported.path..).unwrap_or(query);
     let mut part = |len| lent_part(&mut query, next(&mut bytes, len));
     let pair = |pair: &[usize]| -> QueryPair<'a> { (part(pair[0]), part(pair[1])) };
     PathComponents {
         path: path.into(),
-        query: told.has_query.then(|| lengths[..2 * told.pairs].chunks_exact(2).map(pair).collect()),
-        fragment: told.has_fragment.then(|| fragment.into()),
+        query: reported.has_query.then(|| lengths[..2 * reported.pairs].chunks_exact(2).map(pair).collect()),
+        fragment: reported.has_fragment.then(|| fragment.into()),
     }
 }
 

@@ -124,13 +124,13 @@ struct Given<'a> {
 
 #[rustfmt::skip]
 extern "C" {
-    fn gix_url_c_read_in(input: *const u8, len: usize, buffer: *mut u8, buffer_len: usize, borrowed: &mut Given, told: &mut Problem) -> u32;
-    fn gix_url_c_from_parts(given: &Given, made: &mut Made, buffer: *mut u8, buffer_len: usize, told: &mut Problem) -> u32;
+    fn gix_url_c_read_in(input: *const u8, len: usize, buffer: *mut u8, buffer_len: usize, borrowed: &mut Given, reported: &mut Problem) -> u32;
+    fn gix_url_c_from_parts(given: &Given, made: &mut Made, buffer: *mut u8, buffer_len: usize, reported: &mut Problem) -> u32;
     fn gix_url_c_is_settled(given: &Given, settled: &mut bool) -> u32;
     fn gix_url_c_agrees_with_git(given: &Given, agrees: &mut bool) -> u32;
     fn gix_url_c_unmet_condition(given: &Given, unmet: &mut u8) -> u32;
-    fn gix_url_c_write(given: &Given, buffer: *mut u8, buffer_len: usize, len: &mut usize, told: &mut Problem) -> u32;
-    fn gix_url_c_components(given: &Given, told: &mut Parted, buffer: *mut u8, buffer_len: usize, lengths: *mut usize, lengths_len: usize) -> u32;
+    fn gix_url_c_write(given: &Given, buffer: *mut u8, buffer_len: usize, len: &mut usize, reported: &mut Problem) -> u32;
+    fn gix_url_c_components(given: &Given, reported: &mut Parted, buffer: *mut u8, buffer_len: usize, lengths: *mut usize, lengths_len: usize) -> u32;
     fn gix_url_c_argument(is_there: bool, text: *const u8, len: usize) -> u32;
     fn gix_url_c_path_argument(path: *const u8, len: usize) -> u32;
     fn gix_url_c_path_is_root(path: *const u8, len: usize) -> u32;
@@ -380,27 +380,27 @@ fn write_fault(number: u8) -> WriteFault {
 }
 
 /// The error with this number. `input` is the refused text, and `name` that of a remote helper.
-fn error(code: u32, told: &Problem, input: impl FnOnce() -> BString, name: &[u8]) -> Error {
+fn error(code: u32, reported: &Problem, input: impl FnOnce() -> BString, name: &[u8]) -> Error {
     match code {
         1 => Error::Memory,
         2 => Error::EmptyLocal,
-        3 => Error::MissingPath { kind: kind(told.kind), input: input() },
-        4 => Error::NotUtf8 { kind: kind(told.kind), input: input() },
+        3 => Error::MissingPath { kind: kind(reported.kind), input: input() },
+        4 => Error::NotUtf8 { kind: kind(reported.kind), input: input() },
         TOO_LONG => {
             let mut shown = input();
-            shown.truncate(told.shown);
-            Error::TooLong { shown, total: told.total }
+            shown.truncate(reported.shown);
+            Error::TooLong { shown, total: reported.total }
         }
-        BAD_URL => Error::BadUrl { kind: kind(told.kind), fault: url_fault(told.fault), input: input() },
+        BAD_URL => Error::BadUrl { kind: kind(reported.kind), fault: url_fault(reported.fault), input: input() },
         7 => Error::HelperName { name: name.into() },
-        8 => Error::Unwritable(write_fault(told.fault)),
+        8 => Error::Unwritable(write_fault(reported.fault)),
         _ => unreachable!("every value of this crate is a location"),
     }
 }
 
 /// Parses the bytes. The library returns the parts as slices of the bytes or of a buffer, and they are copied.
 pub(crate) fn read(input: &[u8]) -> Result<Url, Error> {
-    let (mut borrowed, mut told) = (Given::none(), Problem::default());
+    let (mut borrowed, mut reported) = (Given::none(), Problem::default());
     let (mut near, mut far) = ([MaybeUninit::<u8>::uninit(); NEAR], Vec::<u8>::new());
     let buffer = if input.len() <= NEAR {
         &mut near[..input.len()]
@@ -409,23 +409,23 @@ pub(crate) fn read(input: &[u8]) -> Result<Url, Error> {
         &mut far.spare_capacity_mut()[..input.len()]
     };
     let (code, _) = fill(buffer, &mut |buffer, len| {
-        (call!(gix_url_c_read_in, input.as_ptr(), input.len(), buffer, len, &mut borrowed, &mut told), 0)
+        (call!(gix_url_c_read_in, input.as_ptr(), input.len(), buffer, len, &mut borrowed, &mut reported), 0)
     });
     match code {
         OK => Ok(located(&borrowed)),
-        code => Err(error(code, &told, || input.into(), &[])),
+        code => Err(error(code, &reported, || input.into(), &[])),
     }
 }
 
 /// The reason and the position of the parse error; `None` if the bytes are a location. They are parsed without a
 /// buffer, so nothing is allocated.
 pub(crate) fn refusal(input: &[u8]) -> Option<Refusal> {
-    let (mut borrowed, mut told) = (Given::none(), Problem::default());
-    let code = call!(gix_url_c_read_in, input.as_ptr(), input.len(), [].as_mut_ptr(), 0, &mut borrowed, &mut told);
+    let (mut borrowed, mut reported) = (Given::none(), Problem::default());
+    let code = call!(gix_url_c_read_in, input.as_ptr(), input.len(), [].as_mut_ptr(), 0, &mut borrowed, &mut reported);
     // No form is reported for a text that is too long, since only a URL can be.
-    let form = if code == TOO_LONG { UrlKind::Url } else { kind(told.kind) };
-    let fault = (code == BAD_URL).then(|| url_fault(told.fault));
-    Some(Refusal { form, reason: Reason::numbered(told.reason)?, at: told.at, len: told.len, fault })
+    let form = if code == TOO_LONG { UrlKind::Url } else { kind(reported.kind) };
+    let fault = (code == BAD_URL).then(|| url_fault(reported.fault));
+    Some(Refusal { form, reason: Reason::numbered(reported.reason)?, at: reported.at, len: reported.len, fault })
 }
 
 /// The refusal of a text that is too long, of which an error keeps this front. With one more byte an authority is too
@@ -462,14 +462,14 @@ fn said(call: impl Fn(*mut u8, usize, &mut usize) -> u32) -> String {
 /// Writes these parts as one text, and returns the location that this text spells.
 pub(crate) fn from_parts(parts: &Url) -> Result<Url, Error> {
     let given = Given::of(parts);
-    let (mut made, mut told, mut buffer) = (Made::default(), Problem::default(), Buffer::new());
+    let (mut made, mut reported, mut buffer) = (Made::default(), Problem::default(), Buffer::new());
     let (code, bytes) = buffer.filled(NEAR, |buffer, len| {
-        let code = call!(gix_url_c_from_parts, &given, &mut made, buffer, len, &mut told);
+        let code = call!(gix_url_c_from_parts, &given, &mut made, buffer, len, &mut reported);
         (code, bytes_of(&made))
     });
     match code {
         OK => Ok(located(&Given::made(&made, bytes))),
-        _ => Err(error(code, &told, || write(parts).unwrap_or_default().into(), number(&parts.scheme).1)),
+        _ => Err(error(code, &reported, || write(parts).unwrap_or_default().into(), number(&parts.scheme).1)),
     }
 }
 
@@ -504,24 +504,24 @@ fn is_answered(code: u32) -> bool {
 /// The text of the location.
 pub(crate) fn write(url: &Url) -> Result<Vec<u8>, Error> {
     let given = Given::of(url);
-    let mut told = Problem::default();
+    let mut reported = Problem::default();
     let (code, bytes) = filled(given.bytes() + 32, |buffer, buffer_len| {
         let mut len = 0;
-        let code = call!(gix_url_c_write, &given, buffer, buffer_len, &mut len, &mut told);
+        let code = call!(gix_url_c_write, &given, buffer, buffer_len, &mut len, &mut reported);
         (code, len)
     });
     match code {
         OK => Ok(bytes),
-        _ => Err(error(code, &told, BString::default, &[])),
+        _ => Err(error(code, &reported, BString::default, &[])),
     }
 }
 
 /// The length of the text of the location, which a call with an empty buffer returns.
 pub(crate) fn text_len(url: &Url) -> Result<usize, WriteFault> {
-    let (mut len, mut told) = (0, Problem::default());
-    match call!(gix_url_c_write, &Given::of(url), [].as_mut_ptr(), 0, &mut len, &mut told) {
+    let (mut len, mut reported) = (0, Problem::default());
+    match call!(gix_url_c_write, &Given::of(url), [].as_mut_ptr(), 0, &mut len, &mut reported) {
         OK | NO_ROOM => Ok(len),
-        _ => Err(write_fault(told.fault)),
+        _ => Err(write_fault(reported.fault)),
     }
 }
 
@@ -540,15 +540,15 @@ pub(crate) fn display<T>(url: &Url, take: impl FnOnce(&[u8]) -> T) -> Result<T, 
 }
 
 fn with_text_of<T>(given: &Given<'_>, take: impl FnOnce(&[u8]) -> T) -> Result<T, Error> {
-    let (mut told, mut buffer) = (Problem::default(), Buffer::new());
+    let (mut reported, mut buffer) = (Problem::default(), Buffer::new());
     let (code, bytes) = buffer.filled(given.bytes() + 32, |buffer, buffer_len| {
         let mut len = 0;
-        let code = call!(gix_url_c_write, given, buffer, buffer_len, &mut len, &mut told);
+        let code = call!(gix_url_c_write, given, buffer, buffer_len, &mut len, &mut reported);
         (code, len)
     });
     match code {
         OK => Ok(take(bytes)),
-        _ => Err(error(code, &told, BString::default, &[])),
+        _ => Err(error(code, &reported, BString::default, &[])),
     }
 }
 
@@ -581,24 +581,24 @@ pub(crate) fn is_spelled(path: &[u8], spelling: &[u8]) -> bool {
 
 /// The port, or else the default port of the scheme.
 pub(crate) fn port_or_default(scheme: &Scheme, port: Option<u16>) -> Option<u16> {
-    let told = call!(gix_url_c_port_or_default, number(scheme).0, port.is_some(), port.unwrap_or(0));
-    u16::try_from(told).ok()
+    let reported = call!(gix_url_c_port_or_default, number(scheme).0, port.is_some(), port.unwrap_or(0));
+    u16::try_from(reported).ok()
 }
 
 /// Splits the path of the location. The components that the library copies into a buffer are found in the path, and
 /// borrowed.
 pub(crate) fn components(url: &Url) -> Result<PathComponents<'_>, Error> {
     let given = Given::path_of(url);
-    let (mut told, mut buffer) = (Parted::default(), Buffer::new());
+    let (mut reported, mut buffer) = (Parted::default(), Buffer::new());
     let (mut near, mut far) = ([0; NEAR_LENGTHS], vec![0; 0]);
     let (code, bytes) = buffer.filled(url.path.len() + 1, |buffer, len| {
-        far.resize(if told.pairs > NEAR_LENGTHS / 2 { 2 * told.pairs } else { 0 }, 0);
+        far.resize(if reported.pairs > NEAR_LENGTHS / 2 { 2 * reported.pairs } else { 0 }, 0);
         let lengths = if far.is_empty() { &mut near[..] } else { &mut far };
-        let code = call!(gix_url_c_components, &given, &mut told, buffer, len, lengths.as_mut_ptr(), lengths.len());
-        (code, told.bytes)
+        let code = call!(gix_url_c_components, &given, &mut reported, buffer, len, lengths.as_mut_ptr(), lengths.len());
+        (code, reported.bytes)
     });
     match code {
-        OK => Ok(borrowed(&url.path, &told, bytes, if far.is_empty() { &near } else { &far })),
+        OK => Ok(borrowed(&url.path, &reported, bytes, if far.is_empty() { &near } else { &far })),
         _ => Err(error(code, &Problem::default(), BString::default, &[])),
     }
 }

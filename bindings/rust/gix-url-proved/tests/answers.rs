@@ -20,7 +20,7 @@ fn lossy(bytes: &[u8]) -> String {
 }
 
 /// The error in the words of `locations`: its name, and the flaw of a URL.
-fn told_error(error: &Error) -> String {
+fn reported_error(error: &Error) -> String {
     match error {
         Error::MissingPath { .. } => "MissingPath".to_owned(),
         Error::NotUtf8 { .. } => "NotUtf8".to_owned(),
@@ -33,13 +33,13 @@ fn told_error(error: &Error) -> String {
 /// Checks that the refusal of an error has its form and its fault, and that its position is in the line.
 fn is_placed(error: &Error, line: &[u8]) {
     let refusal = error.refusal().unwrap();
-    let told = match error {
+    let reported = match error {
         Error::MissingPath { kind, .. } | Error::NotUtf8 { kind, .. } => (*kind, None),
         Error::BadUrl { kind, fault, .. } => (*kind, Some(*fault)),
         Error::TooLong { .. } => (UrlKind::Url, None),
         _ => (UrlKind::Local, None),
     };
-    assert_eq!((refusal.form, refusal.fault()), told, "{}", lossy(line));
+    assert_eq!((refusal.form, refusal.fault()), reported, "{}", lossy(line));
     assert!(refusal.at + refusal.len <= line.len(), "{}", lossy(line));
 }
 
@@ -49,7 +49,7 @@ fn answer(line: &[u8]) -> Vec<u8> {
         Ok(url) => url,
         Err(error) => {
             is_placed(&error, line);
-            return format!("refused\t{}", told_error(&error)).into_bytes();
+            return format!("refused\t{}", reported_error(&error)).into_bytes();
         }
     };
     comes_back(&url);

@@ -56,14 +56,14 @@ fn refusal(text: &[u8]) -> Refusal {
 }
 
 /// The form, the reason, the position and the fault of a refusal.
-fn told(refusal: Refusal) -> (UrlKind, Reason, usize, usize, Option<UrlFault>) {
+fn reported(refusal: Refusal) -> (UrlKind, Reason, usize, usize, Option<UrlFault>) {
     (refusal.form, refusal.reason, refusal.at, refusal.len, refusal.fault())
 }
 
 #[test]
 fn each_reason_has_its_place() {
     for (text, form, reason, at, len, fault) in EXAMPLES.into_iter().chain(SEVERAL) {
-        assert_eq!(told(refusal(text)), (form, reason, at, len, fault), "{}", text.escape_ascii());
+        assert_eq!(reported(refusal(text)), (form, reason, at, len, fault), "{}", text.escape_ascii());
     }
 }
 
@@ -71,9 +71,9 @@ fn each_reason_has_its_place() {
 fn a_text_that_is_too_long_has_its_place() {
     let long = |front: &str, count| [front.as_bytes(), &vec![b'a'; count]].concat();
     let scheme = [long("", 1025), b"://h/p".to_vec()].concat();
-    assert_eq!(told(refusal(&scheme)), (Url, Reason::SchemeTooLong, 0, 1025, None));
+    assert_eq!(reported(refusal(&scheme)), (Url, Reason::SchemeTooLong, 0, 1025, None));
     let found = refusal(&long("x:///", 1024));
-    assert_eq!(told(found), (Url, Reason::AuthorityTooLong, 4, 1024, None));
+    assert_eq!(reported(found), (Url, Reason::AuthorityTooLong, 4, 1024, None));
     assert_eq!(refusal(&[long("x://", 1025), b"://".to_vec(), long("", 3000)].concat()), found);
     // A program may build the error with another form and the whole text.
     let error = Error::MissingPath { kind: Scp, input: long("x://", 1025).into() };
@@ -105,7 +105,7 @@ fn the_front_of_a_long_text_is_refused_as_the_text_is() {
 #[test]
 fn a_front_that_a_program_made_is_read_as_it_is() {
     let error = Error::TooLong { shown: "http://h:x/".into(), total: 2000 };
-    assert_eq!(error.refusal().map(told), Some((Url, Reason::PortNotANumber, 9, 1, Some(BadPort))));
+    assert_eq!(error.refusal().map(reported), Some((Url, Reason::PortNotANumber, 9, 1, Some(BadPort))));
 }
 
 #[test]
@@ -140,5 +140,5 @@ fn parts_are_refused_for_their_text() {
     let (host, path) = (Some("h".to_owned()), "/p".into());
     let error = gix_url_proved::Url::from_parts(gix_url_proved::Scheme::Http, None, None, host, Some(0), path, false);
     let found = (Url, Reason::PortZero, 9, 1, Some(BadPort));
-    assert_eq!(error.unwrap_err().refusal().map(told), Some(found), "its text is http://h:0/p");
+    assert_eq!(error.unwrap_err().refusal().map(reported), Some(found), "its text is http://h:0/p");
 }

@@ -29,11 +29,11 @@ fn entries_have_their_parts_and_places() {
         (text(entry.section), entry.subsection.map(text), text(entry.name), entry.value.map(text), entry.at)
     };
     let some = |text: &str| Some(text.to_owned());
-    let told: Vec<_> = configuration.entries().map(parts).collect();
-    assert_eq!(told[0], ("A".into(), None, "b".into(), None, 0));
-    assert_eq!(told[1], ("c".into(), some("S.x"), "D".into(), some(""), 4));
-    assert_eq!(told[2], ("e".into(), some(""), "f".into(), some("g\nh"), 13));
-    assert_eq!((told.len(), configuration.len(), configuration.entry(3)), (3, 3, None));
+    let reported: Vec<_> = configuration.entries().map(parts).collect();
+    assert_eq!(reported[0], ("A".into(), None, "b".into(), None, 0));
+    assert_eq!(reported[1], ("c".into(), some("S.x"), "D".into(), some(""), 4));
+    assert_eq!(reported[2], ("e".into(), some(""), "f".into(), some("g\nh"), 13));
+    assert_eq!((reported.len(), configuration.len(), configuration.entry(3)), (3, 3, None));
     assert!(configuration.entries().all(|entry| entry.line.is_none()));
     assert_eq!(configuration.entries().next_back().unwrap().key(), b"e..f");
 }

@@ -102,11 +102,11 @@ impl Order {
 }
 
 /// The scheme of a text, in which a name follows a space.
-fn scheme(told: &str) -> Scheme {
-    match told.split_once(' ') {
+fn scheme(reported: &str) -> Scheme {
+    match reported.split_once(' ') {
         Some(("Helper", name)) => Scheme::Helper(name.to_owned()),
         Some((_, name)) => Scheme::HelperUrl(name.to_owned()),
-        None => Scheme::from(told.to_lowercase().as_str()),
+        None => Scheme::from(reported.to_lowercase().as_str()),
     }
 }
 
@@ -139,8 +139,8 @@ fn quoted(bytes: impl AsRef<[u8]>) -> String {
 }
 
 /// The JSON of a value that may be missing.
-fn or_null(told: Option<String>) -> String {
-    told.unwrap_or("null".to_owned())
+fn or_null(reported: Option<String>) -> String {
+    reported.unwrap_or("null".to_owned())
 }
 
 /// An object with the members that have a value.
@@ -149,7 +149,7 @@ fn object<const COUNT: usize>(members: [(&str, Option<String>); COUNT]) -> Strin
     format!("{{{}}}", members.into_iter().filter_map(member).collect::<Vec<_>>().join(","))
 }
 
-fn told_scheme(scheme: &Scheme) -> String {
+fn reported_scheme(scheme: &Scheme) -> String {
     quoted(match scheme {
         Scheme::Helper(name) => format!("Helper {name}"),
         Scheme::HelperUrl(name) => format!("HelperUrl {name}"),
@@ -157,9 +157,9 @@ fn told_scheme(scheme: &Scheme) -> String {
     })
 }
 
-fn told_url(url: &Url) -> String {
+fn reported_url(url: &Url) -> String {
     object([
-        ("scheme", Some(told_scheme(&url.scheme))),
+        ("scheme", Some(reported_scheme(&url.scheme))),
         ("user", url.user.as_ref().map(quoted)),
         ("password", url.password.as_ref().map(quoted)),
         ("host", url.host.as_ref().map(quoted)),
@@ -170,7 +170,7 @@ fn told_url(url: &Url) -> String {
     ])
 }
 
-fn told_error(error: &Error) -> String {
+fn reported_error(error: &Error) -> String {
     let (name, kept, total) = match error {
         Error::Memory | Error::EmptyLocal => (format!("{error:?}"), None, None),
         Error::MissingPath { kind, input } => (format!("MissingPath {kind:?}"), Some(input), None),
@@ -180,7 +180,7 @@ fn told_error(error: &Error) -> String {
         Error::HelperName { name } => ("HelperName".to_owned(), Some(name), None),
         Error::Unwritable(fault) => (format!("Unwritable {fault:?}"), None, None),
         Error::NoHome(user) => {
-            return object([("error", Some(quoted("NoHome"))), ("user", Some(told_user(user)))]);
+            return object([("error", Some(quoted("NoHome"))), ("user", Some(reported_user(user)))]);
         }
         Error::Unresolved => ("Unresolved".to_owned(), None, None),
     };
@@ -196,16 +196,16 @@ fn told_error(error: &Error) -> String {
 }
 
 /// A user: the sign of a home folder, followed by the name.
-fn told_user(user: &ForUser) -> String {
+fn reported_user(user: &ForUser) -> String {
     let name = Option::<BString>::from(user.clone()).unwrap_or_default();
     quoted([b"~", name.as_slice()].concat())
 }
 
-fn told_answer(answer: Result<Url, Error>) -> String {
-    answer.map_or_else(|error| told_error(&error), |url| told_url(&url))
+fn reported_answer(answer: Result<Url, Error>) -> String {
+    answer.map_or_else(|error| reported_error(&error), |url| reported_url(&url))
 }
 
-fn told_judged(judged: ArgumentSafety<'_>) -> String {
+fn reported_judged(judged: ArgumentSafety<'_>) -> String {
     match judged {
         ArgumentSafety::Absent => or_null(None),
         ArgumentSafety::Usable(text) => object([("usable", Some(quoted(text)))]),
@@ -213,7 +213,7 @@ fn told_judged(judged: ArgumentSafety<'_>) -> String {
     }
 }
 
-fn told_components(parts: &PathComponents<'_>) -> String {
+fn reported_components(parts: &PathComponents<'_>) -> String {
     let query = parts.query.as_ref().map(|pairs| {
         let pairs: Vec<String> = pairs
             .iter()
@@ -249,13 +249,13 @@ fn write(url: &Url) -> (BString, Option<Error>) {
     )
 }
 
-fn told_written(url: &Url) -> String {
+fn reported_written(url: &Url) -> String {
     let (written, error) = write(url);
-    object([("written", Some(quoted(written))), ("fault", error.as_ref().map(told_error))])
+    object([("written", Some(quoted(written))), ("fault", error.as_ref().map(reported_error))])
 }
 
 /// The text of a location, which is the same from each call that writes it.
-fn told_text(url: &Url) -> String {
+fn reported_text(url: &Url) -> String {
     match url.text() {
         Ok(text) => {
             assert_eq!((url.to_bstring(), write(url)), (text.clone(), (text.clone(), None)));
@@ -263,13 +263,13 @@ fn told_text(url: &Url) -> String {
         }
         Err(error) => {
             assert_eq!(write(url), (BString::default(), Some(error.clone())));
-            told_error(&error)
+            reported_error(&error)
         }
     }
 }
 
 /// The text that a value is formatted as in a style, and whether that failed.
-fn told_shown(value: &(impl Display + Debug), style: &str) -> String {
+fn reported_shown(value: &(impl Display + Debug), style: &str) -> String {
     let mut text = String::new();
     let outcome = match style {
         "{:#}" => write!(text, "{value:#}"),
@@ -285,7 +285,7 @@ fn told_shown(value: &(impl Display + Debug), style: &str) -> String {
 }
 
 /// The order and the partial order of two values, whether they are equal, and whether they have one hash.
-fn told_order<T: Ord + Hash>(one: &T, other: &T) -> String {
+fn reported_order<T: Ord + Hash>(one: &T, other: &T) -> String {
     let hash = |value: &T| {
         let mut hasher = DefaultHasher::new();
         value.hash(&mut hasher);
@@ -302,32 +302,32 @@ fn change(order: &Order, call: &str, mut url: Url) -> Option<String> {
         "Url::set_user" => url.set_user(order.text("user")),
         "Url::set_password" => url.set_password(order.text("password")),
         "Url::with_request_alternate_form" => {
-            return Some(told_url(&url.with_request_alternate_form(order.bytes("alternative") == b"true")))
+            return Some(reported_url(&url.with_request_alternate_form(order.bytes("alternative") == b"true")))
         }
         _ => return None,
     };
-    Some(format!("[{},{}]", or_null(old.map(quoted)), told_url(&url)))
+    Some(format!("[{},{}]", or_null(old.map(quoted)), reported_url(&url)))
 }
 
 /// Calls that inspect a location, its path, or a second location.
 fn look(order: &Order, call: &str, url: &Url) -> Option<String> {
     Some(match call {
-        "Url::clone" => told_url(&url.clone()),
-        "Url::to_bstring" => told_text(url),
-        "Url::write_to" => told_written(url),
-        "Url:fmt" => told_shown(url, &order.text("style").unwrap_or_default()),
+        "Url::clone" => reported_url(&url.clone()),
+        "Url::to_bstring" => reported_text(url),
+        "Url::write_to" => reported_written(url),
+        "Url:fmt" => reported_shown(url, &order.text("style").unwrap_or_default()),
         "Url::is_settled" => url.is_settled().to_string(),
         "Url::text_len" => {
-            url.text_len().map_or_else(|fault| told_error(&Error::Unwritable(fault)), |length| length.to_string())
+            url.text_len().map_or_else(|fault| reported_error(&Error::Unwritable(fault)), |length| length.to_string())
         }
-        "Url::reread" => told_answer(url.reread()),
+        "Url::reread" => reported_answer(url.reread()),
         "Url::agrees_with_git" => url.agrees_with_git().to_string(),
         "Url::is_unambiguous" => url.is_unambiguous().to_string(),
         "Url::unmet_condition" => or_null(url.unmet_condition().map(|unmet| quoted(format!("{unmet:?}")))),
-        "Url::path_query_fragment" => told_components(&url.path_query_fragment()),
-        "PathComponents::clone" => told_components(&url.path_query_fragment().clone()),
+        "Url::path_query_fragment" => reported_components(&url.path_query_fragment()),
+        "PathComponents::clone" => reported_components(&url.path_query_fragment().clone()),
         "PathComponents:Eq" => (url.path_query_fragment() == order.url("other")?.path_query_fragment()).to_string(),
-        "Url:Ord" => told_order(url, &order.url("other")?),
+        "Url:Ord" => reported_order(url, &order.url("other")?),
         _ => return look_at_part(call, url),
     })
 }
@@ -341,8 +341,8 @@ fn look_at_part(call: &str, url: &Url) -> Option<String> {
         "Url::port_or_default" => or_null(url.port_or_default().map(|port| port.to_string())),
         "Url::path_is_root" => url.path_is_root().to_string(),
         "Url::original_path" => quoted(url.original_path()),
-        "Url::user_as_argument" => told_judged(url.user_as_argument()),
-        "Url::host_as_argument" => told_judged(url.host_as_argument()),
+        "Url::user_as_argument" => reported_judged(url.user_as_argument()),
+        "Url::host_as_argument" => reported_judged(url.host_as_argument()),
         "Url::user_argument_safe" => or_null(url.user_argument_safe().map(quoted)),
         "Url::host_argument_safe" => or_null(url.host_argument_safe().map(quoted)),
         "Url::path_argument_safe" => or_null(url.path_argument_safe().map(quoted)),
@@ -353,11 +353,11 @@ fn look_at_part(call: &str, url: &Url) -> Option<String> {
 /// Calls over a scheme.
 fn over_scheme(order: &Order, call: &str, scheme: &Scheme) -> Option<String> {
     Some(match call {
-        "Scheme::clone" => told_scheme(&scheme.clone()),
+        "Scheme::clone" => reported_scheme(&scheme.clone()),
         "Scheme::as_str" => quoted(scheme.as_str()),
         "Scheme::default_port" => or_null(scheme.default_port().map(|port| port.to_string())),
-        "Scheme:fmt" => told_shown(scheme, &order.text("style").unwrap_or_default()),
-        "Scheme:Ord" => told_order(scheme, &self::scheme(&order.text("other")?)),
+        "Scheme:fmt" => reported_shown(scheme, &order.text("style").unwrap_or_default()),
+        "Scheme:Ord" => reported_order(scheme, &self::scheme(&order.text("other")?)),
         _ => return None,
     })
 }
@@ -367,18 +367,18 @@ fn over_others(order: &Order, call: &str) -> Option<String> {
     let (text, style) = (order.bytes("text"), order.text("style").unwrap_or_default());
     let name = |member| order.text(member).unwrap_or_default();
     Some(match call {
-        "parse::parse" => told_answer(parse(text)),
-        "Url::from_bytes" => told_answer(Url::from_bytes(text.into())),
-        "Url::from_text" => told_answer(Url::try_from(utf8(text).as_str())),
-        "Scheme::from_text" => told_scheme(&Scheme::from(utf8(text).as_str())),
-        "Url::from_parts" => told_answer(from_parts(order.parts("record")?)),
-        "Url::from_parts_unchecked" => told_url(&unchecked(order.parts("record")?)),
+        "parse::parse" => reported_answer(parse(text)),
+        "Url::from_bytes" => reported_answer(Url::from_bytes(text.into())),
+        "Url::from_text" => reported_answer(Url::try_from(utf8(text).as_str())),
+        "Scheme::from_text" => reported_scheme(&Scheme::from(utf8(text).as_str())),
+        "Url::from_parts" => reported_answer(from_parts(order.parts("record")?)),
+        "Url::from_parts_unchecked" => reported_url(&unchecked(order.parts("record")?)),
         "ipv6::is_ipv6" => is_ipv6(&utf8(text)).to_string(),
-        "Url::default_in" => told_url(&Url::default()),
-        "Error:fmt" => told_shown(&order.error()?, &style),
-        "UrlKind:fmt" => told_shown(&kind(&name("kind"))?, &style),
-        "UrlFault:fmt" => told_shown(&url_fault(&name("fault"))?, &style),
-        "WriteFault:fmt" => told_shown(&write_fault(&name("fault"))?, &style),
+        "Url::default_in" => reported_url(&Url::default()),
+        "Error:fmt" => reported_shown(&order.error()?, &style),
+        "UrlKind:fmt" => reported_shown(&kind(&name("kind"))?, &style),
+        "UrlFault:fmt" => reported_shown(&url_fault(&name("fault"))?, &style),
+        "WriteFault:fmt" => reported_shown(&write_fault(&name("fault"))?, &style),
         _ => return None,
     })
 }
@@ -403,39 +403,39 @@ fn over_homes(order: &Order, call: &str) -> Option<String> {
     Some(match call {
         "expand_path::parse" => {
             let (user, below) = expand_path::parse(text.into()).expect("each path is parted");
-            format!("[{},{}]", or_null(user.as_ref().map(told_user)), quoted(below))
+            format!("[{},{}]", or_null(user.as_ref().map(reported_user)), quoted(below))
         }
         "expand_path::for_shell" => quoted(expand_path::for_shell(path.into())),
-        "expand_path::with" => told_with(order, path),
-        "ForUser::clone" => told_user(&user(order, "user")?.clone()),
+        "expand_path::with" => reported_with(order, path),
+        "ForUser::clone" => reported_user(&user(order, "user")?.clone()),
         "ForUser:into" => or_null(Option::<BString>::from(user(order, "user")?).map(quoted)),
-        "ForUser:Ord" => told_order(&user(order, "user")?, &user(order, "other")?),
+        "ForUser:Ord" => reported_order(&user(order, "user")?, &user(order, "other")?),
         _ => return None,
     })
 }
 
 /// The path in the home folder that a closure returns, and how often the closure is called.
-fn told_with(order: &Order, path: &[u8]) -> String {
+fn reported_with(order: &Order, path: &[u8]) -> String {
     let mut asked = 0;
     let answer = expand_path::with(user(order, "user").as_ref(), path.into(), |_| {
         asked += 1;
         order.text("home").map(Into::into)
     });
-    let told = answer.map_or_else(|error| told_error(&error), |path| quoted(path.as_os_str().as_bytes()));
-    format!("[{told},{asked}]")
+    let reported = answer.map_or_else(|error| reported_error(&error), |path| quoted(path.as_os_str().as_bytes()));
+    format!("[{reported},{asked}]")
 }
 
 /// Makes the call of an order, by the type of its input.
 fn carry_out(order: &Order) -> Option<String> {
     let call = order.text("call")?;
-    if let Some(told) = rules::carry_out(order, &call) {
-        return Some(told);
+    if let Some(reported) = rules::carry_out(order, &call) {
+        return Some(reported);
     }
     if let Some(url) = order.url("url") {
         return look(order, &call, &url).or_else(|| change(order, &call, url));
     }
     match order.text("scheme") {
-        Some(told) => over_scheme(order, &call, &scheme(&told)),
+        Some(reported) => over_scheme(order, &call, &scheme(&reported)),
         None => over_homes(order, &call).or_else(|| over_others(order, &call)),
     }
 }
@@ -444,7 +444,7 @@ fn main() {
     let mut all = Vec::new();
     std::io::stdin().read_to_end(&mut all).expect("the standard input can be read");
     for line in all.split_inclusive(|byte| *byte == b'\n') {
-        let told = carry_out(&Order::of(line.strip_suffix(b"\n").unwrap_or(line)));
-        println!("{}", told.unwrap_or(r#"{"halt":"not carried out"}"#.to_owned()));
+        let reported = carry_out(&Order::of(line.strip_suffix(b"\n").unwrap_or(line)));
+        println!("{}", reported.unwrap_or(r#"{"halt":"not carried out"}"#.to_owned()));
     }
 }

@@ -1,6 +1,6 @@
 //! Orders over a configuration, over texts that Git reads, and over dangers and secrets.
 
-use crate::{named, object, or_null, quoted, told_shown, Order};
+use crate::{named, object, or_null, quoted, reported_shown, Order};
 use gix_url_proved::audit::{dangers, redacted, secrets, Danger, Piece};
 use gix_url_proved::bstr::{BStr, BString};
 use gix_url_proved::rules::{
@@ -16,20 +16,20 @@ pub fn carry_out(order: &Order, call: &str) -> Option<String> {
     let text = order.bytes("text");
     Some(match call {
         "Reader::new" => match Configuration::from_listing(order.bytes("config")) {
-            Ok(read) => told_entries(read.entries(), true),
-            Err(error) => format!("[{}]", told_error(&error)),
+            Ok(read) => reported_entries(read.entries(), true),
+            Err(error) => format!("[{}]", reported_error(&error)),
         },
         "config::entries" => {
-            told(Configuration::from_listing(order.bytes("config")), |it| told_entries(it.entries(), true))
+            reported(Configuration::from_listing(order.bytes("config")), |it| reported_entries(it.entries(), true))
         }
         "config_file::entries" => {
-            told(Configuration::from_file(order.bytes("file")), |it| told_entries(it.entries(), false))
+            reported(Configuration::from_file(order.bytes("file")), |it| reported_entries(it.entries(), false))
         }
-        "text::transport_of" => told(transport_of(text), quoted),
-        "transport::reading" => told_place(text),
-        "credential::reading" => told_request(text),
-        "secret::secrets" => told_pieces(text),
-        "danger::dangers" => told_dangers(order),
+        "text::transport_of" => reported(transport_of(text), quoted),
+        "transport::reading" => reported_place(text),
+        "credential::reading" => reported_request(text),
+        "secret::secrets" => reported_pieces(text),
+        "danger::dangers" => reported_dangers(order),
         _ => {
             return over_configuration(order, call)
                 .or_else(|| over_command(order, call))
@@ -40,11 +40,11 @@ pub fn carry_out(order: &Order, call: &str) -> Option<String> {
 }
 
 /// A result as JSON, or the error.
-fn told<T>(result: Result<T, Error>, tell: impl FnOnce(T) -> String) -> String {
-    result.map_or_else(|error| told_error(&error), tell)
+fn reported<T>(result: Result<T, Error>, tell: impl FnOnce(T) -> String) -> String {
+    result.map_or_else(|error| reported_error(&error), tell)
 }
 
-fn told_error(error: &Error) -> String {
+fn reported_error(error: &Error) -> String {
     let error_at = |name: &str, at: Option<usize>, line: Option<usize>| {
         object([
             ("error", Some(quoted(name))),
@@ -59,23 +59,23 @@ fn told_error(error: &Error) -> String {
         Error::Memory => error_at("Memory", None, None),
         Error::NoValue { at } => error_at("NoValue", Some(at), None),
         Error::NoBoolean { at } => error_at("NoBoolean", Some(at), None),
-        Error::NoTransport(why) => told_why(why),
-        Error::Unread(why) => told_why(why),
-        Error::NoCommand(why) => told_why(why),
-        Error::Unresolved(why) => told_why(why),
+        Error::NoTransport(why) => reported_why(why),
+        Error::Unread(why) => reported_why(why),
+        Error::NoCommand(why) => reported_why(why),
+        Error::Unresolved(why) => reported_why(why),
     }
 }
 
-fn told_why(why: impl Debug) -> String {
+fn reported_why(why: impl Debug) -> String {
     object([("error", Some(quoted(format!("{why:?}"))))])
 }
 
 /// A list of values that are JSON already.
-fn list(told: impl IntoIterator<Item = String>) -> String {
-    format!("[{}]", told.into_iter().collect::<Vec<_>>().join(","))
+fn list(reported: impl IntoIterator<Item = String>) -> String {
+    format!("[{}]", reported.into_iter().collect::<Vec<_>>().join(","))
 }
 
-fn told_entries<'a>(entries: impl Iterator<Item = Entry<'a>>, is_placed: bool) -> String {
+fn reported_entries<'a>(entries: impl Iterator<Item = Entry<'a>>, is_placed: bool) -> String {
     list(entries.map(|it| {
         object([
             ("section", Some(quoted(it.section))),
@@ -104,31 +104,31 @@ fn over_configuration(order: &Order, call: &str) -> Option<String> {
     let (entries, text) = (|| configuration(order), order.bytes("text"));
     let name = || order.text("name").unwrap_or_default();
     Some(match call {
-        "Rewrites::from_entries" => told(entries().rewrite_fetch(""), |_| or_null(None)),
+        "Rewrites::from_entries" => reported(entries().rewrite_fetch(""), |_| or_null(None)),
         "Rewrites::rewrite_fetch" | "Rewritten::to_bstring" => {
-            told(entries().rewrite_fetch(text), |it| quoted(it.text))
+            reported(entries().rewrite_fetch(text), |it| quoted(it.text))
         }
         "Rewrites::rewrite_push" => {
-            told(entries().rewrite_push(text, order.bytes("has_push_url") == b"true"), |it| quoted(it.text))
+            reported(entries().rewrite_push(text, order.bytes("has_push_url") == b"true"), |it| quoted(it.text))
         }
-        "Rewritten::is_rewritten" => told(entries().rewrite_fetch(text), |it| it.is_rewritten().to_string()),
-        "Remote::of" => told(entries().remote(order.bytes("name")), told_remote),
-        "Protocols::permission" | "Permission::is_allowed" => told_permission(order, call),
-        "settings::settings_for" => told_settings(&entries(), &name(), text),
+        "Rewritten::is_rewritten" => reported(entries().rewrite_fetch(text), |it| it.is_rewritten().to_string()),
+        "Remote::of" => reported(entries().remote(order.bytes("name")), reported_remote),
+        "Protocols::permission" | "Permission::is_allowed" => reported_permission(order, call),
+        "settings::settings_for" => reported_settings(&entries(), &name(), text),
         // A text without a normal form has no place.
-        "settings::settings_without_place" => told_settings(&entries(), &name(), b""),
-        "entries::best_entry" => told_best(&entries(), &name(), text),
-        "UrlPattern::matches" => told_best(&of_pattern(order.bytes("pattern")), "k", text),
+        "settings::settings_without_place" => reported_settings(&entries(), &name(), b""),
+        "entries::best_entry" => reported_best(&entries(), &name(), text),
+        "UrlPattern::matches" => reported_best(&of_pattern(order.bytes("pattern")), "k", text),
         "credentials::credentials_for" => {
             let entries = entries();
-            told(entries.credentials(text), |found| or_null(found.map(|it| told_credentials(&entries, &it))))
+            reported(entries.credentials(text), |found| or_null(found.map(|it| reported_credentials(&entries, &it))))
         }
-        "SshProgram::of" => told_program(order),
+        "SshProgram::of" => reported_program(order),
         _ => return None,
     })
 }
 
-fn told_remote(remote: Remote) -> String {
+fn reported_remote(remote: Remote) -> String {
     let texts = |texts: Vec<BString>| list(texts.iter().map(quoted));
     object([
         ("urls", Some(texts(remote.urls))),
@@ -145,10 +145,10 @@ fn variable<'a>(order: &'a Order, name: &str) -> Option<&'a [u8]> {
     order.0.get(name).map(Vec::as_slice)
 }
 
-fn told_permission(order: &Order, call: &str) -> String {
+fn reported_permission(order: &Order, call: &str) -> String {
     let policy = Policy { allow_list: variable(order, "allow_list"), from_user: variable(order, "from_user") };
     let name = order.text("name").unwrap_or_default();
-    told(configuration(order).permission(&name, &policy), |permission| match (call, permission) {
+    reported(configuration(order).permission(&name, &policy), |permission| match (call, permission) {
         ("Permission::is_allowed", it) => it.is_allowed().to_string(),
         (_, it) if order.text("style").is_some() => object([("shown", Some(quoted(format!("{it:?}"))))]),
         (_, Permission::Allowed(_)) => quoted("Allowed"),
@@ -158,14 +158,14 @@ fn told_permission(order: &Order, call: &str) -> String {
     })
 }
 
-fn told_settings(configuration: &Configuration, name: &str, text: &[u8]) -> String {
-    told(configuration.settings(name, text), |it| indices(configuration, &it.entries))
+fn reported_settings(configuration: &Configuration, name: &str, text: &[u8]) -> String {
+    reported(configuration.settings(name, text), |it| indices(configuration, &it.entries))
 }
 
 /// The value of the best entry for a URL. For an entry of `of_pattern`, whether it applies.
-fn told_best(configuration: &Configuration, name: &str, text: &[u8]) -> String {
-    told(configuration.settings(name, text), |found| match (found.abnormal, found.entries.first()) {
-        (Some(why), _) => told_why(why),
+fn reported_best(configuration: &Configuration, name: &str, text: &[u8]) -> String {
+    reported(configuration.settings(name, text), |found| match (found.abnormal, found.entries.first()) {
+        (Some(why), _) => reported_why(why),
         (None, entry) if configuration.entries().all(|it| it.line == Some(1)) => entry.is_some().to_string(),
         (None, entry) => or_null(entry.and_then(|it| it.value).map(quoted)),
     })
@@ -179,7 +179,7 @@ fn of_pattern(pattern: &[u8]) -> Configuration {
     [entry].into_iter().collect()
 }
 
-fn told_credentials(configuration: &Configuration, found: &Credentials<'_>) -> String {
+fn reported_credentials(configuration: &Configuration, found: &Credentials<'_>) -> String {
     object([
         ("helpers", Some(indices(configuration, &found.helpers))),
         ("user", found.user.as_ref().map(quoted)),
@@ -187,13 +187,13 @@ fn told_credentials(configuration: &Configuration, found: &Credentials<'_>) -> S
     ])
 }
 
-fn told_program(order: &Order) -> String {
+fn reported_program(order: &Order) -> String {
     let variables = SshVariables {
         git_ssh_command: variable(order, "git_ssh_command"),
         git_ssh: variable(order, "git_ssh"),
         git_ssh_variant: variable(order, "git_ssh_variant"),
     };
-    told(configuration(order).ssh_program(&variables), |it: SshProgram| {
+    reported(configuration(order).ssh_program(&variables), |it: SshProgram| {
         let variant = it.variant.map_or("Asked".to_owned(), |it| format!("{it:?}"));
         object([
             ("text", Some(quoted(it.text))),
@@ -203,8 +203,8 @@ fn told_program(order: &Order) -> String {
     })
 }
 
-fn told_place(text: &[u8]) -> String {
-    told(git_reading(text), |it| {
+fn reported_place(text: &[u8]) -> String {
+    reported(git_reading(text), |it| {
         object([
             ("protocol", Some(quoted(format!("{:?}", it.protocol)))),
             ("user", it.user.map(quoted)),
@@ -215,8 +215,8 @@ fn told_place(text: &[u8]) -> String {
     })
 }
 
-fn told_request(text: &[u8]) -> String {
-    told(credential_reading(text), |read| {
+fn reported_request(text: &[u8]) -> String {
+    reported(credential_reading(text), |read| {
         or_null(read.map(|it| {
             object([
                 ("protocol", Some(quoted(it.protocol))),
@@ -230,7 +230,7 @@ fn told_request(text: &[u8]) -> String {
 }
 
 /// The pieces of a text. Neighbours of one kind are joined.
-fn told_pieces(text: &[u8]) -> String {
+fn reported_pieces(text: &[u8]) -> String {
     let mut joined: Vec<(&str, Vec<u8>)> = Vec::new();
     let mut shown = Vec::new();
     for piece in secrets(text) {
@@ -248,10 +248,10 @@ fn told_pieces(text: &[u8]) -> String {
     list(joined.into_iter().map(|(kind, bytes)| object([(kind, Some(quoted(bytes)))])))
 }
 
-fn told_dangers(order: &Order) -> String {
+fn reported_dangers(order: &Order) -> String {
     let text = order.bytes(if order.0.contains_key("text") { "text" } else { "url" });
     let url = order.url("url").expect("the location of an order");
-    told(dangers(text, &url), |found| list(found.into_iter().map(|danger| quoted(danger.name()))))
+    reported(dangers(text, &url), |found| list(found.into_iter().map(|danger| quoted(danger.name()))))
 }
 
 /// The service of an order.
@@ -297,14 +297,14 @@ fn over_command(order: &Order, call: &str) -> Option<String> {
         "SshCommand::git_protocol" => |it| or_null(it.git_protocol().map(quoted)),
         _ => return None,
     };
-    Some(told(ssh_words(&order.url("url")?, &request(order)?), tell))
+    Some(reported(ssh_words(&order.url("url")?, &request(order)?), tell))
 }
 
 /// Calls over the URL or the entries of a submodule.
 fn over_submodule(order: &Order, call: &str) -> Option<String> {
     let resolved = || resolve_submodule(order.bytes("parent"), order.bytes("url"));
     Some(match call {
-        "resolve::resolve" | "Resolved::to_bstring" => resolved().url.map_or_else(told_why, quoted),
+        "resolve::resolve" | "Resolved::to_bstring" => resolved().url.map_or_else(reported_why, quoted),
         "resolve::climbs" => resolved().climbs.to_string(),
         "resolve::is_relative" => resolved().is_relative.to_string(),
         "refusal::check" => {
@@ -312,15 +312,15 @@ fn over_submodule(order: &Order, call: &str) -> Option<String> {
             let refusals = checks.into_iter().flat_map(|it| [it.name, it.value]).flatten();
             list(refusals.map(|it| quoted(it.words())))
         }
-        "submodules::submodules" => told_submodules(order),
+        "submodules::submodules" => reported_submodules(order),
         _ => return None,
     })
 }
 
 /// The submodules that have a path and a URL, by their names.
-fn told_submodules(order: &Order) -> String {
+fn reported_submodules(order: &Order) -> String {
     let configuration = configuration(order);
-    told(configuration.submodules(), |found| {
+    reported(configuration.submodules(), |found| {
         let members = found.iter().filter(|it| it.path.is_some()).filter_map(|it| {
             let url = quoted(it.url?.value?);
             let update = it.update.and_then(|it| it.value).map(quoted);
@@ -344,13 +344,13 @@ fn over_names(order: &Order, call: &str) -> Option<String> {
         }
         "EntryError:fmt" => {
             let flaw = named([Flaw::NoKey, Flaw::NoEnd], &name)?;
-            told_shown(&Error::NoConfiguration { flaw, at: at?, line: None }, &style)
+            reported_shown(&Error::NoConfiguration { flaw, at: at?, line: None }, &style)
         }
         "SettingsError:fmt" | "CredentialsError:fmt" | "RemoteError:fmt" | "SshProgramError:fmt" => match name.as_str()
         {
-            "Memory" => told_shown(&Error::Memory, &style),
-            "NoValue" => told_shown(&Error::NoValue { at: at? }, &style),
-            "NoBoolean" => told_shown(&Error::NoBoolean { at: at? }, &style),
+            "Memory" => reported_shown(&Error::Memory, &style),
+            "NoValue" => reported_shown(&Error::NoValue { at: at? }, &style),
+            "NoBoolean" => reported_shown(&Error::NoBoolean { at: at? }, &style),
             _ => return None,
         },
         _ => return over_reasons(call, &name, &style),
@@ -362,15 +362,15 @@ fn over_reasons(call: &str, name: &str, style: &str) -> Option<String> {
     Some(match call {
         "NoTransport:fmt" => {
             use NoTransport::{ByteZero, OptionLike, Rsync, UnknownScheme};
-            told_shown(&named([ByteZero, OptionLike, Rsync, UnknownScheme], name)?, style)
+            reported_shown(&named([ByteZero, OptionLike, Rsync, UnknownScheme], name)?, style)
         }
-        "ResolveError:fmt" => told_shown(&named([Unresolved::EmptyParent, Unresolved::NothingLeft], name)?, style),
+        "ResolveError:fmt" => reported_shown(&named([Unresolved::EmptyParent, Unresolved::NothingLeft], name)?, style),
         "NormalError:fmt" => {
             use Abnormal::{AboveRoot, BadHost, BadPort, BrokenEscape, NoHost, NoUrl};
-            told_shown(&named([NoUrl, BrokenEscape, NoHost, BadHost, BadPort, AboveRoot], name)?, style)
+            reported_shown(&named([NoUrl, BrokenEscape, NoHost, BadHost, BadPort, AboveRoot], name)?, style)
         }
-        "SshRefusal:fmt" | "SshError:fmt" if name != "Memory" => told_shown(&ssh_refusal(name)?, style),
-        "SshError:fmt" => told_shown(&Error::Memory, style),
+        "SshRefusal:fmt" | "SshError:fmt" if name != "Memory" => reported_shown(&ssh_refusal(name)?, style),
+        "SshError:fmt" => reported_shown(&Error::Memory, style),
         _ => return None,
     })
 }

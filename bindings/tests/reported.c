@@ -1,5 +1,5 @@
 #define _DEFAULT_SOURCE
-#include "told.h"
+#include "reported.h"
 
 #include <string.h>
 #include <sys/mman.h>
