@@ -2,7 +2,6 @@
 
 ghost use Rattle.std.specs.Prelude.{◌≡◌, IfSome, None};
 ghost use Rattle.git_refusals.specs.Kinds.{kind_of};
-ghost use Rattle.git_refusals.specs.Reasons.{Refused};
 ghost use Rattle.gix_url.specs.Flaws.{IsNotOfReading};
 ghost use Rattle.gix_url_c.specs.Codes.{HasNumber, Reports, condition_number, condition_reported, error_code, error_shown, error_total, fault_number, fault_reported, kind_code, kind_number, kind_reported, no_problem, problem_of_other, problem_of_refusal, reason_number, refusal_code, refusal_problem, write_fault_number, write_problem};
 
@@ -162,7 +161,6 @@ fn kind_code(kind: RefusalKind) -> u32
 
 /// The report about the refusal of a text.
 pub(crate) fn problem_of_refusal(text: &[u8], refusal: &Refusal) -> Problem
-    requires { Refused text.now refusal.now }
     ensures { result ≡ problem_of_refusal text.now refusal.now }
 {
     match refusal.reason.kind() {

@@ -4,11 +4,6 @@ use Rattle.git_location.specs.declared.parse_error.ParseError.TheVariants as unr
 use Rattle.gix_url_c.proofs.ReadingLemmas.{read_with_buffer, refused_so}
 use Rattle.gix_url_c.proofs.reading.read_in.Goals as goal
 
-pub problem_of_refusal-requires : goal.problem_of_refusal-requires
-problem_of_refusal-requires c =
-    let refused = c.in-Err-Refused in
-    (refused_so c.args.input.now (length c.args.scratch.now) refused.field-0 refused.refusal refused.field-0-is refused.ensures).refused.1
-
 pub returns-in-Ok-clause-reported : goal.returns-in-Ok-clause-reported
 returns-in-Ok-clause-reported c =
     let answer = Ok c.in-Ok.url in
