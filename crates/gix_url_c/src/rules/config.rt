@@ -3,7 +3,7 @@
 
 ghost use Rattle.std.specs.Prelude.{◌≡◌, ◌++◌, ◌∷◌, [], ◌⊎◌, IfErr, IfOk, OnOk, map};
 ghost use Rattle.gix_url_c.specs.Codes.{UnlessMemory, memory, no_room, ok};
-ghost use Rattle.gix_url_c.specs.EntryNumbers.{IsListingOf, PutsFile, PutsListing, PutsParts, ReportsFile, ReportsListing, Unlists, file_flaw_number, flaw_stop};
+ghost use Rattle.gix_url_c.specs.EntryNumbers.{IsListingOf, PutsParts, ReportsFile, ReportsListing, Unlists, file_flaw_number, flaw_stop};
 ghost use Rattle.gix_url_c.specs.Left.{LeavesLengths, LeavesBuffer};
 ghost use Rattle.gix_url_c.specs.Stops.{LeavesStop, no_configuration, no_stop};
 
@@ -12,8 +12,8 @@ use crate::codes::MEMORY;
 use crate::rules::pieces::joined;
 use crate::rules::stops::{NO_CONFIGURATION, Stop, no_stop};
 use crate::rules::written::{Written, written_file, written_listing};
+use git_modules::config_file;
 use git_modules::config_file::flaw::{FileError, Flaw};
-use git_modules::config_file::{self, FileEntry};
 use git_rules::config::{Entry, EntryError, Reader};
 use std::alloc::{AllocError, Global};
 
@@ -70,7 +70,10 @@ pub extern "C" fn gix_url_c_read_listing(
 {
     *stop = no_stop();
     match listed(alloc, text) {
-        Ok(entries) => write_listing(alloc, &entries, built, buffer, numbers),
+        Ok(entries) => match written_listing(alloc, &entries) {
+            Ok(written) => write_parts(alloc, &written, entries.len(), built, buffer, numbers),
+            Err(_) => MEMORY,
+        },
         Err(Unlisted::Memory) => MEMORY,
         Err(Unlisted::Flawed(flaw)) => {
             *stop = flaw_stop(flaw);
@@ -105,7 +108,10 @@ pub extern "C" fn gix_url_c_read_file(
         return MEMORY;
     };
     match config_file::entries(alloc, text, scratch.as_mut_slice()) {
-        Ok(entries) => write_file(alloc, &entries, built, buffer, numbers),
+        Ok(entries) => match written_file(alloc, &entries) {
+            Ok(written) => write_parts(alloc, &written, entries.len(), built, buffer, numbers),
+            Err(_) => MEMORY,
+        },
         // The scratch buffer is as long as the text.
         Err(FileError::Memory | FileError::ShortBuffer) => MEMORY,
         Err(FileError::Refused { flaw, at, line }) => {
@@ -142,50 +148,8 @@ fn keep<'a>(found: &mut Vec<Entry<'a>>, entry: Entry<'a>) -> Result<(), AllocErr
     Ok(())
 }
 
-/// Copies and reports the parts and the numbers of the entries of a listing.
-fn write_listing(
-    alloc: Global,
-    entries: &[Entry<'_>],
-    built: &mut EntrySizes,
-    buffer: &mut [u8],
-    numbers: &mut [usize],
-) -> u32
-    ensures reported { UnlessMemory result
-        (PutsListing entries.now built.new buffer.old buffer.new numbers.old numbers.new result) }
-    ensures buffer { LeavesBuffer result buffer.old buffer.new }
-    ensures numbers { LeavesBuffer result numbers.old numbers.new }
-    ensures sizes { LeavesLengths result built.old built.new }
-    ensures code { (result ≡ memory) ⊎ ((result ≡ ok) ⊎ (result ≡ no_room)) }
-{
-    match written_listing(alloc, entries) {
-        Ok(written) => write_file_parts(alloc, &written, entries.len(), built, buffer, numbers),
-        Err(_) => MEMORY,
-    }
-}
-
-/// Copies and reports the parts and the numbers of the entries of a file.
-fn write_file(
-    alloc: Global,
-    entries: &[FileEntry<'_>],
-    built: &mut EntrySizes,
-    buffer: &mut [u8],
-    numbers: &mut [usize],
-) -> u32
-    ensures reported { UnlessMemory result
-        (PutsFile entries.now built.new buffer.old buffer.new numbers.old numbers.new result) }
-    ensures buffer { LeavesBuffer result buffer.old buffer.new }
-    ensures numbers { LeavesBuffer result numbers.old numbers.new }
-    ensures sizes { LeavesLengths result built.old built.new }
-    ensures code { (result ≡ memory) ⊎ ((result ≡ ok) ⊎ (result ≡ no_room)) }
-{
-    match written_file(alloc, entries) {
-        Ok(written) => write_file_parts(alloc, &written, entries.len(), built, buffer, numbers),
-        Err(_) => MEMORY,
-    }
-}
-
-/// Copies the parts and the numbers of so many entries, if both fit.
-fn write_file_parts(
+/// Copies and reports the parts and the numbers of so many entries.
+fn write_parts(
     alloc: Global,
     written: &Written<'_>,
     entries: usize,
