@@ -21,7 +21,7 @@ from second_reading import explain_tables, stored_run
 
 pytestmark = pytest.mark.quick
 # Words for which there are better ones, outside of code: `docs/GLOSSARY.md` has the terms, Git and RFC 3986 the rest.
-OLD = r"tells?|reported|stands?(?! for| on\b)|stood|hand(?:s|ed)? out|handed|anew|but for|dear(?:er)?|wants|wanting"
+OLD = r"tells?|told|stands?(?! for| on\b)|stood|hand(?:s|ed)? out|handed|anew|but for|dear(?:er)?|wants|wanting"
 OLD_WORDS = re.compile(rf"\b({OLD})\b", re.I)
 # More of them, which comments lack, but not yet all documents.
 OLD_IN_COMMENTS = re.compile(
