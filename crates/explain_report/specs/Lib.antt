@@ -5,6 +5,8 @@ pub mod Refusals
 pub mod Secrets
 pub mod Entries
 pub mod Rules
+pub mod Routes
+pub mod HostEntries
 pub mod Findings
 pub mod Hints
 pub mod Marks

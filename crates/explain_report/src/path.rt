@@ -3,6 +3,7 @@
 //! Bytes that aren't UTF-8 are reported as U+FFFD.
 
 use crate::memory::{both, no_memory};
+use crate::text::lossy;
 use bstr::{BStr, BString, ByteSlice};
 use gix_url::expand_path::{self, ForUser};
 use gix_url::{PathComponents, Scheme, Url};
@@ -157,11 +158,11 @@ fn reported_home(
     let user = match user {
         None => return Ok(None),
         Some(ForUser::Current) => None,
-        Some(ForUser::Name(name)) => Some(name.as_bstr().to_string(alloc)?),
+        Some(ForUser::Name(name)) => Some(lossy(alloc, name.as_bytes())?),
     };
     Ok(Some(Home {
         user,
-        below: below.to_string(alloc)?,
+        below: lossy(alloc, below.as_bytes())?,
     }))
 }
 
@@ -178,6 +179,6 @@ fn shell_path_of(alloc: Global, url: &Url) -> Result<Option<BString>, AllocError
 fn lossy_path(alloc: Global, path: &Option<BString>) -> Result<Option<String>, AllocError> {
     match path {
         None => Ok(None),
-        Some(path) => Ok(Some(path.as_bstr().to_string(alloc)?)),
+        Some(path) => Ok(Some(lossy(alloc, path.as_bytes())?)),
     }
 }

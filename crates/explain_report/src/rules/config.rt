@@ -1,6 +1,8 @@
 //! The configuration of `--config`, which is read once for all lines, and its faults.
 
 use crate::memory::both;
+use crate::rules::host_entry::HostEntry;
+use crate::rules::transports::{Known, known_transports};
 use bstr::ByteSlice;
 use git_rules::config::{Entry, EntryError, Reader, entries_of};
 use git_rules::normal::needed_buffer_len;
@@ -16,11 +18,13 @@ use std::collections::BTreeMap;
 pub struct Config<'a> {
     /// The entries of `protocol.*`, and the variables.
     pub protocols: Protocols<'a>,
+    /// The transports with common names, as the protocols allow or refuse them.
+    pub known: Vec<Known>,
     pub rewrites: Rewrites<'a>,
     /// The entries of `remote.*`.
     pub remotes: Vec<Entry<'a>>,
     /// The entries of `credential.*`.
-    pub credentials: Vec<Entry<'a>>,
+    pub credentials: Vec<HostEntry<'a>>,
     /// The entries of `http.*`, in the order in which their names first occur.
     pub http: Vec<Variable<'a>>,
     /// The buffer size in bytes that suffices for the URL of each entry.
@@ -31,7 +35,7 @@ pub struct Config<'a> {
 #[derive(Drop)]
 pub struct Variable<'a> {
     pub name: &'a str,
-    pub entries: Vec<Entry<'a>>,
+    pub entries: Vec<HostEntry<'a>>,
 }
 
 impl<'a> Config<'a> {
@@ -42,21 +46,23 @@ impl<'a> Config<'a> {
         entries: &[Entry<'a>],
         protocols: Protocols<'a>,
     ) -> Result<Config<'a>, AllocError> {
-        let (rewrites, http) = both(rewrites_of(alloc, entries)?, variables_of(alloc, entries))?;
-        let (found, remotes) = both((rewrites, http), entries_of(alloc, entries, "remote"))?;
-        let (found, credentials) = both(
-            (found, remotes),
-            entries_of(alloc, entries, "credential"),
-        )?;
-        let ((rewrites, http), remotes) = found;
         let longest = entries.iter().map(url_len).max().unwrap_or(0);
+        let buffer_len = needed_buffer_len(longest);
+        let (rewrites, remotes) = both(
+            rewrites_of(alloc, entries)?,
+            entries_of(alloc, entries, "remote"),
+        )?;
+        let (found, known) = both((rewrites, remotes), known_transports(alloc, &protocols))?;
+        let (found, by_host) = both((found, known), by_host(alloc, entries, buffer_len))?;
+        let (((rewrites, remotes), known), (credentials, http)) = (found, by_host);
         Ok(Config {
             protocols,
+            known,
             rewrites,
             remotes,
             credentials,
             http,
-            buffer_len: needed_buffer_len(longest),
+            buffer_len,
         })
     }
 }
@@ -81,44 +87,79 @@ fn rewrites_of<'a>(alloc: Global, entries: &[Entry<'a>]) -> Result<Rewrites<'a>,
     Ok(rules)
 }
 
-/// The entries of `http.*`, grouped by name.
-fn variables_of<'a>(alloc: Global, entries: &[Entry<'a>]) -> Result<Vec<Variable<'a>>, AllocError> {
+/// The entries of `credential.*`, and those of `http.*`, with their hosts.
+fn by_host<'a>(
+    alloc: Global,
+    entries: &[Entry<'a>],
+    buffer_len: usize,
+) -> Result<(Vec<HostEntry<'a>>, Vec<Variable<'a>>), AllocError> {
+    let mut buffer = vec![in alloc; 0u8; buffer_len]?;
+    let credentials = credentials_of(alloc, entries, buffer.as_mut_slice())?;
+    both(
+        credentials,
+        variables_of(alloc, entries, buffer.as_mut_slice()),
+    )
+}
+
+/// The entries of `credential.*` with their hosts.
+fn credentials_of<'a>(
+    alloc: Global,
+    entries: &[Entry<'a>],
+    buffer: &mut [u8],
+) -> Result<Vec<HostEntry<'a>>, AllocError> {
+    let mut found = Vec::new(alloc);
+    for entry in entries {
+        if entry.is_section("credential") {
+            found.push(HostEntry::of(alloc, entry, buffer)?)?;
+        }
+    }
+    Ok(found)
+}
+
+/// The entries of `http.*` with their hosts, grouped by name.
+fn variables_of<'a>(
+    alloc: Global,
+    entries: &[Entry<'a>],
+    buffer: &mut [u8],
+) -> Result<Vec<Variable<'a>>, AllocError> {
     let mut found = Vec::new(alloc);
     let mut places = BTreeMap::new(alloc);
     for entry in entries {
         if entry.is_section("http") {
-            put(alloc, &mut found, &mut places, entry)?;
+            add(alloc, &mut found, &mut places, entry, buffer)?;
         }
     }
     Ok(found)
 }
 
 /// Adds an entry to those with its name. `places` maps names in lower case to indices.
-fn put<'a>(
+fn add<'a>(
     alloc: Global,
     found: &mut Vec<Variable<'a>>,
     places: &mut BTreeMap<String, usize>,
     entry: &Entry<'a>,
+    buffer: &mut [u8],
 ) -> Result<(), AllocError> {
     let Ok(name) = entry.name.to_str() else {
         return Ok(());
     };
+    let own = HostEntry::of(alloc, entry, buffer)?;
     let next = found.len();
     let place = *places
         .entry(name.to_ascii_lowercase(alloc)?)?
         .or_insert(next);
     match found.get_mut(place) {
-        Some(variable) => variable.entries.push(entry.clone()?)?,
-        None => found.push(Variable::of(alloc, name, entry)?)?,
+        Some(variable) => variable.entries.push(own)?,
+        None => found.push(Variable::of(alloc, name, own)?)?,
     }
     Ok(())
 }
 
 impl<'a> Variable<'a> {
     /// The name, with its first entry.
-    fn of(alloc: Global, name: &'a str, entry: &Entry<'a>) -> Result<Variable<'a>, AllocError> {
+    fn of(alloc: Global, name: &'a str, entry: HostEntry<'a>) -> Result<Variable<'a>, AllocError> {
         let mut entries = Vec::new(alloc);
-        entries.push(entry.clone()?)?;
+        entries.push(entry)?;
         Ok(Variable { name, entries })
     }
 }

@@ -1,11 +1,12 @@
 //! The settings of Git's credential code by a configuration, for a text of HTTP.
 
 use crate::memory::both;
+use crate::rules::host_entry::{HostEntry, for_host, plain_host};
 use crate::rules::setting::Setting;
 use crate::text::secret::{has_secret, part_of_shown, shown_part};
 use git_rules::config::Entry;
 use git_rules::credentials::{self, CredentialsError, credentials_for};
-use gix_url::credential::{Buffers, reading};
+use gix_url::credential::{Buffers, Request, reading};
 use serde::Serialize;
 use std::alloc::{AllocError, Global};
 
@@ -24,14 +25,30 @@ impl Credentials {
     /// Returns the settings for a text. Returns `None` if Git asks for no credentials, or stops at an entry.
     pub fn of(
         alloc: Global,
-        entries: &[Entry<'_>],
+        entries: &[HostEntry<'_>],
         text: &[u8],
     ) -> Result<Option<Credentials>, AllocError> {
         let mut buffers = Buffers::new(alloc);
         let Some(request) = reading(text, &mut buffers)? else {
             return Ok(None);
         };
-        match credentials_for(alloc, entries, &request) {
+        if entries.is_empty() {
+            let user = user_of(text, request.user, request.user);
+            return Ok(Some(Credentials::of_user(alloc, user)?));
+        }
+        let host = plain_host(alloc, request.host)?;
+        let entries = for_host(alloc, entries, host.as_ref().map(|it| it.as_slice()))?;
+        Credentials::by(alloc, entries.as_slice(), text, &request)
+    }
+
+    /// The settings for the request that is read in a text, by the entries that may apply to it.
+    fn by<'a>(
+        alloc: Global,
+        entries: &[Entry<'a>],
+        text: &[u8],
+        request: &Request<'a>,
+    ) -> Result<Option<Credentials>, AllocError> {
+        match credentials_for(alloc, entries, request) {
             Ok(used) => {
                 let user = user_of(text, request.user, used.user);
                 Ok(Some(Credentials::shown(alloc, entries, &used, user)?))
@@ -41,6 +58,15 @@ impl Credentials {
                 Ok(None)
             }
         }
+    }
+
+    /// The settings without an entry for this user, as they are shown.
+    fn of_user(alloc: Global, user: Option<&[u8]>) -> Result<Credentials, AllocError> {
+        Ok(Credentials {
+            helpers: Vec::new(alloc),
+            user: shown_part(alloc, user)?,
+            use_http_path: false,
+        })
     }
 
     /// The settings by these entries for this user, as they are shown.

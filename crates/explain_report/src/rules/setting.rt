@@ -14,7 +14,7 @@ use serde::Serialize;
 use std::alloc::{AllocError, Global};
 
 /// An entry of a configuration, as it is shown.
-#[derive(Drop, Serialize)]
+#[derive(Clone, Drop, Serialize)]
 pub struct Setting {
     /// The offset in the configuration at which the entry begins, in bytes.
     pub at: usize,

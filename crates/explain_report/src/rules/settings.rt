@@ -3,7 +3,8 @@
 ghost use Rattle.std.specs.Prelude.{IfOk, None, Some, length};
 ghost use Rattle.explain_report.specs.Rules.{AreShown};
 
-use crate::rules::config::{Config, Variable};
+use crate::rules::config::Config;
+use crate::rules::host_entry::{for_host, lowered};
 use crate::rules::setting::Setting;
 use git_rules::config::Entry;
 use git_rules::normal::{NormalUrl, needed_buffer_len};
@@ -18,27 +19,63 @@ pub fn settings_for(
 ) -> Result<Vec<Setting>, AllocError> {
     let mut own = vec![in alloc; 0u8; needed_buffer_len(text.len())]?;
     let mut buffer = vec![in alloc; 0u8; config.buffer_len]?;
-    let place = NormalUrl::parse_in(text, own.as_mut_slice()).ok();
     let mut found = Vec::new(alloc);
-    for variable in &config.http {
-        match &place {
-            Some(place) => push_used(alloc, &mut found, variable, place, buffer.as_mut_slice())?,
-            None => push_used_without_place(alloc, &mut found, variable)?,
-        }
+    match NormalUrl::parse_in(text, own.as_mut_slice()) {
+        Ok(place) => push_all_used(alloc, &mut found, config, &place, buffer.as_mut_slice())?,
+        Err(_) => push_all_without_place(alloc, &mut found, config)?,
     }
     Ok(found)
 }
 
-/// Appends the entries of a name of `http.*` that Git uses for a place.
-fn push_used(
+/// Appends the entries that Git uses for a place, of each name of `http.*`.
+fn push_all_used(
     alloc: Global,
     found: &mut Vec<Setting>,
-    variable: &Variable<'_>,
+    config: &Config<'_>,
     place: &NormalUrl<'_>,
     buffer: &mut [u8],
 ) -> Result<(), AllocError> {
-    let entries = variable.entries.as_slice();
-    let used = used_of(alloc, entries, variable.name, place, buffer)?;
+    let host = lowered(alloc, place.host)?;
+    for variable in &config.http {
+        let entries = for_host(alloc, variable.entries.as_slice(), Some(host.as_slice()))?;
+        push_used(
+            alloc,
+            found,
+            variable.name,
+            entries.as_slice(),
+            place,
+            buffer,
+        )?;
+    }
+    Ok(())
+}
+
+/// Appends the entries that Git uses for a text without a normal form, of each name of `http.*`.
+fn push_all_without_place(
+    alloc: Global,
+    found: &mut Vec<Setting>,
+    config: &Config<'_>,
+) -> Result<(), AllocError> {
+    for variable in &config.http {
+        let entries = for_host(alloc, variable.entries.as_slice(), None)?;
+        push_used_without_place(alloc, found, variable.name, entries.as_slice())?;
+    }
+    Ok(())
+}
+
+/// Appends the entries of a name of `http.*` that Git uses for a place. Each of these entries has the name.
+fn push_used(
+    alloc: Global,
+    found: &mut Vec<Setting>,
+    name: &str,
+    entries: &[Entry<'_>],
+    place: &NormalUrl<'_>,
+    buffer: &mut [u8],
+) -> Result<(), AllocError> {
+    if entries.is_empty() {
+        return Ok(());
+    }
+    let used = used_of(alloc, entries, name, place, buffer)?;
     push_entries(alloc, found, entries, used.as_slice())
 }
 
@@ -46,10 +83,10 @@ fn push_used(
 fn push_used_without_place(
     alloc: Global,
     found: &mut Vec<Setting>,
-    variable: &Variable<'_>,
+    name: &str,
+    entries: &[Entry<'_>],
 ) -> Result<(), AllocError> {
-    let entries = variable.entries.as_slice();
-    let used = used_without_place(alloc, entries, variable.name)?;
+    let used = used_without_place(alloc, entries, name)?;
     push_entries(alloc, found, entries, used.as_slice())
 }
 

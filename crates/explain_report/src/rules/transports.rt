@@ -6,7 +6,9 @@ ghost use Rattle.explain_report.specs.Rules as spec;
 ghost use Rattle.explain_report.specs.Secrets.{text_shown};
 ghost use Rattle.explain_report.specs.Rules.{IsAllowedToUsers, IsEntryAt, IsRefusing, IsVariableOf, ReportsPermission};
 
+use crate::finding::Findings;
 use crate::memory::both;
+use crate::rules::config::Config;
 use crate::rules::setting::Setting;
 use crate::text::secret::shown_text;
 use git_rules::config::Entry;
@@ -16,7 +18,7 @@ use serde::Serialize;
 use std::alloc::{AllocError, Global};
 
 /// A transport, and whether it may be used.
-#[derive(Drop, Serialize)]
+#[derive(Clone, Drop, Serialize)]
 pub struct Transport {
     /// The name of the transport or the remote helper, with `redacted` in place of possible secrets.
     pub name: String,
@@ -69,16 +71,71 @@ pub struct Lack {
     pub words: String,
 }
 
+/// A transport with a common name, which is judged once.
+#[derive(Drop)]
+pub struct Known {
+    name: &'static str,
+    transport: Transport,
+}
+
+/// Returns the transports with common names.
+pub(crate) fn known_transports(
+    alloc: Global,
+    protocols: &Protocols<'_>,
+) -> Result<Vec<Known>, AllocError> {
+    let mut known = Vec::new(alloc);
+    for name in ["https", "ssh", "http", "git", "file"] {
+        let transport = Transport::named(alloc, protocols, name)?;
+        known.push(Known { name, transport })?;
+    }
+    Ok(known)
+}
+
 /// Returns the transport that Git uses for a text, or the reason why it has none.
 pub fn transport_for(
     alloc: Global,
-    protocols: &Protocols<'_>,
+    config: &Config<'_>,
     text: &[u8],
 ) -> Result<(Option<Transport>, Option<Lack>), AllocError> {
     match transport_of(text) {
-        Ok(name) => Ok((Some(Transport::named(alloc, protocols, name)?), None)),
+        Ok(name) => Ok((Some(judged(alloc, config, name)?), None)),
         Err(why) => Ok((None, Some(Lack::of(alloc, why)?))),
     }
+}
+
+/// The transport with this name.
+fn judged(alloc: Global, config: &Config<'_>, name: &str) -> Result<Transport, AllocError> {
+    match find_known(config, name) {
+        Some(transport) => transport.clone(),
+        None => Transport::named(alloc, &config.protocols, name),
+    }
+}
+
+/// The transport with this name, if the name is common.
+fn find_known<'c>(config: &'c Config<'_>, name: &str) -> Option<&'c Transport> {
+    config
+        .known
+        .iter()
+        .find(|it| it.name == name)
+        .map(|it| &it.transport)
+}
+
+/// Returns the finding about the transport that Git uses for a text, or about a text without one.
+pub(crate) fn transport_findings(
+    alloc: Global,
+    config: &Config<'_>,
+    text: &[u8],
+) -> Result<Findings, AllocError> {
+    let Ok(name) = transport_of(text) else {
+        return Ok(Findings::of_transport(None));
+    };
+    if let Some(transport) = find_known(config, name) {
+        return Ok(Findings::of_transport(Some(transport)));
+    }
+    let transport = Transport::named(alloc, &config.protocols, name)?;
+    let found = Findings::of_transport(Some(&transport));
+    drop(transport);
+    Ok(found)
 }
 
 impl Lack {
