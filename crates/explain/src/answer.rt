@@ -8,7 +8,7 @@
 
 use crate::results::Origin;
 use crate::style::{Layout, Style};
-use crate::{line_results, object, only, shown};
+use crate::{line_results, only, shown};
 use bstr::BStr;
 use explain_audit::kind::names_of;
 use explain_page::page::Page;
@@ -388,7 +388,7 @@ impl Line<'_, '_> {
 /// The object of a line with this row.
 fn object_of(alloc: Global, row: &Row<'_, '_>, notes: Notes<'_>) -> Result<String, AllocError> {
     let (names, found) = both(names(alloc, notes.dangers)?, names_of(alloc, notes.found))?;
-    let object = object::line_of(
+    let object = json(
         alloc,
         &Answer {
             line: row.number,

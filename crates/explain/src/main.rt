@@ -18,7 +18,6 @@ mod line_end;
 mod line_results;
 mod module_rows;
 mod modules;
-mod object;
 mod only;
 mod options;
 mod paint;
