@@ -2,6 +2,9 @@
 //!
 //! `tests/programs/test_ssh_commands.py` compares the commands with those that Git runs.
 
+ghost use Rattle.std.specs.Prelude.{◌≡◌, option_map};
+ghost use Rattle.explain.specs.Versions as spec;
+
 use git_rules::config::Entry;
 use git_rules::protocols::Protocols;
 use git_rules::ssh::program::{ProgramVariant, SshProgram, SshProgramError, SshSettings};
@@ -53,7 +56,9 @@ impl<'c> Client<'c> {
 
 /// The version of the protocol that these entries set; or the position of the last of them, if Git doesn't know its
 /// value.
-fn version_of(entries: &[Entry<'_>]) -> Result<ProtocolVersion, usize> {
+fn version_of(entries: &[Entry<'_>]) -> Result<ProtocolVersion, usize>
+    ensures { result ≡ spec.version_of entries.now }
+{
     let Some(entry) = last_version(entries) else {
         return Ok(ProtocolVersion::V2);
     };
@@ -64,18 +69,29 @@ fn version_of(entries: &[Entry<'_>]) -> Result<ProtocolVersion, usize> {
 }
 
 /// The last entry of `protocol.version`.
-fn last_version<'b, 'e>(entries: &'b [Entry<'e>]) -> Option<&'b Entry<'e>> {
+fn last_version<'b, 'e>(entries: &'b [Entry<'e>]) -> Option<&'b Entry<'e>>
+    ensures { option_map (λ entry. entry.now) result ≡ spec.last_version entries.now }
+{
     let mut found = None;
     for entry in entries {
-        if entry.sets("protocol", "version") && entry.subsection.is_none() {
+        if is_version(entry) {
             found = Some(entry);
         }
     }
     found
 }
 
+/// Whether the key of the entry is `protocol.version`.
+fn is_version(entry: &Entry<'_>) -> bool
+    ensures { result ≡ spec.is_version entry.now }
+{
+    entry.sets("protocol", "version") && entry.subsection.is_none()
+}
+
 /// The version with this value.
-fn version_named(value: &[u8]) -> Option<ProtocolVersion> {
+fn version_named(value: &[u8]) -> Option<ProtocolVersion>
+    ensures { result ≡ spec.version_named value.now }
+{
     if value == b"0".as_slice() {
         Some(ProtocolVersion::V0)
     } else if value == b"1".as_slice() {

@@ -4,6 +4,9 @@
 //! The contract of `git_rules::ssh` specifies the words, and `client` finds the program.
 //! `tests/programs/test_ssh_commands.py` compares the commands with those that Git runs.
 
+ghost use Rattle.std.specs.Prelude.{◌≡◌};
+ghost use Rattle.explain.specs.Commands as spec;
+
 use crate::answer::Line;
 use crate::client::Client;
 use crate::shell_line::line_of;
@@ -99,7 +102,9 @@ fn report(rt: &impl Eprint, number: u64, lack: Lack) {
 
 /// Whether the run has to end as if the line couldn't be read: the line isn't of Secure Shell, or the run doesn't fail
 /// for its findings.
-fn is_missing(lack: Lack, fails: bool) -> bool {
+fn is_missing(lack: Lack, fails: bool) -> bool
+    ensures { result ≡ spec.is_missing lack fails }
+{
     match lack {
         Lack::NoLocation | Lack::Refused(SshRefusal::NotSecureShell) => true,
         _ => !fails,
@@ -171,7 +176,9 @@ fn of_location(
 }
 
 /// The variant of the program; OpenSSH if Git has to run the program first.
-fn variant_of(client: Client<'_>) -> SshVariant {
+fn variant_of(client: Client<'_>) -> SshVariant
+    ensures { result ≡ spec.variant_or_openssh client.entry.variant }
+{
     match client.variant {
         ProgramVariant::Known(variant) => variant,
         ProgramVariant::Asked => SshVariant::Ssh,

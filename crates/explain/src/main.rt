@@ -3,8 +3,9 @@
 //! It calls only the public functions of `gix_url` and `git_rules`, directly or in the crates below: `explain_report`
 //! finds the facts about a line, and `explain_page` writes the page. `options` parses the command line, `source` reads
 //! a configuration, `input` reads the lines, `answer` builds the report about a line and `style` describes its layout.
-//! Each report is written as soon as its line is read, except for a page or a summary, which is collected. No function
-//! here has a contract, except that it can't abort.
+//! Each report is written as soon as its line is read, except for a page or a summary, which is collected. Contracts
+//! state which words a shell takes literally, and for which variant of a program and which version of Git's protocol a
+//! command is. The other functions here have no contract, except that they can't abort.
 //!
 //! The status is 0 if no line has a finding that the run fails for, 1 if one has, and 2 if the run was cut short, a
 //! file can't be opened or the options are wrong.

@@ -2,6 +2,9 @@
 //!
 //! `tests/programs/test_ssh_commands.py` runs the lines in a shell.
 
+ghost use Rattle.std.specs.Prelude.{◌≡◌};
+ghost use Rattle.explain.specs.ShellWords as spec;
+
 use crate::client::Client;
 use bstr::BString;
 use explain_report::text::line::{ShellWord, Shown};
@@ -72,15 +75,25 @@ impl fmt::Display for Word<'_> {
 }
 
 /// Whether a word isn't empty, and a shell takes each of its bytes literally.
-fn is_plain(word: &[u8]) -> bool {
-    !word.is_empty() && word.iter().all(|byte| is_plain_byte(*byte))
+fn is_plain(word: &[u8]) -> bool
+    ensures { result ≡ spec.is_plain word.now }
+{
+    match word {
+        [] => false,
+        _ => are_plain(word),
+    }
+}
+
+/// Whether a shell takes each byte literally in each word except the first.
+fn are_plain(bytes: &[u8]) -> bool
+    ensures { result ≡ spec.are_plain bytes.now }
+{
+    bytes.iter().all(|byte| is_plain_byte(*byte))
 }
 
 /// Whether a shell takes a byte literally in each word except the first.
-fn is_plain_byte(byte: u8) -> bool {
-    matches!(byte, b'0'..=b'9' | b'A'..=b'Z' | b'a'..=b'z')
-        || matches!(
-            byte,
-            b'%' | b'+' | b',' | b'-' | b'.' | b'/' | b':' | b'=' | b'@' | b'_'
-        )
+fn is_plain_byte(byte: u8) -> bool
+    ensures { result ≡ spec.is_plain_byte byte }
+{
+    byte.is_ascii_alphanumeric() || b"%+,-./:=@_".contains(&byte)
 }

@@ -3,3 +3,4 @@ pub mod Kinds
 pub mod Items
 pub mod Entries
 pub mod Wholes
+pub mod Resolved

@@ -1,5 +1,9 @@
 //! The findings about the URL of a submodule.
 
+ghost use Rattle.std.specs.Prelude.{◌≡◌, IfOk, option_map};
+ghost use Rattle.bstr.specs.Owned.{bstring_bytes};
+ghost use Rattle.explain_audit.specs.Resolved.{text_against};
+
 use crate::item::{Item, add, add_text};
 use crate::kind::Kind;
 use bstr::BString;
@@ -54,7 +58,10 @@ pub fn resolved(
     alloc: Global,
     url: &[u8],
     parent: Option<Parent<'_>>,
-) -> Result<Option<BString>, AllocError> {
+) -> Result<Option<BString>, AllocError>
+    ensures { IfOk result (λ text. option_map bstring_bytes text
+        ≡ text_against (option_map (λ it. it.text.now) parent.entry) url.now) }
+{
     let Some(parent) = parent else {
         return Ok(None);
     };

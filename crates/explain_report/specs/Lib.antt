@@ -5,7 +5,7 @@ pub mod Refusals
 pub mod Secrets
 pub mod Entries
 pub mod Rules
-pub mod Routes
+pub mod Pushes
 pub mod HostEntries
 pub mod Findings
 pub mod Hints
@@ -22,3 +22,8 @@ pub mod Hosts
 pub mod Places
 pub mod Pieces
 pub mod Reasons
+pub mod GitHosts
+pub mod Revisions
+pub mod Requests
+pub mod Homes
+pub mod Routes

@@ -2,8 +2,16 @@
 //!
 //! Bytes that aren't UTF-8 are reported as U+FFFD.
 
+ghost use Rattle.std.specs.Prelude.{◌≡◌, IfOk, option_map, string_bytes};
+ghost use Rattle.std.specs.Cow.{cow_str_bytes};
+ghost use Rattle.bstr.specs.BStr.{bstr_bytes};
+ghost use Rattle.bstr.specs.Owned.{bstring_bytes};
+ghost use Rattle.git_syntax.specs.Bytes.{lossy_text};
+ghost use Rattle.gix_url.specs.Homes.{SplitsHome};
+ghost use Rattle.gix_url.specs.HomeReadings.{user_of};
+ghost use Rattle.explain_report.specs.Homes as spec;
+
 use crate::memory::{both, no_memory};
-use crate::text::lossy;
 use bstr::{BStr, BString, ByteSlice};
 use gix_url::expand_path::{self, ForUser};
 use gix_url::{PathComponents, Scheme, Url};
@@ -92,7 +100,10 @@ fn reported_components<'a>(
 fn reported_fragment<'a>(
     alloc: Global,
     fragment: Option<BStr<'a>>,
-) -> Result<Option<CowStr<'a>>, AllocError> {
+) -> Result<Option<CowStr<'a>>, AllocError>
+    ensures { IfOk result (λ text. option_map cow_str_bytes text
+        ≡ option_map (λ it. lossy_text (bstr_bytes it)) fragment.entry) }
+{
     match fragment {
         None => Ok(None),
         Some(fragment) => Ok(Some(fragment.as_bytes().to_str_lossy(alloc)?)),
@@ -127,20 +138,47 @@ fn push_field(
 
 /// The home folder in which the path begins, on the server of Secure Shell or `git://`. A local path begins in none:
 /// Git takes `/~bob/r` literally.
-fn home_of(alloc: Global, url: &Url) -> Result<Option<Home>, AllocError> {
-    if !matches!(&url.scheme, Scheme::Ssh | Scheme::Git) {
-        return Ok(None);
+fn home_of(alloc: Global, url: &Url) -> Result<Option<Home>, AllocError>
+    ensures { IfOk result (spec.IsHomeOf url.now) }
+{
+    if is_of_server(url) {
+        home_on_server(alloc, url)
+    } else {
+        Ok(None)
     }
+}
+
+/// Whether a server reads the path in its file system.
+fn is_of_server(url: &Url) -> bool
+    ensures { result ≡ spec.is_of_server url.now.scheme }
+{
+    matches!(&url.scheme, Scheme::Ssh | Scheme::Git)
+}
+
+/// The home folder in which a path on a server begins.
+fn home_on_server(alloc: Global, url: &Url) -> Result<Option<Home>, AllocError>
+    ensures { IfOk result (spec.IsHomeOnServer url.now.path) }
+{
     let path = path_with_slash(alloc, url)?;
-    let (user, below) = expand_path::parse(alloc, path.as_bstr()).map_err(no_memory)?;
+    let (user, below) = split_home(alloc, path.as_bstr())?;
     let home = reported_home(alloc, &user, below.as_bstr());
     drop(user);
     home
 }
 
+/// The user of the home folder in which the path begins, if it begins in one, and the rest of the path.
+fn split_home(alloc: Global, path: BStr<'_>) -> Result<(Option<ForUser>, BString), AllocError>
+    ensures { IfOk result
+        (λ p. SplitsHome (bstr_bytes path.entry) (option_map user_of p.0) (bstring_bytes p.1)) }
+{
+    expand_path::parse(alloc, path).map_err(no_memory)
+}
+
 /// The path, with `/` before a `~` at the front. URLs of Secure Shell and Git, and the scp form, are parsed without
 /// this `/`.
-fn path_with_slash(alloc: Global, url: &Url) -> Result<BString, AllocError> {
+fn path_with_slash(alloc: Global, url: &Url) -> Result<BString, AllocError>
+    ensures { IfOk result (λ path. bstring_bytes path ≡ spec.with_slash url.now.path) }
+{
     let mut path = BString::new(Vec::new(alloc));
     if url.path.starts_with(b"~") {
         path.push(b'/')?;
@@ -154,20 +192,24 @@ fn reported_home(
     alloc: Global,
     user: &Option<ForUser>,
     below: BStr<'_>,
-) -> Result<Option<Home>, AllocError> {
+) -> Result<Option<Home>, AllocError>
+    ensures { IfOk result (spec.ReportsHome (option_map user_of user.now) (bstr_bytes below.entry)) }
+{
     let user = match user {
         None => return Ok(None),
         Some(ForUser::Current) => None,
-        Some(ForUser::Name(name)) => Some(lossy(alloc, name.as_bytes())?),
+        Some(ForUser::Name(name)) => Some(name.as_bstr().to_string(alloc)?),
     };
     Ok(Some(Home {
         user,
-        below: lossy(alloc, below.as_bytes())?,
+        below: below.to_string(alloc)?,
     }))
 }
 
 /// The path for a shell, if the location's path is one in a file system.
-fn shell_path_of(alloc: Global, url: &Url) -> Result<Option<BString>, AllocError> {
+fn shell_path_of(alloc: Global, url: &Url) -> Result<Option<BString>, AllocError>
+    ensures { IfOk result (λ text. spec.IsShellPath url.now (option_map bstring_bytes text)) }
+{
     if !matches!(&url.scheme, Scheme::File | Scheme::Ssh | Scheme::Git) {
         return Ok(None);
     }
@@ -176,9 +218,12 @@ fn shell_path_of(alloc: Global, url: &Url) -> Result<Option<BString>, AllocError
 }
 
 /// The path, with U+FFFD for bytes that aren't UTF-8.
-fn lossy_path(alloc: Global, path: &Option<BString>) -> Result<Option<String>, AllocError> {
+fn lossy_path(alloc: Global, path: &Option<BString>) -> Result<Option<String>, AllocError>
+    ensures { IfOk result (λ text. option_map string_bytes text
+        ≡ option_map (λ it. lossy_text (bstring_bytes it)) path.now) }
+{
     match path {
         None => Ok(None),
-        Some(path) => Ok(Some(lossy(alloc, path.as_bytes())?)),
+        Some(path) => Ok(Some(path.as_bstr().to_string(alloc)?)),
     }
 }

@@ -7,7 +7,7 @@
 
 ghost use Rattle.std.specs.Prelude.{◌≡◌, ◌↔◌, IfOk, IsNone, IsTrue, MatchOption, option_map};
 ghost use Rattle.explain_report.specs.Findings.{none};
-ghost use Rattle.explain_report.specs.Routes.{found_by_rules, pushed_route};
+ghost use Rattle.explain_report.specs.Pushes.{found_by_rules, pushed_route};
 ghost use Rattle.explain_report.specs.Rules.{SaysSameHost};
 
 pub mod config;

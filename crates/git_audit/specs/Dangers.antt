@@ -3,7 +3,7 @@ use Rattle.std.specs.Prelude.{◌≡◌, ◌↔◌, ℕ, Bool, true, false, not,
 use Rattle.std.specs.List.{filter, list_any, list_all, slice_split, starts_with}
 use Rattle.std.specs.Option.{is_some}
 use Rattle.std.specs.Char.{is_ascii_alphanumeric, is_ascii_digit}
-use Rattle.git_syntax.specs.Bytes.{newline, space, hyphen, slash, colon, delete, is_option_like}
+use Rattle.git_syntax.specs.Bytes.{newline, carriage_return, space, hyphen, slash, colon, delete, is_option_like}
 use Rattle.git_syntax.specs.Location.{Scheme, Location}
 use Rattle.git_syntax.specs.Location.Scheme.{http, https, ext}
 use Rattle.git_reads.specs.Git.{GitReading, GitReads}
@@ -99,7 +99,7 @@ is_control_or_space b = nat_le b space || b == delete
 
 -- a byte that ends a line, or a C string
 abbrev pub is_end : ℕ → Bool
-is_end b = b == newline || b == 13 || b == 0
+is_end b = b == newline || b == carriage_return || b == 0
 
 -- the text contains a byte that ends a line, or a C string
 abbrev pub holds_end : List ℕ → Bool
@@ -112,23 +112,23 @@ has_end v = is_some_with holds_end v.user || is_some_with holds_end v.password |
 
 -- ---- hosts
 
--- this is the name of the location's host
-abbrev pub HasHostName : Location → List ℕ → Type 0
-HasHostName v name = option_map host_name v.host ≡ Some name
+-- the location has a host, and the text names it
+abbrev pub NamesHost : Location → List ℕ → Type 0
+NamesHost v named = option_map host_name v.host ≡ Some (host_name named)
 
 -- the text names the location's host with a colon and digits after it
 abbrev pub NamesOwnPort : Location → List ℕ → Type 0
 NamesOwnPort v named = (host : List ℕ) × (digits : List ℕ) × (named ≡ host ++ colon ∷ digits)
-    × (list_all is_ascii_digit digits ≡ true) × HasHostName v (host_name host)
+    × (list_all is_ascii_digit digits ≡ true) × NamesHost v host
 
 -- the text names the location's host, alone or with a port
 abbrev pub NamesOwnHost : Location → List ℕ → Type 0
-NamesOwnHost v named = HasHostName v (host_name named) ⊎ NamesOwnPort v named
+NamesOwnHost v named = NamesHost v named ⊎ NamesOwnPort v named
 
 -- there is a host, and it is not the location's
 abbrev pub IsOtherHost : Location → Option (List ℕ) → Type 0
 IsOtherHost v None = ⊥
-IsOtherHost v (Some host) = ¬ HasHostName v (host_name host)
+IsOtherHost v (Some host) = ¬ NamesHost v host
 
 -- one of Git's transports reads a host in the text that is not the location's
 abbrev pub ReachesOtherHost : List ℕ → Location → Type 0

@@ -1,17 +1,17 @@
 -- Hosts that other programs read in a text, if they differ from the host of the location that is parsed from it.
-use Rattle.std.specs.Prelude.{ℕ, Bool, false, if◌then◌else◌, List, [], ◌∷◌, bytes_eq, Option, Some, None}
+use Rattle.std.specs.Prelude.{ℕ, Bool, false, if◌then◌else◌, List, [], ◌∷◌, Option, Some, None}
 use Rattle.std.specs.List.{list_any}
 use Rattle.std.specs.Option.{is_some}
 use Rattle.git_syntax.specs.Location.{Location}
 use Rattle.git_readers.specs.Groups.{host_by}
 use Rattle.git_readers.specs.declared.groups.Group.{Group}
 use Rattle.git_readers.specs.declared.groups.Group.TheVariants as group
-use Rattle.git_rules.specs.SameHost.{host_name}
+use Rattle.git_rules.specs.SameHost.{names_same}
 
 -- the location has a host, and the text names it
 abbrev pub names_own_host : Option (List ℕ) → List ℕ → Bool
 names_own_host None named = false
-names_own_host (Some own) named = bytes_eq (host_name own) (host_name named)
+names_own_host (Some own) named = names_same own named
 
 -- the host that is found, unless it is the location's
 abbrev pub unless_own : Option (List ℕ) → Option (List ℕ) → Option (List ℕ)

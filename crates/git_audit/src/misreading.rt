@@ -2,9 +2,9 @@
 //!
 //! A host is returned exactly if it isn't the location's, by one definition (`specs/Misreadings.antt`).
 
-ghost use Rattle.std.specs.Prelude.{◌≡◌, bytes_eq, option_map};
+ghost use Rattle.std.specs.Prelude.{◌≡◌, option_map};
 ghost use Rattle.std.specs.List.{list_any};
-ghost use Rattle.git_rules.specs.SameHost.{host_name};
+ghost use Rattle.git_rules.specs.SameHost.{names_same};
 ghost use Rattle.git_audit.specs.Misreadings.{has_other_host, is_misread, names_own_host, other_host, unless_own};
 
 use git_location::url_ref::UrlRef;
@@ -125,7 +125,7 @@ fn names_own_host(url: &UrlRef<'_>, named: &[u8]) -> bool
 
 /// Whether both texts name the same host.
 fn is_same(own: &[u8], named: &[u8]) -> bool
-    ensures { result ≡ bytes_eq (host_name own.now) (host_name named.now) }
+    ensures { result ≡ names_same own.now named.now }
 {
     is_same_host(own, named)
 }

@@ -8,8 +8,9 @@ use Rattle.std.proofs.lemmas.Slice.Eq.{slice_eq-Decides}
 use Rattle.std.specs.Option.{option_eq}
 use Rattle.std.specs.Cmp.{IsEquivalence, decided}
 use Rattle.std.specs.Cmp.Lexicographic.{pointwise, bytes_decides}
-use Rattle.git_laws.specs.OrderLaws.{options_decide}
+use Rattle.git_laws.specs.OrderLaws.{options_decide, text_decides}
 use Rattle.git_laws.specs.Components.{Components}
+use Rattle.git_laws.specs.Order.{text_eq}
 
 -- pairs of a name and a value are equal if both have the same bytes
 abbrev pub pair_eq : List ℕ × List ℕ → List ℕ × List ℕ → Bool
@@ -19,14 +20,10 @@ pair_eq p q = bytes_eq p.0 q.0 && bytes_eq p.1 q.1
 abbrev pub query_eq : Option (List (List ℕ × List ℕ)) → Option (List (List ℕ × List ℕ)) → Bool
 query_eq = option_eq (pointwise pair_eq)
 
--- fragments are equal if both are missing, or both are there with the same bytes
-abbrev pub fragment_eq : Option (List ℕ) → Option (List ℕ) → Bool
-fragment_eq = option_eq bytes_eq
-
 -- components are equal if path, query and fragment are
 abbrev pub components_eq : Components → Components → Bool
 components_eq c d = bytes_eq c.path d.path
-    && (query_eq c.query d.query && fragment_eq c.fragment d.fragment)
+    && (query_eq c.query d.query && text_eq c.fragment d.fragment)
 
 -- ---- equal values are one value
 
@@ -41,14 +38,11 @@ query_decides : (p q : Option (List (List ℕ × List ℕ))) → Decides (query_
 query_decides = options_decide (pointwise pair_eq)
     (λ xs ys. slice_eq-Decides pair_decides xs ys (pointwise pair_eq xs ys) refl)
 
-fragment_decides : (p q : Option (List ℕ)) → Decides (fragment_eq p q) (p ≡ q)
-fragment_decides = options_decide bytes_eq bytes_decides
-
 -- equal components are one value, and one value is equal to itself
 pub components_decide : (c d : Components) → Decides (components_eq c d) (c ≡ d)
 components_decide c d =
     let reported = Decides-and _ _ (bytes_decides c.path d.path)
-    (Decides-and _ _ (query_decides c.query d.query) (fragment_decides c.fragment d.fragment)) in (
+    (Decides-and _ _ (query_decides c.query d.query) (text_decides c.fragment d.fragment)) in (
       λ e. let (path, (query, fragment)) = reported.0 e in
           λ i. record { path = path i; query = query i; fragment = fragment i },
       λ e. reported.1 (ap (λ u. u.path) e, (ap (λ u. u.query) e, ap (λ u. u.fragment) e)),

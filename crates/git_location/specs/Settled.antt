@@ -23,11 +23,15 @@ pub record IsValue (v : Location) : Type 0 where
   pub path : All (λ b. b < 256) v.path
   pub spelling : IfSome v.spelling (λ s. All (λ b. b < 256) s)
 
+-- there is such a field, and it has the property
+abbrev pub HasPart : Option (List ℕ) → (List ℕ → Type 0) → Type 0
+HasPart part test = (text : List ℕ) × (part ≡ Some text) × test text
+
 -- ---- the conditions that the URL forms have in common
 
 -- the spelling of the path is retained, and decodes to it
 abbrev pub HasMatch : Location → Type 0
-HasMatch v = (spelling : List ℕ) × (v.spelling ≡ Some spelling) × DecodesTo spelling v.path
+HasMatch v = HasPart v.spelling (λ spelling. DecodesTo spelling v.path)
 
 -- the first byte of a text, if it has one
 abbrev pub first_byte : List ℕ → Option ℕ
@@ -113,7 +117,7 @@ pub data IsWebHost (port : Option ℕ) (host : List ℕ) : Type 0 where
 
 -- there is a host, and it is settled for HTTP
 abbrev pub HasWebHost : Location → Type 0
-HasWebHost v = (h : List ℕ) × (v.host ≡ Some h) × IsWebHost v.port h
+HasWebHost v = HasPart v.host (IsWebHost v.port)
 
 -- a settled location of HTTP
 pub record IsSettledWeb (v : Location) : Type 0 where
@@ -165,11 +169,11 @@ IsTransportPath v = IsHomeless v.path ⊎ ((begins_with tilde v.path ≡ true) �
 
 -- there is a host, and it is settled for Secure Shell
 abbrev pub HasBareHost : Location → Type 0
-HasBareHost v = (h : List ℕ) × (v.host ≡ Some h) × IsBareHost h
+HasBareHost v = HasPart v.host IsBareHost
 
 -- there is a host, and it is settled with its addresses in brackets
 abbrev pub HasBracketedHost : Location → Type 0
-HasBracketedHost v = (h : List ℕ) × (v.host ≡ Some h) × IsBracketedHost h
+HasBracketedHost v = HasPart v.host IsBracketedHost
 
 -- the common conditions on settled URLs, and a path that is raw if no spelling matches it
 pub record IsSettledRaw (v : Location) : Type 0 where

@@ -10,7 +10,7 @@ use Rattle.git_syntax.specs.Bytes.{slash, colon, at_sign, left_bracket, right_br
 use Rattle.git_syntax.specs.Escapes.{matches, has_percent, path_set, password_set, user_set, escaped_percents}
 use Rattle.git_syntax.specs.AddressTest.{is_ipv6_text}
 use Rattle.git_syntax.specs.Schemes.{scheme_text, requires_path}
-use Rattle.git_syntax.specs.Hosts.{port_part}
+use Rattle.git_syntax.specs.Hosts.{port_part, raw_user}
 
 -- the forms of a text
 pub data Form : Type 0 where
@@ -76,11 +76,6 @@ has_colon text = list_any (λ b. b == colon) text
 -- the host has a colon and doesn't begin with a bracket
 abbrev pub wants_brackets : List ℕ → Bool
 wants_brackets host = has_colon host && not (begins_with left_bracket host)
-
--- the user and `@`, unescaped
-abbrev pub raw_user : Option (List ℕ) → List ℕ
-raw_user None = []
-raw_user (Some user) = user ++ at_sign ∷ []
 
 -- the host, unescaped, in brackets if it needs them
 abbrev pub raw_host : Option (List ℕ) → List ℕ

@@ -1,6 +1,6 @@
 -- The class of locations of HTTP in whose texts all readers read the same fields: this library, Git's
 -- credential code, and a reader of URIs.
-use Rattle.std.specs.Prelude.{◌≡◌, ℕ, Bool, true, false, ◌||◌, ◌==◌, nat_lt, ◌⊎◌, List, [], ◌∷◌, ◌++◌, codes, Some, IfSome}
+use Rattle.std.specs.Prelude.{◌≡◌, ℕ, Bool, true, false, ◌||◌, ◌==◌, nat_lt, ◌⊎◌, List, [], ◌∷◌, ◌++◌, codes, IfSome}
 use Rattle.std.specs.List.{list_all}
 use Rattle.std.specs.Char.{is_ascii_alphanumeric, is_ascii_lowercase, is_ascii_digit}
 use Rattle.percent_encoding.specs.Percent.{percent_encode}
@@ -9,7 +9,7 @@ use Rattle.git_syntax.specs.Bytes.{space, number_sign, percent_sign, dot, slash,
 use Rattle.git_syntax.specs.Escapes.{password_set}
 use Rattle.git_syntax.specs.Addresses.{IsIpv4Text}
 use Rattle.git_location.specs.Text.{canonical_path}
-use Rattle.git_location.specs.Settled.{begins_with_slashes, IsBracketedAddress, IsSettled}
+use Rattle.git_location.specs.Settled.{begins_with_slashes, IsBracketedAddress, IsSettled, HasPart}
 
 -- a control character of ASCII
 abbrev pub is_control : ℕ → Bool
@@ -44,7 +44,7 @@ IsUnambiguousHost host = IsPlainName host ⊎ (IsIpv4Text host ⊎ IsBracketedAd
 
 -- there is a host that all readers read alike
 abbrev pub HasUnambiguousHost : Location → Type 0
-HasUnambiguousHost v = (h : List ℕ) × (v.host ≡ Some h) × IsUnambiguousHost h
+HasUnambiguousHost v = HasPart v.host IsUnambiguousHost
 
 -- ---- user and password
 
@@ -68,13 +68,17 @@ is_uri_byte b = is_ascii_alphanumeric b || is_one_of (codes "-._~!$&'()*+,;=:@/?
 abbrev pub is_segment_end : ℕ → Bool
 is_segment_end b = b == slash || b == question_mark
 
+-- a segment that readers remove: `.` or `..`
+abbrev pub IsDots : List ℕ → Type 0
+IsDots segment = (segment ≡ codes ".") ⊎ (segment ≡ codes "..")
+
 -- a segment `.` or `..` follows a `/`; readers remove such segments
 pub record HasDotSegment (path : List ℕ) : Type 0 where
   pub front : List ℕ
   pub dots : List ℕ
   pub suffix : List ℕ
   pub joined : path ≡ front ++ slash ∷ (dots ++ suffix)
-  pub segment : (dots ≡ codes ".") ⊎ (dots ≡ codes "..")
+  pub segment : IsDots dots
   pub end : (suffix ≡ []) ⊎ (begins_by is_segment_end suffix ≡ true)
 
 -- a path that all readers cut and decode alike: it begins with one `/`, no reader drops a part of it, and it is

@@ -1,5 +1,5 @@
 -- The conditions of the class of HTTP, one by one: those that a location doesn't meet, and the first of them.
-use Rattle.std.specs.Prelude.{◌≡◌, ℕ, ◌<◌, true, false, List, [], ◌∷◌, ◌++◌, Option, Some}
+use Rattle.std.specs.Prelude.{◌≡◌, ℕ, ◌<◌, true, false, List, [], ◌∷◌, ◌++◌}
 use Rattle.std.specs.List.{list_all}
 use Rattle.percent_encoding.specs.Percent.{percent_encode}
 use Rattle.git_syntax.specs.Location.{Location}
@@ -8,12 +8,8 @@ use Rattle.git_syntax.specs.Escapes.{password_set}
 use Rattle.git_location.specs.declared.git.conditions.WebCondition.{WebCondition}
 use Rattle.git_location.specs.declared.git.conditions.WebCondition.TheVariants as condition
 use Rattle.git_location.specs.Text.{canonical_path}
-use Rattle.git_location.specs.Settled.{begins_with_slashes, IsSettled}
+use Rattle.git_location.specs.Settled.{begins_with_slashes, IsSettled, HasPart}
 use Rattle.git_location.specs.WebClass.{is_control, is_plain_host_byte, is_uri_byte, HasDotSegment, HasUnambiguousHost, IsDecodedWhole}
-
--- there is such a field, and it has the property
-abbrev pub HasPart : Option (List ℕ) → (List ℕ → Type 0) → Type 0
-HasPart part test = (text : List ℕ) × (part ≡ Some text) × test text
 
 -- the location doesn't meet the condition
 abbrev pub IsUnmet : WebCondition → Location → Type 0

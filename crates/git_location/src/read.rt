@@ -9,7 +9,7 @@ use crate::to_url_ref::to_url_ref;
 use crate::url_ref::UrlRef;
 use git_refusals::read::refusal;
 use git_syntax::find::find;
-use git_syntax::simple::{SimplePieces, simple_remote};
+use git_syntax::simple::{SimplePieces, simple_pieces};
 
 impl<'a> UrlRef<'a> {
     /// Reads the one location that the bytes spell, like [`parse`], without an allocation. The fields of the
@@ -38,7 +38,7 @@ impl<'a> UrlRef<'a> {
     pub fn parse_in(text: &'a [u8], buffer: &'a mut [u8]) -> Result<UrlRef<'a>, ParseError>
         ensures { ReadsIn text.now (length buffer.old) result }
     {
-        if let Some(pieces) = simple_remote(text) {
+        if let Some(pieces) = simple_pieces::<false>(text) {
             if buffer.len() < text.len() {
                 return Err(ParseError::NoRoom);
             }

@@ -46,10 +46,9 @@ impl UrlRef<'_> {
     }
 
     /// Whether the location is of the settled class. `laid` has the pieces of its text, if the caller has
-    /// already laid them out.
+    /// already laid them out. The result is unspecified if `laid` has the pieces of another text.
     pub fn is_settled_as(&self, laid: Option<&Pieces<'_>>) -> bool
-        requires { AreOwn laid self.now }
-        ensures { IsTrue result ↔ IsSettled self.now }
+        ensures { AreOwn laid.entry self.now → (IsTrue result ↔ IsSettled self.now) }
     {
         match self.scheme {
             SchemeRef::File => is_settled_local(self) || is_settled_file(self),

@@ -27,7 +27,7 @@ use git_syntax::text::as_text;
 use git_syntax::url_syntax::ParsedUrl;
 
 /// The location that found slices denote.
-pub fn to_url_ref<'a>(found: Found<'a>, buffer: &'a mut [u8]) -> UrlRef<'a>
+pub(crate) fn to_url_ref<'a>(found: Found<'a>, buffer: &'a mut [u8]) -> UrlRef<'a>
     requires ready { IsReady found }
     requires buffer { buffer_length_for found ≤ length buffer.old }
     ensures { result ≡ denoted found.entry }

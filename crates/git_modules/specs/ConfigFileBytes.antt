@@ -2,19 +2,11 @@
 -- that Git skips.
 use Rattle.std.specs.Prelude.{ℕ, Bool, ◌&&◌, ◌||◌, ◌==◌, List, [], ◌∷◌, drop, if◌then◌else◌}
 use Rattle.std.specs.Char.{is_ascii_alphanumeric}
-use Rattle.git_syntax.specs.Bytes.{begins_with, newline, tab, space, hyphen, dot}
+use Rattle.git_syntax.specs.Bytes.{begins_with, newline, tab, space, hyphen, dot, carriage_return}
 
 -- `\b`
 abbrev pub backspace : ℕ
 backspace = 8
-
--- `\r`
-abbrev pub carriage_return : ℕ
-carriage_return = 13
-
--- `"`
-abbrev pub quote_mark : ℕ
-quote_mark = 34
 
 -- `;`
 abbrev pub semicolon : ℕ

@@ -2,8 +2,9 @@
 use Rattle.std.specs.Prelude.{ℕ, Bool, true, false, ◌==◌, List, [], ◌∷◌, ◌++◌, Ok, Err, if◌then◌else◌}
 use Rattle.git_syntax.specs.Bytes.{newline, dot, right_bracket, backslash, lowercase}
 use Rattle.git_modules.specs.declared.config_file.flaw.Flaw.TheVariants.{NoSection, BadSection, NoQuote, OpenSubsection, OpenHeader, ZeroByte}
-use Rattle.git_modules.specs.ConfigFileBytes.{quote_mark, is_blank, is_section_byte, word, past_word}
+use Rattle.git_modules.specs.ConfigFileBytes.{is_blank, is_section_byte, word, past_word}
 use Rattle.git_modules.specs.ConfigFileFlaws.{Read, refused, refused_late, prefixed}
+use Rattle.git_rules.specs.CommandLines.{double_quote}
 
 -- a subsection up to its closing quote, and the text after that; a `\` makes the next byte literal
 abbrev pub quoted_text : Bool → List ℕ → Read
@@ -12,7 +13,7 @@ quoted_text escaped (c ∷ rest) =
     if c == newline then refused OpenSubsection (c ∷ rest)
     else if c == 0 then refused ZeroByte (c ∷ rest)
     else if escaped then prefixed (c ∷ []) (quoted_text false rest)
-    else if c == quote_mark then Ok ([], rest)
+    else if c == double_quote then Ok ([], rest)
     else if c == backslash then quoted_text true rest
     else prefixed (c ∷ []) (quoted_text false rest)
 
@@ -33,7 +34,7 @@ ended (Err e) = Err e
 abbrev pub subsection_of : List ℕ → List ℕ → Read
 subsection_of section [] = refused NoQuote []
 subsection_of section (c ∷ rest) =
-    if c == quote_mark then ended (prefixed (section ++ dot ∷ []) (quoted_text false rest))
+    if c == double_quote then ended (prefixed (section ++ dot ∷ []) (quoted_text false rest))
     else refused NoQuote (c ∷ rest)
 
 -- the part of a header after the `[` and the section

@@ -4,9 +4,10 @@ use Rattle.git_syntax.specs.Bytes.{begins_with, newline}
 use Rattle.git_modules.specs.declared.config_file.place.Wrong.{Wrong}
 use Rattle.git_modules.specs.declared.config_file.word.Class.{Class}
 use Rattle.git_modules.specs.declared.config_file.word.Class.TheVariants.{Name, Section, AfterName, AfterSection}
-use Rattle.git_modules.specs.ConfigFileBytes.{left_at, is_gap, is_blank, is_key_byte, is_section_byte, quote_mark}
+use Rattle.git_modules.specs.ConfigFileBytes.{left_at, is_gap, is_blank, is_key_byte, is_section_byte}
 use Rattle.git_modules.specs.ConfigFileFlaws.{Read, Refusal, prefixed}
 use Rattle.git_modules.specs.ConfigFileHeaders.{header_end, quoted_text}
+use Rattle.git_rules.specs.CommandLines.{double_quote}
 
 -- the first byte at an offset, and the offset after it
 abbrev pub GivesByte : List ℕ → ℕ → Option (ℕ × ℕ) → Type 0
@@ -55,6 +56,6 @@ ReadsEnd text at len (Err w) = (w.at ≡ at)
 -- a byte of a subsection is written, or begins an escape
 abbrev pub PutsQuoted : ℕ → Bool → ℕ → List ℕ → List ℕ → ℕ × Bool → Type 0
 PutsQuoted c escaped len old new r = (left : List ℕ) → (c == newline) ≡ false → (c == 0) ≡ false
-    → (not escaped && (c == quote_mark)) ≡ false
+    → (not escaped && (c == double_quote)) ≡ false
     → prefixed (take len old) (quoted_text escaped (c ∷ left))
     ≡ prefixed (take r.0 new) (quoted_text r.1 left)

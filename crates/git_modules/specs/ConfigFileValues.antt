@@ -7,8 +7,9 @@ use Rattle.git_modules.specs.declared.config_file.value.Mode.{Mode}
 use Rattle.git_modules.specs.declared.config_file.value.Mode.TheVariants.{Plain, Quoted, Escape, QuotedEscape, Comment}
 use Rattle.git_modules.specs.declared.config_file.value.Part.{Part}
 use Rattle.git_modules.specs.declared.config_file.value.Part.TheVariants as part
-use Rattle.git_modules.specs.ConfigFileBytes.{backspace, quote_mark, semicolon, is_blank}
+use Rattle.git_modules.specs.ConfigFileBytes.{backspace, semicolon, is_blank}
 use Rattle.git_modules.specs.ConfigFileFlaws.{Read, refused, refused_late, prefixed}
+use Rattle.git_rules.specs.CommandLines.{double_quote}
 
 -- a byte outside quotes: white space, a comment, a quote or an escape, or any other byte, which is literal
 abbrev pub plain_part : ℕ → Part
@@ -16,7 +17,7 @@ plain_part c =
     if c == newline then part.End
     else if is_blank c then part.Blank
     else if c == number_sign || c == semicolon then part.Nothing
-    else if c == quote_mark then part.Mark Quoted
+    else if c == double_quote then part.Mark Quoted
     else if c == backslash then part.Mark Escape
     else if c == 0 then part.Flaw ZeroByte
     else part.Byte c Plain
@@ -25,7 +26,7 @@ plain_part c =
 abbrev pub quoted_part : ℕ → Part
 quoted_part c =
     if c == newline then part.Flaw OpenQuote
-    else if c == quote_mark then part.Mark Plain
+    else if c == double_quote then part.Mark Plain
     else if c == backslash then part.Mark QuotedEscape
     else if c == 0 then part.Flaw ZeroByte
     else part.Byte c Quoted
@@ -37,7 +38,7 @@ escaped_part c mode =
     else if c == 116 then part.Byte tab mode
     else if c == 98 then part.Byte backspace mode
     else if c == 110 then part.Byte newline mode
-    else if c == backslash || c == quote_mark then part.Byte c mode
+    else if c == backslash || c == double_quote then part.Byte c mode
     else part.Flaw BadEscape
 
 -- the meaning of a byte

@@ -4,11 +4,11 @@ use Rattle.std.specs.Borrow.{Bor}
 use Rattle.std.specs.BTreeMap.{BTreeMap, get_by}
 use Rattle.std.specs.Cmp.Lexicographic.{slice_cmp}
 use Rattle.std.specs.Ordering.{nat_cmp}
-use Rattle.git_syntax.specs.Bytes.{colon, FreeOf, begins_by}
+use Rattle.git_syntax.specs.Bytes.{colon, FreeOf, begins_by, is_any_slash}
 use Rattle.git_reads.specs.Credentials.{CredentialCut, CredentialDecodes, CredentialReading, ReadsPieces}
 use Rattle.git_rules.specs.Config.{ConfigEntry}
 use Rattle.git_modules.specs.declared.submodules.Used.{Used}
-use Rattle.git_modules.specs.Submodules.{GitSubmodule, UsedValue, is_separator, used_by}
+use Rattle.git_modules.specs.Submodules.{GitSubmodule, UsedValue, used_by}
 use Rattle.git_modules.specs.SubmoduleView.{used_value}
 use Rattle.git_modules.specs.SubmoduleDefects.{path_count}
 use Rattle.git_modules.specs.SubmoduleUrls.{IsForCurl, has_feed, part_has_feed, parts_have_feed, is_step, is_step_up}
@@ -59,8 +59,8 @@ FindsStep t r = MatchOption r ((step rest : List ℕ) → is_step step ≡ true 
 
 -- the text after a leading separator, or none if it has none
 abbrev pub FindsSeparator : List ℕ → Option (Bor (List ℕ)) → Type 0
-FindsSeparator t r = MatchOption r (begins_by is_separator t ≡ false)
-    (λ rest. (x : ℕ) × (is_separator x ≡ true) × (t ≡ x ∷ rest.now))
+FindsSeparator t r = MatchOption r (begins_by is_any_slash t ≡ false)
+    (λ rest. (x : ℕ) × (is_any_slash x ≡ true) × (t ≡ x ∷ rest.now))
 
 -- ---- values
 

@@ -1,25 +1,22 @@
 -- The dangers and errors in an entry of a `.gitmodules` file beyond those that Git's fsck refuses.
-use Rattle.std.specs.Prelude.{ℕ, Bool, false, ◌&&◌, ◌||◌, ◌==◌, nat_lt, codes, List, is_none, is_some}
+use Rattle.std.specs.Prelude.{ℕ, Bool, false, ◌&&◌, ◌||◌, codes, List, is_none, is_some}
 use Rattle.std.specs.Option.{option_map_or}
 use Rattle.std.specs.List.{list_any, slice_split}
-use Rattle.git_syntax.specs.Bytes.{delete, begins_by, is_option_like}
+use Rattle.git_syntax.specs.Bytes.{begins_by, is_option_like, is_any_slash}
 use Rattle.git_rules.specs.Words.{is_word}
 use Rattle.git_rules.specs.Config.{ConfigEntry, has_name}
 use Rattle.git_modules.specs.declared.submodules.risk.Risk.{Risk}
 use Rattle.git_modules.specs.declared.submodules.risk.Risk.TheVariants as risk
-use Rattle.git_modules.specs.Submodules.{has_component, is_separator, submodule_of, value_by}
+use Rattle.git_modules.specs.Submodules.{has_component, submodule_of, value_by}
+use Rattle.git_location.specs.WebClass.{is_control}
 
 -- a component of the text is the word, ignoring letter case
 abbrev pub has_component_word : List ℕ → List ℕ → Bool
-has_component_word word t = list_any (λ part. is_word part word) (slice_split is_separator t)
+has_component_word word t = list_any (λ part. is_word part word) (slice_split is_any_slash t)
 
 -- the folder of a repository
 abbrev pub git_folder : List ℕ
 git_folder = codes ".git"
-
--- a control character: a byte below the space, or the byte 127
-abbrev pub is_control : ℕ → Bool
-is_control b = nat_lt b 32 || b == delete
 
 -- the entry has one of the names for which Git needs a value
 abbrev pub has_valued_name : ConfigEntry → Bool
@@ -32,7 +29,7 @@ gives key test e = option_map_or test (value_by key e) false
 
 -- the entry of a submodule has this risk
 abbrev pub has_risk : Risk → ConfigEntry → Bool
-has_risk risk.AbsolutePath e = gives (codes "path") (begins_by is_separator) e
+has_risk risk.AbsolutePath e = gives (codes "path") (begins_by is_any_slash) e
 has_risk risk.PathUpwards e = gives (codes "path") (has_component (codes "..")) e
 has_risk risk.PathIntoGit e = gives (codes "path") (has_component_word git_folder) e
 has_risk risk.OptionAsBranch e = gives (codes "branch") is_option_like e

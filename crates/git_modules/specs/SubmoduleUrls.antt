@@ -2,8 +2,8 @@
 -- `tests/witnesses/test_rules.py` compares them.
 use Rattle.std.specs.Prelude.{◌≡◌, ℕ, ◌<◌, ◌⊎◌, Bool, true, false, ◌||◌, ◌==◌, bytes_eq, codes, List, ◌++◌, length, Option, Some, None}
 use Rattle.std.specs.List.{concat, list_any, list_all}
-use Rattle.git_syntax.specs.Bytes.{newline, slash, colon, FreeOf, Lacks, Holds, begins_by, is_option_like, is_path_start, StartsPath}
-use Rattle.git_reads.specs.Credentials.{CredentialDecodes, CredentialReading, ReadsPieces}
+use Rattle.git_syntax.specs.Bytes.{newline, slash, colon, begins_by, is_option_like}
+use Rattle.git_reads.specs.Credentials.{CredentialDecodes, CredentialReading, FindsParts}
 
 -- ---- line feeds
 
@@ -65,19 +65,6 @@ pub data IsForCurl (t text : List ℕ) : Type 0 where
       → IsForCurl t text
   whole : (scheme rest : List ℕ) → is_curl_scheme scheme ≡ true → t ≡ scheme ++ (codes "://" ++ rest)
       → text ≡ t → IsForCurl t text
-
--- the parts that Git's credential code finds in a text: as it reads the text, except that a part may contain the
--- end of a line
-pub record FindsParts (t : List ℕ) (r : CredentialReading) : Type 0 where
-  pub authority : List ℕ
-  pub suffix : List ℕ
-  pub whole : FreeOf 0 t
-  pub protocol : 0 < length r.protocol
-  pub no_mark : ¬ Holds (codes "://") r.protocol
-  pub joined : t ≡ r.protocol ++ (codes "://" ++ (authority ++ suffix))
-  pub before_path : Lacks (is_path_start true) authority
-  pub path_start : StartsPath true suffix
-  pub pieces : ReadsPieces authority suffix r
 
 -- one of the parts contains a line feed
 abbrev pub parts_have_feed : CredentialReading → Bool

@@ -1,7 +1,7 @@
 -- The submodules of a `.gitmodules` file, by its entries (`parse_config` in `submodule-config.c` of Git 2.39.5).
-use Rattle.std.specs.Prelude.{ℕ, Bool, true, false, not, ◌&&◌, ◌||◌, ◌==◌, bytes_eq, codes, List, [], ◌∷◌, filter, filter_map, map, Option, Some, None, is_some, option_map, option_and_then, if◌then◌else◌}
+use Rattle.std.specs.Prelude.{ℕ, Bool, true, false, not, ◌&&◌, ◌||◌, bytes_eq, codes, List, [], ◌∷◌, filter, filter_map, map, Option, Some, None, is_some, option_map, option_and_then, if◌then◌else◌}
 use Rattle.std.specs.List.{enumerate_from, last_or, list_any, slice_split}
-use Rattle.git_syntax.specs.Bytes.{slash, backslash, is_option_like}
+use Rattle.git_syntax.specs.Bytes.{is_option_like, is_any_slash}
 use Rattle.git_rules.specs.Config.{ConfigEntry, has_name, is_of_section}
 
 -- a value that Git uses, and the index of its entry
@@ -19,13 +19,9 @@ pub record GitSubmodule : Type 0 where
 
 -- ---- names
 
--- a `/` or a `\`: either ends a component of a name, of a path or of a URL, on each system
-abbrev pub is_separator : ℕ → Bool
-is_separator b = b == slash || b == backslash
-
 -- a component of the text is this one
 abbrev pub has_component : List ℕ → List ℕ → Bool
-has_component component t = list_any (λ part. bytes_eq part component) (slice_split is_separator t)
+has_component component t = list_any (λ part. bytes_eq part component) (slice_split is_any_slash t)
 
 -- a name that Git refuses: an empty one, or one with a component `..`
 abbrev pub is_refused_name : List ℕ → Bool

@@ -4,9 +4,10 @@
 //! their names first occur.
 
 ghost use Rattle.std.specs.Prelude.{◌≡◌, IfOk, OnOk, map, not, option_map};
-ghost use Rattle.git_modules.specs.Submodules.{has_component, is_refused_name, is_separator, names_of, submodule_of, submodules_of, taken_name, use_by, value_by};
+ghost use Rattle.git_modules.specs.Submodules.{has_component, is_refused_name, names_of, submodule_of, submodules_of, taken_name, use_by, value_by};
 ghost use Rattle.git_modules.specs.SubmoduleView.{used_value};
 ghost use Rattle.git_modules.specs.SubmoduleInternal.{HasUses, NotesName, NotesUse, is_noted, noted_use};
+ghost use Rattle.git_syntax.specs.Bytes.{is_any_slash};
 
 pub mod defect;
 pub mod refusal;
@@ -256,7 +257,7 @@ fn has_component(text: &[u8], component: &[u8]) -> bool
 
 /// Whether the byte is a `/` or a `\`.
 fn is_separator(byte: u8) -> bool
-    ensures { result ≡ is_separator byte }
+    ensures { result ≡ is_any_slash byte }
 {
     byte == b'/' || byte == b'\\'
 }

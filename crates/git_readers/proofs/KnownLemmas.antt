@@ -5,17 +5,17 @@ use Rattle.std.specs.Char.{to_ascii_lowercase}
 use Rattle.std.proofs.lemmas.Bool.{and_parts, cond-false}
 use Rattle.std.proofs.lemmas.Bool.Decides.{nat_tests}
 use Rattle.percent_encoding.specs.Percent.{percent_decode}
-use Rattle.git_syntax.specs.Bytes.{backslash, percent_sign, slash, lowercase}
+use Rattle.git_syntax.specs.Bytes.{backslash, percent_sign, slash, lowercase, is_query_start}
 use Rattle.git_syntax.proofs.Texts.CutLemmas.{free_of_all}
 use Rattle.git_syntax.proofs.Texts.EscapeLemmas.{decode_kept}
 use Rattle.git_laws.proofs.GitReadings.GitCutLemmas.{git_decode_kept}
-use Rattle.git_readers.specs.KnownReaders.{KeepsHosts, KeepsPaths, begins_query, git_credentials, git_transports, rfc3986, slashed_byte, whatwg}
+use Rattle.git_readers.specs.KnownReaders.{KeepsHosts, KeepsPaths, git_credentials, git_transports, rfc3986, slashed_byte, whatwg}
 use Rattle.git_readers.specs.Readers.{LeavesPlain}
 use Rattle.git_readers.specs.Unambiguous.{IsCommonHost, is_label_byte, is_path_byte, is_unreserved}
 use Rattle.git_readers.proofs.PlainBytes.{host_pass, host_plain, plain_path}
 
 -- no byte of a path begins a query
-no_query : (b : ℕ) → is_path_byte b ≡ true → begins_query b ≡ false
+no_query : (b : ℕ) → is_path_byte b ≡ true → is_query_start b ≡ false
 no_query b h = grind (arith, nat_tests)
 
 -- nor is one a `\`

@@ -9,7 +9,8 @@ use Rattle.git_syntax.specs.Location.Scheme.{file, git, ssh, http, https, ext, h
 use Rattle.git_syntax.specs.Bytes.{slash, colon, at_sign, FreeOf, Lacks, begins_by, begins_with, is_scheme_text}
 use Rattle.git_syntax.specs.Schemes.{scheme_text}
 use Rattle.git_syntax.proofs.Texts.CutLemmas.{all_weaker, begins_cut, free-append, free-cons, free_head_tail, free_of_all, free_of_lacked, lacks-cons, not_free, scheme_text_free}
-use Rattle.git_location.specs.Text.{raw_user, text}
+use Rattle.git_syntax.specs.Hosts.{raw_user}
+use Rattle.git_location.specs.Text.{text}
 use Rattle.git_location.specs.Settled.{IsSettledBy, IsSettledLocal, IsSettledScp, IsValue, begins_with_slashes}
 use Rattle.git_location.specs.GitClass.{AgreesBy, SuitsTransport}
 use Rattle.git_location.proofs.Writing.WrittenAsUrlLemmas.{one_text}

@@ -3,7 +3,7 @@ use Rattle.std.specs.Prelude.{◌≡◌, ℕ, ◌<◌, Bool, true, false, List, 
 use Rattle.std.specs.List.{list_all}
 use Rattle.git_syntax.specs.Location.{Scheme, Location}
 use Rattle.git_syntax.specs.Location.Scheme.{file, ssh, http, https}
-use Rattle.git_syntax.specs.Bytes.{Lacks}
+use Rattle.git_syntax.specs.Bytes.{Lacks, unrooted}
 use Rattle.git_syntax.specs.Escapes.{matches}
 use Rattle.git_location.specs.Settled.{begins_with_slashes}
 use Rattle.git_location.specs.GitClass.{AgreesWithGit, is_tilde_second}
@@ -11,7 +11,7 @@ use Rattle.git_readers.specs.declared.unambiguous.Condition.{Condition}
 use Rattle.git_readers.specs.declared.unambiguous.Form.{Form}
 use Rattle.git_readers.specs.declared.unambiguous.Form.TheVariants.{Web, Transport, Scp, Local}
 use Rattle.git_readers.specs.declared.unambiguous.Condition.TheVariants as condition
-use Rattle.git_readers.specs.Unambiguous.{BeginsWithPort, HasInnerSlash, HasDots, IsCommonHost, IsPlainLocal, IsPlainScpHost, IsPlainUser, IsPlainWord, after_slash, is_odd_local, is_odd_start, is_path_byte, is_scp_byte}
+use Rattle.git_readers.specs.Unambiguous.{BeginsWithPort, HasInnerSlash, HasDots, IsCommonHost, IsPlainLocal, IsPlainScpHost, IsPlainUser, IsPlainWord, is_odd_local, is_odd_start, is_path_byte, is_scp_byte}
 
 -- the form of a location, by its scheme and the flag of the alternative form
 abbrev pub form_of : Scheme → Bool → Form
@@ -35,7 +35,7 @@ HasPlainBytes _ path = list_all is_path_byte path ≡ true
 abbrev pub BeginsPlainly : Form → List ℕ → Type 0
 BeginsPlainly Web path = begins_with_slashes path ≡ false
 BeginsPlainly Transport path = (begins_with_slashes path ≡ false) × (is_tilde_second path ≡ false)
-    × (is_odd_start (after_slash path) ≡ false)
+    × (is_odd_start (unrooted path) ≡ false)
 BeginsPlainly Scp path = ¬ BeginsWithPort path
 BeginsPlainly Local path = IsPlainLocal path
 

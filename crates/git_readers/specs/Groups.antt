@@ -2,7 +2,7 @@
 use Rattle.std.specs.Prelude.{ℕ, ◌+◌, ◌-◌, Bool, true, not, ◌&&◌, ◌||◌, ◌==◌, nat_le, List, [], ◌∷◌, ◌++◌, length, take, codes, Option, Some, None, if◌then◌else◌}
 use Rattle.std.specs.List.{list_all}
 use Rattle.std.specs.Char.{is_ascii_digit}
-use Rattle.git_syntax.specs.Bytes.{dot, slash, colon, at_sign, backslash, left_bracket, right_bracket, begins_by, begins_with, is_path_start, is_scheme_text}
+use Rattle.git_syntax.specs.Bytes.{dot, slash, colon, at_sign, backslash, left_bracket, right_bracket, begins_by, begins_with, is_path_start, is_scheme_text, is_any_slash}
 use Rattle.git_syntax.specs.Authority.{unless_empty}
 use Rattle.git_syntax.specs.Schemes.{is_web_scheme}
 use Rattle.git_readers.specs.Readers.{begins_port, cut_first, cut_last, from, front_or, is_no_digit, rest_or, until}
@@ -55,7 +55,7 @@ url_rest t = if begins_with slash t then after_slashes t else after_scheme (cut_
 
 -- neither `/` nor `\`
 abbrev pub is_no_slash : ℕ → Bool
-is_no_slash b = not (b == slash || b == backslash)
+is_no_slash b = not (is_any_slash b)
 
 -- the text after a scheme of HTTP, its colon and any slashes
 abbrev pub after_web_scheme : Option (List ℕ × List ℕ) → Option (List ℕ)

@@ -1,8 +1,8 @@
 -- Readers of the family by their choices: RFC 3986, the URL Standard of the WHATWG, and Git.
-use Rattle.std.specs.Prelude.{◌≡◌, ℕ, Bool, false, true, ◌||◌, ◌==◌, List, map, if◌then◌else◌}
+use Rattle.std.specs.Prelude.{◌≡◌, ℕ, Bool, false, true, ◌==◌, List, map, if◌then◌else◌}
 use Rattle.std.specs.List.{list_all}
 use Rattle.percent_encoding.specs.Percent.{percent_decode}
-use Rattle.git_syntax.specs.Bytes.{slash, number_sign, question_mark, backslash, lowercase}
+use Rattle.git_syntax.specs.Bytes.{slash, backslash, lowercase, is_query_start}
 use Rattle.git_reads.specs.Git.{git_decode}
 use Rattle.git_readers.specs.Unambiguous.{HasDots, IsCommonHost, is_path_byte}
 use Rattle.git_readers.specs.Readers.{LeavesPlain, UrlReader}
@@ -11,10 +11,6 @@ use Rattle.git_readers.specs.Readers.Which.{first, last}
 -- a text, unchanged
 abbrev pub as_it_is : List ℕ → List ℕ
 as_it_is t = t
-
--- `?` or `#`
-abbrev pub begins_query : ℕ → Bool
-begins_query b = b == question_mark || b == number_sign
 
 -- no byte
 abbrev pub never : ℕ → Bool
@@ -25,8 +21,8 @@ never b = false
 abbrev pub rfc3986 : UrlReader
 rfc3986 = record {
   prepares = as_it_is;
-  ends_authority = begins_query;
-  ends_path = begins_query;
+  ends_authority = is_query_start;
+  ends_path = is_query_start;
   user_cut = first;
   password_cut = first;
   port_cut = last;
@@ -43,8 +39,8 @@ slashed_byte b = if b == backslash then slash else b
 abbrev pub whatwg : (List ℕ → List ℕ) → (List ℕ → List ℕ) → UrlReader
 whatwg normal_host normal_path = record {
   prepares = map slashed_byte;
-  ends_authority = begins_query;
-  ends_path = begins_query;
+  ends_authority = is_query_start;
+  ends_path = is_query_start;
   user_cut = last;
   password_cut = first;
   port_cut = first;
@@ -71,7 +67,7 @@ git_transports = record {
 abbrev pub git_credentials : UrlReader
 git_credentials = record {
   prepares = as_it_is;
-  ends_authority = begins_query;
+  ends_authority = is_query_start;
   ends_path = never;
   user_cut = first;
   password_cut = first;

@@ -1,12 +1,12 @@
 -- The parts of unambiguous texts: hosts, user information and paths in which all readers that were tested
 -- find exactly the written text.
-use Rattle.std.specs.Prelude.{◌≡◌, ℕ, ◌<◌, ◌≤◌, Bool, true, false, ◌||◌, ◌==◌, ◌⊎◌, List, [], ◌∷◌, ◌++◌, length, codes, bytes_eq, Option, None, if◌then◌else◌}
+use Rattle.std.specs.Prelude.{◌≡◌, ℕ, ◌<◌, ◌≤◌, Bool, true, false, ◌||◌, ◌==◌, ◌⊎◌, List, [], ◌∷◌, ◌++◌, length, codes, bytes_eq, Option, None}
 use Rattle.std.specs.List.{list_all}
 use Rattle.std.specs.Char.{is_ascii_alphanumeric, is_ascii_lowercase, is_ascii_digit}
 use Rattle.git_syntax.specs.Bytes.{hyphen, dot, slash, colon, at_sign, backslash, FreeOf, Holds, begins_by, begins_with, is_one_of, is_option_like}
 use Rattle.git_syntax.specs.Schemes.{is_ftp, is_known_scheme}
 use Rattle.git_syntax.specs.Addresses.{IsIpv4Text}
-use Rattle.git_location.specs.WebClass.{is_control}
+use Rattle.git_location.specs.WebClass.{is_control, IsDots}
 
 -- ---- hosts
 
@@ -86,19 +86,10 @@ is_scp_byte b = is_ascii_alphanumeric b || is_one_of (codes "-._~+,=/") b
 abbrev pub is_odd_local : ℕ → Bool
 is_odd_local b = is_control b || (b == colon || b == backslash)
 
--- the path without a `/` at its front
-abbrev pub after_slash : List ℕ → List ℕ
-after_slash [] = []
-after_slash (b ∷ rest) = if b == slash then rest else b ∷ rest
-
 -- `-`, or a byte and `:`, which readers of Secure Shell, of `git://` and of files read as an option or a drive
 abbrev pub is_odd_start : List ℕ → Bool
 is_odd_start [] = false
 is_odd_start (b ∷ rest) = b == hyphen || begins_with colon rest
-
--- a segment that readers remove: `.` or `..`
-abbrev pub IsDots : List ℕ → Type 0
-IsDots segment = (segment ≡ codes ".") ⊎ (segment ≡ codes "..")
 
 -- a segment `.` or `..` is the whole path, its first segment, or a later one
 pub data HasDots : List ℕ → Type 0 where

@@ -4,10 +4,11 @@ ghost use Rattle.std.specs.Prelude.{◌≡◌, ◌↔◌, ◌++◌, ◌⊎◌, I
 ghost use Rattle.std.specs.List.{list_any};
 ghost use Rattle.git_location.specs.GitClass.{AgreesWithGit, is_tilde_second};
 ghost use Rattle.git_location.specs.Settled.{begins_with_slashes};
-ghost use Rattle.git_syntax.specs.Bytes.{Holds};
+ghost use Rattle.git_location.specs.WebClass.{IsDots};
+ghost use Rattle.git_syntax.specs.Bytes.{Holds, unrooted};
 ghost use Rattle.git_readers.specs.Conditions.{BeginsPlainly, HasPlainBytes, Meets};
 ghost use Rattle.git_readers.specs.Unambiguous as byte;
-ghost use Rattle.git_readers.specs.Unambiguous.{BeginsWithPort, HasDots, HasInnerSlash, HasSlashBefore, IsDots, IsPlainLocal, slashes};
+ghost use Rattle.git_readers.specs.Unambiguous.{BeginsWithPort, HasDots, HasInnerSlash, HasSlashBefore, IsPlainLocal, slashes};
 ghost use Rattle.git_readers.specs.declared.unambiguous.Condition.TheVariants as condition;
 ghost use Rattle.git_readers.specs.declared.unambiguous.Form.TheVariants as form;
 
@@ -93,7 +94,7 @@ fn is_tilde_second(text: &[u8]) -> bool
 
 /// The path without a `/` at its front.
 fn after_slash(path: &[u8]) -> &[u8]
-    ensures { result.now ≡ byte.after_slash path.now }
+    ensures { result.now ≡ unrooted path.now }
 {
     match path {
         [b'/', rest @ ..] => rest,

@@ -2,7 +2,7 @@
 -- model of Git, not proved of it: `tests/witnesses/test_web.py` compares the two.
 use Rattle.std.specs.Prelude.{◌≡◌, ℕ, ◌<◌, Bool, true, false, ◌||◌, ◌==◌, List, [], ◌∷◌, ◌++◌, length, codes, Option, Some, None, IfSome, if◌then◌else◌}
 use Rattle.std.specs.List.{list_all}
-use Rattle.git_syntax.specs.Bytes.{newline, slash, colon, at_sign, Lacks, FreeOf, begins_with, Holds, is_path_start, StartsPath}
+use Rattle.git_syntax.specs.Bytes.{newline, carriage_return, slash, colon, at_sign, Lacks, FreeOf, begins_with, Holds, is_path_start, StartsPath}
 use Rattle.git_reads.specs.Git.{git_decode}
 
 -- a request to helpers; the port is part of the host
@@ -65,9 +65,13 @@ pub record ReadsPieces (authority suffix : List ℕ) (r : CredentialReading) : T
   pub host : CredentialDecodes named r.host
   pub path : CredentialPath suffix r.path
 
--- a field of one line, without a line feed and a carriage return; Git refuses any other
+-- a line feed or a carriage return
+abbrev pub is_line_end : ℕ → Bool
+is_line_end b = b == newline || b == carriage_return
+
+-- a field of one line; Git refuses any other
 abbrev pub IsOneLine : List ℕ → Type 0
-IsOneLine part = Lacks (λ b. b == newline || b == 13) part
+IsOneLine part = Lacks is_line_end part
 
 -- each field is of one line
 pub record AreOneLine (r : CredentialReading) : Type 0 where
@@ -77,20 +81,25 @@ pub record AreOneLine (r : CredentialReading) : Type 0 where
   pub host : IsOneLine r.host
   pub path : IfSome r.path IsOneLine
 
--- Git's credential code reads this request in the text
-pub record CredentialReads (t : List ℕ) (r : CredentialReading) : Type 0 where
-  pub authority : List ℕ
-  pub suffix : List ℕ
-  pub named : List ℕ
+-- a text is cut into its protocol, its authority and the text after that
+pub record CutsText (t protocol authority suffix : List ℕ) : Type 0 where
   pub whole : FreeOf 0 t
-  pub protocol : 0 < length r.protocol
-  pub no_mark : ¬ Holds (codes "://") r.protocol
-  pub joined : t ≡ r.protocol ++ (codes "://" ++ (authority ++ suffix))
+  pub some : 0 < length protocol
+  pub no_mark : ¬ Holds (codes "://") protocol
+  pub joined : t ≡ protocol ++ (codes "://" ++ (authority ++ suffix))
   pub before_path : Lacks (is_path_start true) authority
   pub path_start : StartsPath true suffix
-  pub cut : CredentialCut authority r.user r.password named
-  pub host : CredentialDecodes named r.host
-  pub path : CredentialPath suffix r.path
+
+-- Git's credential code finds these parts in the text, even if one has several lines
+pub record FindsParts (t : List ℕ) (r : CredentialReading) : Type 0 where
+  pub authority : List ℕ
+  pub suffix : List ℕ
+  pub cut : CutsText t r.protocol authority suffix
+  pub pieces : ReadsPieces authority suffix r
+
+-- Git's credential code reads this request in the text
+pub record CredentialReads (t : List ℕ) (r : CredentialReading) : Type 0 where
+  pub found : FindsParts t r
   pub lines : AreOneLine r
 
 -- a text has at most one reading by Git's credential code

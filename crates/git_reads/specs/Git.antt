@@ -2,14 +2,14 @@
 -- Git passes it to a remote helper, reads it as an option or refuses it, or if Secure Shell refuses its user.
 -- This is a model of Git, not proved of it: `tests/witnesses/test_git.py` compares
 -- `transport::reading`, which is proved of the model, with Git.
-use Rattle.std.specs.Prelude.{◌≡◌, ℕ, zero, suc, ◌+◌, ◌*◌, ◌<◌, Bool, false, not, ◌&&◌, ◌||◌, ◌==◌, nat_le, ◌⊎◌, List, [], ◌∷◌, ◌++◌, length, codes, Option, Some, None, if◌then◌else◌}
+use Rattle.std.specs.Prelude.{◌≡◌, ℕ, zero, suc, ◌+◌, ◌*◌, ◌<◌, Bool, false, not, ◌&&◌, ◌==◌, nat_le, ◌⊎◌, List, [], ◌∷◌, ◌++◌, length, codes, Option, Some, None, if◌then◌else◌}
 use Rattle.std.specs.List.{list_all}
 use Rattle.std.specs.Char.{digit_value, is_ascii_digit}
 use Rattle.std.specs.Str.Parse.{digits_value}
 use Rattle.percent_encoding.specs.Percent.{is_escape}
 use Rattle.git_syntax.specs.Location.{Scheme}
 use Rattle.git_syntax.specs.Location.Scheme.{file, git, ssh}
-use Rattle.git_syntax.specs.Bytes.{tab, newline, space, plus_sign, hyphen, slash, colon, at_sign, left_bracket, right_bracket, tilde, FreeOf, begins_with, Holds, is_option_like}
+use Rattle.git_syntax.specs.Bytes.{newline, plus_sign, hyphen, slash, colon, at_sign, left_bracket, right_bracket, tilde, FreeOf, begins_with, Holds, is_option_like, is_c_space}
 use Rattle.git_syntax.specs.Schemes.{scheme_of}
 use Rattle.git_syntax.specs.Authority.{unless_empty}
 use Rattle.git_syntax.specs.Grammar.{HasHelperForm}
@@ -90,10 +90,6 @@ pub record CutsPlace (c : ℕ) (t place rest : List ℕ) : Type 0 where
   pub joined : place ≡ passed ++ between
 
 -- ---- ports
-
--- white space as C defines it: from `\t` to `\r`, and ` `
-abbrev pub is_c_space : ℕ → Bool
-is_c_space b = b == space || (nat_le tab b && nat_le b 13)
 
 -- the port that the digits spell, if it is at most 65,535
 abbrev pub digits_port : List ℕ → Option ℕ

@@ -1,9 +1,9 @@
 -- Definitions for the proofs of this crate.
-use Rattle.std.specs.Prelude.{◌≡◌, ℕ, ◌<◌, Bool, true, false, ◌||◌, ◌==◌, List, ◌∷◌, ◌++◌, length, codes, Option, Some, None, MatchOption}
+use Rattle.std.specs.Prelude.{◌≡◌, ℕ, true, false, List, ◌∷◌, ◌++◌, Option, Some, None, MatchOption}
 use Rattle.std.specs.Borrow.{Bor}
-use Rattle.git_syntax.specs.Bytes.{newline, slash, colon, at_sign, left_bracket, Lacks, FreeOf, Holds, begins_with, is_path_start, StartsPath}
+use Rattle.git_syntax.specs.Bytes.{slash, colon, at_sign, left_bracket, FreeOf, Holds, begins_with}
 use Rattle.git_reads.specs.Git.{host_mark, escaped_byte, is_git_escape, CutsPlace}
-use Rattle.git_reads.specs.Credentials.{CredentialDecodes, are_slashes}
+use Rattle.git_reads.specs.Credentials.{CredentialDecodes, are_slashes, CutsText}
 
 -- the text doesn't begin with an escape, or begins with that of byte 0
 abbrev pub LacksEscape : List ℕ → Type 0
@@ -28,15 +28,6 @@ abbrev pub LacksOpened : List ℕ → Type 0
 LacksOpened t = (¬ Holds host_mark t) × (begins_with left_bracket t ≡ false)
 
 -- ---- credentials
-
--- a text is cut into its protocol, its authority and the text after that
-pub record CutsText (t protocol authority suffix : List ℕ) : Type 0 where
-  pub whole : FreeOf 0 t
-  pub some : 0 < length protocol
-  pub no_mark : ¬ Holds (codes "://") protocol
-  pub joined : t ≡ protocol ++ (codes "://" ++ (authority ++ suffix))
-  pub before_path : Lacks (is_path_start true) authority
-  pub path_start : StartsPath true suffix
 
 -- the text has no such cut
 abbrev pub LacksTextCut : List ℕ → Type 0
@@ -65,7 +56,3 @@ pub record StripsSlashes (t rest : List ℕ) : Type 0 where
   pub joined : t ≡ slashes ++ rest
   pub front : are_slashes slashes ≡ true
   pub begins : begins_with slash rest ≡ false
-
--- a line feed or a carriage return
-abbrev pub is_line_end : ℕ → Bool
-is_line_end b = b == newline || b == 13

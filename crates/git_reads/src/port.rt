@@ -3,7 +3,8 @@
 ghost use Rattle.std.specs.Prelude.{◌≡◌, ℕ};
 ghost use Rattle.std.specs.Char.{is_ascii_digit};
 ghost use Rattle.std.specs.List.{list_all};
-ghost use Rattle.git_reads.specs.Git.{BeforePort, digits_port, git_port, is_c_space, signed_port};
+ghost use Rattle.git_reads.specs.Git.{BeforePort, digits_port, git_port, signed_port};
+ghost use Rattle.git_syntax.specs.Bytes.{is_c_space};
 
 use git_syntax::bytes::cut;
 use git_syntax::text::as_text;

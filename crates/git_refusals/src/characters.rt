@@ -4,7 +4,8 @@ ghost use Rattle.std.specs.Prelude.{◌≡◌, ◌+◌, ◌≤◌, IfSome, Match
 ghost use Rattle.std.specs.List.{list_any};
 ghost use Rattle.git_refusals.specs.Characters.{IsCharacterAt};
 ghost use Rattle.git_syntax.specs.Bytes.{is_scheme_mark};
-ghost use Rattle.git_refusals.specs.Internal.Wrong.{is_host_mark, wrong_test};
+ghost use Rattle.git_syntax.specs.Hosts.{is_http_host_mark};
+ghost use Rattle.git_refusals.specs.Internal.Wrong.{wrong_test};
 
 /// The characters that a check searches for.
 #[derive(Clone, Copy)]
@@ -42,7 +43,7 @@ fn is_scheme_mark(character: char) -> bool
 
 /// Whether the character is one of `-._~!$&'()*+,;=%`.
 fn is_host_mark(character: char) -> bool
-    ensures { result ≡ is_host_mark character }
+    ensures { result ≡ is_http_host_mark character }
 {
     ('$' <= character && character <= '.')
         || character == '!'

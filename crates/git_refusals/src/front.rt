@@ -1,6 +1,6 @@
 //! The front of a URL that is too long, which an error shows instead of the whole URL.
 
-ghost use Rattle.std.specs.Prelude.{◌≡◌, ◌+◌, ◌≤◌, ℕ, List, Some, length};
+ghost use Rattle.std.specs.Prelude.{◌≡◌, ℕ, List, Some};
 ghost use Rattle.git_refusals.specs.Fronts.{shown_front};
 ghost use Rattle.git_refusals.specs.Fronts as spec;
 ghost use Rattle.git_refusals.specs.Kinds.{kind_of};
@@ -14,15 +14,13 @@ use git_syntax::refusal::UrlKind;
 /// The front that the error shows of a text with this refusal: the scheme, `://` and the 1,024 bytes after it,
 /// or the whole text if it is shorter.
 pub fn shown_front<'a>(text: &'a [u8], refusal: &Refusal) -> &'a [u8]
-    requires { refusal.now.at + refusal.now.len ≤ length text.now }
     ensures { result.now ≡ spec.shown_front text.now refusal.now }
 {
     let scheme = match refusal.reason {
         Reason::SchemeTooLong => refusal.len,
         _ => refusal.at.saturating_sub(3),
     };
-    let (_, suffix) = text.split_at(scheme);
-    if suffix.len() <= 1027 {
+    if text.len().saturating_sub(scheme) <= 1027 {
         return text;
     }
     text.split_at(scheme + 1027).0

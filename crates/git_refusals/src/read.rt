@@ -30,10 +30,9 @@ pub fn read(bytes: &[u8]) -> Result<Found<'_>, Refusal>
     }
 }
 
-/// The refusal of bytes that spell no location.
+/// The refusal of bytes that spell no location. For other bytes it is unspecified, but its place is in them.
 pub fn refusal(bytes: &[u8]) -> Refusal
-    requires { (v : Location) → ¬ Spells bytes.now v }
-    ensures refused { Refused bytes.now result }
+    ensures refused { ((v : Location) → ¬ Spells bytes.now v) → Refused bytes.now result }
     ensures empty { bytes.now ≡ [] → result ≡ empty_refusal }
     ensures within { result.at + result.len ≤ length bytes.now }
 {

@@ -4,7 +4,6 @@ ghost use Rattle.std.specs.Prelude.{◌≡◌, ◌+◌, ◌≤◌, IfSome, IsUtf
 ghost use Rattle.git_syntax.specs.Authority.{Fits};
 ghost use Rattle.git_syntax.specs.Bytes.{LacksWhiteSpace};
 ghost use Rattle.git_syntax.specs.Escapes as spec;
-ghost use Rattle.git_syntax.specs.Schemes.{is_web_scheme};
 ghost use Rattle.std.specs.Char.{is_whitespace};
 ghost use Rattle.git_syntax.specs.Flaws.{OtherUrlForm, UrlForm};
 ghost use Rattle.git_syntax.specs.Internal.SchemeRules.{AreRulesOf};
@@ -28,7 +27,7 @@ pub(crate) fn bad_url(text: &[u8], scheme: &[u8], rest: &[u8]) -> Option<Place>
     ensures { Checks text.now (BadUrl text.now scheme.now rest.now) (IsUrl text.now) result }
 {
     let rules = rules_of(scheme);
-    if let Some(place) = too_long(rules.web, scheme, rest) {
+    if let Some(place) = too_long(scheme, rest) {
         return Some(place);
     }
     if let Some(place) = not_text(text) {
@@ -47,12 +46,11 @@ pub(crate) fn bad_url(text: &[u8], scheme: &[u8], rest: &[u8]) -> Option<Place>
 }
 
 /// The scheme, or the text after `://`, if it is too long.
-fn too_long(web: bool, scheme: &[u8], rest: &[u8]) -> Option<Place>
-    requires { web ≡ is_web_scheme scheme.now }
+fn too_long(scheme: &[u8], rest: &[u8]) -> Option<Place>
     ensures found { MatchOption result (Fits scheme.now rest.now) (λ p. TooLong scheme.now rest.now p) }
     ensures within { IfSome result (λ p. p.at + p.len ≤ length scheme.now + 3 + length rest.now) }
 {
-    if fits(web, scheme, rest) {
+    if fits(scheme, rest) {
         return None;
     }
     if scheme.len() > 1024 {

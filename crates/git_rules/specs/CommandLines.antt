@@ -2,12 +2,8 @@
 -- (`basename` of POSIX).
 use Rattle.std.specs.Prelude.{ℕ, Bool, not, ◌==◌, List, [], ◌∷◌, Option, Some, None, option_map, reverse, if◌then◌else◌}
 use Rattle.std.specs.List.{take_while}
-use Rattle.git_syntax.specs.Bytes.{tab, newline, space, slash, backslash, is_one_of}
+use Rattle.git_syntax.specs.Bytes.{tab, newline, space, slash, backslash, is_one_of, carriage_return}
 use Rattle.git_rules.specs.ShellWords.{single_quote}
-
--- `\r`
-abbrev pub carriage_return : ℕ
-carriage_return = 13
 
 -- `"`
 abbrev pub double_quote : ℕ

@@ -1,14 +1,15 @@
 -- The normal form of a URL, by which Git compares the places of `http.<url>.*` and `credential.<url>.*`
 -- (git-config(1)).
-use Rattle.std.specs.Prelude.{◌≡◌, ℕ, ◌+◌, ◌*◌, Bool, true, false, ◌&&◌, ◌||◌, ◌==◌, nat_le, ◌⊎◌, List, [], ◌∷◌, ◌++◌, map, codes, bytes_eq, Option, Some, None, option_and_then, if◌then◌else◌}
+use Rattle.std.specs.Prelude.{◌≡◌, ℕ, Bool, true, false, ◌&&◌, ◌||◌, ◌==◌, nat_le, ◌⊎◌, List, [], ◌∷◌, ◌++◌, map, codes, bytes_eq, Option, Some, None, option_and_then, if◌then◌else◌}
 use Rattle.std.specs.List.{list_all, slice_split}
-use Rattle.std.specs.Char.{is_ascii_alphanumeric, digit_value}
+use Rattle.std.specs.Char.{is_ascii_alphanumeric}
 use Rattle.percent_encoding.specs.Percent.{percent_encode_byte}
-use Rattle.git_syntax.specs.Bytes.{space, slash, colon, question_mark, number_sign, at_sign, percent_sign, right_bracket, delete, Lacks, FreeOf, begins_by, lowercase, is_scheme_text, is_path_start, StartsPath, is_one_of}
+use Rattle.git_syntax.specs.Bytes.{space, slash, colon, at_sign, percent_sign, right_bracket, delete, Lacks, FreeOf, begins_by, lowercase, is_scheme_text, is_path_start, StartsPath, is_one_of, is_query_start, unrooted}
 use Rattle.git_syntax.specs.Escapes.{is_sound}
 use Rattle.git_syntax.specs.Grammar.{or_root}
 use Rattle.git_syntax.specs.Hosts.{Number}
 use Rattle.git_syntax.specs.Hosts.HostSyntax.{http_hosts}
+use Rattle.git_reads.specs.Git.{escaped_byte}
 
 -- a URL in its normal form, as far as Git compares it: a missing port means the scheme's default port, and the path
 -- includes the query and the fragment
@@ -41,10 +42,6 @@ is_reserved b = is_one_of (codes ":/?#[]@") b || is_sub_delimiter b
 -- delimiter
 abbrev pub normal_byte : Bool → ℕ → List ℕ
 normal_byte escaped b = if is_unsafe b || (escaped && is_reserved b) then percent_encode_byte b else b ∷ []
-
--- the byte of two hexadecimal digits
-abbrev pub escaped_byte : ℕ → ℕ → ℕ
-escaped_byte high low = digit_value high * 16 + digit_value low
 
 -- the normal form of a text with well-formed escapes: that of each byte and each escape
 unfoldable pub normal_text : List ℕ → List ℕ
@@ -148,15 +145,6 @@ abbrev pub write_segments : List (List ℕ) → List (List ℕ) → Option (List
 write_segments [] stack = Some stack
 write_segments (segment ∷ rest) stack = option_and_then (λ left. write_segments rest left) (write_segment stack segment)
 
--- the byte begins a query or a fragment
-abbrev pub is_rest_start : ℕ → Bool
-is_rest_start b = b == question_mark || b == number_sign
-
--- the text without a leading `/`
-abbrev pub unrooted : List ℕ → List ℕ
-unrooted [] = []
-unrooted (b ∷ bs) = if b == slash then bs else b ∷ bs
-
 -- the segments of a text, each in its normal form
 abbrev pub normal_segments : List ℕ → List (List ℕ)
 normal_segments text = map normal_text (slice_split (λ b. b == slash) text)
@@ -168,8 +156,8 @@ pub record NormalPath (suffix path : List ℕ) : Type 0 where
   pub rest : List ℕ
   pub stack : List (List ℕ)
   pub joined : unrooted suffix ≡ segments ++ rest
-  pub before_rest : Lacks is_rest_start segments
-  pub rest_starts : (rest ≡ []) ⊎ (begins_by is_rest_start rest ≡ true)
+  pub before_rest : Lacks is_query_start segments
+  pub rest_starts : (rest ≡ []) ⊎ (begins_by is_query_start rest ≡ true)
   pub sound : is_sound suffix ≡ true
   pub put : write_segments (normal_segments segments) [] ≡ Some stack
   pub form : path ≡ or_root (stacked_path stack) ++ normal_text rest

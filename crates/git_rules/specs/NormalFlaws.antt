@@ -1,18 +1,14 @@
 -- The reasons why a text has no normal form.
 use Rattle.std.specs.Prelude.{◌≡◌, ℕ, Bool, true, false, ◌⊎◌, List, [], ◌∷◌, ◌++◌, codes, Option, None, ◌+◌, ◌*◌, ◌<◌, ◌≤◌, length, Result, Ok, Err}
 use Rattle.std.specs.List.{list_all}
-use Rattle.git_syntax.specs.Bytes.{at_sign, FreeOf, lowercase}
+use Rattle.git_syntax.specs.Bytes.{at_sign, FreeOf, lowercase, is_query_start, unrooted}
 use Rattle.git_syntax.specs.Escapes.{is_sound}
-use Rattle.git_syntax.specs.Hosts.{Number}
 use Rattle.git_syntax.specs.Hosts.HostSyntax.{http_hosts}
+use Rattle.git_syntax.specs.Flaws.{IsNoPort}
 use Rattle.git_rules.specs.declared.normal.NormalError.{NormalError}
 use Rattle.git_rules.specs.declared.normal.NormalError.TheVariants.{NoRoom, NoUrl, BrokenEscape, NoHost, BadHost, BadPort, AboveRoot}
-use Rattle.git_rules.specs.Normal.{CutsPort, lacks_host, is_host_byte, is_rest_start, normal_segments, write_segments, unrooted, NormalAuthority, NormalPlace, UrlCut, IsNormalOf}
+use Rattle.git_rules.specs.Normal.{CutsPort, lacks_host, is_host_byte, normal_segments, write_segments, NormalAuthority, NormalPlace, UrlCut, IsNormalOf}
 use Rattle.git_rules.specs.NormalPieces.{CutsBefore}
-
--- the text is neither empty nor a number from 1 to 65,535
-abbrev pub IsNoPort : List ℕ → Type 0
-IsNoPort text = (¬ (text ≡ [])) × ((port : ℕ) → ¬ Number http_hosts text port)
 
 -- the text before the port has only bytes that a host may have
 abbrev pub HasHostBytes : Bool → List ℕ → Type 0
@@ -22,7 +18,7 @@ HasHostBytes globs text = (name : List ℕ) × (port : List ℕ) × CutsPort tex
 -- the text after the colon isn't a port: after a host it is neither empty nor a number, and without a host,
 -- which `file` allows, it isn't empty
 abbrev pub IsBadPort : List ℕ → List ℕ → List ℕ → Type 0
-IsBadPort scheme text port = ((lacks_host text ≡ false) × IsNoPort port)
+IsBadPort scheme text port = ((lacks_host text ≡ false) × IsNoPort http_hosts port)
     ⊎ ((lacks_host text ≡ true) × (scheme ≡ codes "file") × ¬ (port ≡ []))
 
 -- the error in a host and its port: a byte that no host has; if there is none, no host though the scheme needs one;
@@ -56,7 +52,7 @@ IsSoundAuthority globs scheme text = (user : Option (List ℕ)) × (host : List 
 -- before it
 abbrev pub PathFlaw : List ℕ → NormalError → Type 0
 PathFlaw suffix BrokenEscape = is_sound suffix ≡ false
-PathFlaw suffix AboveRoot = (segments : List ℕ) × (rest : List ℕ) × CutsBefore is_rest_start (unrooted suffix) segments rest
+PathFlaw suffix AboveRoot = (segments : List ℕ) × (rest : List ℕ) × CutsBefore is_query_start (unrooted suffix) segments rest
     × (write_segments (normal_segments segments) [] ≡ None) × (is_sound suffix ≡ true)
 PathFlaw suffix _ = ⊥
 

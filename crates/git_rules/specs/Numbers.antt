@@ -2,9 +2,8 @@
 use Rattle.std.specs.Prelude.{ℕ, ◌*◌, Bool, false, ◌&&◌, ◌||◌, ◌==◌, nat_le, List, [], ◌∷◌, drop, Option, Some, None, option_and_then, if◌then◌else◌}
 use Rattle.std.specs.List.{prefix_len, take_while}
 use Rattle.std.specs.Char.{is_digit, to_ascii_lowercase}
-use Rattle.std.specs.Int.{is_in_range}
 use Rattle.std.specs.Str.Parse.{digits_value}
-use Rattle.git_syntax.specs.Bytes.{begins_with, digit_zero, hyphen, plus_sign, space}
+use Rattle.git_syntax.specs.Bytes.{begins_with, digit_zero, hyphen, plus_sign, is_c_space}
 
 -- `k`, `m`, `g` and `x`
 abbrev pub letter_k : ℕ
@@ -18,10 +17,6 @@ letter_g = 103
 
 abbrev pub letter_x : ℕ
 letter_x = 120
-
--- white space as in C: tab, line feed, vertical tab, form feed, carriage return and space
-abbrev pub is_blank : ℕ → Bool
-is_blank b = is_in_range 9 13 b || (b == space)
 
 -- the maximum of C's `int`: 2^31 - 1
 abbrev pub greatest_int : ℕ
@@ -75,4 +70,4 @@ without_sign text = if begins_with plus_sign text || begins_with hyphen text the
 
 -- the absolute value of the number that the text is: white space, a sign, digits and a unit
 abbrev pub number_of : ℕ → List ℕ → Option ℕ
-number_of greatest text = size_of greatest (without_sign (drop (prefix_len is_blank text) text))
+number_of greatest text = size_of greatest (without_sign (drop (prefix_len is_c_space text) text))

@@ -1,5 +1,5 @@
 -- Locations that name the same host.
-use Rattle.std.specs.Prelude.{◌≡◌, ◌↔◌, ℕ, Bool, IsTrue, List, Result, Ok, Err, ◌⊎◌, option_map}
+use Rattle.std.specs.Prelude.{◌≡◌, ◌↔◌, ℕ, Bool, IsTrue, List, Result, Ok, Err, ◌⊎◌, option_map, bytes_eq}
 use Rattle.git_syntax.specs.Bytes.{lowercase}
 use Rattle.git_syntax.specs.Internal.FoundPieces.{ssh_host}
 use Rattle.git_syntax.specs.Location.{Location}
@@ -10,6 +10,10 @@ use Rattle.git_location.specs.declared.parse_error.ParseError.{ParseError}
 -- the name of a host: in lower case, without brackets around it and without a lone colon after it
 abbrev pub host_name : List ℕ → List ℕ
 host_name host = lowercase (ssh_host host)
+
+-- both texts name the same host
+abbrev pub names_same : List ℕ → List ℕ → Bool
+names_same a b = bytes_eq (host_name a) (host_name b)
 
 -- both locations have a host with the same name, or neither has a host
 abbrev pub HaveSameHost : Location → Location → Type 0

@@ -10,13 +10,9 @@ use Rattle.git_location.specs.Text.{text}
 use Rattle.git_location.specs.Settled.{IsValue}
 use Rattle.git_location.specs.GitClass.{AgreesWithGit}
 use Rattle.git_reads.specs.Git.{GitReading, GitReads, IsNoUrl, IsRemote, IsLocal}
+use Rattle.git_reads.specs.Unread.{IsGiven}
 use Rattle.git_rules.specs.declared.protocols.text.NoTransport.{NoTransport}
 use Rattle.git_rules.specs.declared.protocols.text.NoTransport.TheVariants as why
-
--- Git gets the whole text, and doesn't take it for an option
-pub record IsWholeInput (t : List ℕ) : Type 0 where
-  pub whole : FreeOf 0 t
-  pub no_option : is_option_like t ≡ false
 
 -- the transport of a URL by its scheme; Secure Shell has three schemes
 abbrev pub scheme_transport : List ℕ → List ℕ
@@ -37,7 +33,7 @@ pub data UsesTransport (t name : List ℕ) : Type 0 where
 -- Git uses the transport of this name for the text: the text has no byte 0 and doesn't begin with `-`, and its form
 -- has this transport
 pub record HasTransport (t name : List ℕ) : Type 0 where
-  pub input : IsWholeInput t
+  pub input : IsGiven t
   pub uses : UsesTransport t name
 
 -- the text begins with `rsync:`, and doesn't name a helper `rsync`
@@ -61,8 +57,8 @@ pub record HasUnknownScheme (t : List ℕ) : Type 0 where
 abbrev pub LacksTransport : List ℕ → NoTransport → Type 0
 LacksTransport t why.ByteZero = ¬ FreeOf 0 t
 LacksTransport t why.OptionLike = FreeOf 0 t × (is_option_like t ≡ true)
-LacksTransport t why.Rsync = IsWholeInput t × IsForRsync t
-LacksTransport t why.UnknownScheme = IsWholeInput t × HasUnknownScheme t
+LacksTransport t why.Rsync = IsGiven t × IsForRsync t
+LacksTransport t why.UnknownScheme = IsGiven t × HasUnknownScheme t
 
 -- ---- laws
 

@@ -4,7 +4,8 @@ ghost use Rattle.std.specs.Prelude.{◌≡◌, ◌≤◌, drop};
 ghost use Rattle.std.specs.List.{prefix_len};
 ghost use Rattle.std.specs.Char.{digit_value, is_digit};
 ghost use Rattle.std.specs.Str.Parse.{digits_value};
-ghost use Rattle.git_rules.specs.Numbers.{fitting, is_blank, number_in, number_of, size_of, unit_of, without_sign};
+ghost use Rattle.git_rules.specs.Numbers.{fitting, number_in, number_of, size_of, unit_of, without_sign};
+ghost use Rattle.git_syntax.specs.Bytes.{is_c_space};
 
 use git_syntax::bytes::starts_with_byte;
 
@@ -40,14 +41,14 @@ pub fn read_number(text: &[u8], greatest: u64) -> Option<u64>
 
 /// The number of bytes of white space at the start of the text.
 fn blank_len(text: &[u8]) -> usize
-    ensures { result ≡ prefix_len is_blank text.now }
+    ensures { result ≡ prefix_len is_c_space text.now }
 {
     text.iter().take_while(|byte| is_blank(**byte)).count()
 }
 
 /// Whether the byte is white space.
 fn is_blank(byte: u8) -> bool
-    ensures { result ≡ is_blank byte }
+    ensures { result ≡ is_c_space byte }
 {
     (9..=13).contains(&byte) || byte == b' '
 }

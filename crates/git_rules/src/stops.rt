@@ -3,12 +3,12 @@
 //! One table states which kind of value each entry needs, and an entry is refused exactly if its value isn't of
 //! that kind.
 
-ghost use Rattle.std.specs.Prelude.{◌≡◌, option_map};
+ghost use Rattle.std.specs.Prelude.{◌≡◌, ◌||◌, bytes_eq, option_map};
 ghost use Rattle.std.specs.Option.{is_some};
 ghost use Rattle.std.specs.List.{list_any};
 ghost use Rattle.git_rules.specs.Words as spec;
 ghost use Rattle.git_rules.specs.Booleans.{boolean_of};
-ghost use Rattle.git_rules.specs.Stops.{allowances, credential_kind, default_remote_kind, http_booleans, http_integers, http_kind, http_texts, is_one_of, kind_of, own_remote_kind, protocol_kind, remote_booleans, remote_kind, remote_texts, rewriting_kind, stop_at, stop_by, stop_unless, stop_with, stop_without};
+ghost use Rattle.git_rules.specs.Stops.{credential_kind, default_remote_kind, http_kind, kind_of, own_remote_kind, protocol_kind, remote_kind, rewriting_kind, stop_at, stop_by, stop_unless, stop_with, stop_without};
 
 use crate::boolean::read_boolean;
 use crate::config::Entry;
@@ -140,21 +140,13 @@ fn stop_with(kind: ValueKind, value: &[u8]) -> Option<Stop>
         ValueKind::Boolean | ValueKind::WrittenBoolean => {
             stop_unless(is_boolean(value), Stop::NoBoolean)
         }
-        ValueKind::BooleanOrAuto => {
-            stop_unless(
-                value == b"auto".as_slice() || is_boolean(value),
-                Stop::NoBoolean,
-            )
-        }
+        ValueKind::BooleanOrAuto => { stop_unless(is_boolean_or(value, "auto"), Stop::NoBoolean) }
         ValueKind::BooleanOrInitial => {
-            stop_unless(
-                value == b"initial".as_slice() || is_boolean(value),
-                Stop::NoBoolean,
-            )
+            stop_unless(is_boolean_or(value, "initial"), Stop::NoBoolean)
         }
         ValueKind::Integer => stop_unless(read_number(value, INT_MAX).is_some(), Stop::NoNumber),
         ValueKind::Size => stop_unless(read_number(value, SIZE_MAX).is_some(), Stop::NoNumber),
-        ValueKind::Allowance => stop_unless(is_allowance(value), Stop::NoAllowance),
+        ValueKind::Allowance => stop_unless(is_one_of(value, &ALLOWANCES), Stop::NoAllowance),
     }
 }
 
@@ -172,97 +164,104 @@ fn is_boolean(value: &[u8]) -> bool
     read_boolean(value).is_some()
 }
 
-/// Whether the text is a value of `protocol.allow`.
-fn is_allowance(value: &[u8]) -> bool
-    ensures { result ≡ is_one_of allowances value.now }
+/// Whether the text is this word or a boolean value.
+fn is_boolean_or(value: &[u8], word: &str) -> bool
+    ensures { result ≡ (bytes_eq value.now word.now || is_some (boolean_of value.now)) }
 {
-    is_one_of(value, &["always", "user", "never"])
+    value == word.as_bytes() || is_boolean(value)
 }
 
 // ---- the table
+
+/// Names of `http.*` that need a text.
+const HTTP_TEXTS: [&str; 18] = [
+    "version",
+    "sslcipherlist",
+    "sslversion",
+    "sslcert",
+    "sslkey",
+    "sslcapath",
+    "sslcainfo",
+    "proxy",
+    "proxyauthmethod",
+    "proxysslcert",
+    "proxysslkey",
+    "proxysslcainfo",
+    "cookiefile",
+    "useragent",
+    "delegation",
+    "pinnedpubkey",
+    "extraheader",
+    "curloptresolve",
+];
+
+/// Names of `http.*` that Git reads as boolean values.
+const HTTP_BOOLEANS: [&str; 8] = [
+    "sslverify",
+    "sslcertpasswordprotected",
+    "ssltry",
+    "schannelcheckrevoke",
+    "schannelusesslcainfo",
+    "noepsv",
+    "proxysslcertpasswordprotected",
+    "savecookies",
+];
+
+/// Names of `http.*` that Git reads as numbers.
+const HTTP_INTEGERS: [&str; 4] = [
+    "minsessions",
+    "maxrequests",
+    "lowspeedlimit",
+    "lowspeedtime",
+];
+
+/// Names of `remote.<name>.*` that need a text.
+const REMOTE_TEXTS: [&str; 9] = [
+    "url",
+    "pushurl",
+    "push",
+    "fetch",
+    "receivepack",
+    "uploadpack",
+    "proxy",
+    "proxyauthmethod",
+    "vcs",
+];
+
+/// Names of `remote.<name>.*` that Git reads as boolean values.
+const REMOTE_BOOLEANS: [&str; 5] = [
+    "mirror",
+    "skipdefaultupdate",
+    "skipfetchall",
+    "prune",
+    "prunetags",
+];
+
+/// Names of `url.<base>.*` that need a text.
+const REWRITING_TEXTS: [&str; 2] = ["insteadof", "pushinsteadof"];
+
+/// The values of `protocol.allow`.
+const ALLOWANCES: [&str; 3] = ["always", "user", "never"];
 
 /// The kind of value that an entry of `http.*` with this name needs.
 fn http_kind(name: &[u8]) -> Option<ValueKind>
     ensures { result ≡ http_kind name.now }
 {
-    if is_http_text(name) {
+    if is_one_of(name, &HTTP_TEXTS) {
         Some(ValueKind::Text)
-    } else if is_http_boolean(name) {
+    } else if is_one_of(name, &HTTP_BOOLEANS) {
         Some(ValueKind::Boolean)
     } else if is_word(name, "emptyauth") {
         Some(ValueKind::BooleanOrAuto)
     } else if is_word(name, "followredirects") {
         Some(ValueKind::BooleanOrInitial)
-    } else if is_http_integer(name) {
+    } else if is_one_of(name, &HTTP_INTEGERS) {
         Some(ValueKind::Integer)
     } else if is_word(name, "postbuffer") {
         Some(ValueKind::Size)
     } else {
         None
     }
-}
-
-/// Whether an entry of `http.*` with this name needs a text.
-fn is_http_text(name: &[u8]) -> bool
-    ensures { result ≡ is_one_of http_texts name.now }
-{
-    is_one_of(
-        name,
-        &[
-            "version",
-            "sslcipherlist",
-            "sslversion",
-            "sslcert",
-            "sslkey",
-            "sslcapath",
-            "sslcainfo",
-            "proxy",
-            "proxyauthmethod",
-            "proxysslcert",
-            "proxysslkey",
-            "proxysslcainfo",
-            "cookiefile",
-            "useragent",
-            "delegation",
-            "pinnedpubkey",
-            "extraheader",
-            "curloptresolve",
-        ],
-    )
-}
-
-/// Whether Git reads an entry of `http.*` with this name as a boolean value.
-fn is_http_boolean(name: &[u8]) -> bool
-    ensures { result ≡ is_one_of http_booleans name.now }
-{
-    is_one_of(
-        name,
-        &[
-            "sslverify",
-            "sslcertpasswordprotected",
-            "ssltry",
-            "schannelcheckrevoke",
-            "schannelusesslcainfo",
-            "noepsv",
-            "proxysslcertpasswordprotected",
-            "savecookies",
-        ],
-    )
-}
-
-/// Whether Git reads an entry of `http.*` with this name as a number.
-fn is_http_integer(name: &[u8]) -> bool
-    ensures { result ≡ is_one_of http_integers name.now }
-{
-    is_one_of(
-        name,
-        &[
-            "minsessions",
-            "maxrequests",
-            "lowspeedlimit",
-            "lowspeedtime",
-        ],
-    )
 }
 
 /// The kind of value that an entry of `credential.*` with this name needs.
@@ -280,7 +279,7 @@ fn credential_kind(name: &[u8]) -> ValueKind
 fn rewriting_kind(entry: &Entry<'_>) -> Option<ValueKind>
     ensures { result ≡ rewriting_kind entry.now }
 {
-    if entry.subsection.is_some() && is_one_of(entry.name, &["insteadof", "pushinsteadof"]) {
+    if entry.subsection.is_some() && is_one_of(entry.name, &REWRITING_TEXTS) {
         Some(ValueKind::Text)
     } else {
         None
@@ -313,49 +312,13 @@ fn default_remote_kind(name: &[u8]) -> Option<ValueKind>
 fn own_remote_kind(name: &[u8]) -> Option<ValueKind>
     ensures { result ≡ own_remote_kind name.now }
 {
-    if is_remote_text(name) {
+    if is_one_of(name, &REMOTE_TEXTS) {
         Some(ValueKind::Text)
-    } else if is_remote_boolean(name) {
+    } else if is_one_of(name, &REMOTE_BOOLEANS) {
         Some(ValueKind::Boolean)
     } else {
         None
     }
-}
-
-/// Whether an entry of `remote.<name>.*` with this name needs a text.
-fn is_remote_text(name: &[u8]) -> bool
-    ensures { result ≡ is_one_of remote_texts name.now }
-{
-    is_one_of(
-        name,
-        &[
-            "url",
-            "pushurl",
-            "push",
-            "fetch",
-            "receivepack",
-            "uploadpack",
-            "proxy",
-            "proxyauthmethod",
-            "vcs",
-        ],
-    )
-}
-
-/// Whether Git reads an entry of `remote.<name>.*` with this name as a boolean value.
-fn is_remote_boolean(name: &[u8]) -> bool
-    ensures { result ≡ is_one_of remote_booleans name.now }
-{
-    is_one_of(
-        name,
-        &[
-            "mirror",
-            "skipdefaultupdate",
-            "skipfetchall",
-            "prune",
-            "prunetags",
-        ],
-    )
 }
 
 /// The kind of value that an entry of `protocol.*` with this name needs.

@@ -1,9 +1,9 @@
 -- The authority of a URL (RFC 3986, section 3.2), and its length limit.
-use Rattle.std.specs.Prelude.{◌≡◌, ℕ, ◌≤◌, Bool, true, false, not, ◌||◌, ◌==◌, List, [], ◌∷◌, ◌++◌, length, filter, codes, Option, Some, None, IsSome, IsUtf8}
+use Rattle.std.specs.Prelude.{◌≡◌, ℕ, ◌≤◌, true, false, not, List, [], ◌∷◌, ◌++◌, length, filter, codes, Option, Some, None, IsSome, IsUtf8}
 use Rattle.std.specs.List.{list_all}
 use Rattle.std.specs.Char.{is_ascii_whitespace}
 use Rattle.percent_encoding.specs.Percent.{percent_decode}
-use Rattle.git_syntax.specs.Bytes.{slash, colon, at_sign, backslash, Lacks, FreeOf, begins_by, is_path_start, StartsPath}
+use Rattle.git_syntax.specs.Bytes.{colon, at_sign, Lacks, FreeOf, begins_by, is_path_start, StartsPath, is_any_slash}
 use Rattle.git_syntax.specs.Hosts.{HostSyntax, SpellsHostPort}
 use Rattle.git_syntax.specs.Schemes.{is_web_scheme}
 
@@ -43,10 +43,6 @@ pub data Authority (syntax : HostSyntax) (text : List ℕ) (user password host :
 -- the text without the white space of ASCII
 abbrev pub without_white_space : List ℕ → List ℕ
 without_white_space text = filter (λ b. not (is_ascii_whitespace b)) text
-
--- `/` or `\`
-abbrev pub is_any_slash : ℕ → Bool
-is_any_slash b = b == slash || b == backslash
 
 -- the front is short enough; if nothing follows it, the whole text is
 abbrev pub IsWithinLimit : List ℕ → List ℕ → List ℕ → Type 0

@@ -1,7 +1,8 @@
 -- Names of bytes, classes of bytes, tests of texts, and the start of a path.
-use Rattle.std.specs.Prelude.{◌≡◌, ℕ, Bool, true, false, ◌&&◌, ◌||◌, ◌==◌, ◌⊎◌, List, [], ◌∷◌, ◌++◌, map, chars, encode_utf8_all}
+use Rattle.std.specs.Prelude.{◌≡◌, ℕ, Bool, true, false, ◌&&◌, ◌||◌, ◌==◌, ◌⊎◌, List, [], ◌∷◌, ◌++◌, map, chars, encode_utf8_all, if◌then◌else◌}
 use Rattle.std.specs.List.{list_any, list_all}
 use Rattle.std.specs.Char.{to_ascii_lowercase, is_ascii_alphabetic, is_ascii_alphanumeric, is_digit, is_whitespace}
+use Rattle.std.specs.Int.{is_in_range}
 use Rattle.bstr.specs.Utf8.{lossy_chars}
 
 -- `\t`
@@ -11,6 +12,10 @@ tab = 9
 -- `\n`
 abbrev pub newline : ℕ
 newline = 10
+
+-- `\r`
+abbrev pub carriage_return : ℕ
+carriage_return = 13
 
 -- ` `
 abbrev pub space : ℕ
@@ -94,6 +99,14 @@ is_one_of [] b = false
 is_one_of (c ∷ []) b = b == c
 is_one_of (c ∷ d ∷ cs) b = b == c || is_one_of (d ∷ cs) b
 
+-- white space as C defines it, and that of Unicode in ASCII: from `\t` to `\r`, and ` `
+abbrev pub is_c_space : ℕ → Bool
+is_c_space b = is_in_range tab carriage_return b || b == space
+
+-- `/` or `\`
+abbrev pub is_any_slash : ℕ → Bool
+is_any_slash b = b == slash || b == backslash
+
 -- no byte of the text passes the test
 abbrev pub Lacks : (ℕ → Bool) → List ℕ → Type 0
 Lacks test bs = list_any test bs ≡ false
@@ -162,10 +175,19 @@ is_helper_name (b ∷ bs) = is_ascii_alphanumeric b && list_all is_name_byte bs
 
 -- ---- the start of a path
 
+-- a query or a fragment may start at the byte: at a `?` or a `#`
+abbrev pub is_query_start : ℕ → Bool
+is_query_start b = b == question_mark || b == number_sign
+
 -- a path may start at the byte: at a `/`, and on the web also at a `?` or a `#`
 abbrev pub is_path_start : Bool → ℕ → Bool
-is_path_start web b = b == slash || (web && (b == question_mark || b == number_sign))
+is_path_start web b = b == slash || (web && is_query_start b)
 
 -- the text is empty or starts as a path may
 abbrev pub StartsPath : Bool → List ℕ → Type 0
 StartsPath web p = (p ≡ []) ⊎ (begins_by (is_path_start web) p ≡ true)
+
+-- the path without a `/` at its front
+abbrev pub unrooted : List ℕ → List ℕ
+unrooted [] = []
+unrooted (b ∷ rest) = if b == slash then rest else b ∷ rest

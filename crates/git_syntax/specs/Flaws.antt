@@ -9,7 +9,7 @@ use Rattle.git_syntax.specs.declared.refusal.Refusal.{Refusal}
 use Rattle.git_syntax.specs.declared.refusal.Refusal.TheVariants as refusal
 use Rattle.git_syntax.specs.Bytes.{slash, colon, at_sign, left_bracket, backslash, right_bracket, Lacks, FreeOf, begins_with, Holds, LacksWhiteSpace, is_scheme_text, is_path_start, StartsPath}
 use Rattle.git_syntax.specs.Escapes.{is_sound, escaped_percents}
-use Rattle.git_syntax.specs.Hosts.{HostSyntax, HostText, Inner, Number, ReadsAddress, IsManyColoned, IsPlainHost}
+use Rattle.git_syntax.specs.Hosts.{HostSyntax, HostText, Inner, Number, ReadsAddress, IsManyColoned, IsPlainHost, EndsHost}
 use Rattle.git_syntax.specs.Hosts.HostSyntax.{http_hosts, git_hosts}
 use Rattle.git_syntax.specs.Schemes.{is_web_scheme, scheme_of, host_syntax_of, requires_host, requires_path}
 use Rattle.git_syntax.specs.Authority.{Fits}
@@ -47,7 +47,7 @@ IsNoInner syntax text = (inner : List ℕ) → ¬ Inner syntax text inner
 pub record BracketsAround (piece x rest : List ℕ) : Type 0 where
   pub closed : FreeOf right_bracket x
   pub joined : piece ≡ left_bracket ∷ (x ++ right_bracket ∷ rest)
-  pub followed : (rest ≡ []) ⊎ (begins_with colon rest ≡ true)
+  pub followed : EndsHost rest
 
 -- a byte or an escape in the place of the host is not allowed
 pub data HasBadHost (syntax : HostSyntax) (piece : List ℕ) : Type 0 where

@@ -1,10 +1,11 @@
 -- Hosts and ports, which follow the user information of an authority, in three syntaxes.
-use Rattle.std.specs.Prelude.{◌≡◌, ℕ, ◌<◌, ◌≤◌, Bool, true, false, ◌||◌, nat_le, ◌&&◌, ◌⊎◌, List, [], ◌∷◌, ◌++◌, length, codes, decimal, Option, Some, None, IsUtf8, if◌then◌else◌}
+use Rattle.std.specs.Prelude.{◌≡◌, ℕ, ◌<◌, ◌≤◌, Bool, true, false, ◌||◌, ◌⊎◌, List, [], ◌∷◌, ◌++◌, length, codes, decimal, Option, Some, None, IsUtf8, if◌then◌else◌}
 use Rattle.std.specs.List.{list_all}
 use Rattle.std.specs.Char.{is_ascii_alphanumeric, is_ascii_digit}
+use Rattle.std.specs.Int.{is_in_range}
 use Rattle.std.specs.Str.Parse.{digits_value}
 use Rattle.percent_encoding.specs.Percent.{percent_decode}
-use Rattle.git_syntax.specs.Bytes.{dollar_sign, dot, colon, left_bracket, right_bracket, FreeOf, begins_with, lowercase, is_one_of}
+use Rattle.git_syntax.specs.Bytes.{dollar_sign, dot, colon, left_bracket, right_bracket, FreeOf, begins_with, lowercase, is_one_of, at_sign}
 use Rattle.git_syntax.specs.Addresses.{IsIpv6Text, Literal}
 
 -- the syntax of a host: that of HTTP, that of Git's own transports, or that of any other scheme
@@ -17,11 +18,13 @@ pub data HostSyntax : Type 0 where
 abbrev pub is_dns_byte : ℕ → Bool
 is_dns_byte b = is_ascii_alphanumeric b || is_one_of (codes "-._*") b
 
--- a byte that the host of an HTTP location may have: a letter, a digit or one of `-._~!$&'()*+,;=%`, of which
--- those from `$` to `.` are consecutive
+-- a mark of the host of an HTTP location: one of `-._~!$&'()*+,;=%`, where `$` to `.` are consecutive
+abbrev pub is_http_host_mark : ℕ → Bool
+is_http_host_mark b = is_in_range dollar_sign dot b || is_one_of (codes "!;=_~") b
+
+-- a byte that the host of an HTTP location may have: a letter, a digit or one of `-._~!$&'()*+,;=%`
 abbrev pub is_http_host_byte : ℕ → Bool
-is_http_host_byte b = is_ascii_alphanumeric b
-    || ((nat_le dollar_sign b && nat_le b dot) || is_one_of (codes "!;=_~") b)
+is_http_host_byte b = is_ascii_alphanumeric b || is_http_host_mark b
 
 -- the normal form of a host: in lower case if it looks like a domain name
 abbrev pub normal_host : List ℕ → List ℕ
@@ -91,6 +94,10 @@ pub record IsPlainHost (text : List ℕ) : Type 0 where
   pub no_colon : FreeOf colon text
   pub no_bracket : begins_with left_bracket text ≡ false
 
+-- a host may end before the text: the text is empty or begins with a colon
+abbrev pub EndsHost : List ℕ → Type 0
+EndsHost rest = (rest ≡ []) ⊎ (begins_with colon rest ≡ true)
+
 -- the text after the user information spells a host and a port
 pub data SpellsHostPort (syntax : HostSyntax) (piece : List ℕ) (host : Option (List ℕ))
     (port : Option ℕ) : Type 0 where
@@ -136,3 +143,8 @@ pub data SpellsHostPort (syntax : HostSyntax) (piece : List ℕ) (host : Option 
 abbrev pub port_part : Option ℕ → List ℕ
 port_part None = []
 port_part (Some port) = colon ∷ decimal port
+
+-- the user and `@`, unescaped, if there is a user
+abbrev pub raw_user : Option (List ℕ) → List ℕ
+raw_user None = []
+raw_user (Some user) = user ++ at_sign ∷ []

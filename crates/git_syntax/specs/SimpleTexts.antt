@@ -1,10 +1,10 @@
 -- Simple texts, which most remotes are: the text of the location that such a text spells is the text itself.
-use Rattle.std.specs.Prelude.{◌≡◌, ℕ, ◌<◌, ◌≤◌, true, false, List, [], ◌∷◌, ◌++◌, length, codes, Option, Some, None, IfSome, IsUtf8}
+use Rattle.std.specs.Prelude.{◌≡◌, ℕ, ◌<◌, ◌≤◌, true, false, List, ◌∷◌, ◌++◌, length, codes, Option, Some, IfSome, IsUtf8}
 use Rattle.git_syntax.specs.Location.{Scheme, Location, path_alone}
 use Rattle.git_syntax.specs.Location.Scheme.{file, git, ssh, http, https}
-use Rattle.git_syntax.specs.Bytes.{slash, colon, at_sign, FreeOf, begins_with}
+use Rattle.git_syntax.specs.Bytes.{slash, colon, FreeOf, begins_with}
 use Rattle.git_syntax.specs.Schemes.{scheme_text}
-use Rattle.git_syntax.specs.Hosts.{port_part}
+use Rattle.git_syntax.specs.Hosts.{port_part, raw_user}
 use Rattle.git_syntax.specs.Grammar.{SpellsHelper, SpellsLocal, begins_at_home}
 use Rattle.git_syntax.specs.Internal.HostPieces.{IsSimpleHost}
 use Rattle.git_syntax.specs.Internal.Masks.{is_common}
@@ -15,11 +15,6 @@ pub data IsRemoteScheme : Scheme → Type 0 where
   of_ssh : IsRemoteScheme ssh
   of_http : IsRemoteScheme http
   of_https : IsRemoteScheme https
-
--- the user and `@`, if there is a user
-abbrev pub before_host : Option (List ℕ) → List ℕ
-before_host None = []
-before_host (Some user) = user ++ at_sign ∷ []
 
 -- each byte of the text is common, the user and the host consist of lower-case letters, digits, `-` and `.`, and
 -- neither they nor the path are empty; the path doesn't begin at a home folder
@@ -45,12 +40,12 @@ pub data IsSimpleText (b : List ℕ) (v : Location) : Type 0 where
       → v ≡ path_alone file false path → IsSimpleText b v
   -- the scp form; its path has neither a colon nor two slashes at the front
   scp_text : (user : Option (List ℕ)) (host path : List ℕ) → HasSimpleParts b user host path → FreeOf colon path
-      → ((rest : List ℕ) → ¬ (path ≡ slash ∷ (slash ∷ rest))) → b ≡ before_host user ++ (host ++ colon ∷ path)
+      → ((rest : List ℕ) → ¬ (path ≡ slash ∷ (slash ∷ rest))) → b ≡ raw_user user ++ (host ++ colon ∷ path)
       → v ≡ record (path_alone ssh true path) { user = user; host = Some host } → IsSimpleText b v
   -- a URL
   url_text : (scheme : Scheme) (user : Option (List ℕ)) (host path : List ℕ) (port : Option ℕ)
       → IsRemoteScheme scheme → HasSimpleParts b user host path → IfSome port IsSimplePort
       → begins_with slash path ≡ true → length b ≤ 64
-      → b ≡ scheme_text scheme ++ (codes "://" ++ (before_host user ++ (host ++ (port_part port ++ path))))
+      → b ≡ scheme_text scheme ++ (codes "://" ++ (raw_user user ++ (host ++ (port_part port ++ path))))
       → v ≡ record (path_alone scheme false path) { user = user; host = Some host; port = port }
       → IsSimpleText b v

@@ -7,36 +7,20 @@ ghost use Rattle.git_syntax.specs.Escapes.{is_plain, is_plain_byte};
 ghost use Rattle.git_syntax.specs.Internal.Masks.{is_common, is_common_byte, mask_of};
 
 use crate::masks::bits::all;
+use crate::masks::halves::{HIGH_BITS, by_high_half, by_low_half};
 use std::simd::prelude::*;
 
-/// The distance from `a` to `z`, and from `A` to `Z`.
-const LETTER_SPAN: u8 = 25;
-
-/// The distance from `+` to `:`.
-const SIGN_SPAN: u8 = 15;
+/// The table of letters, digits, `+`, `,`, `-`, `.`, `/`, `:`, `@`, `_` and `~`.
+const COMMON_TABLE: [u8; 16] = [
+    184, 248, 248, 248, 248, 248, 248, 248, 248, 248, 248, 84, 84, 84, 212, 116,
+];
 
 /// The distance from `!` to `~`.
 const SHOWN_SPAN: u8 = 93;
 
-/// Whether each byte is known to be a letter, a digit, or one of `+`, `,`, `-`, `.`, `/`, `:`, `@`, `_` and `~`.
-#[inline(always)]
-pub(crate) fn are_common(text: &[u8]) -> bool
-    requires { 16 ≤ length text.now }
-    ensures { IsTrue result → is_common text.now ≡ true }
-{
-    let mut done = 0;
-    while done + 16 < text.len() {
-        if !is_common_block(text, done) {
-            return false;
-        }
-        done += 16;
-    }
-    is_common_block(text, text.len() - 16)
-}
-
 /// Whether the 16 bytes at an offset are common.
 #[inline(always)]
-fn is_common_block(text: &[u8], at: usize) -> bool
+pub(crate) fn is_common_block(text: &[u8], at: usize) -> bool
     requires { at + 16 ≤ length text.now }
     ensures { IsTrue result → is_common (take 16 (drop at text.now)) ≡ true }
 {
@@ -48,13 +32,10 @@ fn is_common_block(text: &[u8], at: usize) -> bool
 fn commons(bytes: u8x16) -> u64
     ensures { result ≡ mask_of is_common_byte bytes }
 {
-    // A byte below the first of a range wraps to a large number.
-    let lower = (bytes - u8x16::splat(b'a')).simd_le(u8x16::splat(LETTER_SPAN));
-    let upper = (bytes - u8x16::splat(b'A')).simd_le(u8x16::splat(LETTER_SPAN));
-    let sign = (bytes - u8x16::splat(b'+')).simd_le(u8x16::splat(SIGN_SPAN));
-    let line = bytes.simd_eq(u8x16::splat(b'_')) | bytes.simd_eq(u8x16::splat(b'~'));
-    let other = bytes.simd_eq(u8x16::splat(b'@')) | line;
-    ((lower | upper) | (sign | other)).to_bitmask()
+    let high = by_high_half(HIGH_BITS, bytes);
+    (by_low_half(COMMON_TABLE, bytes) & high)
+        .simd_eq(high)
+        .to_bitmask()
 }
 
 /// Whether each byte is printable ASCII and isn't `%`.

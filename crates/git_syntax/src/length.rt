@@ -9,7 +9,6 @@ ghost use Rattle.std.specs.List.{count_by};
 ghost use Rattle.std.specs.Char.{is_ascii_whitespace};
 ghost use Rattle.git_syntax.specs.Authority.{Fits};
 ghost use Rattle.git_syntax.specs.Bytes.{Lacks};
-ghost use Rattle.git_syntax.specs.Schemes.{is_web_scheme};
 ghost use Rattle.git_syntax.specs.Internal.LengthChecks.{is_skipped, is_in_time, is_text_in_time, length_check_for};
 
 use crate::bytes::cut_before_path;
@@ -163,14 +162,17 @@ impl LengthCheck {
     }
 }
 
-/// Whether a scheme, of HTTP or another, and the text after its `://` are short enough.
-pub fn fits(web: bool, scheme: &[u8], rest: &[u8]) -> bool
-    requires { web ≡ is_web_scheme scheme.now }
+/// Whether a scheme and the text after its `://` are short enough.
+pub fn fits(scheme: &[u8], rest: &[u8]) -> bool
     ensures { IsTrue result ↔ Fits scheme.now rest.now }
 {
     if scheme.len() > LIMIT {
         return false;
     }
     // At most all bytes count, so a short rest need not be read.
-    rest.len() <= LIMIT || advance_slashes(web, rest).is_in_time(web)
+    if rest.len() <= LIMIT {
+        return true;
+    }
+    let web = is_web_scheme(scheme);
+    advance_slashes(web, rest).is_in_time(web)
 }

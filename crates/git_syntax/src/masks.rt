@@ -5,14 +5,16 @@
 //! before. The modules below cut and test a text by operations on the bits of its masks. Each cut has the clauses of
 //! the equivalent function of [`crate::bytes`]. No function here allocates.
 
-ghost use Rattle.std.specs.Prelude.{◌≡◌, ◌+◌, ◌≤◌, ℕ, Bool, List, drop, length, take};
-ghost use Rattle.git_syntax.specs.Internal.Masks.{AreMasksOf, mask_of};
+ghost use Rattle.std.specs.Prelude.{◌≡◌, ◌+◌, ◌<◌, ◌≤◌, ℕ, Bool, IfSome, List, drop, length, take, true};
+ghost use Rattle.git_syntax.specs.Internal.Masks.{AreMasksOf, is_common, mask_of};
 
 pub(crate) mod bits;
 mod block;
 mod cuts;
+pub(crate) mod halves;
 pub(crate) mod marked;
 
+use crate::blocks::is_common_block;
 use bits::{front, rest};
 use block::block;
 use std::simd::prelude::*;
@@ -59,24 +61,40 @@ impl Masks {
     }
 }
 
-/// The masks of a text of 16 to 64 bytes.
+/// The masks of a text of 16 to 64 bytes, if each byte is common.
 #[inline(always)]
-pub(crate) fn masks_of(text: &[u8]) -> Masks
+pub(crate) fn masks_of(text: &[u8]) -> Option<Masks>
     requires { (16 ≤ length text.now) × (length text.now ≤ 64) }
-    ensures { AreMasksOf text.now result }
+    ensures masks { IfSome result (λ masks. AreMasksOf text.now masks) }
+    ensures common { IfSome result (λ masks. is_common text.now ≡ true) }
 {
+    if !is_common_block(text, 0) {
+        return None;
+    }
     let mut masks = block_at(text, 0);
     let mut done = 16;
     while done < text.len() {
-        let at = if done + 16 <= text.len() {
-            done
-        } else {
-            text.len() - 16
-        };
+        let at = next_block(text, done);
+        if !is_common_block(text, at) {
+            return None;
+        }
         masks = join(text, done, masks, at, block_at(text, at));
         done = at + 16;
     }
-    masks
+    Some(masks)
+}
+
+/// The offset of the block after this many bytes, which is smaller for the last block.
+#[inline(always)]
+fn next_block(text: &[u8], done: usize) -> usize
+    requires { (done < length text.now) × (16 ≤ length text.now) }
+    ensures { (result ≤ done) × (done < result + 16) × (result + 16 ≤ length text.now) }
+{
+    if done + 16 <= text.len() {
+        done
+    } else {
+        text.len() - 16
+    }
 }
 
 /// The masks of the 16 bytes at an offset.

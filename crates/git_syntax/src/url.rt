@@ -102,7 +102,7 @@ fn find_other<'a>(
     ensures buffer { IfOk result (λ found. buffer_length_for found ≤ length input.now) }
     ensures flaw { IfErr result (λ refusal. NamesFlaw input.now refusal) }
 {
-    if !fits(rules.web, scheme, rest) {
+    if !fits(scheme, rest) {
         return Err(Refusal::TooLong);
     }
     let byte_class = byte_class_of(input);

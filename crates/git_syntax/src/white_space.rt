@@ -4,8 +4,10 @@
 
 ghost use Rattle.std.specs.Prelude.{◌≡◌, chars, get_or};
 ghost use Rattle.std.specs.Char.{is_whitespace};
+ghost use Rattle.std.specs.Int.{is_in_range};
 ghost use Rattle.std.specs.List.{list_any};
 ghost use Rattle.git_syntax.specs.Internal.WhiteSpace as spec;
+ghost use Rattle.git_syntax.specs.Bytes.{is_c_space};
 
 /// Whether the text has white space.
 pub(crate) fn has_white_space(text: &str) -> bool
@@ -38,14 +40,14 @@ fn may_begin_space(byte: u8) -> bool
 
 /// Whether the byte is white space of ASCII.
 fn is_ascii_space(byte: u8) -> bool
-    ensures { result ≡ spec.is_ascii_space byte }
+    ensures { result ≡ is_c_space byte }
 {
     is_between(b'\t', b'\r', byte) | (byte == b' ')
 }
 
 /// Whether the byte is one of these two or between them.
 fn is_between(first: u8, last: u8, byte: u8) -> bool
-    ensures { result ≡ spec.is_between first last byte }
+    ensures { result ≡ is_in_range first last byte }
 {
     first <= byte && byte <= last
 }

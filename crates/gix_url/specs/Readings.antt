@@ -10,13 +10,9 @@ use Rattle.git_syntax.specs.Grammar.{Spells}
 use Rattle.gix_url.specs.Flaws.{Flaw}
 pub use Rattle.git_location.specs.Readings.{RefusesIn, ReadsIn, IsAgain, SpellsAgain, Written}
 
--- an allocation failed, or no value fits
-abbrev pub NoneBut : (Location → Type 0) → Error → Type 0
-NoneBut fits e = (e ≡ error.Memory) ⊎ ((v : Location) → ¬ fits v)
-
 -- an allocation failed, or the bytes spell no location
 abbrev pub Refuses : List ℕ → Error → Type 0
-Refuses b e = NoneBut (Spells b) e
+Refuses b e = (e ≡ error.Memory) ⊎ ((v : Location) → ¬ Spells b v)
 
 -- the result of reading the bytes
 pub record Reads (b : List ℕ) (result : Result Location Error) : Type 0 where

@@ -10,7 +10,7 @@ ghost use Rattle.explain_report.specs.Hints.{is_label, is_label_byte, is_user, i
 ghost use Rattle.explain_report.specs.Marks.{is_among, last_halves, passes};
 
 use crate::advice::marks::{halves, is_among, last_halves};
-use crate::advice::slip::is_wide;
+use crate::advice::slip::place::is_wide;
 use bstr::ByteSlice;
 use unicode::properties::Script;
 

@@ -1,13 +1,15 @@
 //! The reading of a line, with the facts that hints need.
 
-ghost use Rattle.std.specs.Prelude.{◌≡◌, not};
+ghost use Rattle.std.specs.Prelude.{◌≡◌, not, option_map};
+ghost use Rattle.std.specs.List.{list_any};
 ghost use Rattle.explain_report.specs.HintRules as spec;
 ghost use Rattle.explain_report.specs.Marks.{is_among, is_empty};
+ghost use Rattle.explain_report.specs.Revisions.{has_revision, is_of_revision, some_is_of_revision};
 
 use crate::advice::marks::{holds, is_among};
 use crate::form::Form;
 use crate::location_report::Report;
-use crate::path::Components;
+use crate::path::{Components, Field};
 use gix_url::Url;
 
 /// The reading of a line, with the facts that hints need.
@@ -28,9 +30,6 @@ pub struct Reading<'a> {
     /// Whether a part of the line may be a secret, and is hidden.
     pub has_hidden: bool,
 }
-
-/// The fields of a query that name a revision.
-const REVISIONS: [&str; 6] = ["ref", "rev", "tag", "branch", "commit", "version"];
 
 impl<'b> Reading<'b> {
     /// Returns the reading of a location.
@@ -137,9 +136,35 @@ fn is_short_name(host: Option<&str>) -> bool
 }
 
 /// Whether there is a fragment, or a field that names a revision.
-fn has_revision(components: &Components<'_>) -> bool {
-    components.fragment.is_some()
-        || components.query.as_ref().is_some_and(|fields| {
-            fields.iter().any(|field| REVISIONS.iter().any(|name| field.name.as_str() == *name))
-        })
+fn has_revision(components: &Components<'_>) -> bool
+    ensures { result ≡ has_revision components.now }
+{
+    components.fragment.is_some() || some_is_of_revision(&components.query)
+}
+
+/// Whether there are fields, and one of them names a revision.
+fn some_is_of_revision(fields: &Option<Vec<Field>>) -> bool
+    ensures { result ≡ some_is_of_revision (option_map (λ it. it.items) fields.now) }
+{
+    match fields {
+        Some(fields) => one_is_of_revision(fields.as_slice()),
+        None => false,
+    }
+}
+
+/// Whether one of the fields names a revision.
+fn one_is_of_revision(fields: &[Field]) -> bool
+    ensures { result ≡ list_any is_of_revision fields.now }
+{
+    fields.iter().any(|field| is_of_revision(field))
+}
+
+/// Whether the field names a revision.
+fn is_of_revision(field: &Field) -> bool
+    ensures { result ≡ is_of_revision field.now }
+{
+    is_among(
+        field.name.as_str().as_bytes(),
+        &["ref", "rev", "tag", "branch", "commit", "version"],
+    )
 }

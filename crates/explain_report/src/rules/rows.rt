@@ -3,6 +3,9 @@
 //! A terminal and a page format the same rows, so each sentence is only here. A piece that shows a member of `rules` in
 //! the JSON object names that member.
 
+ghost use Rattle.std.specs.Prelude.{◌≡◌, option_map};
+ghost use Rattle.explain_report.specs.Routes as spec;
+
 use crate::rules::credentials::Credentials;
 use crate::rules::setting::Setting;
 use crate::rules::transports::Transport;
@@ -280,7 +283,9 @@ fn transports<'a>(
 }
 
 /// Whether both have the same transport, and thus the same verdict, or have none for the same reason.
-fn is_same(fetch: &Route, push: &Route) -> bool {
+fn is_same(fetch: &Route, push: &Route) -> bool
+    ensures { result ≡ spec.have_same_transport fetch.now push.now }
+{
     match (&fetch.transport, &push.transport) {
         (Some(fetch), Some(push)) => fetch.name.as_str() == push.name.as_str(),
         (None, None) => reason_name(fetch) == reason_name(push),
@@ -289,8 +294,13 @@ fn is_same(fetch: &Route, push: &Route) -> bool {
 }
 
 /// The name of the reason why Git has no transport.
-fn reason_name(route: &Route) -> Option<&'static str> {
-    route.no_transport.as_ref().map(|lack| lack.reason)
+fn reason_name(route: &Route) -> Option<&'static str>
+    ensures { option_map (λ name. name.now) result ≡ spec.reason_name route.now }
+{
+    match &route.no_transport {
+        Some(lack) => Some(lack.reason),
+        None => None,
+    }
 }
 
 /// Appends the row of a transport, or of the reason why Git has none.

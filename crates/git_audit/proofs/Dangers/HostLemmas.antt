@@ -13,8 +13,7 @@ use Rattle.git_reads.specs.declared.transport.Unread.{Unread}
 use Rattle.git_reads.specs.declared.transport.Unread.TheVariants.{Memory}
 use Rattle.git_reads.proofs.Reading.UniqueLemmas.{one_reading}
 use Rattle.git_reads.proofs.Reading.CredentialUniqueLemmas.{one_credential}
-use Rattle.git_rules.specs.SameHost.{host_name}
-use Rattle.git_audit.specs.Dangers.{AsksForOtherHost, HasHostName, IsOtherHost, NamesOwnHost, NamesOwnPort, ReachesOtherHost, ReadsOtherHost, is_of_http}
+use Rattle.git_audit.specs.Dangers.{AsksForOtherHost, IsOtherHost, NamesHost, NamesOwnHost, NamesOwnPort, ReachesOtherHost, ReadsOtherHost, is_of_http}
 
 -- a property of the item that an option has
 pub some_of : {X : Type 0} (N : Type 0) (P : X → Type 0) (o : Option X) (x : X) → o ≡ Some x → MatchOption o N P → P x
@@ -30,12 +29,12 @@ if_ok (Ok a) follows given = follows a given
 if_ok (Err e) follows given = tt
 
 -- before the last colon is the host, and after it the port
-pub port_after : (v : Location) (named host suffix : List ℕ) (own : Bool) → FreeOf colon suffix → named ≡ host ++ colon ∷ suffix → IsTrue own ↔ ((list_all is_ascii_digit suffix ≡ true) × HasHostName v (host_name host)) → IsTrue own ↔ NamesOwnPort v named
+pub port_after : (v : Location) (named host suffix : List ℕ) (own : Bool) → FreeOf colon suffix → named ≡ host ++ colon ∷ suffix → IsTrue own ↔ ((list_all is_ascii_digit suffix ≡ true) × NamesHost v host) → IsTrue own ↔ NamesOwnPort v named
 port_after v named host suffix own free joined decided = (
   (λ is. (host, suffix, joined, (decided.0 is).0, (decided.0 is).1)),
   (λ found.
       let same = last_cut_unique colon found.0 host found.1 suffix (free_of_all is_ascii_digit colon found.1 found.3 refl) free (sym found.2 ∙ joined) in
-      decided.1 (subst (λ t. list_all is_ascii_digit t ≡ true) same.1 found.3, subst (λ t. HasHostName v (host_name t)) same.0 found.4)),
+      decided.1 (subst (λ t. list_all is_ascii_digit t ≡ true) same.1 found.3, subst (λ t. NamesHost v t) same.0 found.4)),
 )
 
 -- without a colon there is no port

@@ -10,10 +10,10 @@ use Rattle.git_syntax.specs.declared.refusal.UrlFault.{UrlFault}
 use Rattle.git_syntax.specs.declared.refusal.UrlFault.TheVariants as fault
 use Rattle.git_syntax.specs.Bytes.{colon, left_bracket, right_bracket, FreeOf, begins_with}
 use Rattle.git_syntax.specs.Addresses.{IsIpv6Text, Literal}
-use Rattle.git_syntax.specs.Hosts.{HostSyntax, is_http_host_byte, normal_host, HostText, Bracketed, Inner, AllowsPort, Number, IsAddressPiece, ReadsAddress, IsManyColoned, IsPlainHost, SpellsHostPort}
+use Rattle.git_syntax.specs.Hosts.{HostSyntax, is_http_host_byte, normal_host, HostText, Bracketed, Inner, AllowsPort, Number, IsAddressPiece, ReadsAddress, IsManyColoned, IsPlainHost, SpellsHostPort, EndsHost}
 use Rattle.git_syntax.specs.Hosts.HostSyntax.{http_hosts, git_hosts, other_hosts}
 use Rattle.git_syntax.specs.Flaws.{IsNoHost, IsNoInner, HasBadPort, HasBadHost, HostPortFlaw}
-use Rattle.git_syntax.specs.Internal.HostPieces.{EndsHost, shown_literal}
+use Rattle.git_syntax.specs.Internal.HostPieces.{shown_literal}
 use Rattle.git_syntax.proofs.Texts.CutLemmas.{begins_cut, free_or_cut, ends_or_not}
 use Rattle.git_syntax.proofs.Parsing.HostLemmas.{loose_not_strict, bare_not_strict, loose_not_bare, literal_inner, not_ended, not_inner}
 use Rattle.git_laws.proofs.Errors.TextDecisions.{Decides, utf8_or_not, address_or_not, literal_or_not}

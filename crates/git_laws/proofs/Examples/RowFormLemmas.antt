@@ -1,9 +1,9 @@
 -- The bytes that a written-out text has and those that it lacks, by searching it.
 use Rattle.std.proofs.Common.{◌≡◌, ℕ, Bool, true, false, nat_le, ◌&&◌, ◌||◌, ◌==◌, List, [], ◌∷◌, ◌++◌, length, refl, sym, ap, ◌∙◌, eqb}
 use Rattle.std.proofs.lemmas.Bool.{both_ways, and_from, eq-eqb, leb-true, or_left, or_right}
-use Rattle.git_syntax.specs.Bytes.{colon, Lacks, FreeOf, Holds, begins_by, begins_with, is_helper_name, is_path_start, StartsPath}
+use Rattle.git_syntax.specs.Bytes.{colon, Lacks, FreeOf, Holds, begins_by, begins_with, is_helper_name, is_path_start, StartsPath, is_any_slash}
 use Rattle.git_syntax.specs.Schemes.{is_web_scheme}
-use Rattle.git_syntax.specs.Authority.{without_white_space, is_any_slash, IsWithinLimit, Fits}
+use Rattle.git_syntax.specs.Authority.{without_white_space, IsWithinLimit, Fits}
 use Rattle.git_syntax.specs.Grammar.{HasHelperForm}
 use Rattle.git_syntax.proofs.Texts.CutLemmas.{cut_unique, helper_name_free}
 

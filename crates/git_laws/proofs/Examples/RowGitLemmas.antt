@@ -395,18 +395,24 @@ asked_row : (scheme u w named place slashes rest below : List ℕ) → 0 < lengt
     → FreeOf 0 (scheme ++ (codes "://" ++ ((u ++ colon ∷ (w ++ at_sign ∷ named)) ++ (slashes ++ rest)))) → Lacks (is_path_start true) (u ++ colon ∷ (w ++ at_sign ∷ named)) → StartsPath true (slashes ++ rest) → AreOneLine (asked scheme (git_decode u) (git_decode w) place (trimmed_path below))
     → CredentialReads (scheme ++ (codes "://" ++ ((u ++ colon ∷ (w ++ at_sign ∷ named)) ++ (slashes ++ rest)))) (asked scheme (git_decode u) (git_decode w) place (trimmed_path below))
 asked_row scheme u w named place slashes rest below some no_colon plain first second free host all begins path whole before starts lines = record {
-  authority = u ++ colon ∷ (w ++ at_sign ∷ named);
-  suffix = slashes ++ rest;
-  named = named;
-  whole = whole;
-  protocol = some;
-  no_mark = held_free scheme no_colon;
-  joined = refl;
-  before_path = before;
-  path_start = starts;
-  cut = CredentialCut.with_password u w (git_decode u) (git_decode w) first second plain refl (free_piece u plain) (free_piece w free) refl refl;
-  host = host;
-  path = record { slashes = slashes; rest = rest; decoded = below; joined = refl; front = all; begins = begins; decodes = path; value = refl };
+  found = record {
+    authority = u ++ colon ∷ (w ++ at_sign ∷ named);
+    suffix = slashes ++ rest;
+    cut = record {
+      whole = whole;
+      some = some;
+      no_mark = held_free scheme no_colon;
+      joined = refl;
+      before_path = before;
+      path_start = starts;
+    };
+    pieces = record {
+      named = named;
+      cut = CredentialCut.with_password u w (git_decode u) (git_decode w) first second plain refl (free_piece u plain) (free_piece w free) refl refl;
+      host = host;
+      path = record { slashes = slashes; rest = rest; decoded = below; joined = refl; front = all; begins = begins; decodes = path; value = refl };
+    };
+  };
   lines = lines;
 }
 

@@ -6,11 +6,10 @@ use Rattle.std.specs.Str.Parse.{digits_value}
 use Rattle.std.proofs.lemmas.Bool.{cases_Bool, cond-true, cond-false, and_left, and_right, and_from, false≢true, both_ways, and_parts}
 use Rattle.std.proofs.lemmas.Bool.Decides.{nat_tests}
 use Rattle.percent_encoding.specs.Percent.{is_escape, percent_decode}
-use Rattle.git_syntax.specs.Bytes.{percent_sign, colon, at_sign, left_bracket, right_bracket, plus_sign, hyphen, FreeOf, Holds}
-use Rattle.git_syntax.specs.Hosts.{HoldsTwoColons, port_part}
+use Rattle.git_syntax.specs.Bytes.{percent_sign, colon, at_sign, left_bracket, right_bracket, plus_sign, hyphen, FreeOf, Holds, is_c_space}
+use Rattle.git_syntax.specs.Hosts.{HoldsTwoColons, port_part, raw_user}
 use Rattle.git_syntax.specs.Hosts.HostSyntax.{git_hosts}
-use Rattle.git_location.specs.Text.{raw_user}
-use Rattle.git_reads.specs.Git.{escaped_byte, is_git_escape, git_decode, host_mark, OpensHost, BracketCut, LacksHostBrackets, HostEnd, CutsPlace, is_c_space, digits_port, negative_port, signed_port, git_port, BeforePort, HostAndPort, SecurePort}
+use Rattle.git_reads.specs.Git.{escaped_byte, is_git_escape, git_decode, host_mark, OpensHost, BracketCut, LacksHostBrackets, HostEnd, CutsPlace, digits_port, negative_port, signed_port, git_port, BeforePort, HostAndPort, SecurePort}
 use Rattle.git_syntax.proofs.Texts.CutLemmas.{heads, tails, not_free, free_parts, free_head_tail, free_begins, free_or_cut, free-append, free-cons}
 use Rattle.git_syntax.proofs.Parsing.HostLemmas.{number_written}
 

@@ -7,7 +7,7 @@ use Rattle.git_syntax.specs.Addresses.{IsIpv6Text}
 use Rattle.git_syntax.specs.Bytes.{percent_sign, slash, colon, at_sign, left_bracket, right_bracket, tilde, FreeOf, Lacks, begins_with, is_option_like}
 use Rattle.git_syntax.specs.Internal.HostPieces.{in_brackets}
 use Rattle.git_syntax.specs.Grammar.{ScpFront, IsNeither, HasScpForm}
-use Rattle.git_location.specs.Text.{raw_user, raw_host, canonical_text, text}
+use Rattle.git_location.specs.Text.{raw_host, canonical_text, text}
 use Rattle.git_location.specs.Settled.{IsValue, IsWeb, IsNormalAddress, IsScpName, IsSettledLocal, IsSettledFile, IsSettledScp, IsSettledBy, LooksLikeHelper}
 use Rattle.std.proofs.lemmas.Option.{IfSome_then}
 use Rattle.git_reads.specs.Git.{HostAndPort, on_this_machine, IsNoUrl, IsLocal, ReachesSecure, ReadsInput}
@@ -28,6 +28,7 @@ use Rattle.git_laws.proofs.GitReadings.WebTextLemmas.{web_text}
 use Rattle.git_laws.proofs.GitReadings.WebUriLemmas.{uri_own}
 use Rattle.git_location.proofs.Writing.WrittenAsUrlLemmas.{one_text}
 use Rattle.git_syntax.proofs.Parsing.FormLemmas.{scp_neither}
+use Rattle.git_syntax.specs.Hosts.{raw_user}
 
 -- ---- this machine
 

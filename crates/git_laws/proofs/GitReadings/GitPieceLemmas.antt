@@ -18,10 +18,10 @@ use Rattle.git_syntax.specs.AddressTest.{is_ipv6_text}
 use Rattle.git_syntax.specs.Bytes.{percent_sign, slash, colon, at_sign, tilde, FreeOf, Lacks, begins_with}
 use Rattle.git_syntax.specs.Escapes.{is_password_escaped}
 use Rattle.git_syntax.specs.Schemes.{requires_path}
-use Rattle.git_location.specs.Text.{raw_user, raw_host, keeps_host, needs_brackets, canonical_host, user_information, root_part, plain_path, matching_or, canonical_path}
+use Rattle.git_location.specs.Text.{raw_host, keeps_host, needs_brackets, canonical_host, user_information, root_part, plain_path, matching_or, canonical_path}
 use Rattle.git_location.specs.Settled.{IsRawPath, IsTransportPath}
 use Rattle.git_syntax.specs.Grammar.{begins_at_home}
-use Rattle.git_syntax.specs.Hosts.{port_part}
+use Rattle.git_syntax.specs.Hosts.{port_part, raw_user}
 use Rattle.git_reads.specs.Git.{from_tilde}
 use Rattle.git_location.specs.GitClass.{is_tilde_second}
 use Rattle.git_syntax.proofs.Addresses.AddressTestLemmas.{ipv6_text_to}

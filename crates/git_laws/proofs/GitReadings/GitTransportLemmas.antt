@@ -15,8 +15,8 @@ use Rattle.git_syntax.specs.Bytes.{newline, percent_sign, slash, colon, at_sign,
 use Rattle.git_syntax.specs.Schemes.{scheme_of, scheme_text}
 use Rattle.git_syntax.specs.Authority.{unless_empty}
 use Rattle.git_syntax.specs.Grammar.{Unbrackets}
-use Rattle.git_syntax.specs.Hosts.{port_part}
-use Rattle.git_location.specs.Text.{raw_user, keeps_host, canonical_host, canonical_path, canonical_text, text}
+use Rattle.git_syntax.specs.Hosts.{port_part, raw_user}
+use Rattle.git_location.specs.Text.{keeps_host, canonical_host, canonical_path, canonical_text, text}
 use Rattle.git_location.specs.Settled.{IsValue, IsNormalName, IsBareHost, IsBracketedHost, IsTransportPath, IsSettledRaw, IsSettledSecure, IsSettledGit, IsRawPath}
 use Rattle.git_reads.specs.Git.{GitReading, git_decode, CutsPlace, HostAndPort, SecurePort, UserCut, ReachesSecure, ReachesGit, OwnUrl, ReadsInput, GitReads}
 use Rattle.git_location.specs.GitClass.{is_contested, IsPlainPart, IsBracketedOfGit, IsHostOfGit, HasNoOption, AgreesByTransport}

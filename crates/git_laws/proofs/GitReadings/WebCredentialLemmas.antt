@@ -200,17 +200,23 @@ credential_own v web is a host there =
     let odd = named_odd host v.port authority.form is.port in
     let writing = web_path_writing v web h.path h.common.path in
     let path = rooted_path v.path (canonical_path v) writing.front writing.decoded a.path.rooted a.path.one_slash in record {
-      authority = authority_text v;
-      suffix = canonical_path v;
-      named = named;
-      whole = text_zero v named (scheme_text_free (scheme_text v.scheme) 0 scheme.text refl) authority.written (free_of_lacked is_odd 0 named odd refl) (free_of_all is_uri_byte 0 (canonical_path v) a.path.bytes refl);
-      protocol = scheme.nonempty;
-      no_mark = held_free (scheme_text v.scheme) (scheme_text_free (scheme_text v.scheme) colon scheme.text refl);
-      joined = canonical_cut v;
-      before_path = authority.before_path;
-      path_start = starts_alike true (canonical_path v) v.path writing.front (inr h.path);
-      cut = subst (λ t. CredentialCut t v.user v.password named) (sym authority.written) (information_cut v.user v.password named is.user is.password a.user a.password h.common.credentials.0 authority.no_at);
-      host = decodes_kept named (free_of_lacked is_odd percent_sign named odd refl);
-      path = path_read v.path (canonical_path v) path a.path.whole (no_zero v.path a.path.no_control);
+      found = record {
+        authority = authority_text v;
+        suffix = canonical_path v;
+        cut = record {
+          whole = text_zero v named (scheme_text_free (scheme_text v.scheme) 0 scheme.text refl) authority.written (free_of_lacked is_odd 0 named odd refl) (free_of_all is_uri_byte 0 (canonical_path v) a.path.bytes refl);
+          some = scheme.nonempty;
+          no_mark = held_free (scheme_text v.scheme) (scheme_text_free (scheme_text v.scheme) colon scheme.text refl);
+          joined = canonical_cut v;
+          before_path = authority.before_path;
+          path_start = starts_alike true (canonical_path v) v.path writing.front (inr h.path);
+        };
+        pieces = record {
+          named = named;
+          cut = subst (λ t. CredentialCut t v.user v.password named) (sym authority.written) (information_cut v.user v.password named is.user is.password a.user a.password h.common.credentials.0 authority.no_at);
+          host = decodes_kept named (free_of_lacked is_odd percent_sign named odd refl);
+          path = path_read v.path (canonical_path v) path a.path.whole (no_zero v.path a.path.no_control);
+        };
+      };
       lines = own_lines v host scheme.line a odd;
     }

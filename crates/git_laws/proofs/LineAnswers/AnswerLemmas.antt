@@ -14,12 +14,12 @@ use Rattle.git_syntax.specs.Location.{Scheme, Location}
 use Rattle.git_syntax.specs.Location.Scheme.{git, ssh, http, https, helper_url}
 use Rattle.git_syntax.specs.Bytes.{tab, newline, colon, at_sign, left_bracket, right_bracket, FreeOf, lowercase}
 use Rattle.git_syntax.specs.Addresses.{Literal}
-use Rattle.git_syntax.specs.Hosts.{HostSyntax, Number, SpellsHostPort, is_http_host_byte, port_part}
+use Rattle.git_syntax.specs.Hosts.{HostSyntax, Number, SpellsHostPort, is_http_host_byte, port_part, raw_user}
 use Rattle.git_syntax.specs.Schemes.{scheme_of, scheme_text, host_syntax_of}
 use Rattle.git_syntax.specs.Authority.{unless_empty, Authority}
 use Rattle.git_syntax.specs.Authority.Authority.{host_alone, with_user}
 use Rattle.git_syntax.specs.Grammar.{UrlSyntax, HasUrlSyntax, DenotesByScheme, DenotesAs, SpellsFile, SpellsScpBefore, SpellsScpAddressed, ScpUser, Spells, scp_location, from_home}
-use Rattle.git_location.specs.Text.{keeps_host, open_host, canonical_host, host_part, user_information, root_part, plain_path, matching_or, canonical_path, raw_user, raw_host, text}
+use Rattle.git_location.specs.Text.{keeps_host, open_host, canonical_host, host_part, user_information, root_part, plain_path, matching_or, canonical_path, raw_host, text}
 use Rattle.git_location.specs.Settled.{HasMatch, IsRawPath, IsWeb, IsWebHost, IsNormalName, IsBareHost, IsBracketedHost, IsScpName, IsNormalAddress, IsSettledUrl, IsSettledWeb, IsSettledSecure, IsSettledGit, IsSettledHelperUrl, IsSettledBy, IsSettled}
 use Rattle.git_location.specs.Settled.IsWebHost.{literal, literal_colon, named, named_colon}
 use Rattle.git_location.specs.Internal.SettledPieces.{IsWrittenAsUrl}

@@ -12,13 +12,13 @@ use Rattle.std.proofs.lemmas.Str.{chars-IsAscii}
 use Rattle.percent_encoding.specs.Percent.{percent_encode}
 use Rattle.git_syntax.specs.Location.{Scheme, Location}
 use Rattle.git_syntax.specs.Location.Scheme.{file, git, ssh, http, https, ext, helper, helper_url}
-use Rattle.git_syntax.specs.Bytes.{slash, colon, at_sign, backslash, is_scheme_text, Lacks, FreeOf, begins_by, LacksWhiteSpace, is_path_start, StartsPath}
+use Rattle.git_syntax.specs.Bytes.{slash, colon, at_sign, backslash, is_scheme_text, Lacks, FreeOf, begins_by, LacksWhiteSpace, is_path_start, StartsPath, is_any_slash}
 use Rattle.git_syntax.specs.Escapes.{password_set, user_set}
 use Rattle.git_syntax.specs.Hosts.{HostSyntax, SpellsHostPort, port_part}
 use Rattle.git_syntax.specs.Hosts.SpellsHostPort.{nothing}
 use Rattle.git_syntax.proofs.Parsing.HostLemmas.{names_unique}
 use Rattle.git_syntax.specs.Schemes.{is_web_scheme, scheme_text}
-use Rattle.git_syntax.specs.Authority.{Authority, is_any_slash, without_white_space, IsWithinLimit, Fits, FitsText}
+use Rattle.git_syntax.specs.Authority.{Authority, without_white_space, IsWithinLimit, Fits, FitsText}
 use Rattle.git_syntax.specs.Authority.Authority.{host_alone, with_user}
 use Rattle.git_location.specs.Text.{user_information, host_part, canonical_path, canonical_text}
 use Rattle.git_location.specs.Settled.{IsValue, IsSettledUrl, IsSettledWeb, IsSettledHelperUrl, IsSettledBy, IsSettled, IsWeb}

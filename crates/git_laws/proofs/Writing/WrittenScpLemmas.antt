@@ -12,10 +12,10 @@ use Rattle.git_syntax.specs.Location.Scheme.{ssh}
 use Rattle.git_syntax.specs.Bytes.{percent_sign, slash, colon, at_sign, left_bracket, backslash, right_bracket, FreeOf, begins_with, Holds, LacksWhiteSpace, is_helper_name}
 use Rattle.git_syntax.specs.Escapes.{escaped_percents}
 use Rattle.git_syntax.specs.Addresses.{IsIpv6Text}
-use Rattle.git_syntax.specs.Hosts.{SpellsHostPort, normal_host}
+use Rattle.git_syntax.specs.Hosts.{SpellsHostPort, normal_host, raw_user}
 use Rattle.git_syntax.specs.Hosts.HostSyntax.{git_hosts}
 use Rattle.git_syntax.specs.Grammar.{HasHelperForm, IsNeither, ScpFront, ScpForm, AddressedForm, ScpUser, ScpHost, IsBracketed, Unbrackets, SpellsScp, SpellsScpBefore, Spells, scp_location}
-use Rattle.git_location.specs.Text.{text, is_relative, raw_user, raw_host, has_colon, wants_brackets}
+use Rattle.git_location.specs.Text.{text, is_relative, raw_host, has_colon, wants_brackets}
 use Rattle.git_location.specs.Settled.{IsValue, IsScpName, IsScpUser, IsNormalAddress, IsSettledScp, IsSettled, LooksLikeHelper, begins_with_slashes, IsScpPath}
 use Rattle.git_syntax.specs.Grammar.{begins_at_home}
 use Rattle.git_laws.specs.Laws.{ComesBack}

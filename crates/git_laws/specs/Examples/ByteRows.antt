@@ -5,13 +5,11 @@ use Rattle.std.specs.List.{range_with_len}
 use Rattle.std.specs.Char.{is_ascii_alphabetic, is_ascii_alphanumeric, is_ascii_digit, is_ascii_whitespace, is_whitespace}
 use Rattle.percent_encoding.specs.declared.ascii_set.AsciiSet.{AsciiSet}
 use Rattle.percent_encoding.specs.Percent.{percent_encode}
-use Rattle.git_syntax.specs.Bytes.{lowercase, is_hexadecimal, is_scheme_mark, is_name_byte, is_scheme_text, is_helper_name, is_path_start, is_option_like}
+use Rattle.git_syntax.specs.Bytes.{lowercase, is_hexadecimal, is_scheme_mark, is_name_byte, is_scheme_text, is_helper_name, is_path_start, is_option_like, is_c_space, is_any_slash}
 use Rattle.git_syntax.specs.Escapes.{path_set, password_set, user_set, is_path_escaped, is_password_escaped, is_user_escaped, is_plain_byte}
 use Rattle.git_syntax.specs.Addresses.{is_zone_byte}
 use Rattle.git_syntax.specs.Hosts.{is_dns_byte, is_http_host_byte}
-use Rattle.git_syntax.specs.Authority.{is_any_slash}
 use Rattle.git_location.specs.Internal.KeptBytes.{is_unescaped_in_path, is_unescaped_in_user}
-use Rattle.git_reads.specs.Git.{is_c_space}
 use Rattle.git_location.specs.GitClass.{is_contested}
 
 -- the bytes that pass the test, in order

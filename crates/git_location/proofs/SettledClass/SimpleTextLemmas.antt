@@ -13,8 +13,8 @@ use Rattle.git_syntax.specs.Bytes.{FreeOf, at_sign, begins_with, colon, left_bra
 use Rattle.git_syntax.specs.Location.{Location, Scheme, path_alone}
 use Rattle.git_syntax.specs.Location.Scheme.{file, git, ssh, http, https}
 use Rattle.git_syntax.specs.Schemes.{requires_path, scheme_text}
-use Rattle.git_syntax.specs.SimpleTexts.{HasSimpleParts, IsRemoteScheme, IsSimplePort, IsSimpleText, before_host}
-use Rattle.git_syntax.specs.Hosts.{port_part}
+use Rattle.git_syntax.specs.SimpleTexts.{HasSimpleParts, IsRemoteScheme, IsSimplePort, IsSimpleText}
+use Rattle.git_syntax.specs.Hosts.{port_part, raw_user}
 use Rattle.git_syntax.specs.SimpleTexts.IsRemoteScheme.{of_git, of_ssh, of_http, of_https}
 use Rattle.git_syntax.specs.SimpleTexts.IsSimpleText.{file_text, helper_text, local_text, scp_text, url_text}
 use Rattle.git_syntax.specs.Internal.HostPieces.{IsSimpleHost, is_simple_byte}
@@ -62,9 +62,9 @@ simple_value p flag user host port path = record (path_alone p flag path) { user
 
 -- the text of a URL of simple parts
 abbrev simple_url : Scheme → Option (List ℕ) → List ℕ → Option ℕ → List ℕ → List ℕ
-simple_url p user host port path = scheme_text p ++ (codes "://" ++ (before_host user ++ (host ++ (port_part port ++ path))))
+simple_url p user host port path = scheme_text p ++ (codes "://" ++ (raw_user user ++ (host ++ (port_part port ++ path))))
 
-user_kept : (user : Option (List ℕ)) → IfSome user IsSimpleHost → user_information user None ≡ before_host user
+user_kept : (user : Option (List ℕ)) → IfSome user IsSimpleHost → user_information user None ≡ raw_user user
 user_kept None simple = refl
 user_kept (Some user) simple = ap (λ t. t ++ at_sign ∷ []) (ready_user user (simple_ready user simple.bytes))
 
@@ -125,15 +125,15 @@ url_unchanged : (b : List ℕ) (p : Scheme) (user : Option (List ℕ)) (host pat
     → b ≡ simple_url p user host port path → IsSettled (simple_value p false user host port path) × (text (simple_value p false user host port path) ≡ Ok b)
 url_unchanged b p user host path port remote parts allowed begins short joined = by_scheme p remote joined
   where
-    path_common : (front : List ℕ) → b ≡ front ++ (codes "://" ++ (before_host user ++ (host ++ (port_part port ++ path)))) → is_common path ≡ true
+    path_common : (front : List ℕ) → b ≡ front ++ (codes "://" ++ (raw_user user ++ (host ++ (port_part port ++ path)))) → is_common path ≡ true
     path_common front e =
-        let suffix = (common_parts front (codes "://" ++ (before_host user ++ (host ++ (port_part port ++ path)))) (subst (λ s. is_common s ≡ true) e parts.common)).1 in
-        let rest = (common_parts (codes "://") (before_host user ++ (host ++ (port_part port ++ path))) suffix).1 in
-        let place = (common_parts (before_host user) (host ++ (port_part port ++ path)) rest).1 in
+        let suffix = (common_parts front (codes "://" ++ (raw_user user ++ (host ++ (port_part port ++ path)))) (subst (λ s. is_common s ≡ true) e parts.common)).1 in
+        let rest = (common_parts (codes "://") (raw_user user ++ (host ++ (port_part port ++ path))) suffix).1 in
+        let place = (common_parts (raw_user user) (host ++ (port_part port ++ path)) rest).1 in
         (common_parts (port_part port) path (common_parts host (port_part port ++ path) place).1).1
 
-    fits : (front : List ℕ) → FreeOf colon front → b ≡ front ++ (codes "://" ++ (before_host user ++ (host ++ (port_part port ++ path)))) → FitsText b
-    fits front free e = record { scheme = front; rest = before_host user ++ (host ++ (port_part port ++ path)); no_colon = free; joined = e; fits = short_fits b front (before_host user ++ (host ++ (port_part port ++ path))) e short }
+    fits : (front : List ℕ) → FreeOf colon front → b ≡ front ++ (codes "://" ++ (raw_user user ++ (host ++ (port_part port ++ path)))) → FitsText b
+    fits front free e = record { scheme = front; rest = raw_user user ++ (host ++ (port_part port ++ path)); no_colon = free; joined = e; fits = short_fits b front (raw_user user ++ (host ++ (port_part port ++ path))) e short }
 
     by_scheme : (p : Scheme) → IsRemoteScheme p → b ≡ simple_url p user host port path → IsSettled (simple_value p false user host port path) × (text (simple_value p false user host port path) ≡ Ok b)
     by_scheme p of_git e =
@@ -160,7 +160,7 @@ url_unchanged b p user host path port remote parts allowed begins short joined =
 -- ---- the scp form
 
 -- the text of the scp form
-scp_written : (user : Option (List ℕ)) (host path : List ℕ) → IsSimpleHost host → text (simple_value ssh true user host None path) ≡ Ok (before_host user ++ (host ++ colon ∷ path))
+scp_written : (user : Option (List ℕ)) (host path : List ℕ) → IsSimpleHost host → text (simple_value ssh true user host None path) ≡ Ok (raw_user user ++ (host ++ colon ∷ path))
 scp_written None host path simple = elim (cases_Bool (is_relative path)) [
   | inl relative ↦ rw (relative, simple_free colon host simple refl) refl
   | inr other ↦ rw (other, simple_free colon host simple refl) refl
@@ -176,9 +176,9 @@ scp_user (Some user) simple = record { no_colon = simple_free colon user simple 
 
 -- a text of simple parts in the scp form is settled
 scp_unchanged : (b : List ℕ) (user : Option (List ℕ)) (host path : List ℕ) → HasSimpleParts b user host path → FreeOf colon path → ((rest : List ℕ) → ¬ (path ≡ slash ∷ (slash ∷ rest)))
-    → b ≡ before_host user ++ (host ++ colon ∷ path) → IsSettled (simple_value ssh true user host None path) × (text (simple_value ssh true user host None path) ≡ Ok b)
+    → b ≡ raw_user user ++ (host ++ colon ∷ path) → IsSettled (simple_value ssh true user host None path) × (text (simple_value ssh true user host None path) ≡ Ok b)
 scp_unchanged b user host path parts free other joined =
-    let suffix = (common_parts (before_host user) (host ++ colon ∷ path) (subst (λ s. is_common s ≡ true) joined parts.common)).1 in
+    let suffix = (common_parts (raw_user user) (host ++ colon ∷ path) (subst (λ s. is_common s ≡ true) joined parts.common)).1 in
     let common = (common_around (host ++ colon ∷ path) host path colon suffix refl).1 in (
       inl (record {
         flagged = refl;

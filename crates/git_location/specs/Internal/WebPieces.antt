@@ -1,9 +1,9 @@
 -- Facts that the tests of the class of HTTP decide.
 use Rattle.std.specs.Prelude.{◌≡◌, ℕ, Bool, true, false, ◌||◌, ◌==◌, ◌⊎◌, List, [], ◌∷◌, ◌++◌, codes}
+use Rattle.std.specs.Int.{is_in_range}
 use Rattle.std.specs.List.{list_all}
 use Rattle.std.specs.Char.{is_ascii_lowercase, is_ascii_uppercase}
 use Rattle.git_syntax.specs.Bytes.{slash, dot, number_sign, question_mark, Lacks, FreeOf, begins_with, is_one_of}
-use Rattle.git_location.specs.Internal.KeptBytes.{is_between}
 use Rattle.git_location.specs.Settled.{begins_with_slashes}
 use Rattle.git_location.specs.WebClass.{IsDecodedWhole, is_control, is_segment_end, is_uri_byte}
 
@@ -25,7 +25,7 @@ pub record IsUriPath (path written : List ℕ) : Type 0 where
 
 -- a byte of most paths: a letter, a digit, `-`, `.`, `/` or `_`
 abbrev pub is_common_path_byte : ℕ → Bool
-is_common_path_byte b = is_between 45 57 b || is_ascii_lowercase b || is_ascii_uppercase b || b == 95
+is_common_path_byte b = is_in_range 45 57 b || is_ascii_lowercase b || is_ascii_uppercase b || b == 95
 
 -- a byte that no path of the class has: a control, `#`, or one that is written unescaped and isn't one of a URI
 abbrev pub is_stray : ℕ → Bool

@@ -25,8 +25,7 @@ use std::convert::Infallible;
 pub(crate) fn has_fitting_text(url: &UrlRef<'_>, laid: Option<&Pieces<'_>>) -> bool
     requires no_colon { FreeOf colon (scheme_text url.now.scheme) }
     requires canonical { text url.now ≡ Ok (canonical_text url.now) }
-    requires laid { AreOwn laid url.now }
-    ensures { IsTrue result ↔ HasFittingText url.now }
+    ensures { AreOwn laid.entry url.now → (IsTrue result ↔ HasFittingText url.now) }
 {
     match laid {
         Some(pieces) => are_short(url.scheme.as_str().as_bytes(), pieces),

@@ -20,9 +20,8 @@ use git_syntax::text::{as_text, is_plain, is_text};
 
 /// Whether the location is a settled URL of HTTP.
 pub(crate) fn is_settled_web(url: &UrlRef<'_>, laid: Option<&Pieces<'_>>) -> bool
-    requires scheme { IsWeb url.now }
-    requires laid { AreOwn laid url.now }
-    ensures { IsTrue result ↔ IsSettledWeb url.now }
+    requires { IsWeb url.now }
+    ensures { AreOwn laid.entry url.now → (IsTrue result ↔ IsSettledWeb url.now) }
 {
     has_web_host(url)
         && url.port != Some(0)
@@ -52,9 +51,8 @@ fn begins_web_path(path: &[u8]) -> bool
 
 /// Whether the location is a settled URL of Secure Shell.
 pub(crate) fn is_settled_secure(url: &UrlRef<'_>, laid: Option<&Pieces<'_>>) -> bool
-    requires scheme { url.now.scheme ≡ ssh }
-    requires laid { AreOwn laid url.now }
-    ensures { IsTrue result ↔ IsSettledSecure url.now }
+    requires { url.now.scheme ≡ ssh }
+    ensures { AreOwn laid.entry url.now → (IsTrue result ↔ IsSettledSecure url.now) }
 {
     has_bare_host(url) && is_transport_path(url) && is_settled_raw(url, laid)
 }
@@ -71,9 +69,8 @@ fn has_bare_host(url: &UrlRef<'_>) -> bool
 
 /// Whether the location is a settled URL of Git's own protocol.
 pub(crate) fn is_settled_git(url: &UrlRef<'_>, laid: Option<&Pieces<'_>>) -> bool
-    requires scheme { url.now.scheme ≡ git }
-    requires laid { AreOwn laid url.now }
-    ensures { IsTrue result ↔ IsSettledGit url.now }
+    requires { url.now.scheme ≡ git }
+    ensures { AreOwn laid.entry url.now → (IsTrue result ↔ IsSettledGit url.now) }
 {
     has_bracketed_host(url) && is_transport_path(url) && is_settled_raw(url, laid)
 }
@@ -108,9 +105,8 @@ pub(crate) fn is_settled_helper_url(
     laid: Option<&Pieces<'_>>,
     name: &[u8],
 ) -> bool
-    requires scheme { url.now.scheme ≡ helper_url name.now }
-    requires laid { AreOwn laid url.now }
-    ensures { IsTrue result ↔ IsSettledHelperUrl name.now url.now }
+    requires { url.now.scheme ≡ helper_url name.now }
+    ensures { AreOwn laid.entry url.now → (IsTrue result ↔ IsSettledHelperUrl name.now url.now) }
 {
     has_other_host(url)
         && (url.host.is_some() || !is_ftp(name))
@@ -139,9 +135,8 @@ fn is_rooted_or_empty(path: &[u8]) -> bool
 
 /// Whether the location is a settled URL whose path is written raw if no spelling matches it.
 fn is_settled_raw(url: &UrlRef<'_>, laid: Option<&Pieces<'_>>) -> bool
-    requires form { IsWrittenAsUrl url.now }
-    requires laid { AreOwn laid url.now }
-    ensures { IsTrue result ↔ IsSettledRaw url.now }
+    requires { IsWrittenAsUrl url.now }
+    ensures { AreOwn laid.entry url.now → (IsTrue result ↔ IsSettledRaw url.now) }
 {
     has_raw_path(url) && is_settled_beside_path(url, laid)
 }
@@ -181,18 +176,16 @@ fn is_raw(path: &[u8]) -> bool
 
 /// Whether the location meets the conditions that all settled URLs have in common.
 fn is_settled_url(url: &UrlRef<'_>, laid: Option<&Pieces<'_>>) -> bool
-    requires form { IsWrittenAsUrl url.now }
-    requires laid { AreOwn laid url.now }
-    ensures { IsTrue result ↔ IsSettledUrl url.now }
+    requires { IsWrittenAsUrl url.now }
+    ensures { AreOwn laid.entry url.now → (IsTrue result ↔ IsSettledUrl url.now) }
 {
     has_url_path(url) && is_settled_beside_path(url, laid)
 }
 
 /// Whether the location meets the conditions that all settled URLs have in common, except for those on paths.
 pub(crate) fn is_settled_beside_path(url: &UrlRef<'_>, laid: Option<&Pieces<'_>>) -> bool
-    requires form { IsWrittenAsUrl url.now }
-    requires laid { AreOwn laid url.now }
-    ensures { IsTrue result ↔ IsSettledBesidePath url.now }
+    requires { IsWrittenAsUrl url.now }
+    ensures { AreOwn laid.entry url.now → (IsTrue result ↔ IsSettledBesidePath url.now) }
 {
     !url.serialize_alternative_form
         && has_credentials(url)

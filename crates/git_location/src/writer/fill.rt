@@ -17,11 +17,12 @@ pub(crate) struct Filled<'a> {
     at: usize,
 }
 
-/// Writes the text of the pieces to the front of the buffer, which is long enough.
+/// Writes the text of the pieces to the front of the buffer, if it fits. Otherwise the contents of the buffer
+/// are unspecified.
 #[inline(always)]
 pub fn fill(buffer: &mut [u8], pieces: &Pieces<'_>)
-    requires { length (pieces_text pieces.now) ≤ length buffer.old }
-    ensures { buffer.new ≡ pieces_text pieces.now ++ drop (length (pieces_text pieces.now)) buffer.old }
+    ensures { length (pieces_text pieces.now) ≤ length buffer.old
+        → buffer.new ≡ pieces_text pieces.now ++ drop (length (pieces_text pieces.now)) buffer.old }
 {
     let mut place = Filled { buffer, at: 0 };
     let Ok(()) = pieces.put::<Filled<'_>, Front>(&mut place);

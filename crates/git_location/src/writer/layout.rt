@@ -1,7 +1,7 @@
 //! The layout of a text: its pieces and their order.
 
 ghost use Rattle.std.specs.Prelude.{◌≡◌, ℕ, List, ◌++◌, option_map, unwrap_or};
-ghost use Rattle.git_syntax.specs.Hosts.{port_part};
+ghost use Rattle.git_syntax.specs.Hosts.{port_part, raw_user};
 ghost use Rattle.git_syntax.specs.Location.Scheme.{ssh};
 ghost use Rattle.git_syntax.specs.Views.{borrowed_scheme};
 ghost use Rattle.git_syntax.specs.AddressTest.{is_ipv6_text};
@@ -94,7 +94,7 @@ impl<'a> UrlRef<'a> {
 
     /// The user and `@`, unescaped.
     fn raw_user(&self) -> UserPieces<'_>
-        ensures { user_text result ≡ spec.raw_user self.now.user }
+        ensures { user_text result ≡ raw_user self.now.user }
     {
         match self.user {
             None => UserPieces::None,

@@ -3,6 +3,7 @@
 //! A text that passes is written as it is. One that doesn't pass may also be.
 
 ghost use Rattle.std.specs.Prelude.{◌≡◌, IsTrue};
+ghost use Rattle.std.specs.Int.{is_in_range};
 ghost use Rattle.std.specs.List.{list_all};
 ghost use Rattle.percent_encoding.specs.Percent.{percent_encode};
 ghost use Rattle.git_syntax.specs.declared.escape.TheConstants.{PATH, PASSWORD, USER};
@@ -65,7 +66,7 @@ fn is_unescaped_in_user(byte: u8) -> bool
 
 /// Whether the byte is one of these two or between them.
 fn is_between(first: u8, last: u8, byte: u8) -> bool
-    ensures { result ≡ spec.is_between first last byte }
+    ensures { result ≡ is_in_range first last byte }
 {
     first <= byte && byte <= last
 }

@@ -3,8 +3,8 @@ use Rattle.std.proofs.Common.{◌≡◌, ℕ, ◌+◌, ◌-◌, ◌<◌, ◌≤�
 use Rattle.std.proofs.Math.Seq.{take-add}
 use Rattle.std.proofs.lemmas.List.Sums.{sum_by-append}
 use Rattle.std.proofs.lemmas.List.{drop_all}
-use Rattle.git_syntax.specs.Bytes.{newline, begins_with}
-use Rattle.git_modules.specs.ConfigFileBytes.{carriage_return, unix_text, left_at}
+use Rattle.git_syntax.specs.Bytes.{newline, begins_with, carriage_return}
+use Rattle.git_modules.specs.ConfigFileBytes.{unix_text, left_at}
 use Rattle.git_modules.specs.ConfigFiles.{line_at}
 
 -- the line feeds between two places are those by which their lines differ

@@ -6,11 +6,11 @@ use Rattle.std.proofs.lemmas.Bool.Decides.{nat_tests}
 use Rattle.std.proofs.lemmas.List.{append-nil}
 use Rattle.git_syntax.specs.Bytes.{newline, colon, slash, at_sign, FreeOf}
 use Rattle.git_reads.specs.Git.{escaped_byte, git_decode, is_git_escape}
-use Rattle.git_reads.specs.Credentials.{CredentialCut, CredentialDecodes, CredentialPath, CredentialReading, are_slashes, trimmed_path, without_last_slashes}
-use Rattle.git_reads.specs.Internal.{CutsText, LacksTextCut, StripsSlashes}
+use Rattle.git_reads.specs.Credentials.{CredentialCut, CredentialDecodes, CredentialPath, CredentialReading, are_slashes, trimmed_path, without_last_slashes, CutsText, FindsParts}
+use Rattle.git_reads.specs.Internal.{StripsSlashes}
 use Rattle.git_syntax.proofs.Texts.CutLemmas.{cut_unique, free-append, free_head_tail, free_of_all, free_or_cut, free_parts, not_free}
-use Rattle.git_reads.proofs.Reading.CredentialUniqueLemmas.{one_of_pieces}
-use Rattle.git_modules.specs.SubmoduleUrls.{FindsHost, FindsParts, IsForCurl, LacksHost, has_feed, part_has_feed, parts_have_feed}
+use Rattle.git_reads.proofs.Reading.CredentialUniqueLemmas.{one_of_parts}
+use Rattle.git_modules.specs.SubmoduleUrls.{FindsHost, IsForCurl, LacksHost, has_feed, part_has_feed, parts_have_feed}
 use Rattle.git_modules.specs.SubmoduleInternal.{TestsAuthority, TestsFeed, TestsHost, TestsInformation, TestsPieces}
 use Rattle.git_modules.proofs.Urls.CurlLemmas.{curl_unique}
 use Rattle.git_modules.proofs.Urls.FeedLemmas.{clash, kept_plain}
@@ -201,17 +201,6 @@ pieces_tell protocol authority suffix line taken feed e a h =
           ∙ ordered (has_feed protocol) (length a.host == 0) (has_feed a.host) (part_has_feed a.user) (part_has_feed a.password) (part_has_feed path.0);
     }
 
--- how a text is cut in which parts are found
-found_cut : (t : List ℕ) (r : CredentialReading) (h : FindsParts t r) → CutsText t r.protocol h.authority h.suffix
-found_cut t r h = record {
-  whole = h.whole;
-  some = h.protocol;
-  no_mark = h.no_mark;
-  joined = h.joined;
-  before_path = h.before_path;
-  path_start = h.path_start;
-}
-
 -- a host that has bytes isn't empty
 some_bytes : (host : List ℕ) → not (length host == 0) ≡ true → 0 < length host
 some_bytes host h = grind (arith, nat_tests)
@@ -222,27 +211,18 @@ no_bytes host h = grind (arith, nat_tests)
 -- a host is found if the pieces have one
 pub finds_host : (t protocol authority suffix : List ℕ) (taken : Bool) → CutsText t protocol authority suffix → TestsPieces protocol authority suffix taken → (taken ≡ true → FindsHost t) × (FindsHost t → taken ≡ true)
 finds_host t protocol authority suffix taken cut h =
-    let own : CutsText t h.parts.protocol authority suffix = subst (λ p. CutsText t p authority suffix) (sym h.same) cut in (
+    let own : CutsText t h.parts.protocol authority suffix = subst (λ p. CutsText t p authority suffix) (sym h.same) cut in
+    let found : FindsParts t h.parts = record { authority = authority; suffix = suffix; cut = own; pieces = h.reads } in (
       λ e.
           let both = and_parts (not (parts_have_feed h.parts)) (not (length h.parts.host == 0)) (sym h.tests ∙ e) in
           record {
             parts = h.parts;
-            found = record {
-              authority = authority;
-              suffix = suffix;
-              whole = own.whole;
-              protocol = own.some;
-              no_mark = own.no_mark;
-              joined = own.joined;
-              before_path = own.before_path;
-              path_start = own.path_start;
-              pieces = h.reads;
-            };
+            found = found;
             lines = not-true (parts_have_feed h.parts) both.0;
             host = some_bytes h.parts.host both.1;
           },
       λ k.
-          let one = one_of_pieces t k.found.authority k.found.suffix authority suffix k.parts h.parts (found_cut t k.parts k.found) k.found.pieces own h.reads in
+          let one = one_of_parts t k.parts h.parts k.found found in
           let good : (not (parts_have_feed k.parts) && not (length k.parts.host == 0)) ≡ true = and_from _ _ (ap not k.lines) (no_bytes k.parts.host k.host) in
           h.tests ∙ ap (λ (r : CredentialReading). not (parts_have_feed r) && not (length r.host == 0)) (sym one) ∙ good,
     )

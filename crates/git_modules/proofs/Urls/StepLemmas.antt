@@ -5,16 +5,15 @@ use Rattle.std.proofs.Math.Bool.{or-false}
 use Rattle.std.proofs.lemmas.Bool.{eqb-true, and_parts, and_from}
 use Rattle.std.proofs.lemmas.List.Folds.{list_any-append}
 use Rattle.std.proofs.lemmas.Slice.Eq.{bytes_eq-Decides}
-use Rattle.git_syntax.specs.Bytes.{dot, slash, backslash, begins_by, begins_with, is_option_like}
+use Rattle.git_syntax.specs.Bytes.{dot, slash, backslash, begins_by, is_option_like, is_any_slash}
 use Rattle.git_syntax.proofs.Texts.CutLemmas.{heads, tails}
-use Rattle.git_modules.specs.Submodules.{is_separator}
 use Rattle.git_modules.proofs.Urls.FeedLemmas.{clash, one_holds}
 use Rattle.git_modules.specs.SubmoduleUrls.{DecodesToLines, IsOwnUrl, IsRefusedUrl, IsRelative, LacksHost, ReplacesHost, is_colon_or_slash, is_step, is_step_up}
 
 -- a step by its form: the separator, with one dot before it or two
 pub data StepForm (s : List ℕ) : Type 0 where
-  one_dot : (x : ℕ) → is_separator x ≡ true → s ≡ dot ∷ x ∷ [] → is_step_up s ≡ false → StepForm s
-  two_dots : (x : ℕ) → is_separator x ≡ true → s ≡ dot ∷ dot ∷ x ∷ [] → is_step_up s ≡ true → StepForm s
+  one_dot : (x : ℕ) → is_any_slash x ≡ true → s ≡ dot ∷ x ∷ [] → is_step_up s ≡ false → StepForm s
+  two_dots : (x : ℕ) → is_any_slash x ≡ true → s ≡ dot ∷ dot ∷ x ∷ [] → is_step_up s ≡ true → StepForm s
 
 -- the text that a word is
 is_text : (s word : List ℕ) → bytes_eq s word ≡ true → s ≡ word
@@ -35,7 +34,7 @@ step_form s h =
     ]
 
 -- a separator is one of two bytes
-separators : (x : ℕ) → is_separator x ≡ true → (x ≡ slash) ⊎ (x ≡ backslash)
+separators : (x : ℕ) → is_any_slash x ≡ true → (x ≡ slash) ⊎ (x ≡ backslash)
 separators x h =
     elim (one_holds (x == slash) (x == backslash) h) [
       | inl e ↦ inl (eqb-true x slash e)
@@ -43,14 +42,14 @@ separators x h =
     ]
 
 -- a text that has the form of a step is one
-pub step_here : (x : ℕ) → is_separator x ≡ true → (is_step (dot ∷ x ∷ []) ≡ true) × (false ≡ is_step_up (dot ∷ x ∷ []))
+pub step_here : (x : ℕ) → is_any_slash x ≡ true → (is_step (dot ∷ x ∷ []) ≡ true) × (false ≡ is_step_up (dot ∷ x ∷ []))
 step_here x h =
     elim (separators x h) [
       | inl e ↦ subst (λ y. (is_step (dot ∷ y ∷ []) ≡ true) × (false ≡ is_step_up (dot ∷ y ∷ []))) (sym e) (refl, refl)
       | inr e ↦ subst (λ y. (is_step (dot ∷ y ∷ []) ≡ true) × (false ≡ is_step_up (dot ∷ y ∷ []))) (sym e) (refl, refl)
     ]
 
-pub step_up : (x : ℕ) → is_separator x ≡ true → (is_step (dot ∷ dot ∷ x ∷ []) ≡ true) × (true ≡ is_step_up (dot ∷ dot ∷ x ∷ []))
+pub step_up : (x : ℕ) → is_any_slash x ≡ true → (is_step (dot ∷ dot ∷ x ∷ []) ≡ true) × (true ≡ is_step_up (dot ∷ dot ∷ x ∷ []))
 step_up x h =
     elim (separators x h) [
       | inl e ↦ subst (λ y. (is_step (dot ∷ dot ∷ y ∷ []) ≡ true) × (true ≡ is_step_up (dot ∷ dot ∷ y ∷ []))) (sym e) (refl, refl)
@@ -58,8 +57,8 @@ step_up x h =
     ]
 
 -- a dot isn't a separator
-dot_apart : {A : Type 0} (x : ℕ) → is_separator x ≡ true → x ≡ dot → A
-dot_apart x h e = absurd (clash (is_separator dot) (subst (λ y. is_separator y ≡ true) e h) refl)
+dot_apart : {A : Type 0} (x : ℕ) → is_any_slash x ≡ true → x ≡ dot → A
+dot_apart x h e = absurd (clash (is_any_slash dot) (subst (λ y. is_any_slash y ≡ true) e h) refl)
 
 -- a text begins with one step at most
 pub step_same : (s other x y : List ℕ) → StepForm s → StepForm other → s ++ x ≡ other ++ y → (s ≡ other) × (x ≡ y)
@@ -113,11 +112,11 @@ steps_same (s ∷ steps) (other ∷ others) x y h k none begins e =
     (ap (λ a. a ∷ steps) one.0 ∙ ap (λ a. other ∷ a) rest.0, rest.1)
 
 -- a step of one dot, and the text after it
-pub found_here : (t suffix rest : List ℕ) (x : ℕ) → t ≡ dot ∷ suffix → is_separator x ≡ true → suffix ≡ x ∷ rest → (step : List ℕ) × (is_step step ≡ true) × (false ≡ is_step_up step) × (t ≡ step ++ rest)
+pub found_here : (t suffix rest : List ℕ) (x : ℕ) → t ≡ dot ∷ suffix → is_any_slash x ≡ true → suffix ≡ x ∷ rest → (step : List ℕ) × (is_step step ≡ true) × (false ≡ is_step_up step) × (t ≡ step ++ rest)
 found_here t suffix rest x e is e' = (dot ∷ x ∷ [], (step_here x is).0, (step_here x is).1, e ∙ ap (λ u. dot ∷ u) e')
 
 -- a step up, and the text after it
-pub found_up : (t suffix more rest : List ℕ) (x : ℕ) → t ≡ dot ∷ suffix → suffix ≡ dot ∷ more → is_separator x ≡ true → more ≡ x ∷ rest → (step : List ℕ) × (is_step step ≡ true) × (true ≡ is_step_up step) × (t ≡ step ++ rest)
+pub found_up : (t suffix more rest : List ℕ) (x : ℕ) → t ≡ dot ∷ suffix → suffix ≡ dot ∷ more → is_any_slash x ≡ true → more ≡ x ∷ rest → (step : List ℕ) × (is_step step ≡ true) × (true ≡ is_step_up step) × (t ≡ step ++ rest)
 found_up t suffix more rest x e e' is e'' = (dot ∷ dot ∷ x ∷ [], (step_up x is).0, (step_up x is).1, e ∙ ap (λ u. dot ∷ u) (e' ∙ ap (λ u. dot ∷ u) e''))
 
 -- a text is steps and a rest, and this is whether one of the steps goes up

@@ -8,6 +8,7 @@ ghost use Rattle.git_modules.specs.ConfigFileBytes as spec;
 ghost use Rattle.git_modules.specs.ConfigFileFlaws.{prefixed};
 ghost use Rattle.git_modules.specs.ConfigFileHeaders as header;
 ghost use Rattle.git_modules.specs.ConfigFilePieces as piece;
+ghost use Rattle.git_rules.specs.CommandLines.{double_quote};
 
 use crate::config_file::bytes::byte_at;
 use crate::config_file::flaw::Flaw;
@@ -129,7 +130,7 @@ fn read_quoted(
 
 /// Whether a byte is the closing quote of a subsection.
 fn is_last_quote(byte: u8, is_escaped: bool) -> bool
-    ensures { result ≡ (not is_escaped && (byte == spec.quote_mark)) }
+    ensures { result ≡ (not is_escaped && (byte == double_quote)) }
 {
     !is_escaped && byte == b'"'
 }
@@ -142,11 +143,7 @@ fn write_quoted(byte: u8, is_escaped: bool, len: usize, buffer: &mut [u8]) -> (u
     ensures least { len ≤ result.0 }
     ensures most { result.0 ≤ len + 1 }
 {
-    if is_escaped {
-        buffer[len] = byte;
-        return (len + 1, false);
-    }
-    if byte == b'\\' {
+    if !is_escaped && byte == b'\\' {
         return (len, true);
     }
     buffer[len] = byte;

@@ -4,9 +4,9 @@
 
 ghost use Rattle.std.specs.Prelude.{◌≡◌};
 ghost use Rattle.std.specs.List.{list_any};
-ghost use Rattle.git_modules.specs.SubmoduleRisks.{git_folder, has_component_word, has_risk, has_valued_name, is_control};
-ghost use Rattle.git_modules.specs.Submodules.{is_separator};
-ghost use Rattle.git_syntax.specs.Bytes.{begins_by};
+ghost use Rattle.git_modules.specs.SubmoduleRisks.{git_folder, has_component_word, has_risk, has_valued_name};
+ghost use Rattle.git_syntax.specs.Bytes.{begins_by, is_any_slash};
+ghost use Rattle.git_location.specs.WebClass.{is_control};
 
 use crate::submodules::{has_component, is_separator, submodule_of, value_by};
 use git_rules::config::Entry;
@@ -85,7 +85,7 @@ pub fn has_risk(entry: &Entry<'_>, risk: Risk) -> bool
 
 /// Whether the path begins with a separator.
 fn is_absolute(path: &[u8]) -> bool
-    ensures { result ≡ begins_by is_separator path.now }
+    ensures { result ≡ begins_by is_any_slash path.now }
 {
     match path {
         [] => false,

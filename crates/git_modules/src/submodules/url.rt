@@ -1,9 +1,10 @@
 //! URLs of submodules that Git's fsck refuses, for one of four reasons.
 
 ghost use Rattle.std.specs.Prelude.{◌≡◌, ◌↔◌, ◌⊎◌, ◌&&◌, IsTrue, MatchOption};
-ghost use Rattle.git_reads.specs.Internal.{CutsText, LacksTextCut};
+ghost use Rattle.git_reads.specs.Internal.{LacksTextCut};
 ghost use Rattle.git_syntax.specs.Bytes.{begins_by};
 ghost use Rattle.git_reads.specs.Git.{git_decode};
+ghost use Rattle.git_reads.specs.Credentials.{CutsText};
 ghost use Rattle.git_modules.specs.SubmoduleUrls.{DecodesToLines, FindsHost, IsOwnUrl, IsRefusedUrl, IsRelative, LacksHost, ReplacesHost, has_feed, is_colon_or_slash, is_curl_scheme};
 ghost use Rattle.git_modules.specs.SubmoduleInternal.{TestsAuthority, FindsCurl, TestsFeed, TestsHost, TestsInformation, TestsPieces, FindsSeparator, FindsStep};
 

@@ -3,12 +3,12 @@ use Rattle.std.proofs.Common.{◌≡◌, ◌∙◌, ℕ, suc, ◌+◌, ◌≤◌
 use Rattle.std.proofs.lemmas.Bool.{and_from, and_parts, cases_Bool, cond-false, cond-true, eqb-true}
 use Rattle.std.proofs.lemmas.Bool.Decides.{nat_tests}
 use Rattle.git_syntax.specs.Bytes.{slash, colon, at_sign, FreeOf, Holds}
-use Rattle.git_reads.specs.Credentials.{AreOneLine, CredentialDecodes, CredentialCut, CredentialReading, CredentialReads, are_slashes, without_last_slashes, trimmed_path, ReadsPieces}
-use Rattle.git_reads.specs.Internal.{CutsInformation, CutsText, DecodesPart, LacksTextCut}
+use Rattle.git_reads.specs.Credentials.{AreOneLine, CredentialDecodes, CredentialCut, CredentialReading, CredentialReads, are_slashes, without_last_slashes, trimmed_path, ReadsPieces, CutsText}
+use Rattle.git_reads.specs.Internal.{CutsInformation, DecodesPart, LacksTextCut}
 use Rattle.git_syntax.proofs.Texts.CutLemmas.{free_parts, mark_cut_unique}
 use Rattle.git_syntax.specs.Internal.Cuts.{url_mark}
 use Rattle.git_reads.specs.Git.{git_decode}
-use Rattle.git_reads.proofs.Reading.CredentialUniqueLemmas.{one_of_pieces, reading_cut, reading_pieces}
+use Rattle.git_reads.proofs.Reading.CredentialUniqueLemmas.{one_of_parts}
 
 -- ---- pieces
 
@@ -63,27 +63,13 @@ cut_decoded a u w user password named (CutsInformation.with_password name secret
 pub reading_of_pieces : (t protocol authority suffix : List ℕ) (r : CredentialReading) → CutsText t protocol authority suffix → r.protocol ≡ protocol → ReadsPieces authority suffix r → AreOneLine r → CredentialReads t r
 reading_of_pieces t protocol authority suffix r cut same pieces lines =
     let own : CutsText t r.protocol authority suffix = subst (λ p. CutsText t p authority suffix) (sym same) cut in
-    record {
-      authority = authority;
-      suffix = suffix;
-      named = pieces.named;
-      whole = own.whole;
-      protocol = own.some;
-      no_mark = own.no_mark;
-      joined = own.joined;
-      before_path = own.before_path;
-      path_start = own.path_start;
-      cut = pieces.cut;
-      host = pieces.host;
-      path = pieces.path;
-      lines = lines;
-    }
+    record { found = record { authority = authority; suffix = suffix; cut = own; pieces = pieces }; lines = lines }
 
 -- nothing is read in a text of which a part is of several lines
 pub unread_of_pieces : (t protocol authority suffix : List ℕ) (r : CredentialReading) → CutsText t protocol authority suffix → r.protocol ≡ protocol → ReadsPieces authority suffix r → ¬ AreOneLine r → (other : CredentialReading) → ¬ CredentialReads t other
 unread_of_pieces t protocol authority suffix r cut same pieces several other h =
     let own : CutsText t r.protocol authority suffix = subst (λ p. CutsText t p authority suffix) (sym same) cut in
-    let one = one_of_pieces t h.authority h.suffix authority suffix other r (reading_cut t other h) (reading_pieces t other h) own pieces in
+    let one = one_of_parts t other r h.found record { authority = authority; suffix = suffix; cut = own; pieces = pieces } in
     several (subst (λ x. AreOneLine x) one h.lines)
 
 -- ---- slashes

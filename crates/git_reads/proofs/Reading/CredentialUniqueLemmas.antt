@@ -2,8 +2,7 @@
 use Rattle.std.proofs.Common.{◌≡◌, ◌∙◌, ℕ, true, false, not, ◌==◌, ◌⊎◌, List, [], ◌∷◌, ◌++◌, Option, Some, sym, ap, subst, append_assoc, arith}
 use Rattle.std.proofs.lemmas.Bool.Decides.{nat_tests}
 use Rattle.git_syntax.specs.Bytes.{slash, colon, at_sign, FreeOf, Lacks, begins_by, begins_with}
-use Rattle.git_reads.specs.Credentials.{CredentialDecodes, CredentialCut, CredentialPath, CredentialReading, CredentialReads, OneCredentialReading, are_slashes, trimmed_path, ReadsPieces}
-use Rattle.git_reads.specs.Internal.{CutsText}
+use Rattle.git_reads.specs.Credentials.{CredentialDecodes, CredentialCut, CredentialPath, CredentialReading, OneCredentialReading, are_slashes, trimmed_path, CutsText, FindsParts, ReadsPieces}
 use Rattle.git_syntax.proofs.Texts.CutLemmas.{class_cut_unique, cut_unique, free-append, lacks_of_all, mark_cut_unique, not_free, path_cut_unique}
 
 -- a piece is decoded in one way
@@ -87,22 +86,10 @@ one_of_pieces t authority suffix place rest r other cut h cut' k =
     let same = text_same t r.protocol other.protocol authority place suffix rest cut cut' in
     pieces_same place rest r other same.0 (subst (λ b. ReadsPieces place b r) same.2 (subst (λ a. ReadsPieces a suffix r) same.1 h)) k
 
--- how a text is cut that is read
-pub reading_cut : (t : List ℕ) (r : CredentialReading) (h : CredentialReads t r) → CutsText t r.protocol h.authority h.suffix
-reading_cut t r h = record {
-  whole = h.whole;
-  some = h.protocol;
-  no_mark = h.no_mark;
-  joined = h.joined;
-  before_path = h.before_path;
-  path_start = h.path_start;
-}
-
--- and the reading of its pieces
-pub reading_pieces : (t : List ℕ) (r : CredentialReading) (h : CredentialReads t r) → ReadsPieces h.authority h.suffix r
-reading_pieces t r h = record { named = h.named; cut = h.cut; host = h.host; path = h.path }
+-- also as the parts that are found
+pub one_of_parts : (t : List ℕ) (r other : CredentialReading) → FindsParts t r → FindsParts t other → r ≡ other
+one_of_parts t r other h k = one_of_pieces t h.authority h.suffix k.authority k.suffix r other h.cut h.pieces k.cut k.pieces
 
 -- Git's credential code reads one thing in a text
 pub one_credential : OneCredentialReading
-one_credential t r other h k =
-    one_of_pieces t h.authority h.suffix k.authority k.suffix r other (reading_cut t r h) (reading_pieces t r h) (reading_cut t other k) (reading_pieces t other k)
+one_credential t r other h k = one_of_parts t r other h.found k.found

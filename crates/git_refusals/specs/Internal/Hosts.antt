@@ -1,8 +1,7 @@
 -- The pieces of a host in which a check finds no flaw.
 use Rattle.std.specs.Prelude.{◌≡◌, ℕ, ◌⊎◌, List, [], ◌++◌}
-use Rattle.git_syntax.specs.Bytes.{colon, FreeOf, begins_with}
-use Rattle.git_syntax.specs.Hosts.{HostSyntax, HostText, Inner, Number}
-use Rattle.std.specs.Prelude.{true}
+use Rattle.git_syntax.specs.Bytes.{colon, FreeOf}
+use Rattle.git_syntax.specs.Hosts.{HostSyntax, HostText, Inner, Number, EndsHost}
 
 -- a text outside brackets denotes a host
 abbrev pub DenotesHost : HostSyntax → List ℕ → Type 0
@@ -21,4 +20,4 @@ pub record IsBeforeColon (text front : List ℕ) : Type 0 where
   pub no_colon : FreeOf colon front
   pub rest : List ℕ
   pub joined : text ≡ front ++ rest
-  pub followed : (rest ≡ []) ⊎ (begins_with colon rest ≡ true)
+  pub followed : EndsHost rest

@@ -18,9 +18,10 @@ use Rattle.git_laws.specs.GitClass.{own_reading, ReadAlike, ReadsOwnBy, ReadsOwn
 use Rattle.git_syntax.proofs.Texts.CutLemmas.{different_bytes, free_or_cut, not_free, tails}
 use Rattle.git_reads.proofs.Reading.TransportLemmas.{helper_single, local_decided, remote_decided}
 use Rattle.git_reads.proofs.Reading.UnreadLemmas.{is_no_url}
+use Rattle.git_reads.specs.Unread.{IsGiven}
 use Rattle.git_rules.specs.declared.protocols.text.NoTransport.{NoTransport}
 use Rattle.git_rules.specs.declared.protocols.text.NoTransport.TheVariants as why
-use Rattle.git_rules.specs.TextTransports.{IsWholeInput, scheme_transport, UsesTransport, HasTransport, LacksTransport, EachDecided, TransportOfReading, TransportOfLocation}
+use Rattle.git_rules.specs.TextTransports.{scheme_transport, UsesTransport, HasTransport, LacksTransport, EachDecided, TransportOfReading, TransportOfLocation}
 use Rattle.git_rules.proofs.Allowed.TransportLemmas.{for_rsync, names_none, unknown, uses_empty, uses_helper, uses_url}
 
 -- ---- fronts and parts of a text
@@ -113,14 +114,14 @@ abbrev Decided : List ℕ → Type 0
 Decided t = ((name : List ℕ) × HasTransport t name) ⊎ ((w : NoTransport) × LacksTransport t w)
 
 -- a text that isn't a URL has a transport
-unmarked_decided : (t : List ℕ) → IsWholeInput t → IsNoUrl t → Decided t
+unmarked_decided : (t : List ℕ) → IsGiven t → IsNoUrl t → Decided t
 unmarked_decided t input n = elim (remote_or_not t) [
   | inl remote ↦ inl (codes "ssh", record { input = input; uses = UsesTransport.scp_form n remote refl })
   | inr other ↦ inl (codes "file", record { input = input; uses = UsesTransport.local_path n (local_decided t other) refl })
 ]
 
 -- a text that is neither for a helper nor for `rsync` is decided by its mark
-marked_decided : (t : List ℕ) → IsWholeInput t → ¬ NamesHelper t → ¬ BeginsBy (codes "rsync:") t → Decided t
+marked_decided : (t : List ℕ) → IsGiven t → ¬ NamesHelper t → ¬ BeginsBy (codes "rsync:") t → Decided t
 marked_decided t input unnamed other = elim (mark_or_none t) [
   | inl h ↦ elim (cases_Bool (is_helper_name h.scheme)) [
     | inl named ↦ inl (scheme_transport h.scheme, record { input = input; uses = uses_url t h.scheme h.rest other h.joined named })
@@ -130,7 +131,7 @@ marked_decided t input unnamed other = elim (mark_or_none t) [
 ]
 
 -- a text that Git gets whole, and that isn't an option, is decided
-given_decided : (t : List ℕ) → IsWholeInput t → Decided t
+given_decided : (t : List ℕ) → IsGiven t → Decided t
 given_decided t input = elim (helper_or_none t) [
   | inl (name, h) ↦ inl (name, record { input = input; uses = h })
   | inr unnamed ↦ elim (begins_or_not (codes "rsync:") t) [
@@ -212,10 +213,10 @@ own_located known v t e h = subst (λ s. HasTransport t (scheme_text s)) e (tran
 -- a text whose credential is asked for by the scheme uses the transport of that scheme
 web_located : (known : Scheme) (v : Location) (t : List ℕ) → v.scheme ≡ known → IsOwnName known (scheme_text known) → ((rest : List ℕ) → is_option_like (scheme_text known ++ (url_mark ++ rest)) ≡ false) → ReadsOwnOverWeb t v → HasTransport t (scheme_text known)
 web_located known v t e own plain h =
-    let asked = h.credential in
-    let joined : t ≡ scheme_text known ++ (url_mark ++ (asked.authority ++ asked.suffix)) = asked.joined ∙ ap (λ s. scheme_text s ++ (url_mark ++ (asked.authority ++ asked.suffix))) e in
+    let asked = h.credential.found in
+    let joined : t ≡ scheme_text known ++ (url_mark ++ (asked.authority ++ asked.suffix)) = asked.cut.joined ∙ ap (λ s. scheme_text s ++ (url_mark ++ (asked.authority ++ asked.suffix))) e in
     record {
-      input = record { whole = asked.whole; no_option = ap is_option_like joined ∙ plain (asked.authority ++ asked.suffix) };
+      input = record { whole = asked.cut.whole; no_option = ap is_option_like joined ∙ plain (asked.authority ++ asked.suffix) };
       uses = UsesTransport.url (scheme_text known) (asked.authority ++ asked.suffix) joined own.named own.other own.name;
     }
 

@@ -11,8 +11,9 @@ use Rattle.git_syntax.proofs.Texts.CutLemmas.{begins_cut, cut_unique, held_free,
 use Rattle.git_syntax.proofs.Parsing.FormLemmas.{mark_no_helper}
 use Rattle.git_reads.proofs.Reading.TransportLemmas.{local_decided}
 use Rattle.git_reads.proofs.Reading.UniqueLemmas.{remote_not_local}
+use Rattle.git_reads.specs.Unread.{IsGiven}
 use Rattle.git_rules.specs.declared.protocols.text.NoTransport.TheVariants as why
-use Rattle.git_rules.specs.TextTransports.{IsWholeInput, scheme_transport, UsesTransport, IsForRsync, HasUnknownScheme, OneTransport, HasOrLacks}
+use Rattle.git_rules.specs.TextTransports.{scheme_transport, UsesTransport, IsForRsync, HasUnknownScheme, OneTransport, HasOrLacks}
 
 -- ---- one transport
 
@@ -80,7 +81,7 @@ given_whole : {A : Type 0} (t : List ℕ) → ¬ FreeOf 0 t → FreeOf 0 t → A
 given_whole t h k = absurd (h k)
 
 -- a text is an option or none
-given_plain : {A : Type 0} (t : List ℕ) → is_option_like t ≡ true → IsWholeInput t → A
+given_plain : {A : Type 0} (t : List ℕ) → is_option_like t ≡ true → IsGiven t → A
 given_plain t h k = absurd (both_ways (is_option_like t) k.no_option h)
 
 -- ---- a transport or a reason

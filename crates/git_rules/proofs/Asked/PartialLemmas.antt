@@ -2,8 +2,7 @@
 use Rattle.std.proofs.Common.{◌≡◌, ◌∙◌, ℕ, true, inl, inr, List, ◌++◌, codes, Option, Bool, IsTrue, ◌↔◌, sym, ap, subst, refl, arith}
 use Rattle.git_syntax.specs.Bytes.{FreeOf, Lacks, StartsPath, is_path_start}
 use Rattle.git_syntax.proofs.Texts.CutLemmas.{free-append, free_parts, held_free, mark_cut_unique}
-use Rattle.git_reads.specs.Credentials.{CredentialReading, ReadsPieces}
-use Rattle.git_reads.specs.Internal.{CutsText}
+use Rattle.git_reads.specs.Credentials.{CredentialReading, ReadsPieces, CutsText}
 use Rattle.git_reads.proofs.Reading.CredentialUniqueLemmas.{one_of_pieces}
 use Rattle.git_rules.specs.PartialUrls.{CutsPartly, CutsProtocol, FitsPartly, HasParts, LackNewlines, ReadsPartly}
 

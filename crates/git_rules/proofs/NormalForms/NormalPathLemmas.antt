@@ -10,12 +10,13 @@ use Rattle.std.specs.Prelude.{option_and_then, codes, bytes_eq, IfSome}
 use Rattle.std.specs.Char.{is_digit}
 use Rattle.percent_encoding.specs.Percent.{percent_encode_byte}
 use Rattle.percent_encoding.proofs.PercentLemmas.{IsEscapeByte, All-percent_encode_byte}
-use Rattle.git_syntax.specs.Bytes.{slash, percent_sign, FreeOf, begins_by}
+use Rattle.git_syntax.specs.Bytes.{slash, percent_sign, FreeOf, begins_by, is_query_start, unrooted}
 use Rattle.git_syntax.specs.Escapes.{is_sound}
 use Rattle.git_syntax.proofs.Texts.EscapeLemmas.{sound_parts, sound_tail}
 use Rattle.git_syntax.proofs.Texts.CutLemmas.{free-append, free-cons, free_head_tail, last_cut_unique}
-use Rattle.git_rules.specs.Normal.{is_unsafe, is_reserved, normal_byte, normal_text, escaped_byte, stacked_path, without_top, write_segment, write_segments, normal_segments, is_rest_start, unrooted}
+use Rattle.git_rules.specs.Normal.{is_unsafe, is_reserved, normal_byte, normal_text, stacked_path, without_top, write_segment, write_segments, normal_segments}
 use Rattle.git_rules.specs.NormalPieces.{ShowsStack, ShowsFront, CutsBefore}
+use Rattle.git_reads.specs.Git.{escaped_byte}
 
 -- ---- no segment gets a `/`
 
@@ -194,22 +195,22 @@ pub length-unrooted : (text : List ℕ) → length (unrooted text) ≤ length te
 length-unrooted [] = omega arith
 length-unrooted (b ∷ bs) = elim (b == slash) as (λ v. length (cond v bs (b ∷ bs)) ≤ length (b ∷ bs)) [ true ↦ omega arith | false ↦ omega arith ]
 
-rest_no_digit : (c : ℕ) → is_rest_start c ≡ true → is_digit c 16 ≡ false
+rest_no_digit : (c : ℕ) → is_query_start c ≡ true → is_digit c 16 ≡ false
 rest_no_digit c h = grind (arith, nat_tests)
 
-sound_around_rest : (front back : List ℕ) → (back ≡ []) ⊎ (begins_by is_rest_start back ≡ true) → is_sound (front ++ back) ≡ true → (is_sound front ≡ true) × (is_sound back ≡ true)
+sound_around_rest : (front back : List ℕ) → (back ≡ []) ⊎ (begins_by is_query_start back ≡ true) → is_sound (front ++ back) ≡ true → (is_sound front ≡ true) × (is_sound back ≡ true)
 sound_around_rest front [] begins sound = (ap is_sound (sym (append-nil front)) ∙ sound, refl)
 sound_around_rest front (c ∷ cs) (inl none) sound = absurd (let long = ap length none in omega (arith, long))
 sound_around_rest front (c ∷ cs) (inr begins) sound = sound_parts front cs c (rest_no_digit c begins) sound
 
 -- a sound text is cut before its rest into sound ones
-pub sound_cut : (text front back : List ℕ) → CutsBefore is_rest_start text front back → is_sound text ≡ true → (is_sound front ≡ true) × (is_sound back ≡ true)
+pub sound_cut : (text front back : List ℕ) → CutsBefore is_query_start text front back → is_sound text ≡ true → (is_sound front ≡ true) × (is_sound back ≡ true)
 sound_cut text front back cut sound = sound_around_rest front back cut.begins (ap is_sound (sym cut.joined) ∙ sound)
 
 -- how long the pieces are
-pub length-cut : (text front back : List ℕ) → CutsBefore is_rest_start text front back → length text ≡ length front + length back
+pub length-cut : (text front back : List ℕ) → CutsBefore is_query_start text front back → length text ≡ length front + length back
 length-cut text front back cut = ap length cut.joined ∙ length-append front back
 
 -- the text after the authority is cut into pieces that are no longer
-pub length-pieces : (suffix text front back : List ℕ) → text ≡ unrooted suffix → CutsBefore is_rest_start text front back → length front + length back ≤ length suffix
+pub length-pieces : (suffix text front back : List ℕ) → text ≡ unrooted suffix → CutsBefore is_query_start text front back → length front + length back ≤ length suffix
 length-pieces suffix text front back is cut = omega (arith, length-cut text front back cut, ap length is, length-unrooted suffix)

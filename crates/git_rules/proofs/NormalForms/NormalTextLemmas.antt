@@ -8,8 +8,9 @@ use Rattle.percent_encoding.specs.Percent.{percent_encode_byte}
 use Rattle.git_syntax.specs.Bytes.{is_hexadecimal, percent_sign}
 use Rattle.git_syntax.specs.Escapes.{is_sound}
 use Rattle.git_syntax.proofs.Texts.EscapeLemmas.{sound_tail}
-use Rattle.git_rules.specs.Normal.{normal_byte, normal_text, escaped_byte}
+use Rattle.git_rules.specs.Normal.{normal_byte, normal_text}
 use Rattle.git_rules.specs.NormalPieces.{SplitsNormal}
+use Rattle.git_reads.specs.Git.{escaped_byte}
 
 -- a byte that isn't `%` is written by itself
 pub normal_kept : (b : ℕ) (rest : List ℕ) → (b == percent_sign) ≡ false → normal_text (b ∷ rest) ≡ normal_byte false b ++ normal_text rest

@@ -5,7 +5,7 @@ use Rattle.std.specs.List.{list_all}
 use Rattle.std.specs.Option.{is_some}
 use Rattle.std.proofs.lemmas.Bool.{false≢true}
 use Rattle.std.proofs.lemmas.Option.{same_Some}
-use Rattle.git_syntax.specs.Bytes.{colon, at_sign, right_bracket, FreeOf, lowercase}
+use Rattle.git_syntax.specs.Bytes.{colon, at_sign, right_bracket, FreeOf, lowercase, is_query_start}
 use Rattle.git_syntax.specs.Escapes.{is_sound}
 use Rattle.git_syntax.specs.Grammar.{or_root}
 use Rattle.git_syntax.specs.Hosts.{Number}
@@ -14,7 +14,7 @@ use Rattle.git_syntax.proofs.Texts.CutLemmas.{class_cut_unique, path_cut_unique,
 use Rattle.git_syntax.proofs.Parsing.FormLemmas.{scheme_cut_unique}
 use Rattle.git_rules.specs.declared.normal.NormalError.{NormalError}
 use Rattle.git_rules.specs.declared.normal.NormalError.TheVariants.{NoRoom, NoUrl, BrokenEscape, NoHost, BadHost, BadPort, AboveRoot}
-use Rattle.git_rules.specs.Normal.{NormalPlace, CutsPort, HostFor, PortFor, HostPort, IsUserOf, NormalAuthority, NormalPath, UrlCut, IsNormalOf, is_own_port, is_host_byte, is_rest_start, lacks_host, normal_text, normal_segments, write_segments, stacked_path}
+use Rattle.git_rules.specs.Normal.{NormalPlace, CutsPort, HostFor, PortFor, HostPort, IsUserOf, NormalAuthority, NormalPath, UrlCut, IsNormalOf, is_own_port, is_host_byte, lacks_host, normal_text, normal_segments, write_segments, stacked_path}
 use Rattle.git_rules.specs.NormalPieces.{HoldsParts, ReadsAuthority}
 use Rattle.git_rules.specs.NormalFlaws.{IsBadPort, IsBroken, HostFlaw, AuthorityFlaw, PartFlaw, PathFlaw, NormalizesIn}
 
@@ -90,7 +90,7 @@ authority_unique globs scheme text user person host other port last (NormalAutho
 -- the text after an authority has one path
 path_unique : (suffix path other : List ℕ) → NormalPath suffix path → NormalPath suffix other → path ≡ other
 path_unique suffix path other h k =
-    let pieces = class_cut_unique is_rest_start h.segments k.segments h.rest k.rest h.before_rest k.before_rest h.rest_starts k.rest_starts (sym h.joined ∙ k.joined) in
+    let pieces = class_cut_unique is_query_start h.segments k.segments h.rest k.rest h.before_rest k.before_rest h.rest_starts k.rest_starts (sym h.joined ∙ k.joined) in
     let stack = same_Some h.stack k.stack (sym (subst (λ z. write_segments (normal_segments z) [] ≡ Some h.stack) pieces.0 h.put) ∙ k.put) in
     h.form ∙ ap (λ z. or_root (stacked_path z) ++ normal_text h.rest) stack ∙ ap (λ z. or_root (stacked_path k.stack) ++ normal_text z) pieces.1 ∙ sym k.form
 
@@ -122,7 +122,8 @@ no_host_refused scheme text name port host lacks other (HostFor.missing m f n d)
 
 -- a text that isn't a port has none
 port_refused : (scheme text name port digits host : List ℕ) (p : Option ℕ) → port ≡ digits → IsBadPort scheme text port → HostFor scheme text name digits host → PortFor scheme digits p → ⊥
-port_refused scheme text name port digits host p same (inl bad) h (inl empty) = bad.1.0 (same ∙ empty.0)
+port_refused scheme text name port digits host p same (inl bad) h (inl empty) =
+    let none = ap length (same ∙ empty.0) in let some = bad.1.0 in omega (arith, none, some)
 port_refused scheme text name port digits host p same (inl bad) h (inr number) = bad.1.1 number.0 (subst (λ z. Number http_hosts z number.0) (sym same) number.1)
 port_refused scheme text name port digits host p same (inr some) (HostFor.named l e) k = false≢true (sym l ∙ some.0)
 port_refused scheme text name port digits host p same (inr some) (HostFor.missing m f n d) k = some.2 (same ∙ n)
@@ -176,7 +177,7 @@ path_refused suffix path NoHost flaw h = flaw
 path_refused suffix path BadHost flaw h = flaw
 path_refused suffix path BadPort flaw h = flaw
 path_refused suffix path AboveRoot flaw h =
-    let pieces = class_cut_unique is_rest_start flaw.0 h.segments flaw.1 h.rest flaw.2.lacks h.before_rest flaw.2.begins h.rest_starts (sym flaw.2.joined ∙ h.joined) in
+    let pieces = class_cut_unique is_query_start flaw.0 h.segments flaw.1 h.rest flaw.2.lacks h.before_rest flaw.2.begins h.rest_starts (sym flaw.2.joined ∙ h.joined) in
     no_outcome (write_segments (normal_segments h.segments) []) h.stack (ap (λ z. write_segments (normal_segments z) []) (sym pieces.0) ∙ flaw.3) h.put
 
 -- a URL whose authority or path has a flaw has no normal form

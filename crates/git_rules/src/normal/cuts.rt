@@ -2,8 +2,8 @@
 
 ghost use Rattle.std.specs.Prelude.{◌≡◌, List, ℕ, MatchOption, true};
 ghost use Rattle.memchr.specs.Find.{IsFirstByte};
-ghost use Rattle.git_syntax.specs.Bytes.{is_path_start};
-ghost use Rattle.git_rules.specs.Normal.{UrlCut, is_rest_start, unrooted};
+ghost use Rattle.git_syntax.specs.Bytes.{is_path_start, is_query_start, unrooted};
+ghost use Rattle.git_rules.specs.Normal.{UrlCut};
 ghost use Rattle.git_rules.specs.NormalPieces.{CutsBefore};
 
 use git_syntax::bytes::{after, cut, is_scheme_text};
@@ -43,7 +43,7 @@ fn path_start(text: &[u8]) -> Option<usize>
 
 /// Splits a text before its query or fragment.
 pub(super) fn cut_before_rest(text: &[u8]) -> (&[u8], &[u8])
-    ensures { CutsBefore is_rest_start text.now result.0.now result.1.now }
+    ensures { CutsBefore is_query_start text.now result.0.now result.1.now }
 {
     match rest_start(text) {
         Some(at) => text.split_at(at),
@@ -53,7 +53,7 @@ pub(super) fn cut_before_rest(text: &[u8]) -> (&[u8], &[u8])
 
 /// The index of the first byte that begins a query or a fragment.
 fn rest_start(text: &[u8]) -> Option<usize>
-    ensures { IsFirstByte is_rest_start text.now result }
+    ensures { IsFirstByte is_query_start text.now result }
 {
     memchr2(b'?', b'#', text)
 }

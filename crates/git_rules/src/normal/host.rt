@@ -8,9 +8,10 @@ ghost use Rattle.std.specs.List.{list_all};
 ghost use Rattle.git_rules.specs.NormalPieces.{ReadsHost};
 ghost use Rattle.git_syntax.specs.Hosts.{Number};
 ghost use Rattle.git_syntax.specs.Hosts.HostSyntax.{http_hosts};
+ghost use Rattle.git_syntax.specs.Flaws.{IsNoPort};
 ghost use Rattle.git_rules.specs.Normal as spec;
 ghost use Rattle.git_rules.specs.Normal.{CutsPort, PortFor};
-ghost use Rattle.git_rules.specs.NormalFlaws.{HostFlaw, IsNoPort};
+ghost use Rattle.git_rules.specs.NormalFlaws.{HostFlaw};
 
 use crate::normal::NormalError;
 use git_syntax::bytes::{is_free_of, last_cut};
@@ -94,7 +95,7 @@ fn is_host_mark(byte: u8) -> bool
 
 /// The port in the text after a host's colon, if that text is empty or a port number.
 fn read_port(scheme: &[u8], digits: &[u8]) -> Option<Option<u16>>
-    ensures { MatchOption result (IsNoPort digits.now) (λ port. PortFor scheme.now digits.now port) }
+    ensures { MatchOption result (IsNoPort http_hosts digits.now) (λ port. PortFor scheme.now digits.now port) }
 {
     if digits.is_empty() {
         return Some(None);

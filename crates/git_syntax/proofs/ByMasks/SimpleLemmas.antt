@@ -1,22 +1,20 @@
 -- Simple texts, by the pieces that masks cut.
-use Rattle.std.proofs.Common.{◌≡◌, ◌∙◌, ◌<◌, ◌≤◌, ◌++◌, ◌∷◌, ℕ, true, false, List, [], Option, Some, length, codes, refl, ap, subst, append_assoc}
-use Rattle.git_syntax.specs.Bytes.{FreeOf, begins_with, colon, is_helper_name, slash}
+use Rattle.std.proofs.Common.{◌≡◌, ◌∙◌, ◌<◌, ◌≤◌, ◌++◌, ◌∷◌, ℕ, true, false, List, [], Option, Some, length, codes, refl, ap, append_assoc}
+use Rattle.git_syntax.specs.Bytes.{FreeOf, begins_with, colon, slash}
 use Rattle.git_syntax.specs.Flaws.{UrlForm}
-use Rattle.git_syntax.specs.Grammar.{SpellsLocal, begins_at_home, helper_scheme}
-use Rattle.git_syntax.specs.Location.{Location, Scheme, path_alone}
+use Rattle.git_syntax.specs.Grammar.{SpellsLocal, begins_at_home}
+use Rattle.git_syntax.specs.Location.{Scheme, path_alone}
 use Rattle.git_syntax.specs.Location.Scheme.{file, ssh}
 use Rattle.git_syntax.specs.Schemes.{scheme_text}
-use Rattle.git_syntax.specs.SimpleTexts.{HasSimpleParts, IsRemoteScheme, IsSimpleText, before_host}
-use Rattle.git_syntax.specs.Hosts.{port_part}
+use Rattle.git_syntax.specs.SimpleTexts.{HasSimpleParts, IsRemoteScheme, IsSimpleText}
+use Rattle.git_syntax.specs.Hosts.{port_part, raw_user}
 use Rattle.git_syntax.specs.Internal.HostPieces.{IsSimpleHost}
 use Rattle.git_syntax.specs.Internal.SimplePieces.{CutsSimpleUser, IsSimplePlace}
-use Rattle.git_syntax.specs.SimpleTexts.IsSimpleText.{file_text, helper_text, scp_text, url_text}
+use Rattle.git_syntax.specs.SimpleTexts.IsSimpleText.{file_text, scp_text, url_text}
 use Rattle.git_syntax.specs.Internal.Forms.{ColonCut}
 use Rattle.git_syntax.specs.Internal.Masks.{is_common}
 use Rattle.git_syntax.proofs.ByMasks.CommonLemmas.{around_colon, common_utf8, neither_by_colon, not_addressed}
-use Rattle.git_syntax.proofs.Parsing.ClassifierLemmas.{colon_nonempty, local_form, no_helper_free, no_scp_cut}
-use Rattle.git_syntax.proofs.Parsing.FormLemmas.{not_scp}
-use Rattle.git_syntax.proofs.Texts.CutLemmas.{held_free, not_free}
+use Rattle.git_syntax.proofs.Parsing.ClassifierLemmas.{colon_nonempty, local_form, no_scp_cut}
 
 -- a text with a slash before its only colon is a local path
 pub slashed_local : (b front rest : List ℕ) → is_common b ≡ true → ColonCut b front rest → ((suffix : List ℕ) → ¬ (rest ≡ slash ∷ (slash ∷ suffix)))
@@ -33,7 +31,7 @@ pub simple_scp : (b front rest : List ℕ) (user : Option (List ℕ)) (host : Li
     → IsSimpleText b (record (path_alone ssh true rest) { user = user; host = Some host })
 simple_scp b front rest user host common cut no_mark free some not_home split simple =
     let parts : HasSimpleParts b user host rest = record { common = common; simple_user = split.simple; simple_host = simple; pathed = some; not_home = not_home } in
-    scp_text user host rest parts free no_mark (cut.joined ∙ ap (λ f. f ++ colon ∷ rest) split.joined ∙ append_assoc (before_host user) host (colon ∷ rest)) refl
+    scp_text user host rest parts free no_mark (cut.joined ∙ ap (λ f. f ++ colon ∷ rest) split.joined ∙ append_assoc (raw_user user) host (colon ∷ rest)) refl
 
 -- a remote scheme and a simple host make a URL
 pub simple_url : (b scheme rest authority path piece : List ℕ) (p : Scheme) (user : Option (List ℕ)) (host : List ℕ) (port : Option ℕ) → UrlForm b scheme rest → is_common b ≡ true → length b ≤ 64
@@ -43,7 +41,7 @@ pub simple_url : (b scheme rest authority path piece : List ℕ) (p : Scheme) (u
 simple_url b scheme rest authority path piece p user host port form common short cut some begins not_home remote named split place =
     let parts : HasSimpleParts b user host path = record { common = common; simple_user = split.simple; simple_host = place.simple; pathed = some; not_home = not_home } in
     let placed = ap (λ q. q ++ path) place.joined ∙ append_assoc host (port_part port) path in
-    let whole = cut ∙ ap (λ a. a ++ path) split.joined ∙ append_assoc (before_host user) piece path ∙ ap (λ t. before_host user ++ t) placed in
+    let whole = cut ∙ ap (λ a. a ++ path) split.joined ∙ append_assoc (raw_user user) piece path ∙ ap (λ t. raw_user user ++ t) placed in
     url_text p user host path port remote parts place.allowed begins short (form.joined ∙ ap (λ s. s ++ (codes "://" ++ rest)) named ∙ ap (λ r. scheme_text p ++ (codes "://" ++ r)) whole) refl
 
 -- `file://` and a path make a file URL without a host

@@ -1,15 +1,14 @@
 -- A simple text spells its location.
-use Rattle.std.proofs.Common.{◌≡◌, ◌∙◌, ◌<◌, ◌≤◌, ◌++◌, ◌∷◌, ◌==◌, ◌&&◌, ℕ, Bool, bytes_eq, true, false, List, [], Option, Some, None, length, codes, refl, sym, ap, subst, inl, inr, arith, append_assoc, append-nil}
+use Rattle.std.proofs.Common.{◌≡◌, ◌∙◌, ◌<◌, ◌≤◌, ◌++◌, ◌∷◌, ◌==◌, ℕ, Bool, bytes_eq, true, false, List, [], Option, Some, None, length, codes, refl, sym, ap, subst, inl, inr, arith, append_assoc, append-nil}
 use Rattle.std.specs.Prelude.{IfSome}
-use Rattle.std.proofs.lemmas.Bool.{and_parts, false≢true}
-use Rattle.std.proofs.lemmas.Bool.Decides.{nat_tests}
+use Rattle.std.proofs.lemmas.Bool.{false≢true}
 use Rattle.percent_encoding.specs.Percent.{percent_decode}
 use Rattle.git_syntax.specs.Authority.Authority.{host_alone, with_user}
 use Rattle.git_syntax.specs.Authority.Credentials.{user_alone}
-use Rattle.git_syntax.specs.Bytes.{FreeOf, at_sign, begins_with, colon, is_scheme_text, left_bracket, slash, tilde}
+use Rattle.git_syntax.specs.Bytes.{FreeOf, at_sign, begins_with, colon, is_scheme_text, left_bracket, slash}
 use Rattle.git_syntax.specs.Grammar.{begins_at_home, HasUrlSyntax, HostFor, IsSshHost, DenotesByScheme, ScpFront, ScpUser, Spells, UrlSyntax, from_home, or_root, path_for}
 use Rattle.git_syntax.specs.Grammar.Spells.{file_url, local_path, remote_helper, scp_form, url}
-use Rattle.git_syntax.specs.Hosts.{AllowsPort, HostSyntax, IsPlainHost, SpellsHostPort, port_part}
+use Rattle.git_syntax.specs.Hosts.{AllowsPort, HostSyntax, IsPlainHost, SpellsHostPort, port_part, raw_user}
 use Rattle.git_syntax.specs.Hosts.HostSyntax.{git_hosts, http_hosts, other_hosts}
 use Rattle.git_syntax.specs.Hosts.SpellsHostPort.{plain_port}
 use Rattle.std.specs.Char.{is_ascii_digit}
@@ -17,14 +16,14 @@ use Rattle.std.specs.Prelude.{decimal}
 use Rattle.git_syntax.specs.Location.{Location, Scheme, path_alone}
 use Rattle.git_syntax.specs.Location.Scheme.{git, ssh, http, https}
 use Rattle.git_syntax.specs.Schemes.{host_syntax_of, is_web_scheme, requires_host, scheme_text}
-use Rattle.git_syntax.specs.SimpleTexts.{HasSimpleParts, IsRemoteScheme, IsSimplePort, IsSimpleText, before_host}
+use Rattle.git_syntax.specs.SimpleTexts.{HasSimpleParts, IsRemoteScheme, IsSimplePort, IsSimpleText}
 use Rattle.git_syntax.specs.SimpleTexts.IsRemoteScheme.{of_git, of_ssh, of_http, of_https}
 use Rattle.git_syntax.specs.SimpleTexts.IsSimpleText.{file_text, helper_text, local_text, scp_text, url_text}
 use Rattle.git_syntax.specs.Internal.HostPieces.{IsSimpleHost, is_simple_byte}
-use Rattle.git_syntax.specs.Internal.Masks.{is_common, is_common_byte}
+use Rattle.git_syntax.specs.Internal.Masks.{is_common}
 use Rattle.git_syntax.specs.Internal.Forms.{ColonCut}
 use Rattle.git_syntax.specs.Internal.UrlPieces.{HoldsHosted}
-use Rattle.git_syntax.proofs.ByMasks.CommonLemmas.{common_around, common_free_of_percent, common_parts, common_utf8, neither_by_colon, url_of_common}
+use Rattle.git_syntax.proofs.ByMasks.CommonLemmas.{common_free_of_percent, common_parts, common_utf8, neither_by_colon, url_of_common}
 use Rattle.git_syntax.proofs.Parsing.ClassifierLemmas.{url_has_form}
 use Rattle.git_syntax.proofs.Parsing.HostLemmas.{decimal_digits, number_written, simple_decoded, simple_named, simple_text, simple_utf8}
 use Rattle.git_syntax.proofs.Parsing.ScpLemmas.{simple_scp_host}
@@ -39,7 +38,7 @@ pub simple_free : (c : ℕ) (t : List ℕ) → IsSimpleHost t → is_simple_byte
 simple_free c t simple other = free_of_all is_simple_byte c t simple.bytes other
 
 -- so does a text after a simple user, except for `@`
-pub front_free : (c : ℕ) (user : Option (List ℕ)) (rest : List ℕ) → IfSome user IsSimpleHost → FreeOf c rest → is_simple_byte c ≡ false → (at_sign == c) ≡ false → FreeOf c (before_host user ++ rest)
+pub front_free : (c : ℕ) (user : Option (List ℕ)) (rest : List ℕ) → IfSome user IsSimpleHost → FreeOf c rest → is_simple_byte c ≡ false → (at_sign == c) ≡ false → FreeOf c (raw_user user ++ rest)
 front_free c None rest simple_user free other apart = free
 front_free c (Some user) rest simple_user free other apart =
     free-append c (user ++ at_sign ∷ []) rest (free-append c user (at_sign ∷ []) (simple_free c user simple_user other) (free-cons c at_sign [] apart refl)) free
@@ -61,17 +60,17 @@ home_kept (a ∷ b ∷ rest) away = rw away refl
 -- ---- the scp form
 
 -- the user ends at the `@`
-scp_split : (user : Option (List ℕ)) (host : List ℕ) → ScpUser (before_host user ++ host) user host
+scp_split : (user : Option (List ℕ)) (host : List ℕ) → ScpUser (raw_user user ++ host) user host
 scp_split None host = ScpUser.host_alone refl refl
 scp_split (Some user) host = ScpUser.with_user user (append_assoc user (at_sign ∷ []) host) refl
 
 -- a text of simple parts with a colon before its path has the scp form
 scp_spelled : (b : List ℕ) (user : Option (List ℕ)) (host path : List ℕ) → HasSimpleParts b user host path → FreeOf colon path
-    → ((rest : List ℕ) → ¬ (path ≡ slash ∷ (slash ∷ rest))) → b ≡ before_host user ++ (host ++ colon ∷ path)
+    → ((rest : List ℕ) → ¬ (path ≡ slash ∷ (slash ∷ rest))) → b ≡ raw_user user ++ (host ++ colon ∷ path)
     → Spells b (record (path_alone ssh true path) { user = user; host = Some host })
 scp_spelled b user host path parts free no_slashes joined =
-    let front = before_host user ++ host in
-    let whole = joined ∙ sym (append_assoc (before_host user) host (colon ∷ path)) in
+    let front = raw_user user ++ host in
+    let whole = joined ∙ sym (append_assoc (raw_user user) host (colon ∷ path)) in
     let lacks = λ (c : ℕ) (other : is_simple_byte c ≡ false) (apart : (at_sign == c) ≡ false). front_free c user host parts.simple_user (simple_free c host parts.simple_host other) other apart in
     let cut : ColonCut b front path = record { joined = whole; no_colon = lacks colon refl refl } in
     let home = home_kept path parts.not_home in
@@ -111,7 +110,7 @@ place_named syntax host (Some port) simple allowed =
 
 -- the authority of simple parts
 simple_authority : (syntax : HostSyntax) (needed : Bool) (user : Option (List ℕ)) (host : List ℕ) (port : Option ℕ) → IfSome user IsSimpleHost → IsSimpleHost host → IfSome port IsSimplePort
-    → HoldsHosted syntax needed (before_host user ++ (host ++ port_part port)) user None (Some host) port
+    → HoldsHosted syntax needed (raw_user user ++ (host ++ port_part port)) user None (Some host) port
 simple_authority syntax needed None host port simple_user simple_host allowed = record {
   named = host_alone (place_free at_sign host port simple_host allowed refl refl refl) (place_named syntax host port simple_host allowed) refl refl;
   hosted = λ need. refl;
@@ -204,12 +203,12 @@ remote_spelled b rest authority path p user password host port remote joined com
 
 -- a text of simple parts after a remote scheme is a URL
 url_spelled : (b : List ℕ) (p : Scheme) (user : Option (List ℕ)) (host path : List ℕ) (port : Option ℕ) → IsRemoteScheme p → HasSimpleParts b user host path → IfSome port IsSimplePort
-    → begins_with slash path ≡ true → length b ≤ 64 → b ≡ scheme_text p ++ (codes "://" ++ (before_host user ++ (host ++ (port_part port ++ path))))
+    → begins_with slash path ≡ true → length b ≤ 64 → b ≡ scheme_text p ++ (codes "://" ++ (raw_user user ++ (host ++ (port_part port ++ path))))
     → Spells b (record (path_alone p false path) { user = user; host = Some host; port = port })
 url_spelled b p user host path port remote parts allowed begins short joined =
     let place = host ++ port_part port in
-    let authority = before_host user ++ place in
-    let cut = append_assoc (before_host user) place path ∙ ap (λ t. before_host user ++ t) (append_assoc host (port_part port) path) in
+    let authority = raw_user user ++ place in
+    let cut = append_assoc (raw_user user) place path ∙ ap (λ t. raw_user user ++ t) (append_assoc host (port_part port) path) in
     let whole = joined ∙ ap (λ r. scheme_text p ++ (codes "://" ++ r)) (sym cut) in
     let held = simple_authority (host_syntax_of (scheme_text p)) (requires_host (scheme_text p)) user host port parts.simple_user parts.simple_host allowed in
     let free = front_free slash user place parts.simple_user (place_free slash host port parts.simple_host allowed refl refl refl) refl refl in

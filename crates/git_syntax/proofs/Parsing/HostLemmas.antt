@@ -23,10 +23,10 @@ use Rattle.git_syntax.specs.Bytes.{colon, left_bracket, right_bracket, percent_s
 use Rattle.git_syntax.specs.Addresses.{IsIpv6Text, is_zone_byte, Literal}
 use Rattle.git_syntax.specs.Addresses.Literal.{address, zoned}
 use Rattle.git_syntax.specs.Hosts as spec
-use Rattle.git_syntax.specs.Hosts.{HostSyntax, is_dns_byte, is_http_host_byte, HostText, IsLiteral, Bracketed, Inner, AllowsPort, IsDigits, Number, IsAddressPiece, ReadsAddress, HoldsTwoColons, IsManyColoned, IsPlainHost, SpellsHostPort, normal_host}
+use Rattle.git_syntax.specs.Hosts.{HostSyntax, is_dns_byte, is_http_host_byte, HostText, IsLiteral, Bracketed, Inner, AllowsPort, IsDigits, Number, IsAddressPiece, ReadsAddress, HoldsTwoColons, IsManyColoned, IsPlainHost, SpellsHostPort, normal_host, EndsHost}
 use Rattle.git_syntax.specs.Hosts.HostSyntax.{http_hosts, git_hosts, other_hosts}
 use Rattle.git_syntax.specs.Flaws.{IsNoPort, HasBadPort, IsPortPlace, IsNoInner, BracketsAround, HasBadHost, HostPortFlaw}
-use Rattle.git_syntax.specs.Internal.HostPieces.{EndsHost, Follows, named_text, IsEscapedZone, IsInner, IsSimpleHost, is_simple_byte, in_brackets, lowercase_address, shown_literal}
+use Rattle.git_syntax.specs.Internal.HostPieces.{Follows, named_text, IsEscapedZone, IsInner, IsSimpleHost, is_simple_byte, in_brackets, lowercase_address, shown_literal}
 use Rattle.git_syntax.proofs.Texts.CutLemmas.{heads, tails, class_cut_unique, cut_unique, free-append, free_begins, free_head_tail, free_of_all, free_or_cut, begins-append, not_free}
 use Rattle.git_syntax.proofs.Texts.EscapeLemmas.{decode_kept, decodes_in_parts, sound_free, utf8_byte, utf8_class}
 use Rattle.git_syntax.proofs.Addresses.AddressLemmas.{address_free, address_two_colons, address_utf8, address-lowercase, all_lowercase}

@@ -13,9 +13,9 @@ use Rattle.std.proofs.lemmas.List.Folds.{list_any_at}
 use Rattle.std.proofs.lemmas.List.Sums.{length-filter}
 use Rattle.memchr.specs.Find.{IsFirstByte, is_byte2, is_byte3}
 use Rattle.git_syntax.specs.declared.length.Stage.TheVariants.{Slashes, Front}
-use Rattle.git_syntax.specs.Bytes.{Lacks, FreeOf, colon, begins_by, is_path_start, StartsPath}
+use Rattle.git_syntax.specs.Bytes.{Lacks, FreeOf, colon, begins_by, is_path_start, StartsPath, is_any_slash}
 use Rattle.git_syntax.specs.Schemes.{is_web_scheme}
-use Rattle.git_syntax.specs.Authority.{is_any_slash, without_white_space, IsWithinLimit, Fits, FitsText}
+use Rattle.git_syntax.specs.Authority.{without_white_space, IsWithinLimit, Fits, FitsText}
 use Rattle.git_syntax.specs.Internal.LengthChecks.{without_slashes, starts_within, is_in_time, is_rest_short}
 use Rattle.git_syntax.proofs.Texts.CutLemmas.{cut_at_first, cut_unique, lacks-cons, lacks_after, lacks_head_tail, lacks_weaker}
 

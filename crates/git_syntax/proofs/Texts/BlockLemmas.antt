@@ -22,6 +22,18 @@ pub next_block : (test : ℕ → Bool) (done : ℕ) (text : List ℕ) → list_a
 next_block test done text front block =
     ap (list_all test) (take-add done 16 text) ∙ list_all-append test (take done text) (take 16 (drop done text)) ∙ and_from _ _ front block
 
+-- each byte before an earlier place passes
+earlier : (test : ℕ → Bool) (done at : ℕ) (text : List ℕ) → at ≤ done → list_all test (take done text) ≡ true → list_all test (take at text) ≡ true
+earlier test done at text before front =
+    let to_done : done ≡ at + (done - at) = omega (arith, before) in
+    let two : take done text ≡ take at text ++ take (done - at) (drop at text) = ap (λ n. take n text) to_done ∙ take-add at (done - at) text in
+    (and_parts _ _ (sym (ap (list_all test) two ∙ list_all-append test (take at text) (take (done - at) (drop at text))) ∙ front)).0
+
+-- the same of a block that may overlap the one before
+pub near_block : (test : ℕ → Bool) (done at : ℕ) (text : List ℕ) → at ≤ done → list_all test (take done text) ≡ true → list_all test (take 16 (drop at text)) ≡ true
+    → list_all test (take (at + 16) text) ≡ true
+near_block test done at text before front block = next_block test at text (earlier test done at text before front) block
+
 -- a text has a byte that fails if a block of it has one
 pub failing_block : (test : ℕ → Bool) (at : ℕ) (text : List ℕ) → list_all test (take 16 (drop at text)) ≡ false → list_all test text ≡ false
 failing_block test at text block = elim (cases_Bool (list_all test text)) [
@@ -33,8 +45,6 @@ failing_block test at text block = elim (cases_Bool (list_all test text)) [
 pub last_block : (test : ℕ → Bool) (done at : ℕ) (text : List ℕ) → at ≤ done → length text ≤ at + 16 → list_all test (take done text) ≡ true
     → list_all test text ≡ list_all test (take 16 (drop at text))
 last_block test done at text before long front =
-    let to_done : done ≡ at + (done - at) = omega (arith, before) in
-    let two : take done text ≡ take at text ++ take (done - at) (drop at text) = ap (λ n. take n text) to_done ∙ take-add at (done - at) text in
-    let passes : list_all test (take at text) ≡ true = (and_parts _ _ (sym (ap (list_all test) two ∙ list_all-append test (take at text) (take (done - at) (drop at text))) ∙ front)).0 in
+    let passes = earlier test done at text before front in
     let whole : take 16 (drop at text) ≡ drop at text = take_all 16 (drop at text) (omega (arith, length-drop at text, long)) in
     split test at text ∙ rw passes (ap (list_all test) (sym whole))

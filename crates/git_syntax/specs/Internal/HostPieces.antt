@@ -1,5 +1,5 @@
 -- The slices that the reader of hosts returns: the hosts that they denote, and the contracts of the reader.
-use Rattle.std.specs.Prelude.{◌≡◌, ◌<◌, ℕ, Bool, true, false, ◌||◌, ◌==◌, ◌⊎◌, List, [], ◌∷◌, ◌++◌, length, Option, Some, None, codes, option_map, Result, MatchResult, if◌then◌else◌}
+use Rattle.std.specs.Prelude.{◌≡◌, ◌<◌, ℕ, Bool, true, false, ◌||◌, ◌==◌, List, [], ◌∷◌, ◌++◌, length, Option, Some, None, codes, option_map, Result, MatchResult, if◌then◌else◌}
 use Rattle.std.specs.List.{list_all}
 use Rattle.std.specs.Char.{is_ascii_digit, is_ascii_lowercase, to_ascii_lowercase}
 use Rattle.percent_encoding.specs.Percent.{percent_decode}
@@ -9,7 +9,7 @@ use Rattle.git_syntax.specs.declared.host.HostSyntax.TheVariants as read
 use Rattle.git_syntax.specs.declared.host.HostPiece.{HostPiece}
 use Rattle.git_syntax.specs.declared.host.HostPiece.TheVariants.{Simple, Address, Kept, Decoded, Literal, DecodedLiteral, Bracketed}
 use Rattle.git_syntax.specs.declared.host.HostPort.{HostPort}
-use Rattle.git_syntax.specs.Bytes.{colon, dot, hyphen, percent_sign, left_bracket, right_bracket, begins_with, lowercase}
+use Rattle.git_syntax.specs.Bytes.{colon, dot, hyphen, percent_sign, left_bracket, right_bracket, lowercase}
 use Rattle.git_syntax.specs.Addresses.{IsZone}
 use Rattle.git_syntax.specs.Hosts.{HostSyntax, Inner, normal_host, SpellsHostPort, Number}
 use Rattle.git_syntax.specs.Hosts.HostSyntax.{http_hosts, git_hosts, other_hosts}
@@ -103,10 +103,6 @@ host_of named = option_map named_text named
 abbrev pub port_of : Option HostPort → Option ℕ
 port_of None = None
 port_of (Some named) = named.port
-
--- a host may end before the text: the text is empty or begins with a colon
-abbrev pub EndsHost : List ℕ → Type 0
-EndsHost rest = (rest ≡ []) ⊎ (begins_with colon rest ≡ true)
 
 -- `25` and a zone
 abbrev pub IsEscapedZone : List ℕ → Type 0

@@ -6,8 +6,8 @@ use Rattle.std.specs.List.{list_any}
 use Rattle.git_syntax.specs.declared.length.Stage.{Stage}
 use Rattle.git_syntax.specs.declared.length.Stage.TheVariants.{Slashes, Front, Fixed}
 use Rattle.git_syntax.specs.declared.length.LengthCheck.{LengthCheck}
-use Rattle.git_syntax.specs.Authority.{is_any_slash, without_white_space}
-use Rattle.git_syntax.specs.Bytes.{is_path_start}
+use Rattle.git_syntax.specs.Authority.{without_white_space}
+use Rattle.git_syntax.specs.Bytes.{is_path_start, is_any_slash}
 use Rattle.git_syntax.specs.Schemes.{is_web_scheme}
 
 -- slashes at the front, and white space

@@ -1,13 +1,13 @@
 -- Masks: numbers with a bit for each byte of a text, and texts with their masks.
-use Rattle.std.specs.Prelude.{◌≡◌, ◌↔◌, ℕ, ◌<◌, ◌≤◌, nat_le, Bool, true, ◌&&◌, ◌||◌, ◌==◌, List, length, map, slice_index}
+use Rattle.std.specs.Prelude.{◌≡◌, ◌↔◌, ℕ, ◌<◌, ◌≤◌, Bool, true, ◌||◌, ◌==◌, List, length, map, slice_index}
 use Rattle.std.specs.Borrow.{Bor}
 use Rattle.std.specs.Char.{is_ascii_alphabetic}
-use Rattle.std.specs.Int.{bit_at}
+use Rattle.std.specs.Int.{bit_at, is_in_range}
 use Rattle.std.specs.List.{list_all}
 use Rattle.std.specs.Simd.Lanes.{mask_l}
 use Rattle.git_syntax.specs.declared.masks.Masks.{Masks}
 use Rattle.git_syntax.specs.declared.masks.marked.Marked.{Marked}
-use Rattle.git_syntax.specs.Bytes.{colon, slash, at_sign, tilde}
+use Rattle.git_syntax.specs.Bytes.{colon, plus_sign, slash, at_sign, tilde}
 use Rattle.git_syntax.specs.Internal.HostPieces.{is_simple_byte}
 
 -- the mask of a class in a text: bit i is set exactly if byte i passes the test, and bits after the text are not
@@ -20,7 +20,7 @@ HasBit test text i = (bit_at (mask_of test text) i ≡ 1) ↔ ((i < length text)
 
 -- a letter, a digit, or one of `+`, `,`, `-`, `.`, `/`, `:`, `@`, `_` and `~`
 abbrev pub is_common_byte : ℕ → Bool
-is_common_byte b = is_ascii_alphabetic b || ((nat_le 43 b && nat_le b 58) || (b == at_sign || (b == 95 || b == tilde)))
+is_common_byte b = is_ascii_alphabetic b || (is_in_range plus_sign colon b || (b == at_sign || (b == 95 || b == tilde)))
 
 -- each byte of the text is one of those
 abbrev pub is_common : List ℕ → Bool

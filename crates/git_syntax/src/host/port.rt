@@ -6,8 +6,8 @@ ghost use Rattle.std.specs.List.{list_all};
 ghost use Rattle.git_syntax.specs.Bytes.{colon};
 ghost use Rattle.git_syntax.specs.Flaws.{IsNoPort};
 ghost use Rattle.git_syntax.specs.Hosts as spec;
-ghost use Rattle.git_syntax.specs.Hosts.{Number};
-ghost use Rattle.git_syntax.specs.Internal.HostPieces.{EndsHost, Follows, IsBadPort, denoted_host, named_text, host_syntax};
+ghost use Rattle.git_syntax.specs.Hosts.{Number, EndsHost};
+ghost use Rattle.git_syntax.specs.Internal.HostPieces.{Follows, IsBadPort, denoted_host, named_text, host_syntax};
 
 use crate::bytes::{after, starts_with_byte};
 use crate::host::{HostPiece, HostPort, HostSyntax, alone};

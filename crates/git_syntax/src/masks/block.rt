@@ -5,13 +5,13 @@ ghost use Rattle.git_syntax.specs.Internal.HostPieces.{is_simple_byte};
 ghost use Rattle.git_syntax.specs.Internal.Masks.{AreMasksOf, mask_of};
 
 use super::Masks;
+use super::halves::{HIGH_BITS, by_high_half, by_low_half};
 use std::simd::prelude::*;
 
-/// The distance from `a` to `z`.
-const LETTER_SPAN: u8 = 25;
-
-/// The distance from `-` to `9`.
-const DIGIT_SPAN: u8 = 12;
+/// The table of lower-case letters, digits, `-` and `.`.
+const HOST_TABLE: [u8; 16] = [
+    136, 200, 200, 200, 200, 200, 200, 200, 200, 200, 192, 64, 64, 68, 68, 64,
+];
 
 /// The masks of 16 bytes.
 #[inline(always)]
@@ -39,8 +39,8 @@ fn equal_to(bytes: u8x16, byte: u8) -> u64
 fn hosts(bytes: u8x16) -> u64
     ensures { result ≡ mask_of is_simple_byte bytes }
 {
-    let letter = (bytes - u8x16::splat(b'a')).simd_le(u8x16::splat(LETTER_SPAN));
-    // Only `/` is between `-`, `.` and the digits.
-    let other = (bytes - u8x16::splat(b'-')).simd_le(u8x16::splat(DIGIT_SPAN));
-    ((letter | other) & bytes.simd_ne(u8x16::splat(b'/'))).to_bitmask()
+    let high = by_high_half(HIGH_BITS, bytes);
+    (by_low_half(HOST_TABLE, bytes) & high)
+        .simd_eq(high)
+        .to_bitmask()
 }

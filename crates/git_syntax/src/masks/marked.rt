@@ -10,7 +10,6 @@ ghost use Rattle.git_syntax.specs.Internal.HostPieces.{IsSimpleHost, is_simple_b
 ghost use Rattle.git_syntax.specs.Internal.Masks.{IsMarked, is_common, texts_of};
 
 use super::{Masks, cuts, masks_of};
-use crate::blocks::are_common;
 use crate::classify::after_slashes;
 
 /// A text with its masks.
@@ -30,10 +29,10 @@ pub(crate) fn mark_common(text: &[u8]) -> Option<Marked<'_>>
     ensures long { IfSome result (λ found. 16 ≤ length text.now) }
     ensures common { IfSome result (λ found. is_common text.now ≡ true) }
 {
-    if text.len() < 16 || text.len() > 64 || !are_common(text) {
+    if text.len() < 16 || text.len() > 64 {
         return None;
     }
-    let masks = masks_of(text);
+    let masks = masks_of(text)?;
     Some(Marked { text, masks })
 }
 

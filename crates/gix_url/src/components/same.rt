@@ -7,7 +7,8 @@ ghost use Rattle.std.specs.Prelude.{◌≡◌, ◌+◌, ◌<◌, ◌≤◌, ◌�
 ghost use Rattle.std.specs.Cmp.{on_equiv, on_per, partial_equiv_from_equiv};
 ghost use Rattle.std.specs.Cmp.Lexicographic.{nat_list_eq_equiv, pointwise};
 ghost use Rattle.bstr.specs.BStr.{bstr_bytes};
-ghost use Rattle.git_laws.specs.ComponentEquality.{components_eq, components_equiv, fragment_eq, pair_eq, query_eq};
+ghost use Rattle.git_laws.specs.ComponentEquality.{components_eq, components_equiv, pair_eq, query_eq};
+ghost use Rattle.git_laws.specs.Order.{text_eq};
 ghost use Rattle.gix_url.specs.ComponentViews.{components, is_borrowed, pair_bytes, pair_borrowed, text_bytes, what_is_borrowed};
 
 use crate::components::fields::push_within;
@@ -198,7 +199,7 @@ fn is_pair_equal(
 
 /// Whether both fragments are missing, or both have the same bytes.
 fn are_fragments_equal(first: Option<BStr<'_>>, second: Option<BStr<'_>>) -> bool
-    ensures { result ≡ fragment_eq (option_map bstr_bytes first.entry)
+    ensures { result ≡ text_eq (option_map bstr_bytes first.entry)
         (option_map bstr_bytes second.entry) }
 {
     match first {

@@ -32,46 +32,23 @@ fn is_short_ascii(path: &[u8]) -> bool
         return false;
     }
     if length < 16 {
-        return is_ascii_8(path, 0) && is_ascii_8(path, length - 8);
+        return are_ascii::<8>(path, 0) && are_ascii::<8>(path, length - 8);
     }
     if length < 32 {
-        return is_ascii_16(path, 0) && is_ascii_16(path, length - 16);
+        return are_ascii::<16>(path, 0) && are_ascii::<16>(path, length - 16);
     }
-    is_ascii_32(path, 0) && is_ascii_32(path, length - 32)
+    are_ascii::<32>(path, 0) && are_ascii::<32>(path, length - 32)
 }
 
-/// Whether the eight bytes from an index are ASCII.
+/// Whether the `N` bytes from an index are ASCII.
 #[inline(always)]
-fn is_ascii_8(path: &[u8], at: usize) -> bool
-    requires { at + 8 ≤ length path.now }
-    ensures { IsTrue result → IsAsciiBetween path.now at (at + 8) }
+fn are_ascii<const N: usize>(path: &[u8], at: usize) -> bool
+    requires within { at + N ≤ length path.now }
+    requires most { N ≤ 64 }
+    ensures { IsTrue result → IsAsciiBetween path.now at (at + N) }
 {
-    u8x8::from_slice(&path[at..])
-        .simd_ge(u8x8::splat(128))
-        .to_bitmask()
-        == 0
-}
-
-/// Whether the 16 bytes from an index are ASCII.
-#[inline(always)]
-fn is_ascii_16(path: &[u8], at: usize) -> bool
-    requires { at + 16 ≤ length path.now }
-    ensures { IsTrue result → IsAsciiBetween path.now at (at + 16) }
-{
-    u8x16::from_slice(&path[at..])
-        .simd_ge(u8x16::splat(128))
-        .to_bitmask()
-        == 0
-}
-
-/// Whether the 32 bytes from an index are ASCII.
-#[inline(always)]
-fn is_ascii_32(path: &[u8], at: usize) -> bool
-    requires { at + 32 ≤ length path.now }
-    ensures { IsTrue result → IsAsciiBetween path.now at (at + 32) }
-{
-    u8x32::from_slice(&path[at..])
-        .simd_ge(u8x32::splat(128))
+    Simd::<u8, N>::from_slice(&path[at..])
+        .simd_ge(Simd::<u8, N>::splat(128))
         .to_bitmask()
         == 0
 }

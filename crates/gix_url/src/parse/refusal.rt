@@ -1,7 +1,7 @@
 //! Builds the error of a refusal, with a copy of the text. Allocates once, for the copy; if that fails, the
 //! error is `Memory`.
 
-ghost use Rattle.std.specs.Prelude.{◌≡◌, ◌+◌, ◌≤◌, IfOk, Ok, length};
+ghost use Rattle.std.specs.Prelude.{◌≡◌, IfOk, Ok};
 ghost use Rattle.git_refusals.specs.Kinds.{empty_refusal};
 ghost use Rattle.git_refusals.specs.Reasons.{Refused};
 ghost use Rattle.gix_url.specs.Flaws.{Flaw};
@@ -15,8 +15,7 @@ use std::alloc::{AllocError, Global};
 
 /// The error of a text with this refusal.
 pub(super) fn error_of(alloc: Global, input: &[u8], refusal: Refusal) -> Error
-    requires refused { Refused input.now refusal }
-    requires within { refusal.at + refusal.len ≤ length input.now }
+    requires { Refused input.now refusal }
     ensures flaw { Flaw input.now result }
     ensures empty { refusal ≡ empty_refusal → result ≡ Error.EmptyLocal }
 {
@@ -28,8 +27,7 @@ pub(super) fn error_of(alloc: Global, input: &[u8], refusal: Refusal) -> Error
 
 /// The error of a text with this refusal, if the allocation succeeds.
 fn error_with_copy(alloc: Global, input: &[u8], refusal: Refusal) -> Result<Error, AllocError>
-    requires refused { Refused input.now refusal }
-    requires within { refusal.at + refusal.len ≤ length input.now }
+    requires { Refused input.now refusal }
     ensures flaw { IfOk result (λ error. Flaw input.now error) }
     ensures empty { refusal ≡ empty_refusal → result ≡ Ok Error.EmptyLocal }
 {

@@ -6,8 +6,8 @@ use Rattle.git_lines.proofs.lines.report_written.Goals as goal
 
 pub returns-then-is_settled_as : goal.returns-then-is_settled_as
 returns-then-is_settled_as c =
-    (_, settled (pieces_text c.args.pieces.now) c.requires (c.if-is_settled_as.ensures.0 refl) refl refl, c.in_ok-append_text.ensures)
+    (_, settled (pieces_text c.args.pieces.now) c.requires ((c.if-is_settled_as.ensures c.requires).0 refl) refl refl, c.in_ok-append_text.ensures)
 
 pub returns : goal.returns
 returns c =
-    (_, unsettled (pieces_text c.args.pieces.now) c.requires (λ s. false≢true (c.if-is_settled_as.ensures.1 s)) refl refl, c.in_ok-append_scheme.ensures)
+    (_, unsettled (pieces_text c.args.pieces.now) c.requires (λ s. false≢true ((c.if-is_settled_as.ensures c.requires).1 s)) refl refl, c.in_ok-append_scheme.ensures)

@@ -2,4 +2,4 @@
 use Rattle.git_refusals.proofs.read.refusal.Goals as goal
 
 pub returns-in-None-clause-refused : goal.returns-in-None-clause-refused
-returns-in-None-clause-refused c = let (v, s) = c.in-None.ensures.found in absurd (c.requires v s)
+returns-in-None-clause-refused c = λ unspelled. let (v, s) = c.in-None.ensures.found in absurd (unspelled v s)

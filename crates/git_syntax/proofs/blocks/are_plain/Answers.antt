@@ -1,5 +1,5 @@
 -- The blocks before the last one, and the last one.
-use Rattle.std.proofs.Common.{◌∙◌, ◌-◌, length, refl, sym, arith}
+use Rattle.std.proofs.Common.{◌∙◌, ◌-◌, length, sym, arith}
 use Rattle.git_syntax.specs.Escapes.{is_plain_byte}
 use Rattle.git_syntax.proofs.Texts.BlockLemmas.{failing_block, last_block, next_block}
 use Rattle.git_syntax.proofs.blocks.are_plain.Goals as goal

@@ -1,10 +1,9 @@
 -- A local path, or a URL, by its first colon.
-use Rattle.std.proofs.Common.{arith}
 use Rattle.git_syntax.proofs.Parsing.ClassifierLemmas.{mark_at_colon, url_has_form}
 use Rattle.git_syntax.proofs.simple.cut_simple.Goals as goal
 
 pub url_pieces-requires-clause-form : goal.url_pieces-requires-clause-form
-url_pieces-requires-clause-form c =
+url_pieces-requires-clause-form g c =
     let b = c.args.text.text.now in
     let front = c.in-Some.front.text.now in
     let rest = c.in-Some.rest.text.now in

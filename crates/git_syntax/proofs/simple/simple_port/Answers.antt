@@ -1,5 +1,5 @@
 -- Digits without a zero at the front are those that their number is written with.
-use Rattle.std.proofs.Common.{◌≡◌, ◌∙◌, ◌==◌, ℕ, false, true, List, [], ◌∷◌, Option, Some, None, sym, ap, refl, arith}
+use Rattle.std.proofs.Common.{◌≡◌, ◌∙◌, ◌==◌, ℕ, false, List, [], ◌∷◌, Option, Some, None, sym, ap, arith}
 use Rattle.std.specs.Prelude.{IfSome, MatchOption, decimal}
 use Rattle.std.proofs.lemmas.Bool.{false≢true}
 use Rattle.std.proofs.lemmas.Fmt.{decimal-digits_value}

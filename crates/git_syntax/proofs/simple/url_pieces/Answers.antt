@@ -1,5 +1,5 @@
 -- A URL with a simple host, or a file URL without a host.
-use Rattle.std.proofs.Common.{codes, refl, sym, subst, ◌∙◌}
+use Rattle.std.proofs.Common.{codes, sym, subst}
 use Rattle.std.proofs.lemmas.Slice.Eq.{bytes_eq-Decides}
 use Rattle.git_syntax.specs.SimpleTexts.{IsSimpleText}
 use Rattle.git_syntax.specs.Views.{borrowed_scheme}
@@ -10,7 +10,7 @@ use Rattle.git_syntax.proofs.Parsing.HostLemmas.{some_tested}
 use Rattle.git_syntax.proofs.simple.url_pieces.Goals as goal
 
 pub returns-in-Some : goal.returns-in-Some
-returns-in-Some c =
+returns-in-Some g c =
     let authority = c.cut_at_slash.result.0.text.now in
     let path = c.cut_at_slash.result.1.text.now in
     let some = some_tested path c.if-is_empty.ensures in
@@ -18,7 +18,7 @@ returns-in-Some c =
     c.cut_at_slash.ensures.joined some (rooted path some c.cut_at_slash.ensures.rest) (sym c.if-begins_at_home.ensures) c.in-Some.ensures.remote c.in-Some.ensures.text c.in_ok-user.ensures.cut c.in_ok-host.ensures
 
 pub returns-then-is_named : goal.returns-then-is_named
-returns-then-is_named c =
+returns-then-is_named g c =
     let authority = c.cut_at_slash.result.0.text.now in
     let path = c.cut_at_slash.result.1.text.now in
     let named = (bytes_eq-Decides c.args.scheme.now (codes "file")).0 (sym c.if-is_named.ensures) in

@@ -2,5 +2,5 @@
 use Rattle.git_location.proofs.Writing.WrittenAsUrlLemmas.{written_web}
 use Rattle.git_location.proofs.settled.url.is_settled_web.Goals as goal
 
-pub is_settled_url-requires-clause-form : goal.is_settled_url-requires-clause-form
-is_settled_url-requires-clause-form c = written_web c.args.url.now c.requires.scheme
+pub is_settled_url-requires : goal.is_settled_url-requires
+is_settled_url-requires c = written_web c.args.url.now c.requires

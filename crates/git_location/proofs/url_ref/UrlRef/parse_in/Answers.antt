@@ -1,5 +1,5 @@
 -- A simple text spells its location, so it is read.
-use Rattle.std.proofs.Common.{◌≡◌, Ok, length, arith, subst, sym}
+use Rattle.std.proofs.Common.{Ok, length, arith, subst, sym}
 use Rattle.git_syntax.specs.Internal.SimplePieces.{simple_location}
 use Rattle.git_location.specs.Readings.{ReadsIn}
 use Rattle.git_location.proofs.Unique.AnsweredLemmas.{simple_read, simple_short}

@@ -1,12 +1,12 @@
 -- The pieces around the place that was found, or the whole if there is none.
 use Rattle.std.proofs.Common.{refl}
-use Rattle.git_rules.specs.Normal.{is_rest_start}
 use Rattle.git_syntax.proofs.Texts.CutLemmas.{cut_at_place, cut_at_end}
+use Rattle.git_syntax.specs.Bytes.{is_query_start}
 use Rattle.git_rules.proofs.normal.cuts.cut_before_rest.Goals as goal
 
 pub returns-in-Some : goal.returns-in-Some
 returns-in-Some c =
-    let pieces = cut_at_place is_rest_start c.args.text.now c.in-Some.at c.in-Some.ensures in
+    let pieces = cut_at_place is_query_start c.args.text.now c.in-Some.at c.in-Some.ensures in
     record {
       joined = rw (c.split_at.ensures.front, c.split_at.ensures.back) pieces.0;
       lacks = rw c.split_at.ensures.front pieces.1;
@@ -15,7 +15,7 @@ returns-in-Some c =
 
 pub returns-in-None : goal.returns-in-None
 returns-in-None c =
-    let pieces = cut_at_end is_rest_start c.args.text.now _ refl c.in-None.ensures in
+    let pieces = cut_at_end is_query_start c.args.text.now _ refl c.in-None.ensures in
     record {
       joined = rw (c.split_at-in-None.ensures.front, c.split_at-in-None.ensures.back) pieces.0;
       lacks = rw c.split_at-in-None.ensures.front pieces.1;
