@@ -1,4 +1,4 @@
-use Rattle.std.proofs.Common.{◌∙◌, sym}
+use Rattle.std.proofs.Common.{sym}
 use Rattle.explain_report.proofs.Secrets.PieceLemmas.{shown_plain}
 use Rattle.explain_report.proofs.text.marked.plain.Goals as goal
 
