@@ -88,7 +88,9 @@ def test_what_is_built(tree):
 @pytest.mark.parametrize("sent", [signal.SIGTERM, signal.SIGINT])
 def test_interrupted(tree, sent):
     """No process runs on after a launcher that is ended while it proves."""
-    started = subprocess.Popen([f"{tree.root}/explain"], env={**tree.environment, "SLOW": "1"}, stderr=subprocess.DEVNULL, start_new_session=True)
+    # A run in the background may ignore SIGINT, and a shell can't trap what it ignores from its start.
+    words = ["env", "--default-signal=INT", f"{tree.root}/explain"]
+    started = subprocess.Popen(words, env={**tree.environment, "SLOW": "1"}, stderr=subprocess.DEVNULL, start_new_session=True)
     while not tree.proofs():
         time.sleep(0.05)
     os.killpg(started.pid, sent) if sent == signal.SIGINT else started.send_signal(sent)
