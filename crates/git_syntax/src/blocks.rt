@@ -44,6 +44,12 @@ pub(crate) fn are_plain(text: &[u8]) -> bool
     ensures { result ≡ is_plain text.now }
 {
     let mut done = 0;
+    while done + 64 < text.len() {
+        if !are_plain_blocks(text, done) {
+            return false;
+        }
+        done += 64;
+    }
     while done + 16 < text.len() {
         if !is_plain_block(text, done) {
             return false;
@@ -51,6 +57,19 @@ pub(crate) fn are_plain(text: &[u8]) -> bool
         done += 16;
     }
     is_plain_block(text, text.len() - 16)
+}
+
+/// Whether the 64 bytes at an offset are printable ASCII and no `%`. The compiler joins the four blocks, and
+/// tests them by one branch.
+#[inline(always)]
+fn are_plain_blocks(text: &[u8], at: usize) -> bool
+    requires { at + 64 ≤ length text.now }
+    ensures { result ≡ is_plain (take 64 (drop at text.now)) }
+{
+    is_plain_block(text, at)
+        & is_plain_block(text, at + 16)
+        & is_plain_block(text, at + 32)
+        & is_plain_block(text, at + 48)
 }
 
 /// Whether the 16 bytes at an offset are printable ASCII and no `%`.

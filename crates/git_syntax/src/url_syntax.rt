@@ -10,6 +10,7 @@ ghost use Rattle.git_syntax.specs.Grammar.{HasUrlSyntax, UrlSyntax};
 ghost use Rattle.git_syntax.specs.Internal.HostPieces.{host_syntax};
 ghost use Rattle.git_syntax.specs.Internal.ByteClasses.{HasByteClass};
 ghost use Rattle.git_syntax.specs.Internal.SchemeRules.{AreRulesOf};
+ghost use Rattle.git_syntax.specs.Bytes as bytes;
 ghost use Rattle.git_syntax.specs.Bytes.{FreeOf, LacksWhiteSpace, at_sign, backslash, colon};
 ghost use Rattle.git_syntax.specs.Internal.UrlPieces.{HoldsAuthority, IsNoAuthority, ReadsCredentials, decoded_option, syntax_of};
 
@@ -80,7 +81,7 @@ pub(crate) fn read_url_syntax<'a>(
     if !has_sound_escapes(byte_class, text) {
         return Err(UrlFault::BadCharacter);
     }
-    if !is_scheme_text(scheme) {
+    if !is_scheme(rules, scheme) {
         return Err(UrlFault::NoScheme);
     }
     let (authority, path) = cut_before_path(rest, rules.web);
@@ -89,6 +90,14 @@ pub(crate) fn read_url_syntax<'a>(
     }
     let parts = read_authority(rules.syntax, rules.needs_host, authority)?;
     Ok(join_parts(scheme, parts, path, holds_escape(byte_class, path)))
+}
+
+/// Whether the text, whose rules these are, is a scheme. Each name of HTTP is.
+fn is_scheme(rules: Rules, scheme: &[u8]) -> bool
+    requires { AreRulesOf scheme.now rules }
+    ensures { result ≡ bytes.is_scheme_text scheme.now }
+{
+    rules.web || is_scheme_text(scheme)
 }
 
 /// The fields of a URL, from those of its authority.

@@ -5,7 +5,7 @@ use Rattle.std.proofs.lemmas.Bool.{or_cases}
 use Rattle.std.proofs.lemmas.Slice.Eq.{bytes_eq-Decides}
 use Rattle.git_syntax.specs.Location.{Scheme, Location, path_alone}
 use Rattle.git_syntax.specs.Location.Scheme.{file, git, ssh, http, https, ext, helper, helper_url}
-use Rattle.git_syntax.specs.Bytes.{colon, FreeOf}
+use Rattle.git_syntax.specs.Bytes.{colon, FreeOf, is_scheme_text}
 use Rattle.git_syntax.specs.Schemes.{is_ssh_scheme, is_web_scheme, scheme_of, requires_path}
 use Rattle.git_syntax.specs.Grammar.{helper_scheme, UrlSyntax, DenotesByScheme, DenotesAs}
 
@@ -42,3 +42,11 @@ means_cases scheme b parts v h = grind arith
 -- a location has the scheme that its URL names
 pub means_scheme : (scheme : Scheme) (b : List ℕ) (parts : UrlSyntax) (v : Location) → DenotesAs scheme b parts v → v.scheme ≡ scheme
 means_scheme scheme b parts v h = grind arith
+
+-- a text that is one of these names is a scheme
+same_scheme : (s name : List ℕ) → bytes_eq s name ≡ true → is_scheme_text name ≡ true → is_scheme_text s ≡ true
+same_scheme s name e h = subst (λ t. is_scheme_text t ≡ true) (sym ((bytes_eq-Decides s name).0 e)) h
+
+-- a name of HTTP is one
+pub web_scheme : (s : List ℕ) → is_web_scheme s ≡ true → is_scheme_text s ≡ true
+web_scheme s h = grind (arith, same_scheme, bytes_eq, or_cases)

@@ -9,3 +9,9 @@ invariant-loop-done l = (l.done ≤ length l.text) × (list_all is_plain_byte (t
 
 abbrev pub decreases-loop-done : goal.decreases-loop-done
 decreases-loop-done l = length l.text - l.done
+
+abbrev pub invariant-loop-done-2 : goal.invariant-loop-done-2
+invariant-loop-done-2 l = (l.done ≤ length l.text) × (list_all is_plain_byte (take l.done l.text) ≡ true)
+
+abbrev pub decreases-loop-done-2 : goal.decreases-loop-done-2
+decreases-loop-done-2 l = length l.text - l.done
