@@ -1,10 +1,11 @@
 -- The class of HTTP locations by its tests: hosts by their last label, paths by their bytes and segments, and
 -- the text that is written for a text, by its bytes.
-use Rattle.std.proofs.Common.{⊎_elim, ◌≡◌, ◌≢◌, ◌↔◌, ◌∙◌, ◌<◌, ℕ, Bool, true, false, not, ◌&&◌, ◌||◌, ◌==◌, ◌⊎◌, inl, inr, List, [], ◌∷◌, ◌++◌, length, codes, decimal, Option, Some, None, IfSome, IsUtf8, if◌then◌else◌, refl, sym, ap, subst, append_assoc, length-append, arith}
+use Rattle.std.proofs.Common.{⊎_elim, ◌≡◌, ◌≢◌, ◌↔◌, ◌∙◌, ◌<◌, ℕ, Bool, true, false, not, ◌&&◌, ◌||◌, ◌==◌, ◌+◌, ◌⊎◌, inl, inr, List, [], ◌∷◌, ◌++◌, drop, get_or, length, codes, decimal, Option, Some, None, IfSome, IsUtf8, if◌then◌else◌, refl, sym, ap, subst, append_assoc, length-append, arith}
 use Rattle.std.specs.List.{list_all, list_any, count_by}
-use Rattle.std.specs.Char.{is_ascii_digit, is_ascii_lowercase, to_ascii_lowercase}
+use Rattle.std.specs.Char.{is_ascii_digit, is_ascii_lowercase, is_whitespace, to_ascii_lowercase}
 use Rattle.std.proofs.lemmas.Bool.{agree_below_at, and_from, and_parts, both_ways, cases_Bool, cond-false, cond-true, eqb-true, false_from_ne_true, false≢true, not-false, or_from, or_left, or_parts, true≢false}
 use Rattle.std.proofs.lemmas.Bool.Decides.{nat_tests}
+use Rattle.std.proofs.lemmas.List.{at_drop_more}
 use Rattle.std.proofs.lemmas.List.Elements.{All-weaker}
 use Rattle.std.proofs.lemmas.List.Folds.{list_all-append, map_fixed}
 use Rattle.std.proofs.lemmas.List.Sums.{AllPass-from_list_all, list_all-from_AllPass}
@@ -26,13 +27,13 @@ use Rattle.git_syntax.specs.Schemes.{requires_path}
 use Rattle.git_syntax.proofs.Parsing.HostLemmas.{decimal_digits}
 use Rattle.git_syntax.proofs.Parsing.BufferLemmas.{normal_host_kept}
 use Rattle.git_syntax.proofs.Texts.CutLemmas.{all_weaker, cut_unique, free-append, free_of_all, free_of_lacked, free_or_cut, lacks_of_all, lacks_weaker, last_cut_unique, not_free}
-use Rattle.git_syntax.proofs.Texts.EscapeLemmas.{encode_lacks_kept, lacks_from_encode, sound_free, utf8_class}
+use Rattle.git_syntax.proofs.Texts.EscapeLemmas.{ascii_class, encode_lacks_kept, lacks_from_encode, sound_free, utf8_class, white_space_ascii}
 use Rattle.git_location.specs.Settled.{HasUrlPath, IsBracketedAddress, IsFairSpelling, IsWeb, IsWebHost}
 use Rattle.git_location.specs.Settled.IsWebHost.{literal, named}
 use Rattle.git_location.specs.Internal.SettledPieces.{IsSettledBesidePath}
 use Rattle.git_location.specs.Text.{canonical_path, matching_or, plain_path}
 use Rattle.git_location.specs.WebClass.{AgreesOverWeb, HasDotSegment, HasUnambiguousHost, HasUnambiguousPath, IsDecodedWhole, IsLastLabel, IsPlainName, IsUnambiguousHost, IsUnambiguousPassword, IsUnambiguousUser, is_control, is_plain_host_byte, is_segment_end, is_uri_byte}
-use Rattle.git_location.specs.Internal.WebPieces.{EndsSecondDot, IsDotSegment, IsUriPath, ends_segment, is_common_path_byte, is_stray}
+use Rattle.git_location.specs.Internal.WebPieces.{EndsSecondDot, IsDotSegment, IsUriPath, SpellsUriPath, ends_segment, is_common_path_byte, is_stray}
 use Rattle.git_location.proofs.SettledClass.SettledLemmas.{settled_as_web, url_by_parts, web_settled}
 use Rattle.git_location.proofs.Writing.PieceLemmas.{counted}
 
@@ -205,6 +206,15 @@ percent_written set t has = (λ none. no_percent set t has none, λ free. none_e
 
 -- ---- bytes of paths
 
+and_joined : (a b c : Bool) → ((a && b) && c) ≡ (a && (b && c))
+and_joined true b c = refl
+and_joined false b c = refl
+
+-- whether each byte passes a test, one byte on
+pub all_more : (p : ℕ → Bool) (t : List ℕ) (i : ℕ) (so_far first : Bool) → i < length t → first ≡ p (get_or t i 0) → (so_far && list_all p (drop i t)) ≡ list_all p t → ((so_far && first) && list_all p (drop (i + 1) t)) ≡ list_all p t
+all_more p t i so_far first within is h =
+    and_joined so_far first (list_all p (drop (i + 1) t)) ∙ ap (λ f. so_far && (f && list_all p (drop (i + 1) t))) is ∙ ap (λ x. so_far && x) (sym (at_drop_more (list_all p) t i 0 within)) ∙ h
+
 -- the written text passes a test of each byte that escapes pass,
 -- if each byte of the text passes it or is escaped
 all_written : (test : ℕ → Bool) (set : AsciiSet) (t : List ℕ) → ((b : ℕ) → IsEscapeByte b → test b ≡ true) → list_all test (percent_encode set t) ≡ list_all (λ b. should_percent_encode set b || test b) t
@@ -301,6 +311,41 @@ simple_path_text t all = utf8_class is_common_path_byte (λ b simple. grind (ari
 
 -- ---- spellings
 
+-- a byte of a URI is ASCII
+uri_ascii : (b : ℕ) → is_uri_byte b ≡ true → b < 128
+uri_ascii b uri = grind (arith, nat_tests)
+
+-- and no white space
+uri_no_space : (b : ℕ) → is_uri_byte b ≡ true → is_whitespace b ≡ false
+uri_no_space b uri =
+    let none : (is_uri_byte b && is_whitespace b) ≡ false = agree_below_at (λ c. is_uri_byte c && is_whitespace c) (λ c. false) 128 b refl (uri_ascii b uri) in
+    sym (ap (λ x. x && is_whitespace b) uri) ∙ none
+
+-- a spelling of bytes of a URI is text without white space, so it is fair by the other conditions
+pub uri_spelling_by_parts : (path s : List ℕ) → ((list_all is_uri_byte s ≡ true) × SpellsUriPath s path) ↔ (IsUriPath path s × IsFairSpelling s path)
+uri_spelling_by_parts path s = (
+  λ (bytes, spells). (
+    record { no_control = spells.no_control; no_fragment = spells.no_fragment; bytes = bytes; whole = inl spells.no_colon },
+    record {
+      text = utf8_class is_uri_byte uri_ascii s bytes;
+      sound = spells.escapes.0;
+      escaped = spells.escapes.1;
+      no_white_space = white_space_ascii s (ascii_class is_uri_byte uri_ascii s bytes) (lacks_of_all is_uri_byte is_whitespace uri_no_space s bytes);
+      front = spells.front;
+    },
+  ),
+  λ (uri, fair). (
+    uri.bytes,
+    record {
+      no_colon = ⊎_elim (λ free. free) (λ none. absurd (both_ways _ none fair.escaped)) uri.whole;
+      escapes = (fair.sound, fair.escaped);
+      front = fair.front;
+      no_control = uri.no_control;
+      no_fragment = uri.no_fragment;
+    },
+  ),
+)
+
 -- the written path of a location of HTTP is the spelling that matches, and else the encoded path
 pub web_path : (v : Location) → IsWeb v → canonical_path v ≡ matching_or v.spelling v.path (percent_encode PATH v.path)
 web_path v (inl e) = ap (λ p. (if requires_path p && not (begins_with slash v.path) then slash ∷ [] else []) ++ matching_or v.spelling v.path (plain_path p v.path)) e
@@ -337,7 +382,11 @@ unspelled_path v path web same is =
       λ (uri, url). (url.path_text, subst (λ w. IsUriPath v.path w) written uri),
     )
 
--- and one with such a spelling if that is fair too
+-- a spelling that matches decodes to the path
+pub spelled_decodes : (v : Location) (path s : List ℕ) → path ≡ v.path → ((other : List ℕ) → s ≡ matching_or v.spelling v.path other) → DecodesTo s path
+spelled_decodes v path s same is = (taken v.spelling v.path s is).1 ∙ sym same
+
+-- and a path with such a spelling is one if that is fair too
 pub spelled_path : (v : Location) (path s : List ℕ) → IsWeb v → path ≡ v.path → ((other : List ℕ) → s ≡ matching_or v.spelling v.path other) → (IsUtf8 path × (IsUriPath path s × IsFairSpelling s path)) ↔ (IsUriPath v.path (canonical_path v) × HasUrlPath v)
 spelled_path v path s web same is =
     let written = web_path v web ∙ sym (is (percent_encode PATH v.path)) in

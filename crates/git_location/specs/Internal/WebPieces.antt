@@ -3,8 +3,9 @@ use Rattle.std.specs.Prelude.{◌≡◌, ℕ, Bool, true, false, ◌||◌, ◌==
 use Rattle.std.specs.Int.{is_in_range}
 use Rattle.std.specs.List.{list_all}
 use Rattle.std.specs.Char.{is_ascii_lowercase, is_ascii_uppercase}
-use Rattle.git_syntax.specs.Bytes.{slash, dot, number_sign, question_mark, Lacks, FreeOf, begins_with, is_one_of}
-use Rattle.git_location.specs.Settled.{begins_with_slashes}
+use Rattle.git_syntax.specs.Bytes.{colon, slash, dot, number_sign, question_mark, Lacks, FreeOf, begins_with, is_one_of}
+use Rattle.git_syntax.specs.Escapes.{has_percent, is_sound}
+use Rattle.git_location.specs.Settled.{begins_with_slashes, first_byte}
 use Rattle.git_location.specs.WebClass.{IsDecodedWhole, is_control, is_segment_end, is_uri_byte}
 
 -- the path begins with exactly one `/`
@@ -22,6 +23,15 @@ pub record IsUriPath (path written : List ℕ) : Type 0 where
   pub no_fragment : FreeOf number_sign path
   pub bytes : list_all is_uri_byte written ≡ true
   pub whole : IsDecodedWhole written
+
+-- the spelling, which decodes to the path, meets the conditions on spellings except for those on its bytes, and
+-- the path has neither a control character nor a fragment
+pub record SpellsUriPath (spelling path : List ℕ) : Type 0 where
+  pub no_colon : FreeOf colon spelling
+  pub escapes : (is_sound spelling ≡ true) × (has_percent spelling ≡ true)
+  pub front : first_byte spelling ≡ first_byte path
+  pub no_control : Lacks is_control path
+  pub no_fragment : FreeOf number_sign path
 
 -- a byte of most paths: a letter, a digit, `-`, `.`, `/` or `_`
 abbrev pub is_common_path_byte : ℕ → Bool

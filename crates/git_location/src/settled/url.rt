@@ -3,6 +3,7 @@
 ghost use Rattle.std.specs.Prelude.{◌≡◌, ◌↔◌, IsTrue, IsUtf8, true, IfSome};
 ghost use Rattle.git_syntax.specs.Location.Scheme.{git, helper_url, ssh};
 ghost use Rattle.git_syntax.specs.Bytes.{begins_by, is_path_start};
+ghost use Rattle.git_syntax.specs.Escapes.{DecodesTo, has_percent, is_sound};
 ghost use Rattle.git_location.specs.Internal.Pieces.{AreOwn};
 ghost use Rattle.git_location.specs.Settled.{HasBareHost, HasBracketedHost, HasCredentials, HasFairSpelling, HasUrlPath, HasWebHost, IsBracketedHost, IsFairSpelling, IsHomeless, IsHosted, IsRaw, IsRawPath, IsRootedOrEmpty, IsSettledGit, IsSettledHelperUrl, IsSettledRaw, IsSettledSecure, IsSettledUrl, IsSettledWeb, IsTransportPath, IsWeb, first_byte};
 ghost use Rattle.git_location.specs.Internal.SettledPieces.{HasRawPath, IsSettledBesidePath, IsWrittenAsUrl};
@@ -11,9 +12,9 @@ use crate::settled::fields::has_match;
 use crate::settled::host::{is_bare_host, is_bracketed_host, is_web_host};
 use crate::settled::length_check::has_fitting_text;
 use crate::url_ref::UrlRef;
-use crate::writer::piece::Pieces;
+use crate::writer::piece::{Pieces, count_percents};
 use git_syntax::bytes::{is_scheme_text, starts_with_byte};
-use git_syntax::escape::{decodes_to, has_percent, is_sound, lacks_white_space};
+use git_syntax::escape::{decodes_to, has_percent, lacks_white_space};
 use git_syntax::home::begins_at_home;
 use git_syntax::scheme::{is_ftp, is_known_scheme};
 use git_syntax::text::{as_text, is_plain, is_text};
@@ -229,19 +230,30 @@ fn has_fair_spelling(url: &UrlRef<'_>) -> bool
     }
 }
 
-/// Whether the spelling is written and read again unchanged.
-pub(crate) fn is_fair_spelling(spelling: &[u8], path: &[u8]) -> bool
+/// Whether the spelling, which decodes to the path, is written and read again unchanged.
+fn is_fair_spelling(spelling: &[u8], path: &[u8]) -> bool
+    requires { DecodesTo spelling.now path.now }
     ensures { IsTrue result ↔ IsFairSpelling spelling.now path.now }
 {
     is_text(spelling)
-        && is_sound(spelling)
-        && has_percent(spelling)
+        && has_only_escapes(spelling, path)
         && lacks_white_space(as_text(spelling))
         && begin_alike(spelling, path)
 }
 
+/// Whether the spelling, which decodes to the path, has a `%` and is sound. Then, and only then, each `%` makes
+/// it longer than the path by two bytes.
+pub(crate) fn has_only_escapes(spelling: &[u8], path: &[u8]) -> bool
+    requires { DecodesTo spelling.now path.now }
+    ensures { IsTrue result
+        ↔ ((is_sound spelling.now ≡ true) × (has_percent spelling.now ≡ true)) }
+{
+    let count = count_percents(spelling);
+    count > 0 && spelling.len() as u128 == path.len() as u128 + 2 * count as u128
+}
+
 /// Whether the texts have the same first byte, or are both empty.
-fn begin_alike(text: &[u8], other: &[u8]) -> bool
+pub(crate) fn begin_alike(text: &[u8], other: &[u8]) -> bool
     ensures { IsTrue result ↔ (first_byte text.now ≡ first_byte other.now) }
 {
     match (text, other) {

@@ -16,6 +16,9 @@ use crate::writer::unescaped::{needs_no_escape, user_needs_no_escape};
 use git_syntax::escape::{PASSWORD, PATH, USER};
 use percent_encoding::AsciiSet;
 
+/// The number of bytes in a block in which `%` is counted.
+const COUNTED: usize = 128;
+
 /// A slice and the way in which it is written. The written text is UTF-8.
 #[derive(Clone, Copy)]
 pub enum Piece<'a> {
@@ -357,9 +360,30 @@ pub(crate) fn count_escaped(text: &[u8], set: AsciiSet) -> usize
         .count()
 }
 
-/// The number of `%` in the text.
-fn count_percents(text: &[u8]) -> usize
+/// The number of `%` in the text. They are counted block by block.
+pub(crate) fn count_percents(text: &[u8]) -> usize
     ensures { result ≡ count_by (λ b. b == percent_sign) text.now }
 {
-    text.iter().filter(|byte| **byte == b'%').count()
+    let mut count = 0;
+    let mut rest = text;
+    while !rest.is_empty() {
+        let (block, suffix) = rest.split_at(rest.len().min(COUNTED));
+        count += count_in_block(block) as usize;
+        rest = suffix;
+    }
+    count
+}
+
+/// The number of `%` in a block. It is a byte, so a loop is compiled to count in many bytes at once.
+fn count_in_block(block: &[u8]) -> u8
+    requires { length block.now ≤ 128 }
+    ensures { result ≡ count_by (λ b. b == percent_sign) block.now }
+{
+    let mut count = 0u8;
+    for byte in block {
+        if *byte == b'%' {
+            count += 1;
+        }
+    }
+    count
 }

@@ -2,7 +2,7 @@
 use Rattle.std.proofs.Common.{◌∙◌, ap, sym}
 use Rattle.git_syntax.specs.Location.{Location}
 use Rattle.git_location.proofs.SettledClass.SettledLemmas.{first_fails, second_decides}
-use Rattle.git_location.proofs.SettledClass.WebClassLemmas.{simple_path_text, simple_uri_path, spelled_path, unspelled_path}
+use Rattle.git_location.proofs.SettledClass.WebClassLemmas.{simple_path_text, simple_uri_path, spelled_decodes, spelled_path, unspelled_path}
 use Rattle.git_location.proofs.git.web.has_uri_path.Goals as goal
 
 pub returns-then-is_simple_path : goal.returns-then-is_simple_path
@@ -26,3 +26,7 @@ returns-then-is_text-2 c =
 pub returns-else-is_text-2 : goal.returns-else-is_text-2
 returns-else-is_text-2 c =
     first_fails c.is_text-in-Some.result c.if-is_text-2.false c.is_text-in-Some.ensures (spelled_path c.args.url.now c.url.inside.path.now c.in-Some.spelling.now c.requires (ap (λ (v : Location). v.path) c.url.view_is) c.in-Some.ensures)
+
+pub is_uri_spelling-requires : goal.is_uri_spelling-requires
+is_uri_spelling-requires c =
+    spelled_decodes c.args.url.now c.url.inside.path.now c.in-Some.spelling.now (ap (λ (v : Location). v.path) c.url.view_is) c.in-Some.ensures
