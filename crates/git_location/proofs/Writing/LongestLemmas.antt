@@ -85,25 +85,26 @@ plain_longest ext path = omega arith
 plain_longest (helper name) path = omega arith
 plain_longest (helper_url name) path = omega arith
 
-matching_longest : (spelling : Option (List ℕ)) (path other : List ℕ) → length (matching_or spelling path other) ≤ optional_length spelling + length other
-matching_longest None path other = omega arith
-matching_longest (Some spelling) path other =
-    cond_both (matches (Some spelling) path) spelling other (λ t. length t ≤ length spelling + length other) (λ match. omega arith) (λ none. omega arith)
+-- the longer of the spelling and the path bounds both
+matching_longest : (spelling : Option (List ℕ)) (path other : List ℕ) (n : ℕ) → optional_length spelling ≤ n → length other ≤ n → length (matching_or spelling path other) ≤ n
+matching_longest None path other n spelled escaped = escaped
+matching_longest (Some spelling) path other n spelled escaped =
+    cond_both (matches (Some spelling) path) spelling other (λ t. length t ≤ n) (λ match. spelled) (λ none. escaped)
 
-path_longest : (v : Location) → length (canonical_path v) ≤ optional_length v.spelling + 3 * length v.path + 1
-path_longest v =
+path_longest : (v : Location) (n : ℕ) → optional_length v.spelling ≤ n → 3 * length v.path ≤ n → length (canonical_path v) ≤ n + 1
+path_longest v n spelled escaped =
     let written = plain_path v.scheme v.path in
     let root = root_longest v in
     let plain = plain_longest v.scheme v.path in
-    let matching = matching_longest v.spelling v.path written in
+    let matching = matching_longest v.spelling v.path written n spelled (omega (arith, plain, escaped)) in
     let whole = length-append (root_part v) (matching_or v.spelling v.path written) in
-    omega (arith, root, plain, matching, whole)
+    omega (arith, root, matching, whole)
 
--- the text of a URL is at most as long as its scheme and its
--- spelling, three times its other parts, and 14 bytes
-pub text_longest : (v : Location) → IfSome v.port (λ p. p < 65536)
-    → length (canonical_text v) ≤ length (scheme_text v.scheme) + optional_length v.spelling + 3 * (optional_length v.user + optional_length v.password + optional_length v.host + length v.path) + 14
-text_longest v small =
+-- the text of a URL is at most as long as its scheme, a bound on its spelling and on three times its path, three
+-- times its other parts, and 14 bytes
+pub text_longest : (v : Location) (n : ℕ) → IfSome v.port (λ p. p < 65536) → optional_length v.spelling ≤ n → 3 * length v.path ≤ n
+    → length (canonical_text v) ≤ length (scheme_text v.scheme) + n + 3 * (optional_length v.user + optional_length v.password + optional_length v.host) + 14
+text_longest v n small spelled escaped =
     let path = canonical_path v in
     let port = port_part v.port in
     let host = host_part v v.host in
@@ -112,4 +113,4 @@ text_longest v small =
     let information_whole = length-append information (host ++ (port ++ path)) in
     let host_whole = length-append host (port ++ path) in
     let port_whole = length-append port path in
-    omega (arith, scheme_whole, information_whole, host_whole, port_whole, information_longest v.user v.password, host_longest v v.host, port_longest v.port small, path_longest v)
+    omega (arith, scheme_whole, information_whole, host_whole, port_whole, information_longest v.user v.password, host_longest v v.host, port_longest v.port small, path_longest v n spelled escaped)

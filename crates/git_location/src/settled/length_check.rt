@@ -1,6 +1,6 @@
 //! The length test of a location's text, piece by piece. The lengths of the fields decide nearly all cases.
 
-ghost use Rattle.std.specs.Prelude.{◌≡◌, ◌≤◌, ◌^◌, ◌↔◌, ◌+◌, IsTrue, Ok, drop, length, option_map};
+ghost use Rattle.std.specs.Prelude.{◌≡◌, ◌≤◌, ◌*◌, ◌^◌, ◌↔◌, ◌+◌, IsTrue, Ok, drop, length, option_map};
 ghost use Rattle.git_syntax.specs.Bytes.{FreeOf, colon};
 ghost use Rattle.git_location.specs.Internal.Pieces.{AreOwn, pieces_text};
 ghost use Rattle.git_syntax.specs.Schemes.{scheme_text};
@@ -49,12 +49,21 @@ fn longest_len(url: &UrlRef<'_>) -> u128
     ensures { length (canonical_text url.now) ≤ result }
 {
     law_borrowed_value(url);
-    let kept = url.scheme.as_str().len() as u128 + spelling_len(url.spelling);
-    let escaped = part_len(url.user)
-        + part_len(url.password)
-        + part_len(url.host)
-        + url.path.len() as u128;
+    let kept = url.scheme.as_str().len() as u128 + longest_path_len(url.path, url.spelling);
+    let escaped = part_len(url.user) + part_len(url.password) + part_len(url.host);
     kept + 3 * escaped + 14
+}
+
+/// An upper bound for the length of a written path without a mark: the spelling or the path, of which each byte
+/// may be an escape.
+fn longest_path_len(path: &[u8], spelling: Option<&[u8]>) -> u128
+    ensures spelled { optional_length (option_map (λ t. t.now) spelling.entry) ≤ result }
+    ensures escaped { 3 * length path.now ≤ result }
+    ensures bound { result ≤ 3 * 2 ^ 64 }
+{
+    let spelled = spelling_len(spelling);
+    let escaped = 3 * path.len() as u128;
+    if spelled < escaped { escaped } else { spelled }
 }
 
 /// The length of the text, or 0 if it is missing.
