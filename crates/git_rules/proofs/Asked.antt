@@ -3,3 +3,4 @@ pub mod PartialLemmas
 pub mod AppliedLemmas
 pub mod TakenLemmas
 pub mod AnswerLemmas
+pub mod ElsewhereLemmas

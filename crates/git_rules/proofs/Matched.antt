@@ -7,3 +7,4 @@ pub mod PlaceLemmas
 pub mod PickedLemmas
 pub mod EntryLemmas
 pub mod PlacedLemmas
+pub mod OtherHostLemmas

@@ -34,6 +34,7 @@ pub mod Booleans
 pub mod Stops
 pub mod CredentialUrls
 pub mod PartialUrls
+pub mod OtherHosts
 pub mod CredentialEntries
 pub mod CredentialView
 pub mod Credentials

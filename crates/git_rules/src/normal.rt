@@ -152,7 +152,7 @@ pub fn needed_buffer_len(len: usize) -> usize
 }
 
 /// Whether a buffer of this length suffices for a text of this length.
-fn is_enough(text: usize, buffer_len: usize) -> bool
+pub(crate) fn is_enough(text: usize, buffer_len: usize) -> bool
     ensures { IsTrue result ↔ (3 * text + 1 ≤ buffer_len) }
 {
     0 < buffer_len && text <= (buffer_len - 1) / 3

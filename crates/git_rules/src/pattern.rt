@@ -10,6 +10,7 @@ ghost use Rattle.git_rules.specs.Patterns as spec;
 ghost use Rattle.git_rules.specs.Patterns.{HasRank, IsBelow, IsBest, IsBetter, IsLower, Matches, MatchesHost, MatchesLabel, MatchesPath, MatchesUser, RanksFor, labels_of, rank_of};
 
 pub mod entries;
+pub(crate) mod other_host;
 pub mod place;
 pub mod settings;
 

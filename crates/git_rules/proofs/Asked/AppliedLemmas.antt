@@ -14,7 +14,7 @@ use Rattle.git_rules.proofs.Settled.ListLemmas.{at_seam, in_front}
 -- ---- subsections
 
 -- a text has one normal form, or none
-form_unique : (globs : Bool) (t : List ℕ) (a b : Option NormalPlace) → IsFormOf globs t a → IsFormOf globs t b → a ≡ b
+pub form_unique : (globs : Bool) (t : List ℕ) (a b : Option NormalPlace) → IsFormOf globs t a → IsFormOf globs t b → a ≡ b
 form_unique globs t None None h k = refl
 form_unique globs t None (Some n) h k = absurd (h n k)
 form_unique globs t (Some n) None h k = absurd (k n h)

@@ -46,15 +46,15 @@ same_labels (own ∷ more) (label ∷ labels) free h =
 -- ---- hosts of the same labels
 
 -- a text that begins with a `.` has an empty first label
-labels_dot : (b : ℕ) (bs : List ℕ) → (b == dot) ≡ true → labels_of (b ∷ bs) ≡ [] ∷ labels_of bs
+pub labels_dot : (b : ℕ) (bs : List ℕ) → (b == dot) ≡ true → labels_of (b ∷ bs) ≡ [] ∷ labels_of bs
 labels_dot b bs same = rw same refl
 
 -- a text that begins with another byte has that at the front of its first label
-labels_byte : (b : ℕ) (bs : List ℕ) → (b == dot) ≡ false → labels_of (b ∷ bs) ≡ in_first_label b (labels_of bs)
+pub labels_byte : (b : ℕ) (bs : List ℕ) → (b == dot) ≡ false → labels_of (b ∷ bs) ≡ in_first_label b (labels_of bs)
 labels_byte b bs differs = rw differs refl
 
 -- a byte makes a first label that isn't empty
-not_empty_first : (b : ℕ) (labels more : List (List ℕ)) → in_first_label b labels ≡ [] ∷ more → ⊥
+pub not_empty_first : (b : ℕ) (labels more : List (List ℕ)) → in_first_label b labels ≡ [] ∷ more → ⊥
 not_empty_first b [] more e = cc
 not_empty_first b (label ∷ labels) more e = cc
 

@@ -4,12 +4,14 @@ ghost use Rattle.std.specs.Prelude.{◌≡◌, ◌↔◌, false, IfOk, IsTrue, o
 ghost use Rattle.git_reads.specs.Views.{credential_reading};
 ghost use Rattle.git_rules.specs.CredentialEntries.{AppliesTo, DecidesUrl, FitsSubsection, IsFormOf, MatchesForm};
 ghost use Rattle.git_rules.specs.CredentialUrls.{credential_url};
+ghost use Rattle.git_rules.specs.OtherHosts.{IsElsewhere};
 
 use crate::config::Entry;
 use crate::credentials::partial::fits_partly;
 use crate::normal::{NormalUrl, needed_buffer_len};
 use crate::pattern::UrlPattern;
 use crate::pattern::entries::is_short_buffer;
+use crate::pattern::other_host::names_other_host;
 use git_reads::credential::Request;
 use std::alloc::{AllocError, Global};
 
@@ -49,9 +51,25 @@ fn fits(
     ensures { IfOk result (λ fits. IsTrue fits ↔ FitsSubsection (Some url.now)
         (credential_reading request.now) (option_map (λ t. t.now) user.entry)) }
 {
+    if is_elsewhere(url, request.host, place) {
+        return Ok(false);
+    }
     match matches_url(alloc, url, place)? {
         Some(matches) => Ok(matches),
         None => fits_partly(alloc, url, request, user),
+    }
+}
+
+/// Whether the URL names another host than the request and than its place. False says nothing.
+fn is_elsewhere(url: &[u8], host: &[u8], place: Option<&NormalUrl<'_>>) -> bool
+    ensures { IsTrue result → IsElsewhere url.now host.now (option_map (λ p. p.now) place.entry) }
+{
+    if !names_other_host(url, host) {
+        return false;
+    }
+    match place {
+        None => true,
+        Some(place) => place.host == host || names_other_host(url, place.host),
     }
 }
 

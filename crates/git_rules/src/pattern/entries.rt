@@ -3,10 +3,12 @@
 //! The caller supplies one buffer, into which each URL is read in turn.
 
 ghost use Rattle.std.specs.Prelude.{◌≡◌, ◌≤◌, ◌+◌, ◌*◌, ◌↔◌, All, IsTrue, OnErr, OnOk, Some, length, option_copied};
+ghost use Rattle.git_rules.specs.OtherHosts.{NamesOtherHost};
 ghost use Rattle.git_rules.specs.PatternEntries.{BufferSuffices, IsBestIn, LacksBufferFirst, RanksIn, RanksUrlIn};
 
 use crate::config::Entry;
-use crate::normal::{NormalError, NormalUrl};
+use crate::normal::{NormalError, NormalUrl, is_enough};
+use crate::pattern::other_host::names_other_host;
 use crate::pattern::{Rank, UrlPattern, better};
 
 /// The rank of an entry for all places.
@@ -97,6 +99,9 @@ fn url_rank(
     ensures rank { RanksUrlIn place.now (length buffer.old) url.now result }
     ensures buffer { OnOk result (3 * length url.now + 1 ≤ length buffer.old) }
 {
+    if is_elsewhere(url, place.host, buffer.len()) {
+        return Ok(None);
+    }
     match UrlPattern::parse_in(url, buffer) {
         Ok(pattern) => Ok(pattern.rank_for(place)),
         Err(error) => {
@@ -107,6 +112,16 @@ fn url_rank(
             }
         }
     }
+}
+
+/// Whether the URL names another host, and a buffer of this length suffices for it. False says nothing.
+fn is_elsewhere(url: &[u8], host: &[u8], buffer_len: usize) -> bool
+    ensures { IsTrue result → ((3 * length url.now + 1 ≤ buffer_len) × NamesOtherHost url.now host.now) }
+{
+    if !is_enough(url.len(), buffer_len) {
+        return false;
+    }
+    names_other_host(url, host)
 }
 
 /// Whether the error is that the buffer is too short.
