@@ -49,6 +49,11 @@ abbrev pub LacksValue : ConfigEntry → Type 0
 LacksValue e = ((sets url_section instead_of e ≡ true) ⊎ (sets url_section push_instead_of e ≡ true))
     × ((base : List ℕ) × (e.subsection ≡ Some base)) × (e.value ≡ None)
 
+-- the entry is a rule with a value: it has a base, one of the two names, and a front
+abbrev pub HasRule : ConfigEntry → Type 0
+HasRule e = ((sets url_section instead_of e ≡ true) ⊎ (sets url_section push_instead_of e ≡ true))
+    × ((base : List ℕ) × (e.subsection ≡ Some base)) × ((front : List ℕ) × (e.value ≡ Some front))
+
 -- no entry lacks a value
 abbrev pub AllHaveValues : List ConfigEntry → Type 0
 AllHaveValues [] = Unit {0}

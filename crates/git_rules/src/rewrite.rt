@@ -133,7 +133,7 @@ impl<'a> Rewrites<'a> {
     /// # Errors
     ///
     /// [`RewriteError::NoValue`] names the entry if it is a rule without a value. [`RewriteError::Memory`] if an
-    /// allocation fails. After an error the rules are unchanged.
+    /// allocation for a rule with a value fails. After an error the rules are unchanged.
     pub fn add_entry(&mut self, entry: &Entry<'a>) -> Result<(), RewriteError>
         ensures { AddsEntry entry.now self.old self.new result }
     {

@@ -20,6 +20,11 @@ pub front_missing : (e : ConfigEntry) (old : Rules) (base : List ℕ) (error : R
 front_missing e old base error named sub (missing, is) =
     subst (λ x. AddsEntry e old old (Err x)) (sym is) ((named, (base, sub), missing), refl, refl)
 
+-- memory is refused for a rule
+pub front_refused : (e : ConfigEntry) (old new : Rules) (base front : List ℕ) (error : RewriteError) → (sets url_section instead_of e ≡ true) ⊎ (sets url_section push_instead_of e ≡ true) → e.subsection ≡ Some base → e.value ≡ Some front → error ≡ Memory → new ≡ old → AddsEntry e old new (Err error)
+front_refused e old new base front error named sub value is same =
+    subst (λ x. AddsEntry e old new (Err x)) (sym is) ((named, (base, sub), (front, value)), same)
+
 -- ---- all entries
 
 -- the rules of one entry more
