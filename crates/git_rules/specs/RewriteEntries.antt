@@ -63,3 +63,8 @@ AllHaveValues (e ∷ entries) = (¬ LacksValue e) × AllHaveValues entries
 abbrev pub FirstLacks : List ConfigEntry → ℕ → Type 0
 FirstLacks entries at = (before : List ConfigEntry) × (e : ConfigEntry) × (others : List ConfigEntry)
     × (entries ≡ before ++ e ∷ others) × AllHaveValues before × LacksValue e × (at ≡ e.at)
+
+-- an entry is a rule with a value, and no entry before it lacks one
+abbrev pub ReachesRule : List ConfigEntry → Type 0
+ReachesRule entries = (before : List ConfigEntry) × (e : ConfigEntry) × (others : List ConfigEntry)
+    × (entries ≡ before ++ e ∷ others) × AllHaveValues before × HasRule e

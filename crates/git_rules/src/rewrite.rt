@@ -97,7 +97,7 @@ impl<'a> Rewrites<'a> {
     ///
     /// [`RewriteError::NoValue`] names the first rule that has no value, at which Git stops; a program that
     /// continues without it can add the entries one by one with [`Rewrites::add_entry`]. [`RewriteError::Memory`]
-    /// if an allocation fails.
+    /// if an allocation for a rule fails; each rule before it then has a value.
     pub fn from_entries(alloc: Global, entries: &[Entry<'a>]) -> Result<Rewrites<'a>, RewriteError>
         ensures { IsFilled entries.now result }
     {

@@ -61,4 +61,5 @@ filled_more entries i e old new within at h (lacking, added) =
 pub filled_to : (entries : List ConfigEntry) (i : ℕ) (e : ConfigEntry) (old new : Rules) (error : RewriteError) → i < length entries → e ≡ get_or entries i e → FilledSoFar (take i entries) old → AddsEntry e old new (Err error) → IsFilled entries (Err error)
 filled_to entries i e old new (NoValue at) within is h (lacking, place, _) =
     (take i entries, e, drop (suc i) entries, cut_here entries i e within ∙ ap (λ x. take i entries ++ x ∷ drop (suc i) entries) (sym is), h.values, lacking, place)
-filled_to entries i e old new Memory within is h added = tt
+filled_to entries i e old new Memory within is h (rule, _) =
+    (take i entries, e, drop (suc i) entries, cut_here entries i e within ∙ ap (λ x. take i entries ++ x ∷ drop (suc i) entries) (sym is), h.values, rule)
