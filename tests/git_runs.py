@@ -5,11 +5,14 @@ its helper programs in an empty folder, so that only those of the configuration 
 """
 import functools
 import os
+import pathlib
 import re
 import subprocess
 import tempfile
 from collections import namedtuple
 from concurrent.futures import ThreadPoolExecutor
+
+from row_text import text_of
 
 # The subsection is `place`, None if there is none; the value is None if the key has none.
 Entry = namedtuple("Entry", "section place name value")
@@ -23,8 +26,7 @@ def alone(scratch, **more):
 
 def run(folder, environment, *words, given=b""):
     """A run of a command, whose output has its reports in it."""
-    stdin = {"input": given} if given else {"stdin": subprocess.DEVNULL}
-    streams = {"stdout": subprocess.PIPE, "stderr": subprocess.STDOUT, **stdin}
+    streams = {"stdout": subprocess.PIPE, "stderr": subprocess.STDOUT, "input": given}
     return subprocess.run(words, cwd=folder, env=environment, check=False, timeout=600, **streams)
 
 
@@ -35,8 +37,7 @@ def output(folder, environment, *words, given=b"", **more):
 
 
 def put(path, text, mode=0o600):
-    with open(path, "wb") as it:
-        it.write(text if isinstance(text, bytes) else text.encode())
+    pathlib.Path(path).write_bytes(text if isinstance(text, bytes) else text.encode())
     os.chmod(path, mode)
     return path
 
@@ -46,11 +47,9 @@ def in_parallel(ask, some):
         return [*lanes.map(ask, some)]
 
 
-def repository(folder, entries):
-    os.makedirs(f"{folder}/objects")
-    os.makedirs(f"{folder}/refs")
-    put(f"{folder}/HEAD", "ref: refs/heads/main\n")
-    put(f"{folder}/config", file_of(entries))
+def named(said, names):
+    """The name of the first of these words that is in what Git says."""
+    return next((name for words, name in names.items() if words in said), None)
 
 
 def in_repositories(answer, configurations, files=(), **more):
@@ -60,15 +59,15 @@ def in_repositories(answer, configurations, files=(), **more):
     and a question. Variables name files with these texts, which may be scripts; there may be more variables.
     """
     with tempfile.TemporaryDirectory(prefix="rules-") as scratch:
-        home, empty, asked = f"{scratch}/home", f"{scratch}/empty", []
-        os.makedirs(home)
-        os.makedirs(empty)
-        environment = alone(scratch, XDG_CONFIG_HOME=home, GIT_EXEC_PATH=empty, GIT_TERMINAL_PROMPT="0")
+        asked = []
+        environment = alone(scratch, XDG_CONFIG_HOME=f"{scratch}/home", GIT_EXEC_PATH=f"{scratch}/empty", GIT_TERMINAL_PROMPT="0")
         environment.update({name: put(f"{scratch}/{name}", text, 0o700) for name, text in dict(files).items()})
         for at, (entries, questions) in enumerate(configurations):
-            folder = f"{scratch}/{at}"
-            repository(folder, entries)
-            ask = functools.partial(output, scratch, {**environment, "GIT_DIR": folder, **more})
+            for it in ("home", "empty", f"{at}/objects", f"{at}/refs"):
+                os.makedirs(f"{scratch}/{it}", exist_ok=True)
+            put(f"{scratch}/{at}/HEAD", "ref: refs/heads/main\n")
+            put(f"{scratch}/{at}/config", file_of(entries))
+            ask = functools.partial(output, scratch, {**environment, "GIT_DIR": f"{scratch}/{at}", **more})
             asked += [(ask, entries, it) for it in questions]
         return in_parallel(lambda it: answer(*it), asked)
 
@@ -89,20 +88,25 @@ def quoted(text):
 
 def file_of(entries):
     """The entries as a configuration file, each under a header of its own."""
-    out = []
-    for it in entries:
-        head = it.section if it.place is None else it.section + b" " + quoted(it.place)
-        out.append(b"[" + head + b"]\n\t" + it.name + (b"" if it.value is None else b" = " + quoted(it.value)) + b"\n")
-    return b"".join(out)
+    return b"".join(b"[%s%s]\n\t%s%s\n" % (it.section, b"" if it.place is None else b" " + quoted(it.place), it.name,
+                                         b"" if it.value is None else b" = " + quoted(it.value)) for it in entries)
 
 
 def listed(entries):
     """The entries as `git config --list -z` writes them: section and name in lower case, the subsection unchanged."""
-    out = []
-    for it in entries:
-        place = b"" if it.place is None else it.place + b"."
-        out.append(it.section.lower() + b"." + place + it.name.lower() + (b"" if it.value is None else b"\n" + it.value) + b"\0")
-    return b"".join(out)
+    return b"".join(b"%s.%s%s%s\0" % (it.section.lower(), b"" if it.place is None else it.place + b".", it.name.lower(),
+                                      b"" if it.value is None else b"\n" + it.value) for it in entries)
+
+
+def entries_in(said):
+    """The entries that `git config --list -z` writes."""
+    return [entry_of(*it.split(b"\n", 1)) for it in said.split(b"\0")[:-1]]
+
+
+def order_of(call, entries=None, **members):
+    """The order for a call of the library by entries, with the members that aren't None; bytes are texts of a row."""
+    given = {"call": call, "config": None if entries is None else listed(entries), **members}
+    return {name: text_of(it) if isinstance(it, bytes) else it for name, it in given.items() if it is not None}
 
 
 def is_named(entry, section, *names):
@@ -112,10 +116,7 @@ def is_named(entry, section, *names):
 
 def listing_faults(configurations):
     """The lists of entries that Git writes differently from `listed`."""
-    def list_of(ask, *_):
-        return ask("git", "config", "--local", "--list", "-z")
-
-    said = in_repositories(list_of, [(it, [None]) for it in configurations])
+    said = in_repositories(lambda ask, *_: ask("git", "config", "--local", "--list", "-z"), [(it, [None]) for it in configurations])
     for entries, found in zip(configurations, said):
         if found != listed(entries):
             yield f"git config --list -z writes {found!r}, and not {listed(entries)!r}"

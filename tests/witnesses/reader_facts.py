@@ -10,6 +10,7 @@ finds another host than its group. A text is spelled as in rows (`row_text.py`).
 """
 import json
 import re
+from collections import defaultdict
 
 from git_runs import put
 from reader_groups import counted
@@ -22,6 +23,7 @@ from second_reading.unambiguous import CONDITIONS, broken
 
 # The pages that have a table between marks.
 PAGES = ("docs/READERS.md", "vectors/readers/conditions.md", "vectors/readers/confusions.md")
+TABLE = re.compile(r"(<!-- (\w+) -->\n).*?(<!-- end -->)", re.S)
 # The host of a stranger in the texts that docs/READERS.md shows, and the word for no host.
 STRANGER, LOCAL = "evil.com", "a local path"
 # The letters of the table, by the behaviour of a reader in some text that breaks only this condition: the strongest is shown.
@@ -44,32 +46,22 @@ def versions():
 
 def shown_lines():
     """The lines of single texts: the table of each, its text and its conditions."""
-    yield from (("conditions", line, bytes_of(line["example"]), [line["name"]]) for line in lines("conditions"))
-    yield from (("confusions", line, bytes_of(line["text"]), line["conditions"]) for line in lines("confusions"))
-
-
-def texts():
-    return [text for *_, text, _ in shown_lines()]
+    return [*(("conditions", it, bytes_of(it["example"]), [it["name"]]) for it in lines("conditions")),
+            *(("confusions", it, bytes_of(it["text"]), it["conditions"]) for it in lines("confusions"))]
 
 
 # ---- findings
 
-def in_order(found):
-    return dict(sorted(found.items(), key=lambda it: (-len(it[1]), it[0])))
-
-
 def others(text, readers):
     """The hosts that readers find in a text instead of Git's, and their other differences; each with these readers."""
-    found, parts = {}, {}
+    found = {"hosts": defaultdict(list), "parts": defaultdict(list)}
     for reader in readers:
         case, it = reader.differing.get(text, (None, REFUSED))
-        if it in (REFUSED, SILENT):
-            continue
-        if case.wanted is None or it.host != case.wanted.host:
-            found.setdefault(text_of(it.host or b""), []).append(reader.name)
-        else:
-            parts.setdefault(unlike(case.wanted, it), []).append(reader.name)
-    return {"hosts": in_order(found), "parts": in_order(parts)}
+        if it not in (REFUSED, SILENT):
+            is_host = case.wanted is None or it.host != case.wanted.host
+            kind, word = ("hosts", text_of(it.host or b"")) if is_host else ("parts", unlike(case.wanted, it))
+            found[kind][word].append(reader.name)
+    return {kind: dict(sorted(of.items(), key=lambda it: (-len(it[1]), it[0]))) for kind, of in found.items()}
 
 
 def unlike(wanted, it):
@@ -92,24 +84,18 @@ def condition_line(line, same, cases, readers, found, beside):
     """A line with what is found, and with what it had of readers of the same versions."""
     name, by_kind = line["name"], {it: [] for it in KINDS}
     for reader in readers:
-        kinds = {it for it in KINDS if reader.name in same and reader.name in line[it]}
-        for case, it in found[name][reader.name]:
-            kinds.add("refused" if it == REFUSED else "other" if it.host == case.wanted.host else "host")
+        kinds = {it for it in KINDS if reader.name in same and reader.name in line[it]} | {
+            "refused" if it == REFUSED else "other" if it.host == case.wanted.host else "host" for case, it in found[name][reader.name]}
         if kinds:
             by_kind[next(it for it in KINDS if it in kinds)].append(reader.name)
     more = dict.fromkeys([*(it for it in line["beside"] if it in same), *beside[name]])
-    more = [it for it in more if not any(it in of_kind for of_kind in by_kind.values())]
     place = place_of(bytes_of(line["example"]), cases, readers)
-    return {"name": name, "words": words_of(CONDITIONS[name]), "example": line["example"], **place, **by_kind, "beside": more}
+    return {"name": name, "words": words_of(CONDITIONS[name]), "example": line["example"], **place, **by_kind,
+            "beside": [it for it in more if not any(it in of_kind for of_kind in by_kind.values())]}
 
 
 def group_lines(readers):
     return [{**it, "words": words_of(GROUPS[it["group"]])} for it in counted(readers)]
-
-
-def count_faults(readers):
-    listed = lines("groups")
-    return [f"groups.jsonl has not {it}" for it in group_lines(readers) if it not in listed]
 
 
 def record(cases, readers, found, beside):
@@ -121,22 +107,18 @@ def record(cases, readers, found, beside):
     singles = [it["text"] for it in lines("confusions")]
     write("confusions", [{"text": it, "conditions": broken(bytes_of(it)), **place_of(bytes_of(it), cases, readers)} for it in singles])
     write("groups", group_lines(readers))
-    for page in PAGES:
-        given = read(page)
-        for mark, table in tables().items():
-            given = re.sub(rf"(<!-- {mark} -->\n).*?(<!-- end -->)", lambda it, table=table: it[1] + table + it[2], given, flags=re.S)
-        put(f"{ROOT}/{page}", given, 0o644)
+    for page, text in pages().items():
+        put(f"{ROOT}/{page}", text, 0o644)
 
 
 def confusion_faults(cases, readers):
     """The texts for which readers read other places than the tables have, or which break other conditions."""
     names, known = {it.name for it in readers}, {case.text for case in cases}
     for topic, line, text, of in shown_lines():
-        found = others(text, readers)
-        for name in found if text in known else ():
+        for name, found in others(text, readers).items() if text in known else ():
             listed = {place: left for place, them in line[name].items() if (left := [it for it in them if it in names])}
-            if found[name] != listed:
-                yield f"in {text!r} readers take {found[name]}, and {topic}.jsonl has {listed}"
+            if found != listed:
+                yield f"in {text!r} readers take {found}, and {topic}.jsonl has {listed}"
         if broken(text) != of:
             yield f"{text!r} of {topic}.jsonl breaks {broken(text)}"
 
@@ -157,36 +139,33 @@ def condition_table():
     short = {it["reader"]: it["short"] for it in lines("readers") if "short" in it}
     out = ["| Condition | Broken by | Example |" + "|".join(short.values()) + "|\n", "|---" * (len(short) + 3) + "|\n"]
     for it in lines("conditions"):
-        marks = [next((letter for kind, letter in KINDS.items() if name in it[kind]), "") for name in short]
-        example = cell(it["example"]) if len(it["example"]) < 60 else ""
-        words = it["words"].rstrip(".").replace("|", "\\|")
-        out.append(f"| `{it['name']}` | {words} | {example} |" + "|".join(marks) + "|\n")
+        marks = "|".join(next((letter for kind, letter in KINDS.items() if name in it[kind]), "") for name in short)
+        words, example = it["words"].rstrip(".").replace("|", "\\|"), cell(it["example"]) if len(it["example"]) < 60 else ""
+        out.append(f"| `{it['name']}` | {words} | {example} |{marks}|\n")
     return "".join(out)
+
+
+def named(places):
+    counts = {place: ", ".join(of) if len(of) <= MANY else f"{len(of)} readers" for place, of in places.items()}
+    return [f"{cell(place) if place else 'no host'}: {readers}" for place, readers in counts.items()]
 
 
 def confusion_tables():
     """The texts that name the host of a stranger, to which either Git or others connect; and all of them."""
-    def named(places):
-        counted = {place: ", ".join(of) if len(of) <= MANY else f"{len(of)} readers" for place, of in places.items()}
-        return [f"{cell(place) if place else 'no host'}: {readers}" for place, readers in counted.items()]
-
-    attacks, every = [], []
+    heads, attacks, every = ("Text", "Git connects to", "Others read"), [], []
     for it in lines("confusions"):
-        hosts, parts = named(it["hosts"]), named(it["parts"])
+        text, hosts, conditions = cell(it["text"]), named(it["hosts"]), ", ".join(f"`{name}`" for name in it["conditions"])
         git = "nothing" if it["git"] is None else LOCAL if it["git"] == LOCAL else cell(it["git"])
-        if STRANGER in it["text"] and hosts:
-            attacks.append((cell(it["text"]), git, "; ".join(hosts)))
-        conditions = ", ".join(f"`{name}`" for name in it["conditions"])
-        every.append((cell(it["text"]), conditions, git, "; ".join([*hosts, *parts])))
-    heads = ("Text", "Git connects to", "Others read")
+        attacks += [(text, git, "; ".join(hosts))] if STRANGER in it["text"] and hosts else []
+        every.append((text, conditions, git, "; ".join([*hosts, *named(it["parts"])])))
     return {"attacks": page_table(heads, attacks), "confusions": page_table((heads[0], "Condition", *heads[1:]), every)}
 
 
 def group_table():
     """Each group with the programs that represent it, and how often each takes the group's host."""
-    found = {}
+    found = defaultdict(list)
     for it in lines("groups"):
-        found.setdefault((f"`{it['group']}`", it["words"].rstrip(".")), []).append(f"{it['program']}: {it['takes']:,} of {it['differs']:,}")
+        found[f"`{it['group']}`", it["words"].rstrip(".")].append(f"{it['program']}: {it['takes']:,} of {it['differs']:,}")
     return page_table(("Group", "The host that it finds", "Programs"), [(*group, "; ".join(programs)) for group, programs in found.items()])
 
 
@@ -199,8 +178,8 @@ def tables():
     return {"readers": reader_table(), **confusion_tables(), "conditions": condition_table(), "groups": group_table()}
 
 
-def page_faults():
-    given = "".join(map(read, PAGES))
-    for mark, table in tables().items():
-        if f"<!-- {mark} -->\n{table}<!-- end -->" not in given:
-            yield f"{' and '.join(PAGES)} have another table of {mark} than vectors/readers/"
+def pages():
+    """The pages with the tables between their marks, each of which is in one of them."""
+    given, made = {page: read(page) for page in PAGES}, tables()
+    assert sorted(name for text in given.values() for _, name, _ in TABLE.findall(text)) == sorted(made)
+    return {page: TABLE.sub(lambda it: it[1] + made[it[2]] + it[3], text) for page, text in given.items()}

@@ -11,12 +11,14 @@ What URLs it stores, it shows in a repository whose remote has the parent as its
 it doesn't resolve. It runs again without that one, until it no longer stops: by the program that `git submodule init`
 starts, which takes a tenth of the time.
 """
+import functools
+import pathlib
 import re
 import tempfile
 from collections import defaultdict
 from contextlib import contextmanager
 
-from git_runs import Entry, alone, entry_of, file_of, in_parallel, in_repositories, listed, quoted, run
+from git_runs import Entry, alone, entries_in, file_of, in_parallel, named, order_of, put, run
 from row_text import text_of
 
 REFUSED = re.compile(rb"fatal: bad config line (\d+) in standard input")
@@ -31,24 +33,27 @@ def outcome(text, said):
         return {"error": "ZeroByte", "at": CUT[text], "line": 1 + text[:CUT[text]].count(b"\n")}
     if refused := REFUSED.match(said):
         return {"error": "Refused", "line": int(refused[1])}
-    entries = (entry_of(*it.split(b"\n", 1)) for it in said.split(b"\0")[:-1])
-    parts = (it if it.name else Entry(b"", None, it.section, it.value) for it in entries)
+    parts = (it if it.name else Entry(b"", None, it.section, it.value) for it in entries_in(said))
     return [{name: text_of(one) for name, one in zip(("section", "subsection", "name", "value"), it) if one is not None} for it in parts]
 
 
 def file(ask, _, text):
-    said = ask("git", "config", "--file=-", "--list", "-z", given=text)
-    return {"call": "config_file::entries", "file": text_of(text)}, outcome(text, said)
-
-
-def files(texts):
-    """The calls of the library for files, each with Git's outcome."""
-    return in_repositories(file, [([], texts)])
+    """The call of the library for a file, with Git's outcome."""
+    return order_of("config_file::entries", file=text), outcome(text, ask("git", "config", "--file=-", "--list", "-z", given=text))
 
 
 # ---- submodules
 
 REFUSED_BY_FSCK = re.compile(rb"error in blob ([0-9a-f]{40}): (gitmodules(?:Name|Url|Path|Update)): ")
+
+
+@contextmanager
+def with_git(*words):
+    """A new repository, and a function that runs Git in it."""
+    with tempfile.TemporaryDirectory(prefix="rules-") as scratch:
+        git = functools.partial(run, scratch, alone(scratch), "git")
+        git("init", "--quiet", *words)
+        yield pathlib.Path(scratch), git
 
 
 def checks(configurations):
@@ -57,31 +62,21 @@ def checks(configurations):
     blobs = [b"blob\nmark :%d\ndata %d\n%s\n" % (at + 1, len(it), it) for at, it in enumerate(texts)]
     places = [b"M 100644 :%d %d/%d/.gitmodules\n" % (at + 1, at // 256, at) for at in range(len(texts))]
     head = b"commit refs/heads/main\ncommitter a <a@b> 0 +0000\ndata 0\n"
-    with tempfile.TemporaryDirectory(prefix="rules-") as scratch:
-        environment = alone(scratch)
-        run(scratch, environment, "git", "init", "--quiet", "--bare")
-        stream = b"".join([*blobs, head, *places])
-        run(scratch, environment, "git", "fast-import", "--quiet", "--export-marks=marks", given=stream)
-        with open(f"{scratch}/marks", "rb") as it:
-            marks = dict(line.split() for line in it.read().splitlines())
+    with with_git("--bare") as (folder, git):
+        git("fast-import", "--quiet", "--export-marks=marks", given=b"".join([*blobs, head, *places]))
+        marks = dict(line.split() for line in (folder / "marks").read_bytes().splitlines())
         said = defaultdict(list)
-        for oid, reason in REFUSED_BY_FSCK.findall(run(scratch, environment, "git", "fsck", "--no-dangling").stdout):
+        for oid, reason in REFUSED_BY_FSCK.findall(git("fsck", "--no-dangling").stdout):
             said[oid].append(reason.decode())
-    return [({"call": "refusal::check", "config": text_of(listed(it))}, said[marks[b":%d" % at]])
-            for at, it in enumerate(configurations, 1)]
+    return [(order_of("refusal::check", it), said[marks[b":%d" % at]]) for at, it in enumerate(configurations, 1)]
 
 
 @contextmanager
 def with_submodules(modules, paths, config=b""):
     """Runs Git in a repository with this `.gitmodules`, links in its index at the paths, and more configuration."""
-    with tempfile.TemporaryDirectory(prefix="submodules-") as scratch:
-        def git(*words, **given):
-            return run(scratch, alone(scratch), "git", *words, **given)
-
-        git("init", "--quiet")
-        with open(f"{scratch}/.gitmodules", "wb") as modules_file, open(f"{scratch}/.git/config", "ab") as config_file:
-            modules_file.write(modules)
-            config_file.write(config)
+    with with_git() as (folder, git):
+        put(folder / ".gitmodules", modules)
+        put(folder / ".git/config", (folder / ".git/config").read_bytes() + config)
         git("update-index", "--index-info", given=b"".join(b"160000 %s\t%s\n" % (b"1" * 40, it) for it in paths))
         yield git
 
@@ -89,26 +84,20 @@ def with_submodules(modules, paths, config=b""):
 def configured(git):
     """The values of the configuration for submodules: for each name those of its keys."""
     found = defaultdict(dict)
-    for line in git("config", "--local", "--list", "-z").stdout.split(b"\0"):
-        key, _, value = line.partition(b"\n")
-        if key.startswith(b"submodule.") and not key.endswith(b".active"):
-            name, _, item = key[len(b"submodule."):].rpartition(b".")
-            found[text_of(name)][item.decode()] = text_of(value)
+    for it in entries_in(git("config", "--local", "--list", "-z").stdout):
+        if it.section == b"submodule" and it.name != b"active":
+            found[text_of(it.place)][it.name.decode()] = text_of(it.value)
     return dict(found)
 
 
 def used_of(entries):
+    """The call of the library for a file, with the values that `git submodule init` writes: the URL of each submodule with a path, and its way
+    to update."""
     paths = {it.value for it in entries if it.section == b"submodule" and it.name.lower() == b"path"}
     with with_submodules(file_of(entries), sorted(it for it in paths if not it.startswith(b"-"))) as git:
         for path in git("ls-files", "-z").stdout.split(b"\0")[:-1]:
             git("submodule", "init", "--", path)
-        return {"call": "submodules::submodules", "config": text_of(listed(entries))}, configured(git)
-
-
-def used(configurations):
-    """The calls of the library for files, each with the values that `git submodule init` writes: the URL of each
-    submodule with a path, and its way to update."""
-    return in_parallel(used_of, configurations)
+        return order_of("submodules::submodules", entries), configured(git)
 
 
 # ---- their URLs
@@ -117,29 +106,22 @@ def used(configurations):
 SAID = {b"cannot strip one component off url": "NothingLeft", b"invalid empty remote_url": "EmptyParent"}
 
 
-def quoted_tab(text):
-    """A value as a configuration file has it, with its tabs escaped."""
-    return quoted(text).replace(b"\t", rb"\t")
-
-
 def resolved_of(pair):
     """The calls of the library for the URLs of one parent, each with Git's outcome. Git takes them in their order, and
     stops at the first that it doesn't store."""
     parent, urls = pair
     names, reasons = ["%06d" % at for at in range(len(urls))], {}
-    modules = b"".join(b'[submodule "%06d"]\n\tpath = %06d\n\turl = %s\n' % (at, at, quoted_tab(url))
-                       for at, url in enumerate(urls))
-    config = b'[remote "origin"]\n\turl = ' + quoted_tab(parent) + b"\n"
-    with with_submodules(modules, [it.encode() for it in names], config) as git:
+    modules = [Entry(b"submodule", it.encode(), *own) for it, url in zip(names, urls) for own in ((b"path", it.encode()), (b"url", url))]
+    config = file_of([Entry(b"remote", b"origin", b"url", parent)])
+    with with_submodules(file_of(modules), [it.encode() for it in names], config) as git:
         ran = git("submodule", "init")
         while ran.returncode:
             stopped = min({*names} - {*configured(git)} - {*reasons})
-            reasons[stopped] = {"error": next(name for words, name in SAID.items() if words in ran.stdout)}
+            reasons[stopped] = {"error": named(ran.stdout, SAID)}
             git("update-index", "--force-remove", stopped)
             ran = git("submodule--helper", "init")
         found = {name: it["url"] for name, it in configured(git).items()} | reasons
-    order = {"call": "resolve::resolve", "parent": text_of(parent)}
-    return [({**order, "url": text_of(url)}, found[it]) for it, url in zip(names, urls)]
+    return [(order_of("resolve::resolve", parent=parent, url=url), found[it]) for it, url in zip(names, urls)]
 
 
 def resolved(pairs):

@@ -4,8 +4,9 @@
 with `--push`, the URLs of a remote. It answers for a remote that its repository has, so each one has an entry that doesn't affect URLs.
 """
 from collections import namedtuple
+from functools import partial
 
-from git_runs import Entry, in_repositories, is_named, listed
+from git_runs import Entry, in_repositories, is_named, listed, order_of
 from row_text import text_of
 from texts import lacks_value
 
@@ -48,14 +49,12 @@ def rewritten_orders(cases):
     """The calls of the library for the cases, each with Git's outcome. If Git ends, no rules are made from all entries; those
     at which it doesn't end are added one by one."""
     for it in cases:
-        config, is_own = {"config": text_of(listed(it.entries))}, it.push_url is not None
-        yield {"call": "Rewrites::rewrite_fetch", **config, "text": text_of(it.text)}, outcome(it.fetch)
-        pushed = text_of(it.push_url if is_own else it.text)
-        yield {"call": "Rewrites::rewrite_push", **config, "text": pushed, "has_push_url": is_own}, outcome(it.push)
+        is_own = it.push_url is not None
+        yield order_of("Rewrites::rewrite_fetch", it.entries, text=it.text), outcome(it.fetch)
+        yield order_of("Rewrites::rewrite_push", it.entries, text=it.push_url if is_own else it.text, has_push_url=is_own), outcome(it.push)
     ended = [it for it in cases if it.fetch is None and it.push_url is None]
     for it, found in zip(ended, rewritten([([one for one in it.entries if not lacks_value(one)], [(it.text, None)]) for it in ended])):
-        order = {"call": "Rewrites::add_entry", "config": text_of(listed(it.entries)), "text": text_of(it.text)}
-        yield order, [outcome(found.fetch), outcome(found.push)]
+        yield order_of("Rewrites::add_entry", it.entries, text=it.text), [outcome(found.fetch), outcome(found.push)]
 
 
 def urls(said):
@@ -80,10 +79,8 @@ def outcome_of(entries, name, fetched, pushed):
 
 def remote(ask, entries, name):
     fetched, pushed = (urls(ask("git", "remote", "get-url", "--all", *way, "--", name)) for way in ([], ["--push"]))
-    order = {"call": "Remote::of", "config": text_of(listed(entries)), "name": text_of(name)}
-    return order, outcome_of(entries, name, fetched, pushed)
+    return order_of("Remote::of", entries, name=name), outcome_of(entries, name, fetched, pushed)
 
 
-def remotes(configurations):
-    """The calls of the library for remotes, each with Git's outcome."""
-    return in_repositories(remote, configurations)
+# The calls of the library for remotes, each with Git's outcome.
+remotes = partial(in_repositories, remote)

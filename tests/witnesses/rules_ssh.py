@@ -22,7 +22,7 @@ import git_classes
 from git_classes import Case as Compared
 from git_classes import Reading
 from second_reading.git_reads import user_cuts
-from git_runs import in_repositories, is_named, listed, put
+from git_runs import in_repositories, is_named, listed, named, order_of, put
 from row_text import bytes_of, text_of
 from runs import answers
 from second_reading import git_class, grammar, writing
@@ -93,41 +93,36 @@ def runs_of(texts):
 def answer(said):
     if found := shown(said):
         return [found[-1], *found[:-1]]
-    return next((name for it, name in REFUSALS.items() if it in said), said.decode("latin-1"))
+    return named(said, REFUSALS) or said.decode("latin-1")
 
 
 def command_of(text, run):
     """The command of Git that makes a run for a text."""
-    def program(option):
-        return [] if run.program is None else [option + b"=" + run.program]
-
-    git = ["git", "-c", f"protocol.version={run.version}"]
-    if run.service == "git-upload-archive":
-        return [*git, "archive", *program(b"--exec"), b"--remote=" + text, "HEAD"]
-    if run.service == "git-upload-pack":
-        words = ["fetch", f"-{run.family}"] if run.family else ["ls-remote"]
-        return [*git, *words, *program(b"--upload-pack"), "--", text]
-    words, rest = (["push", f"-{run.family}"], [":refs/heads/x"]) if run.family else (["send-pack", "--all"], [])
-    return [*git, *words, *program(b"--receive-pack"), "--", text, *rest]
+    words, option, rest = {
+        ("git-upload-archive", False): (["archive"], b"--exec", [b"--remote=" + text, "HEAD"]),
+        ("git-upload-pack", False): (["ls-remote"], b"--upload-pack", ["--", text]),
+        ("git-upload-pack", True): (["fetch", f"-{run.family}"], b"--upload-pack", ["--", text]),
+        ("git-receive-pack", False): (["send-pack", "--all"], b"--receive-pack", ["--", text]),
+        ("git-receive-pack", True): (["push", f"-{run.family}"], b"--receive-pack", ["--", text, ":refs/heads/x"]),
+    }[run.service, run.family is not None]
+    program = [] if run.program is None else [option + b"=" + run.program]
+    return ["git", "-c", f"protocol.version={run.version}", *words, *program, *rest]
 
 
 def asked_of_git(asked):
     """The words that Git passes to Secure Shell for texts, each with its run."""
-    def words(ask, _, it):
-        return answer(ask(*command_of(*it), GIT_SSH_VARIANT=it[1].variant))
-    return in_repositories(words, [([], asked)], GIT_SSH_COMMAND=SHOW)
+    return in_repositories(lambda ask, _, it: answer(ask(*command_of(*it), GIT_SSH_VARIANT=it[1].variant)), [([], asked)], GIT_SSH_COMMAND=SHOW)
 
 
-def order_of(text, run, call=None):
+def order(text, run, call=None):
     own = CALLS[0] if (run.family, run.program) == (None, None) else CALLS[1]
-    given = {**run._asdict(), "program": None if run.program is None else text_of(run.program)}
-    return {"call": call or own, "url": text_of(text), **{name: it for name, it in given.items() if it is not None}}
+    return order_of(call or own, url=text, **run._asdict())
 
 
 def asked_of_library(asked):
     """The library's words for the locations in texts, None if it returns none."""
     read = [it for it in asked if grammar.spells(it[0]) is not None]
-    said = answers([order_of(*it, call) for call in (None, CALLS[2]) for it in read])
+    said = answers([order(*it, call) for call in (None, CALLS[2]) for it in read])
     found = {it: None if isinstance(words, dict) else [bytes_of(word) for word in (str(variable or ""), *words)]
              for it, words, variable in zip(read, said, said[len(read) :])}
     return map(found.get, asked)
@@ -137,14 +132,14 @@ def commands(asked):
     return [Case(*it, git, own) for it, git, own in zip(asked, asked_of_git(asked), asked_of_library(asked))]
 
 
-def path_of(command, run):
-    """The path in a command, without its quotes."""
-    return re.sub(rb"'\\(['!])'", rb"\1", command[len(program_of(run)) + 2 : -1])
-
-
 def program_of(run):
     """The program that the server runs, before a space and the path."""
     return run.service.encode() if run.program is None else run.program
+
+
+def path_of(command, run):
+    """The path in a command, without its quotes."""
+    return re.sub(rb"'\\(['!])'", rb"\1", command[len(program_of(run)) + 2 : -1])
 
 
 # ---- differences
@@ -203,7 +198,7 @@ def misread(cases):
 def orders(asked):
     """The calls of the library for texts, each with its run, and Git's words."""
     for it, git in zip(asked, asked_of_git(asked)):
-        yield order_of(*it), {"refused": True} if isinstance(git, str) else [*map(text_of, git[1:])]
+        yield order(*it), {"refused": True} if isinstance(git, str) else [*map(text_of, git[1:])]
 
 
 # ---- the program
@@ -256,8 +251,7 @@ def variant_of(entries, setting, starts, ended):
 def outcome(entries, setting, said, more):
     """Git's behaviour: it stops at an entry, or starts a program."""
     found = events(said)
-    stop = stopped(entries, said)
-    if stop is not None:
+    if stop := stopped(entries, said):
         return stop
     started = next(it for it in (*found, *events(more)) if it["event"] == "child_start")
     starts = [it["argv"] for it in found if it["event"] == "child_start"]
@@ -276,9 +270,7 @@ def program(ask, entries, setting):
     variables = {**values, "STATUS": setting.status, "GIT_TRACE2_EVENT": "1"}
     said = ask("git", "ls-remote", "ssh://u@h:22/p", **variables)
     more = b"" if b'"child_start"' in said else ask("git", "ls-remote", "ssh://u@h/p", **variables)
-    given = {name.lower(): text_of(it) for name, it in values.items() if it is not None}
-    order = {"call": "SshProgram::of", "config": text_of(listed(entries)), **given}
-    return order, outcome(entries, setting, said, more)
+    return order_of("SshProgram::of", entries, **{name.lower(): it for name, it in values.items()}), outcome(entries, setting, said, more)
 
 
 def programs(configurations):
@@ -289,8 +281,6 @@ def programs(configurations):
 
         for name in Programs.NAMES:
             put(f"{scratch}/{name.decode()}", FAKE, 0o700)
-        asked = [
-            ([it._replace(value=placed(it.value)) for it in entries],
-             [Setting(*map(placed, some), status) for *some, status in settings])
-            for entries, settings in configurations]
+        asked = [([it._replace(value=placed(it.value)) for it in entries], [Setting(*map(placed, some), status) for *some, status in settings])
+                 for entries, settings in configurations]
         return in_repositories(program, asked, PATH=f"{scratch}:{os.environ['PATH']}")

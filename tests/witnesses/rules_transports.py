@@ -9,7 +9,7 @@ import itertools
 import re
 
 from second_reading.git_reads import git_reads
-from git_runs import Entry, in_repositories, listed
+from git_runs import Entry, in_repositories, named, order_of
 from row_text import text_of
 from rt_api import rows_of
 from second_reading import grammar
@@ -36,11 +36,9 @@ def used(ask, text, allow_list, from_user=None):
 def permission(ask, entries, policy):
     allow_list, from_user, name, text = policy
     said = used(ask, text, allow_list, from_user)
-    refused, ends = NAMED.search(said), next((word for words, word in ENDS.items() if words in said), None)
-    decision = ends or ("Refused" if refused else "Allowed")
-    variables = {"allow_list": allow_list, "from_user": from_user}
-    given = {key: text_of(it) for key, it in variables.items() if it is not None}
-    order = {"call": "Protocols::permission", "config": text_of(listed(entries)), "name": text_of(name), **given}
+    refused = NAMED.search(said)
+    decision = named(said, ENDS) or ("Refused" if refused else "Allowed")
+    order = order_of("Protocols::permission", entries, name=name, allow_list=allow_list, from_user=from_user)
     return order, decision if not refused or refused[1] == name else f"the transport {refused[1]!r} is refused"
 
 
@@ -59,7 +57,7 @@ def name_of(ask, _, text):
     said = used(ask, text, "none-of-these")
     if refused := NAMED.search(said):
         return text_of(refused[1])
-    if reason := next((it for words, it in REASONS.items() if words in said), None):
+    if reason := named(said, REASONS):
         return {"error": reason}
     if not any(it in said for it in REFUSALS):
         raise ValueError(f"Git says {said!r} of a transport")
@@ -78,22 +76,17 @@ def names(texts):
     text that begins with `-` isn't an option."""
     for text, found in zip(texts, in_repositories(name_of, [([], texts)], **FAILING)):
         if found is not None and not text.startswith(b"-"):
-            yield {"call": "text::transport_of", "text": text_of(text)}, found
+            yield order_of("text::transport_of", text=text), found
         if isinstance(found, str) and is_of_its_scheme(text):
-            yield {"call": "protocols::transport", "url": text_of(text)}, found
+            yield order_of("protocols::transport", url=text), found
 
 
 # ---- values
 
 def boolean(ask, _, text):
-    said = ask("git", "-c", b"a.b=" + text, "config", "--type=bool", "a.b")
-    order, values = {"call": "boolean::read_boolean", "text": text_of(text)}, {b"true\n": True, b"false\n": False}
-    return order, None if said.startswith(b"fatal: bad boolean config value") else values[said]
-
-
-def booleans(texts):
-    """The calls of the library for texts, each with its value by Git, None if Git refuses it."""
-    return in_repositories(boolean, [([], texts)])
+    """The call of the library for a text, with its value by Git, None if Git refuses it."""
+    said, values = ask("git", "-c", b"a.b=" + text, "config", "--type=bool", "a.b"), {b"true\n": True, b"false\n": False}
+    return order_of("boolean::read_boolean", text=text), None if said.startswith(b"fatal: bad boolean config value") else values[said]
 
 
 # Git's messages when it stops, and the library's reasons.
@@ -117,8 +110,7 @@ def stop(ask, entries, section):
     else:
         # No server listens at the port.
         said = ask("git", "ls-remote", {b"http": "http://127.0.0.1:1/", b"protocol": "/none"}.get(section, section))
-    order = {"call": "stops::stop_at", "config": text_of(listed(entries))}
-    return order, next((name for words, name in SAID.items() if words in said), None)
+    return order_of("stops::stop_at", entries), named(said, SAID)
 
 
 def stops(some):

@@ -8,8 +8,9 @@ and refuses it. Each entry names a header of its own.
 """
 import itertools
 import re
+from functools import partial
 
-from git_runs import Entry, in_repositories, listed
+from git_runs import Entry, in_repositories, order_of
 from row_text import text_of
 from texts import pieces_of
 from web_asked import recording
@@ -44,12 +45,11 @@ def matches(configurations):
             entries = [it for it in every if it.section.lower() == b"http"]
             outcome = REFUSED if values is None else values.get(every[0].name)
             if entries:
-                config = {"config": text_of(listed(entries)), "section": "http", "name": text_of(entries[0].name)}
-                yield {"call": "entries::best_entry", **config, "text": text_of(url)}, outcome
+                yield order_of("entries::best_entry", entries, section="http", name=entries[0].name, text=url), outcome
             if len(entries) == 1 and entries[0].place is not None:
-                pattern, is_used = {"pattern": text_of(entries[0].place), "text": text_of(url)}, outcome is not None
-                yield {"call": "UrlPattern::matches", **pattern}, REFUSED if outcome == REFUSED else is_used
-                yield {"call": "pattern::best", **pattern}, REFUSED if outcome == REFUSED else 0 if is_used else None
+                is_used, pattern = outcome is not None, {"pattern": entries[0].place, "text": url}
+                yield order_of("UrlPattern::matches", **pattern), REFUSED if outcome == REFUSED else is_used
+                yield order_of("pattern::best", **pattern), REFUSED if outcome == REFUSED else 0 if is_used else None
 
 
 # ---- headers
@@ -62,18 +62,14 @@ def header(ask, entries, url):
     if not proxy.heads:
         return None
     text = url.removesuffix(b"/") + b"/"
-    order = {"config": text_of(listed(entries)), "name": "extraHeader"}
     # Git refuses to compare a URL without a normal form.
-    if used(ask, entries, text) is None:
-        order.update(call="settings::settings_without_place")
-    else:
-        order.update(call="settings::settings_for", text=text_of(text))
-    found = [int(it[1]) for it in map(re.compile(rb"X-([0-9]+):").match, proxy.heads[0]) if it]
-    return order, found
+    has_place = used(ask, entries, text) is not None
+    call, text = ("settings::settings_for", text) if has_place else ("settings::settings_without_place", None)
+    return order_of(call, entries, name="extraHeader", text=text), [
+        int(it[1]) for it in map(re.compile(rb"X-([0-9]+):").match, proxy.heads[0]) if it]
 
 
-def headers(configurations):
-    return filter(None, in_repositories(header, configurations))
+headers = partial(in_repositories, header)
 
 
 # ---- credentials
@@ -96,14 +92,11 @@ def credential(ask, entries, url):
     if found is None or b"\r" in b"".join(it or b"" for it in pieces) or is_set and not is_shown:
         return None
     helpers, user, path = found
-    outcome = {"helpers": helpers, "use_http_path": bool(is_shown) and path is not None}
-    if user is not None:
-        outcome["user"] = text_of(user)
+    outcome = {"helpers": helpers, "use_http_path": bool(is_shown) and path is not None, **({} if user is None else {"user": text_of(user)})}
     # The last entry is the helper that shows what it gets.
-    config = text_of(listed(entries[:-1]))
-    return {"call": "credentials::credentials_for", "config": config, "text": text_of(url)}, outcome
+    return order_of("credentials::credentials_for", entries[:-1], text=url), outcome
 
 
 def credentials(configurations):
     last = Entry(b"credential", None, b"helper", SHOW)
-    return filter(None, in_repositories(credential, [([*entries, last], urls) for entries, urls in configurations]))
+    return in_repositories(credential, [([*entries, last], urls) for entries, urls in configurations])

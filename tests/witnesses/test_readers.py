@@ -23,10 +23,11 @@ from concurrent.futures import ThreadPoolExecutor
 import pytest
 import reader_facts as facts
 import reader_groups as groups
+from git_runs import order_of
 from hypothesis import HealthCheck, Phase, Verbosity, given, seed, settings, strategies
 from reader_places import git_place, is_same, own_readers, said_place, with_decoded_path
 from reader_programs import READERS, ask, build, version
-from row_text import text_of
+from rt_api import outdated
 from runs import answers
 from second_reading import git_class, grammar, writing
 from second_reading.unambiguous import CONDITIONS, broken, pieces
@@ -122,7 +123,7 @@ def ask_program(reader, cases):
 def ask_own(own, cases, count):
     """Runs a reader that is started for each text: on this many texts of the class, on this many others, and on those that are shown."""
     name, found, takes, places = own
-    fitting, shown = [it for it in cases if takes(it.text, it.form)], {*facts.texts(), *GIVEN}
+    fitting, shown = [it for it in cases if takes(it.text, it.form)], {*(text for *_, text, _ in facts.shown_lines()), *GIVEN}
     if name != "libcurl":
         inside = [it for it in fitting if not it.broken]
         outside = [it for it in fitting if it.broken and it.wanted is not None and not it.text.startswith(b"-")]
@@ -147,19 +148,21 @@ def asked(texts, started):
 def faults(texts, started):
     """The faults of texts of the class, each with its text."""
     cases, readers = asked(tuple(texts), started)
-    own = []
+    read = {it: found for it in cases if (found := grammar.spells(it.text)) is not None and writing.text(found) == it.text}
     for case in cases:
-        found = grammar.spells(case.text)
-        is_written = found is not None and writing.text(found) == case.text
-        own += [case] if is_written else []
-        if not (case.broken or is_written and git_class.agrees_with_git(found) and case.wanted):
+        if not (case.broken or case in read and git_class.agrees_with_git(read[case]) and case.wanted):
             yield case.text, f"{case.text!r} is in the class, and is no location of which agrees_with_git is true, written so"
-    for case, found in zip(own, answers([{"call": "Url::is_unambiguous", "url": text_of(it.text)} for it in own])):
+    for case, found in zip(read, answers([order_of("Url::is_unambiguous", url=it.text) for it in read])):
         if found is not (not case.broken):
             yield case.text, f"Url::is_unambiguous is {found} of {case.text!r}, which breaks {case.broken}"
     for reader in readers:
         yield from ((case.text, f"{reader.name} {reader.version} reads {it} in {case.text!r} of the class, and Git {case.wanted}")
                     for case, it in reader.differing.values() if not case.broken)
+
+
+def differences(readers):
+    """The readings of other places than Git's, each with its reader and its case; where Git connects to none there is no other."""
+    return [(reader, *it) for reader in readers for it in reader.differing.values() if it[0].wanted is not None]
 
 
 class Run:
@@ -170,7 +173,8 @@ class Run:
         self.is_whole, self.is_own = name == "whole", not files
         lines = [it for file in files for it in open(file, "rb").read().splitlines()] or remotes()
         more = changed_texts() if self.is_whole else []
-        others = [*filter(can_be_an_argument, [*facts.texts(), *GIVEN, *lines, *texts_of_rows(LONGEST), *more])]
+        shown = [text for *_, text, _ in facts.shown_lines()]
+        others = [*filter(can_be_an_argument, [*shown, *GIVEN, *lines, *texts_of_rows(LONGEST), *more])]
         texts = compare(Drawn(), count, lambda texts: faults(texts, started), others)
         self.cases, self.readers = asked(tuple(texts), started)
         self.known = [it for it in self.readers if facts.versions().get(it.name) == it.version]
@@ -178,20 +182,18 @@ class Run:
     def alone(self):
         """By conditions and readers, the differences in texts that break only this condition."""
         found = defaultdict(lambda: defaultdict(list))
-        for reader in self.readers:
-            for case, it in reader.differing.values():
-                if len(case.broken) == 1 and case.wanted is not None:
-                    found[case.broken[0]][reader.name].append((case, it))
+        for reader, case, it in differences(self.readers):
+            if len(case.broken) == 1:
+                found[case.broken[0]][reader.name].append((case, it))
         return found
 
     def beside(self, found):
         """The readers that differ in a text that breaks several conditions, and in none that breaks only one of them: by the first
         of them."""
         more = defaultdict(list)
-        for reader in self.readers:
-            for case, _ in reader.differing.values():
-                if case.wanted is not None and case.broken and not any(reader.name in [*found[name], *more[name]] for name in case.broken):
-                    more[case.broken[0]].append(reader.name)
+        for reader, case, _ in differences(self.readers):
+            if case.broken and not any(reader.name in [*found[name], *more[name]] for name in case.broken):
+                more[case.broken[0]].append(reader.name)
         return more
 
 
@@ -209,11 +211,9 @@ def test_the_class(run):
 
 
 def test_outside_of_the_class(run):
-    listed = facts.conditions()
+    listed = {name: {it for kind in (*facts.KINDS, "beside") for it in line[kind]} for name, line in facts.conditions().items()}
     assert not [f"{reader.name} {reader.version} reads {it} in {case.text!r}, and Git {case.wanted}; it breaks {case.broken}"
-                for reader in run.known for case, it in reader.differing.values()
-                if case.wanted is not None and not any(reader.name in listed[name].get(kind, ())
-                                                       for name in case.broken for kind in (*facts.KINDS, "beside"))]
+                for reader, case, it in differences(run.known) if not any(reader.name in listed[name] for name in case.broken)]
 
 
 def test_confusions(run):
@@ -232,9 +232,10 @@ def test_each_condition_and_shape_is_needed(run):
         assert not [name for name in needed if not found[name]]
     if run.is_whole and run.is_own:
         assert not [*groups.shape_faults(run.known)]
-        assert not [*facts.count_faults(run.known)]
+        assert not [it for it in facts.group_lines(run.known) if it not in groups.LISTED]
 
 
 @pytest.mark.quick
 def test_document():
-    assert not [*facts.page_faults()]
+    """The pages have the tables of `vectors/readers/`."""
+    assert not outdated(facts.pages(), "vectors/readers/*.md")

@@ -7,8 +7,8 @@ test's own (`git_runs.py`), and connects only to a proxy for headers on 127.0.0.
 import json
 import re
 from collections import Counter
+from itertools import accumulate
 
-import git_classes
 import pytest
 import rules_files
 import rules_remotes
@@ -16,7 +16,7 @@ import rules_ssh
 import rules_transports
 import rules_urls
 from differences import library_faults
-from git_runs import Entry, entry_of, listing_faults
+from git_runs import Entry, entry_of, in_parallel, in_repositories, listing_faults
 from row_text import bytes_of
 from rt_api import ROOT, read
 from rules_ssh import RUNS, USUAL
@@ -32,18 +32,15 @@ TOPICS = {
     "matches": (made(Places, CONFIGURATION), 240, 80, rules_urls.matches),
     "headers": (made(Headers, CONFIGURATION), 300, 40, rules_urls.headers),
     "credentials": (made(Contexts, CONFIGURATION), 600, 100, rules_urls.credentials),
-    "booleans": (made(Booleans), 6_000, 600, rules_transports.booleans),
+    "booleans": (made(Booleans), 6_000, 600, lambda texts: in_repositories(rules_transports.boolean, [([], texts)])),
     "permissions": (made(Policies, "case"), 4_000, 600, rules_transports.permissions),
     "programs": (made(Programs, CONFIGURATION), 1_500, 150, rules_ssh.programs),
-    "files": (made(Files), 24_000, 1_500, rules_files.files),
+    "files": (made(Files), 24_000, 1_500, lambda texts: in_repositories(rules_files.file, [([], texts)])),
     "modules": (made(Modules, "file"), 24_000, 2_000, rules_files.checks),
-    "used modules": (made(Modules, "used"), 1_500, 125, rules_files.used),
+    "used modules": (made(Modules, "used"), 1_500, 125, lambda some: in_parallel(rules_files.used_of, some)),
 }
 OTHERS = {"files": [*rules_files.CUT]}
-
-
-SCALES = [pytest.param(False, marks=pytest.mark.sample, id="sample"),
-          pytest.param(True, marks=pytest.mark.whole, id="whole")]
+SCALES = [pytest.param(it == "whole", marks=getattr(pytest.mark, it), id=it) for it in ("sample", "whole")]
 
 
 @pytest.mark.parametrize("is_whole", SCALES)
@@ -80,11 +77,8 @@ def test_values_at_which_git_stops(is_whole):
 
 @pytest.mark.parametrize("is_whole", SCALES)
 def test_names_of_transports(is_whole):
-    def faults(some):
-        return library_faults(rules_transports.names(some))
-
     count, others = (4_400, remotes()) if is_whole else (1_100, ())
-    compare(made(LocationMaker, "or_addressed"), count, faults, others)
+    compare(made(LocationMaker, "or_addressed"), count, lambda some: library_faults(rules_transports.names(some)), others)
 
 
 @pytest.mark.parametrize("is_whole", SCALES)
@@ -122,18 +116,15 @@ CLASSES = {"entry-without-value", *rules_ssh.CLASSES}
 @pytest.mark.quick
 def test_each_class_has_a_row():
     assert CLASSES == {*re.findall(r"^\| `([a-z0-9-]+)` \|", PAGE, re.M)} - {*rules_ssh.VARIANTS}
-    assert {*git_classes.CLASSES} <= {*re.findall(r"^\| `([a-z0-9-]+)` \|", read("docs/GIT.md"), re.M)}
 
 
 def test_examples_of_words_for_secure_shell():
     """Each example of a class is in that class."""
-    name, named = None, []
-    for found in ROW.finditer(PAGE):
-        name = found[1] or name
-        if name in rules_ssh.CLASSES:
-            named.append((name, re.findall(r"`([^`]*)`", found[2].split(" | ")[0])[0].encode()))
-    cases = rules_ssh.commands([(text, RUNS.get(name, USUAL)) for name, text in named])
-    assert not [(name, case.text) for (name, _), case in zip(named, cases) if [it for it, _ in rules_ssh.judged([case])] != [name]]
+    found = [*ROW.finditer(PAGE)]
+    names = accumulate((it[1] for it in found), lambda last, it: it or last)
+    shown = [(name, re.findall(r"`([^`]*)`", it[2])[0].encode()) for name, it in zip(names, found) if name in rules_ssh.CLASSES]
+    cases = rules_ssh.commands([(text, RUNS.get(name, USUAL)) for name, text in shown])
+    assert not [(name, case.text) for (name, _), case in zip(shown, cases) if [it for it, _ in rules_ssh.judged([case])] != [name]]
 
 
 # ---- the rows
@@ -179,8 +170,8 @@ FILE = f"{ROOT}/vectors/rules/git.jsonl"
 
 def line_of(row, outcome):
     """A row with its outcome; a character for a byte that isn't part of UTF-8 is an escape."""
-    own = {name: it for name, it in row.items() if name not in ("is", "from", "note")}
-    whole = {**own, "is": outcome, "from": "git", **({"note": row["note"]} if "note" in row else {})}
+    own, note = ({name: it for name, it in row.items() if (name == "note") == is_note and name not in ("is", "from")} for is_note in (False, True))
+    whole = {**own, "is": outcome, "from": "git", **note}
     return re.sub("[\ue000-\uf8ff]", lambda it: f"\\u{ord(it[0]):04x}", json.dumps(whole, ensure_ascii=False))
 
 
@@ -189,7 +180,7 @@ def test_rows(request):
     rows, found = [it for it in lines if isinstance(it, dict)], {}
     for call, (orders, case) in CALLS.items():
         own = [it for it in rows if it["call"] == call]
-        outcomes = (outcome for order, outcome in orders([*map(case, own)]) if order["call"] == call)
+        outcomes = (outcome for order, outcome in filter(None, orders([*map(case, own)])) if order["call"] == call)
         found.update((id(row), outcome) for row, outcome in zip(own, outcomes, strict=True))
     if request.config.getoption("record"):
         with open(FILE, "w", encoding="utf-8") as it:

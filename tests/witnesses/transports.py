@@ -25,11 +25,7 @@ exit 1
 # It shows the request that Git sends after them, whose first four digits are its length, with byte 3 for each byte 0.
 SHOW_REQUEST = r"""#!/bin/sh
 length=$(dd bs=1 count=4 2>/dev/null)
-{
-  printf '\001'; printf '%s\001' "$@"
-  dd bs=1 count=$((0x$length - 4)) 2>/dev/null | tr '\000' '\003'
-  printf '\001\002'
-} >&2
+{ printf '\001'; printf '%s\001' "$@"; dd bs=1 count=$((0x$length - 4)) 2>/dev/null | tr '\000' '\003'; printf '\001\002'; } >&2
 exit 1
 """
 # OpenSSH uses this user if the word names none.
@@ -48,21 +44,16 @@ def in_loops(command, texts, files, **more):
     """The output of a command for each `$text`. A shell runs it for many of them, which takes a fourth of the time."""
     loop = f"for text; do {command} 2>&1; printf '\\0'; done"
     parts = [texts[at : at + 200] for at in range(0, len(texts), 200)]
-
-    def said_of(ask, _, some):
-        return ask("sh", "-c", loop, "sh", *some).split(b"\0")[:-1]
-
-    said = [it for some in in_repositories(said_of, [([], parts)], files, **more) for it in some]
-    assert len(said) == len(texts)
-    return said
+    said = in_repositories(lambda ask, _, some: ask("sh", "-c", loop, "sh", *some).split(b"\0")[:-1], [([], parts)], files, **more)
+    assert [*map(len, said)] == [*map(len, parts)]
+    return [it for some in said for it in some]
 
 
 def ask_git(texts):
     """Git's results for texts, if only Secure Shell is allowed: for each the transport with the words for its program,
     and the reading."""
-    own = {"GIT_ALLOW_PROTOCOL": "ssh", "GIT_SSH_VARIANT": "ssh"}
-    return [*zip(in_loops('git ls-remote -- "$text"', texts, {"GIT_SSH": SHOW}, **own),
-                 in_loops('git fetch-pack --diag-url "$text"', texts, {"GIT_SSH": SHOW}, **own))]
+    commands = ('git ls-remote -- "$text"', 'git fetch-pack --diag-url "$text"')
+    return [*zip(*(in_loops(it, texts, {"GIT_SSH": SHOW}, GIT_ALLOW_PROTOCOL="ssh", GIT_SSH_VARIANT="ssh") for it in commands))]
 
 
 def host_and_port(text):
@@ -153,6 +144,7 @@ def ask_secure_shell(pairs):
     def said(ask, _, pair):
         word, port = pair
         return ask("sh", "-c", 'ssh -F "$SETTINGS" -G "$@" x', "sh", *([] if port is None else ["-p", str(port)]), word)
+
     return in_repositories(said, [([], pairs)], {"SETTINGS": f"User {NO_USER.decode()}\n"})
 
 
@@ -206,16 +198,15 @@ class Scratch:
         self.scratch, self.here = scratch, f"{scratch}/here"
         people = {f"GIT_{it}_{part}": "x" for it in ("AUTHOR", "COMMITTER") for part in ("NAME", "EMAIL")}
         self.environment = alone(scratch, GIT_ALLOW_PROTOCOL="file", **people)
-        for it in ("home", "here"):
-            os.makedirs(f"{scratch}/{it}")
+        os.mkdir(f"{scratch}/home")
+        os.mkdir(self.here)
         self.said("init", "--quiet")
         self.tree = self.said("write-tree")
         self.known = {self.made(it): it for it in REPOSITORIES}
         self.commit = self.said("commit-tree", "-m", "pushed", self.tree)
 
     def said(self, *words):
-        how = {"cwd": self.here, "env": self.environment, "stdin": subprocess.DEVNULL, "capture_output": True}
-        return subprocess.run(["git", *words], check=False, **how).stdout.decode().strip()
+        return subprocess.run(["git", *words], cwd=self.here, env=self.environment, input=b"", capture_output=True).stdout.decode().strip()
 
     def name(self, path):
         found = os.path.relpath(os.path.realpath(os.path.join(self.here, path.decode())), self.scratch)
@@ -235,7 +226,7 @@ class Scratch:
         return found[0] if len(found) == 1 else None
 
     def opened(self, text):
-        """The repositories that the commands open, each with the command's name: None if it opens none."""
+        """The repositories that `git ls-remote`, `git fetch`, `git clone` and `git push` open: None for one that opens none."""
         listed = self.said("ls-remote", text, "HEAD").partition("\t")[0]
         self.said("update-ref", "-d", "FETCH_HEAD")
         self.said("fetch", "--quiet", text)
@@ -243,5 +234,4 @@ class Scratch:
         with tempfile.TemporaryDirectory(dir=self.scratch) as clone:
             self.said("clone", "--quiet", "--bare", text, f"{clone}/x")
             cloned = self.said("--git-dir", f"{clone}/x", "rev-parse", "--quiet", "--verify", "HEAD")
-        known = self.known.get
-        return {"ls-remote": known(listed), "fetch": known(fetched), "push": self.pushed(text), "clone": known(cloned)}
+        return [*map(self.known.get, (listed, fetched, cloned)), self.pushed(text)]

@@ -22,7 +22,7 @@ from contextlib import contextmanager
 
 from differences import unlike
 from second_reading.git_reads import decoded
-from git_runs import in_repositories
+from git_runs import in_repositories, named
 from web_reads import Web, credential_cut, credential_reads, curl_reads, cut, escaped, host_and_port
 
 # The helper reports its request between byte 1 and byte 2, and does nothing for `store` and `erase`.
@@ -40,8 +40,7 @@ GUESS_SCHEME, NON_SUPPORT_SCHEME, URLENCODE = 1 << 9, 1 << 3, 1 << 7
 
 def asked(answer):
     """The request to a helper, or the answer without one, if the text has a user and a password."""
-    refusal = next((name for words, name in REFUSALS.items() if words in answer), None)
-    if refusal:
+    if refusal := named(answer, REFUSALS):
         return refusal
     found = re.search(rb"\x01(.*?\n)\x02", answer, re.S)
     said = dict(it.split(b"=", 1) for it in (found[1] if found else answer).split(b"\n") if it)
@@ -50,10 +49,8 @@ def asked(answer):
 
 
 def ask_credential(texts):
-    def filled(ask, _, text):
-        return asked(ask("git", "credential", "fill", given=b"url=%s\n" % text))
-
-    return in_repositories(filled, [([], texts)], {"GIT_CONFIG_GLOBAL": SETTINGS})
+    return in_repositories(lambda ask, _, text: asked(ask("git", "credential", "fill", given=b"url=%s\n" % text)), [([], texts)],
+                           {"GIT_CONFIG_GLOBAL": SETTINGS})
 
 
 # ---- libcurl
@@ -114,7 +111,7 @@ def curl_of_git():
 Request = namedtuple("Request", "method host port path")
 # The result of a text: the requests, the requests to the helper, and the users and passwords that are sent.
 Sent = namedtuple("Sent", "requests asked passwords")
-NOTHING = Sent(frozenset(), None, frozenset())
+NOTHING = Sent(set(), None, set())
 DEFAULT_PORTS = {b"http": b"80", b"https": b"443"}
 REFUSED = b"HTTP/1.1 %s\r\nWWW-Authenticate: Basic realm=\"here\"\r\nContent-Length: 0\r\nConnection: close\r\n\r\n"
 
@@ -150,10 +147,10 @@ def request_of(head):
     """The request of a head. Its first line and its field `Host` must name one host, except for the escapes of a `%`."""
     method, target, _ = re.fullmatch(rb"(\S+) (.*) (HTTP/\S+)", head[0], re.S).groups()
     scheme, authority, path = (b"https", target, None) if method == b"CONNECT" else cut(target)
-    named = field(head, b"host")
-    if named not in (authority, authority.replace(b"%25", b"%")):
-        raise ValueError(f"a request to {authority!r} with the host {named!r}")
-    host, port = host_and_port(named)
+    own = field(head, b"host")
+    if own not in (authority, authority.replace(b"%25", b"%")):
+        raise ValueError(f"a request to {authority!r} with the host {own!r}")
+    host, port = host_and_port(own)
     # If libcurl sends a second request by itself, with the user of the URL, it writes more escapes.
     return Request(method, host, port or DEFAULT_PORTS[scheme], path and escaped(path))
 
@@ -161,13 +158,13 @@ def request_of(head):
 def passwords_of(heads):
     """The users and passwords in requests, separated by a colon, as they are sent."""
     found = {field(it, name) for it in heads for name in (b"authorization", b"proxy-authorization")} - {None}
-    return frozenset(base64.b64decode(it.removeprefix(b"Basic ")) for it in found)
+    return {base64.b64decode(it.removeprefix(b"Basic ")) for it in found}
 
 
 def sent(ask, _, text):
     with recording() as proxy:
         said = ask("git", "-c", f"http.proxy=http://127.0.0.1:{proxy.server_address[1]}", "ls-remote", "--", text)
-    return Sent(frozenset(map(request_of, proxy.heads)), asked(said) if b"\1" in said else None, passwords_of(proxy.heads))
+    return Sent({*map(request_of, proxy.heads)}, asked(said) if b"\1" in said else None, passwords_of(proxy.heads))
 
 
 def all_sent(texts):
@@ -188,26 +185,24 @@ def expected(text):
     """The expected requests for a text, by the readings of the credential code and of libcurl."""
     base = text if text.endswith(b"/") else text + b"/"
     tail = b"info/refs" + (b"&" if b"?" in base else b"?") + b"service=git-upload-pack"
-    place, named = curl_reads(base + tail), credential_cut(base)
+    place, own = curl_reads(base + tail), credential_cut(base)
     # Git refuses a line end before it connects; libcurl refuses a host outside ASCII in the locale C.
     if not text.startswith((b"http://", b"https://")) or credential_reads(base) == "line end" or place is None or not place.host.isascii():
         return NOTHING
     first = requested(place)
     if place.scheme == b"https":
-        return Sent(frozenset({first}), None, frozenset())
-    if None not in (named.user, named.password):
-        return Sent(frozenset({first}), None, frozenset({named.user + b":" + named.password}))
+        return Sent({first}, None, set())
+    if None not in (own.user, own.password):
+        return Sent({first}, None, {own.user + b":" + own.password})
     # libcurl answers the first 401 with the user of the URL, and without a password.
-    own = set() if place.user is None else {place.user + b":" + (place.password or b"")}
+    passwords = set() if place.user is None else {place.user + b":" + (place.password or b"")}
     if place.password:
-        return Sent(frozenset({first}), None, frozenset(own))
+        return Sent({first}, None, passwords)
     # If libcurl writes the URL differently, Git takes that for a redirection: it asks its helpers for the new place, and then
     # libcurl reads the new URL.
     again = curl_of_git().parts(base + tail)[0]
-    named = credential_reads(again.removesuffix(tail))
-    if not isinstance(named, Web):
-        return Sent(frozenset({first}), named, frozenset(own))
-    return Sent(frozenset({first, requested(curl_reads(again))}), named, frozenset({*own, b"x:y"}))
+    own = credential_reads(again.removesuffix(tail))
+    return Sent({first, requested(curl_reads(again))}, own, {*passwords, b"x:y"}) if isinstance(own, Web) else Sent({first}, own, passwords)
 
 
 def wire_faults(texts):
