@@ -31,10 +31,6 @@ def pytest_addoption(parser):
     parser.addoption("--remotes", action="append", default=[], help="a file with a remote in each line, for readers in place of the repository's")
 
 
-def pytest_configure(config):
-    config.addinivalue_line("markers", "needs(*names): the commands and modules of Python, and functions that find something, without which a test is skipped")
-
-
 @pytest.fixture(scope="session", autouse=True)
 def at_the_root():
     """All tests run at the root of the repository, whose folder `out` they may write to."""

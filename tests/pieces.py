@@ -5,19 +5,17 @@ import unicodedata
 from second_reading import explain, grammar, octets, records
 
 ROW = re.compile(r"    (text|git) {8,9}\S")
-ESCAPE = re.compile(r"\\(\\|0|t|n|r|x[0-9a-f]{2}|u\{[0-9a-f]+\})")
+ESCAPE = re.compile(rb"\\(\\|0|t|n|r|x[0-9a-f]{2}|u\{[0-9a-f]+\})")
 PLAIN = {"\\": b"\\", "0": b"\0", "t": b"\t", "n": b"\n", "r": b"\r"}
 
 
 def unescaped(text):
     """The bytes that are displayed so."""
-    out, end = [], 0
-    for found in ESCAPE.finditer(text):
-        it = found[1]
-        byte = PLAIN.get(it) or (bytes([int(it[1:], 16)]) if it[0] == "x" else chr(int(it[2:-1], 16)).encode())
-        out += [text[end:found.start()].encode(), byte]
-        end = found.end()
-    return b"".join(out) + text[end:].encode()
+    def byte(found):
+        it = found[1].decode()
+        return PLAIN.get(it) or (bytes([int(it[1:], 16)]) if it[0] == "x" else chr(int(it[2:-1], 16)).encode())
+
+    return ESCAPE.sub(byte, text.encode())
 
 
 def columns(text):

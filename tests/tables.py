@@ -5,6 +5,7 @@ For refused JSON a row may expect less than the whole: `{"refused": true}`, what
 are the front of the returned ones; and a `column` of two numbers, between which that column lies. The rows of
 `vectors/git.jsonl` that read a text have `class` and `git`, or for HTTP `class`, `credential` and `curl` (`examples.py`).
 """
+import contextlib
 import functools
 import glob
 import itertools
@@ -70,11 +71,9 @@ class Row:
 
     def fault(self, line, seen=lambda outcome: outcome):
         """The fault of an outcome, if there is one, in its compared part."""
-        try:
+        with contextlib.suppress(ValueError):
             if fits(seen(self.expected), seen(json.loads(line))):
                 return None
-        except ValueError:
-            pass
         return f"{self.place}: {self.order()}\n  expected {json.dumps(self.expected)}\n  returned {line}"
 
 
@@ -110,10 +109,7 @@ def choices(members, over):
     """All choices of a value for each member that is named, as in `{"style": ["{:#}", null], "url.password": ["x"]}`;
     null means that it is absent."""
     for values in itertools.product(*over.values()):
-        row = members
-        for name, value in zip(over, values):
-            row = put(row, name, value)
-        yield row
+        yield functools.reduce(lambda row, it: put(row, *it), zip(over, values), members)
 
 
 def fronts(members, name):

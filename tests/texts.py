@@ -88,11 +88,7 @@ class Maker:
         return sorted(some, key=lambda _: self.below(1 << 16))
 
 
-def numbers(number):
-    return Random(number).getrandbits
-
-
-class Made(namedtuple("Made", "maker what")):
+class Made(namedtuple("Made", "maker what", defaults=["text"])):
     """What a method of a maker makes."""
 
     def by(self, bits):
@@ -104,14 +100,13 @@ class Made(namedtuple("Made", "maker what")):
         found = {}
         for number in range(10 * count):
             it = self.by(Random(number).getrandbits)
-            found.setdefault(repr(it), (it, self, functools.partial(numbers, number)))
+            found.setdefault(repr(it), (it, self, lambda number=number: Random(number).getrandbits))
             if len(found) == count:
                 return found
         raise ValueError(f"only {len(found)} different examples can be made")
 
 
-def made(maker, what="text"):
-    return Made(maker, what)
+made = Made
 
 
 def examples(source, count):
@@ -172,9 +167,8 @@ def remotes():
 def realistic():
     """10,000 realistic remotes: hosts, users, ports and paths in all forms, combined by one rule."""
     it = {name: pieces(given, str) for name, given in TABLES["Realistic"].items()}
-    made = (it["FORMS"][n % 13].format(u=it["USERS"][n % 8], h=it["HOSTS"][n % 11], o=it["PORTS"][n // 3 % 8], p=it["PATHS"][n // 5 % 12])
-            for n in range(10_000))
-    return [f"{text}{n}".encode() for n, text in enumerate(made)]
+    return [(it["FORMS"][n % 13].format(u=it["USERS"][n % 8], h=it["HOSTS"][n % 11], o=it["PORTS"][n // 3 % 8], p=it["PATHS"][n // 5 % 12])
+             + str(n)).encode() for n in range(10_000)]
 
 
 def plain():
@@ -192,11 +186,7 @@ def can_be_a_line(text):
 
 def can_be_an_argument(text):
     """Whether the text can be a line of UTF-8 and an argument of a command."""
-    try:
-        text.decode()
-    except UnicodeDecodeError:
-        return False
-    return text != b"" and b"\n" not in text and b"\0" not in text
+    return text != b"" and not {0, 10} & {*text} and text.decode(errors="ignore").encode() == text
 
 
 class LocationMaker(Maker, spelled=str):
@@ -269,9 +259,8 @@ class NearMaker(LocationMaker, spelled=str):
         user = self.part("user", bad == "user") if has_user or bad in ("user", "password") else None
         bad_hosts = self.BAD_HOSTS if form != "scp" or self.below(2) else self.SCP_BAD_HOSTS
         host = self.one_of(bad_hosts if bad == "host" else self.HOSTS)
-        password = ""
-        if bad == "password" or user and is_web and self.below(3) == 0:
-            password = ":" + self.one_of((*self.BAD_PASSWORDS, *self.PASSWORDS) if bad == "password" else self.PASSWORDS)
+        passwords = (*self.BAD_PASSWORDS, *self.PASSWORDS) if bad == "password" else self.PASSWORDS
+        password = ":" + self.one_of(passwords) if bad == "password" or user and is_web and self.below(3) == 0 else ""
         port = ":" + self.part("port", bad == "port") if bad == "port" or form != "scp" and self.below(4) == 0 else ""
         return ("" if user is None else f"{user}{password}@") + host + port
 
@@ -433,9 +422,7 @@ class Places(Maker):
     NAMES, EACH = 25, 20
 
     def host(self):
-        if self.below(9) == 0:
-            return self.one_of(Places.OTHER_HOSTS)
-        return b".".join(self.one_of(Places.HOST_LABELS[: self.one_of((3, 3, 9))]) for _ in range(1 + self.below(3)))
+        return self.one_of(Places.OTHER_HOSTS) if self.below(9) == 0 else b".".join(self.one_of(Places.HOST_LABELS[: self.one_of((3, 3, 9))]) for _ in range(1 + self.below(3)))
 
     def place(self):
         segments = [self.one_of(self.SEGMENTS) for _ in range(self.below(4))]
@@ -482,10 +469,8 @@ class Places(Maker):
 
     def entry(self, name, value, bases):
         base = self.one_of(bases)
-        if self.below(15) == 0:
-            place = self.one_of((None, None, b"", b"a", joined(base).partition(b"://")[2]))
-        else:
-            place = without(self.of_other([base]), 10)
+        odd = (None, None, b"", b"a", joined(base).partition(b"://")[2])
+        place = without(self.of_other([base]), 10) if self.below(15) else self.one_of(odd)
         return Entry(self.one_of((b"http",) * 30 + (b"HTTP", b"https")), place, name, value)
 
     def usual(self):
@@ -584,10 +569,8 @@ class Programs(Maker):
     def quoted(self, text):
         """A text as a part of a word, in one of the ways of a shell."""
         way = self.below(5)
-        if way == 0:
-            return b"'" + text.replace(b"'", b"'\\''") + b"'"
-        if way == 1:
-            return b'"' + re.sub(rb'(["\\])', rb"\\\1", text) + b'"'
+        if way < 2:
+            return b"'%s'" % text.replace(b"'", b"'\\''") if way == 0 else b'"%s"' % re.sub(rb'(["\\])', rb"\\\1", text)
         return re.sub(rb"(?s).", lambda it: b"\\" * (it[0] in b" \t'\"\\" or way == 2 and self.below(2)) + it[0], text)
 
     def line(self):

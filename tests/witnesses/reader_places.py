@@ -2,6 +2,7 @@
 scheme's default port filled in, user and password decoded, and the path as a program of Git would send it, over HTTP without trailing slashes.
 Git's transports, Git's credential code, Git's libcurl and OpenSSH are asked here.
 """
+import contextlib
 import ipaddress
 import re
 import shutil
@@ -30,11 +31,8 @@ def plain_host(host):
     """A host in lower case, without brackets, and an address in its shortest form."""
     host = host.lower()
     host = host[1:-1] if host[:1] == b"[" and host[-1:] == b"]" else host
-    if ADDRESS.fullmatch(host):
-        try:
-            return ipaddress.ip_address(host.decode()).compressed.encode()
-        except ValueError:
-            pass
+    with contextlib.suppress(ValueError):
+        return ipaddress.ip_address(host.decode()).compressed.encode() if ADDRESS.fullmatch(host) else host
     return host
 
 

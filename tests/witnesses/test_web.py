@@ -19,7 +19,7 @@ import pytest
 from differences import changed, lost, needless, unlike
 from examples import web_examples
 from git_classes import class_of
-from row_text import text_of
+from git_runs import order_of
 from rt_api import read
 from runs import answers, explained
 from second_reading import explain, hosts, writing
@@ -101,7 +101,7 @@ def agreement_faults(case):
 def answer_faults(cases):
     """The call differs from the conditions."""
     wanted = {case.text: not case.broken for case in cases}
-    said = dict(zip(wanted, answers([{"call": "Url::agrees_with_git", "url": text_of(it)} for it in wanted])))
+    said = dict(zip(wanted, answers([order_of("Url::agrees_with_git", url=it) for it in wanted])))
     yield from unlike("agrees_with_git is", wanted, said.get, wanted.get)
 
 

@@ -58,12 +58,11 @@ def ask_credential(texts):
 class Curl:
     def __init__(self, file):
         self.calls = ctypes.CDLL(file)
-        self.calls.curl_version.restype = ctypes.c_char_p
-        self.calls.curl_url.restype = ctypes.c_void_p
-        self.calls.curl_url_set.argtypes = [ctypes.c_void_p, ctypes.c_int, ctypes.c_char_p, ctypes.c_uint]
-        self.calls.curl_url_get.argtypes = [ctypes.c_void_p, ctypes.c_int, ctypes.POINTER(ctypes.c_void_p), ctypes.c_uint]
-        self.calls.curl_url_cleanup.argtypes = [ctypes.c_void_p]
-        self.calls.curl_free.argtypes = [ctypes.c_void_p]
+        place, text, number, flags = ctypes.c_void_p, ctypes.c_char_p, ctypes.c_int, ctypes.c_uint
+        self.calls.curl_version.restype, self.calls.curl_url.restype = text, place
+        self.calls.curl_url_set.argtypes = [place, number, text, flags]
+        self.calls.curl_url_get.argtypes = [place, number, ctypes.POINTER(place), flags]
+        self.calls.curl_url_cleanup.argtypes = self.calls.curl_free.argtypes = [place]
         self.version = self.calls.curl_version().decode().split()[0]
 
     def part(self, url, name):
