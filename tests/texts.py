@@ -186,7 +186,8 @@ def can_be_a_line(text):
 
 def can_be_an_argument(text):
     """Whether the text can be a line of UTF-8 and an argument of a command."""
-    return text != b"" and not {0, 10} & {*text} and text.decode(errors="ignore").encode() == text
+    is_utf8 = text.decode(errors="ignore").encode() == text
+    return is_utf8 and text != b"" and b"\n" not in text and b"\0" not in text
 
 
 class LocationMaker(Maker, spelled=str):
@@ -422,7 +423,9 @@ class Places(Maker):
     NAMES, EACH = 25, 20
 
     def host(self):
-        return self.one_of(Places.OTHER_HOSTS) if self.below(9) == 0 else b".".join(self.one_of(Places.HOST_LABELS[: self.one_of((3, 3, 9))]) for _ in range(1 + self.below(3)))
+        if self.below(9) == 0:
+            return self.one_of(Places.OTHER_HOSTS)
+        return b".".join(self.one_of(Places.HOST_LABELS[: self.one_of((3, 3, 9))]) for _ in range(1 + self.below(3)))
 
     def place(self):
         segments = [self.one_of(self.SEGMENTS) for _ in range(self.below(4))]
