@@ -14,7 +14,6 @@ HEAD_COMMENT = re.compile(r"(?m)^//! ?(.*\n)")
 # The kind of an item and its name, and the kinds that have no path.
 ITEM = re.compile(r' *(?:pub(?:\(\w+\))? )?(?:const (?=fn)|unsafe |extern "C" )*(\w+)(?: (\w+))?')
 OTHER = ("ghost", "impl", "mod", "use")
-PASSED = re.compile(r"pub use (\w+)::(\S+);\n")
 IMPL = re.compile(r"impl(?:<.*?>)? (?:(.*) for )?((\w+).*) \{")
 
 
@@ -70,8 +69,11 @@ def definition(modules, module, name):
     return None
 
 
-def public_paths(modules):
-    """The path of each public item, by its module and its name there; and the re-exports, by their paths."""
+@functools.cache
+def public_paths(crate):
+    """The path of each public item, by its module and its name there; and the re-exports of other crates' items: by the path of each the
+    crate and the path there."""
+    modules = modules_of(crate)
     found = {(module, name): "::".join((*module, name)) for module in opened(modules) for name in names(modules[module], "pub ")}
     passed = {}
     for module in opened(modules):
@@ -80,7 +82,7 @@ def public_paths(modules):
             if at and at not in found:
                 found[at] = here
             else:
-                passed[here] = f"pub use {'::'.join(path)};\n"
+                passed[here] = path[0], "::".join(path[1:])
     return found, passed
 
 
@@ -119,9 +121,8 @@ def of_block(modules, paths, module, text):
 @functools.cache
 def documented_items(crate):
     """The module of each public item, and its text with doc comments, by its path and in the order of paths."""
-    modules = modules_of(crate)
-    paths, passed = public_paths(modules)
-    found = {path: ((), text) for path, text in passed.items()}
+    modules, (paths, below) = modules_of(crate), public_paths(crate)
+    found = {path: ((), f"pub use {'::'.join(it)};\n") for path, it in below.items()}
     for module, inside in modules.items():
         for attributes, text in inside:
             kind, name = ITEM.match(text).groups()
@@ -138,8 +139,5 @@ def public_items(crate):
     return {path: DOC.sub("", text) for path, (_, text) in documented_items(crate).items()}
 
 
-@functools.cache
 def passed(crate):
-    """The re-exports of other crates' items: by the path of each the crate and the path there."""
-    found = {path: PASSED.fullmatch(text) for path, text in public_items(crate).items()}
-    return {path: it.groups() for path, it in found.items() if it}
+    return public_paths(crate)[1]
