@@ -5,6 +5,7 @@ except for white space and commas that end a list; these crates are proved. Of a
 for. A block `json` is a record in a row of vectors/records.jsonl. What a block `sh` pipes into a program is among the lines of that
 program's stored run. Programs for the bindings are compiled and run by tests/bindings.
 """
+import collections
 import functools
 import glob
 import os
@@ -36,10 +37,6 @@ GLOSSARY, PROOFS = "docs/GLOSSARY.md", "docs/PROOFS.md"
 FILE = re.compile(r"`((?:crates|scripts|tools|tests/\w+|docs|bindings|vectors|examples)/[\w./-]+)`")
 NAMED_ELSEWHERE = {"CHANGELOG.md": r"", "docs/FIRST_HOUR.md": r"crates/(NAME|my_crate)"}
 EXAMPLES = ["crates/examples/src/*.rt", "crates/first_example/src/*.rt", "crates/user_proofs/src/*.rt", "vectors/records.jsonl"]
-# The signatures of examples as they are proved, where the prover asks for one lifetime of two texts, and as doc comments have them.
-SIGNATURES = {
-    "fn write_remote<'a>(out: &mut Vec<u8>, host: &'a str, path: &'a str)": "fn write_remote(out: &mut Vec<u8>, host: &str, path: &str)",
-}
 # A link of Markdown or HTML; and an item of the reference: its name, and the place that the link leads to.
 LINK = re.compile(r"\]\(<?([^)\s>]+)>?\)|(?:href|src)=\"([^\"]+)\"")
 ITEM = re.compile(r"\[(`([^`]+)`)\]\((reference/[^)\s]+)\)")
@@ -56,16 +53,13 @@ SOURCES = names(*(f"crates/{layer}/src/**/*.rt" for layer in LAYERS))
 # ---- blocks of code
 
 def plain(code):
-    """The code without white space and without commas that end a list."""
-    return re.sub(r",(?=[)\]}])", "", re.sub(r"\s+", "", code))
+    """The code without white space, without commas that end a list, and without lifetimes of references, for which the prover may ask."""
+    return re.sub(r",(?=[)\]}])", "", re.sub(r"<'\w+>(?=\()|(?<=&)'\w+ |\s+", "", code))
 
 
 @functools.cache
 def examples():
-    found = "".join(plain(read(it)) for it in names(*EXAMPLES))
-    for proved, shown in SIGNATURES.items():
-        found = found.replace(plain(proved), plain(shown))
-    return found
+    return "".join(plain(read(it)) for it in names(*EXAMPLES))
 
 
 def blocks(name):
@@ -149,15 +143,11 @@ def test_stored_run(name):
 @functools.cache
 def anchors(name):
     """The anchors of a document: those that it sets, and those that forges give to its headings."""
-    text = re.sub(r"(?ms)^```.*?^```$", "", read(name))
-    found = set(re.findall(r'<a id="([^"]+)"', text))
+    text, same = re.sub(r"(?ms)^```.*?^```$", "", read(name)), collections.Counter()
     for heading in re.findall(r"(?m)^#+ (.*)", text):
         words = re.sub(r"\[([^\]]*)\]\([^)]*\)", r"\1", heading).strip().lower()
-        at, same = 0, re.sub(r"[^\w\- ]", "", words).replace(" ", "-")
-        while (it := f"{same}-{at}" if at else same) in found and at < 9:
-            at += 1
-        found.add(it)
-    return found
+        same[re.sub(r"[^\w\- ]", "", words).replace(" ", "-")] += 1
+    return {*re.findall(r'<a id="([^"]+)"', text), *(f"{it}-{at}" if at else it for it, count in same.items() for at in range(count))}
 
 
 def broken_links(name):

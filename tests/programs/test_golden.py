@@ -8,8 +8,8 @@ reading derives, except for those that need words that are in no line here; a fe
 """
 import re
 
+import pictures
 import pytest
-import terminal
 from rt_api import stored
 from runs import explained, run, shown
 from second_reading import short_inputs, stored_run, text_answers
@@ -71,7 +71,7 @@ def test_colours():
 
 def test_the_picture_of_a_terminal():
     """`scripts/pictures.py --terminal` draws docs/explain.svg again."""
-    assert terminal.printed() == stored(terminal.STORED)
+    assert pictures.printed() == stored(pictures.STORED)
 
 
 def test_alarms():
