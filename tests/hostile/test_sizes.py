@@ -11,6 +11,7 @@ import json
 import os
 import subprocess
 import sys
+from functools import partial
 
 import pytest
 from row_text import joined
@@ -132,6 +133,10 @@ def modules_of(size):
     return [b'[submodule "m%d"]\n\tpath = p/%d\n\turl = https://h%d.example/m.git\n' % (n, n, n) for n in range(size)], None
 
 
+def lines_of_a_byte(count):
+    return chunks(b"", b"a\n", count, b""), chunks(b"", b"settled\ta\n", count, b"")
+
+
 def summed(size):
     """This many lines with one host, and their summary."""
     shown = SUMMARY % (size, 0, size, 0, 0, size, 0, 0, 0) + b'host\n%8d  "example.com"\n' % size
@@ -156,27 +161,16 @@ def compare(words, folder, make, large, most_bytes=None, most_seconds=MOST_SECON
     assert whole.reads <= OWN_READS + whole.size // LEAST_READ
 
 
-@pytest.mark.parametrize("shape", SHAPES, ids=lambda it: f"{it['begin']}{it['repeated']}..{it['end']}")
-def test_lines_of_a_shape(shape, tmp_path):
-    compare(["locations"], tmp_path, lambda size: line_of(shape, size), LARGE, MOST_BYTES)
-
-
-def test_lines_of_a_byte(tmp_path):
-    compare(["locations"], tmp_path, lambda count: (chunks(b"", b"a\n", count, b""), chunks(b"", b"settled\ta\n", count, b"")), 5_000_000, MOST_BYTES)
-
-
-@pytest.mark.parametrize("call", CALLS, ids=lambda it: f"{it['order']['call']} over {it['repeated']}..")
-def test_calls(call, tmp_path):
-    compare(["answers"], tmp_path, lambda size: order_of(call, size), LARGE_ORDER)
-
-
 @pytest.mark.parametrize("words, make, large, limits", [
+    *(pytest.param(["locations"], partial(line_of, it), LARGE, {"most_bytes": MOST_BYTES}, id=f"{it['begin']}{it['repeated']}..{it['end']}")
+      for it in SHAPES),
+    *(pytest.param(["answers"], partial(order_of, it), LARGE_ORDER, {}, id=f"{it['order']['call']} over {it['repeated']}..") for it in CALLS),
+    pytest.param(["locations"], lines_of_a_byte, 5_000_000, {"most_bytes": MOST_BYTES}, id="lines of a byte"),
     # A page has many bytes for each byte of the remotes, and its memory.
-    (["explain", "--html"], remotes_of, 100_000, {"most_bytes": 40}),
-    (["answers"], order_of_rules, 100_000, {"most_seconds": 10}),
-    (["explain", "--json", "--config", "-", "https://h/p"], configuration_of, 100_000, {"most_seconds": 10}),
-    (["explain", "--gitmodules", "-"], modules_of, 20_000, {"most_seconds": 2}),
-    (["explain", "--summary"], summed, 2_000_000, {"most_more": 0.1}),
-], ids=["page", "a rewrite by many rules", "a large configuration", "many submodules", "a summary"])
-def test_many(words, make, large, limits, tmp_path):
+    pytest.param(["explain", "--html"], remotes_of, 100_000, {"most_bytes": 40}, id="page"),
+    pytest.param(["answers"], order_of_rules, 100_000, {"most_seconds": 10}, id="a rewrite by many rules"),
+    pytest.param(["explain", "--json", "--config", "-", "https://h/p"], configuration_of, 100_000, {"most_seconds": 10}, id="a large configuration"),
+    pytest.param(["explain", "--gitmodules", "-"], modules_of, 20_000, {"most_seconds": 2}, id="many submodules"),
+    pytest.param(["explain", "--summary"], summed, 2_000_000, {"most_more": 0.1}, id="a summary")])
+def test_size(words, make, large, limits, tmp_path):
     compare(words, tmp_path, make, large, **limits)

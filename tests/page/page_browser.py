@@ -6,7 +6,9 @@ console, exceptions, what the content security policy refuses, other windows and
 import json
 import shutil
 
+from git_runs import put
 from rt_api import read
+from runs import ended, explain
 from selenium import webdriver
 from selenium.webdriver.chrome.service import Service
 
@@ -69,3 +71,9 @@ class Browser(webdriver.Chrome):
             if name in FAULTS or name in ELSEWHERE and said[ELSEWHERE[name]]["url"].partition("#")[0] != self.address:
                 faults.append(f"{name}: {said}")
         return faults
+
+
+def written(page, lines, title=None, end=b"\n", more=()):
+    """The file of a page of lines, which is written with these words."""
+    words = ["--html" if title is None else f"--html={title}", *(["--null"] if end == b"\0" else []), *more]
+    return put(f"{page.folder}/page.html", explain(words, ended(lines, end)))

@@ -21,6 +21,7 @@ STORED = "crates/explain/golden/by_config"
 # The number of configurations of each kind that are taken from those compared with Git.
 TAKEN = 40
 
+
 def case_of(row):
     return Case([entry(*it) for it in row["config"]], row.get("lines", []), row.get("allow_list"), row.get("from_user"))
 
