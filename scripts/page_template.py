@@ -1,6 +1,6 @@
 #!/usr/bin/env python3
-"""Writes crates/explain_page/src/template.rt: the template of the page that `explain --html` makes, as code, since the program can't read a
-file when it is built.
+"""Writes the parts in crates/explain_page/src/template.rt: the template of the page that `explain --html` makes, as code, since the program
+can't read a file when it is built.
 
 The template is crates/explain_page/page/page.html. A slot is `<!-- name -->`, outside of style and script. The slot `policy` becomes
 the content security policy, which allows the style and the script of the template by their hashes and nothing else; the others
@@ -16,25 +16,10 @@ sys.path.append(f"{sys.path[0]}/../tools")
 from rt_api import read, write
 
 SOURCE, PAGES = "crates/explain_page/page/page.html", "crates/explain_page/src/template.rt"
-SLOTS = ("title", "lines", "dangerous", "rows", "hints", "data")
 SLOT = re.compile(r"<!-- (\w+) -->")
 INLINE = re.compile(r"<(style|script)>(.*?)</\1>", re.S)
-HEAD = """\
-//! The template of the page, as `scripts/page_template.py` writes it of `page/page.html`: edit that, and run the script.
-
-/// A part of the template.
-#[derive(Clone, Copy)]
-pub enum Part {
-    /// It is written as it is.
-    Text(&'static str),
-    /// It is filled in.
-    Slot(Slot),
-}
-
-/// What is filled in.
-#[derive(Clone, Copy)]
-pub enum Slot {
-"""
+# The line above the parts.
+HEAD = "/// The parts of the page, in order.\n"
 
 
 def policy(html):
@@ -50,16 +35,12 @@ def text_code(text):
     return line if "\n" not in text and len(line) <= 100 else f'    Part::Text(\n        r##"{text}"##,\n    ),\n'
 
 
-def code(html):
-    """The template as code: its texts and its slots, in order."""
-    parts = SLOT.split(html.replace("<!-- policy -->", policy(html)))
-    slots = "".join(f"    {it.capitalize()},\n" for it in SLOTS)
-    listed = "".join(f"    Part::Slot(Slot::{it.capitalize()}),\n" if at % 2 else text_code(it) for at, it in enumerate(parts))
-    return f"{HEAD}{slots}}}\n\n/// The parts of the page, in order.\npub const PAGE: [Part; {len(parts)}] = [\n{listed}];\n"
-
-
 def wanted():
-    return {PAGES: code(read(SOURCE))}
+    """The parts of the template, its texts and its slots, in order; what is above them stays."""
+    html = read(SOURCE)
+    parts = SLOT.split(html.replace("<!-- policy -->", policy(html)))
+    listed = "".join(f"    Part::Slot(Slot::{it.capitalize()}),\n" if at % 2 else text_code(it) for at, it in enumerate(parts))
+    return {PAGES: f"{read(PAGES).partition(HEAD)[0]}{HEAD}pub const PAGE: [Part; {len(parts)}] = [\n{listed}];\n"}
 
 
 if __name__ == "__main__":
