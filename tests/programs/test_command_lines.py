@@ -8,7 +8,6 @@ import collections
 import itertools
 import json
 import os
-import pty
 import re
 import shutil
 import subprocess
@@ -62,16 +61,14 @@ def test_call(call):
     assert call["reported"] in ran.stderr if "reported" in call else not ran.stderr
 
 
+@pytest.mark.needs("script")
 @pytest.mark.parametrize("variables, wanted", [
     ("TERM=xterm", True), ("TERM=xterm NO_COLOR=", True), ("", False), ("TERM=dumb", False), ("TERM=xterm NO_COLOR=1", False)])
 def test_colours_on_a_terminal(variables, wanted):
     """Answers are coloured on a terminal that can show colours, unless NO_COLOR says otherwise."""
-    terminal, streams = pty.openpty()
-    words = ["env", "-u", "NO_COLOR", "-u", "TERM", *variables.split(), program("explain"), "h:p"]
-    subprocess.run(words, stdin=subprocess.DEVNULL, stdout=streams, timeout=20)
-    os.close(streams)
-    with open(terminal, "rb", buffering=0) as it:
-        assert (b"\x1b[" in it.read(4096)) == wanted
+    words = ["script", "-qec", f"env -u NO_COLOR -u TERM {variables} {program('explain')} h:p", os.devnull]
+    ran = subprocess.run(words, stdin=subprocess.DEVNULL, stdout=subprocess.PIPE, timeout=20)
+    assert (b"\x1b[" in ran.stdout) == wanted
 
 
 def test_version():
