@@ -14,8 +14,8 @@ sys.dont_write_bytecode = True
 sys.path.append(f"{sys.path[0]}/../tools")
 from definitions import named_in
 from public_items import DOC, documented_items, passed, sources_of
-from reference_names import (anchors, by_last_name, crates, documented, link, module_of, modules, name_for_programs, of_module, own_words, parted,
-                             sentence, target)
+from reference_names import (
+    anchors, by_last_name, crates, documented, link, module_of, modules, name_for_programs, of_module, own_words, parted, sentence, target)
 from rt_api import LAYERS, LIBRARIES, read, write
 
 FOLDER = "docs/reference"

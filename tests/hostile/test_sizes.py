@@ -169,7 +169,8 @@ def compare(words, folder, make, large, most_bytes=None, most_seconds=MOST_SECON
     # A page has many bytes for each byte of the remotes, and its memory.
     pytest.param(["explain", "--html"], remotes_of, 100_000, {"most_bytes": 40}, id="page"),
     pytest.param(["answers"], order_of_rules, 100_000, {"most_seconds": 10}, id="a rewrite by many rules"),
-    pytest.param(["explain", "--json", "--config", "-", "https://h/p"], configuration_of, 100_000, {"most_seconds": 10}, id="a large configuration"),
+    pytest.param(["explain", "--json", "--config", "-", "https://h/p"], configuration_of, 100_000, {"most_seconds": 10},
+                 id="a large configuration"),
     pytest.param(["explain", "--gitmodules", "-"], modules_of, 20_000, {"most_seconds": 2}, id="many submodules"),
     pytest.param(["explain", "--summary"], summed, 2_000_000, {"most_more": 0.1}, id="a summary")])
 def test_size(words, make, large, limits, tmp_path):
