@@ -42,7 +42,7 @@ def unlike(words, texts, read, rule):
 
 
 def library_faults(expected):
-    """The orders for which the library has another outcome than Git, among pairs of an order and Git's outcome; None is no pair."""
+    """The orders for which the library has another outcome than Git, among pairs of an order and Git's outcome, without None."""
     pairs = [*filter(None, expected)]
     for (order, is_so), outcome in zip(pairs, answers([it for it, _ in pairs])):
         if not fits(is_so, outcome):

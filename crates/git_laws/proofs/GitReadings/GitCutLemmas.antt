@@ -76,7 +76,7 @@ bracketed_cut c user inside between rest free left right first = record {
 -- ---- escapes
 
 -- no escape begins with another byte than `%`
-no_git_escape : (b high low : ℕ) → (b == percent_sign) ≡ false → is_git_escape b high low ≡ false
+pub no_git_escape : (b high low : ℕ) → (b == percent_sign) ≡ false → is_git_escape b high low ≡ false
 no_git_escape b high low other = rw other refl
 
 -- a text without `%` is decoded to itself

@@ -13,13 +13,15 @@ use Rattle.git_syntax.proofs.Parsing.FormLemmas.{scheme_cut_unique}
 use Rattle.git_location.specs.WebClass.{is_plain_host_byte}
 use Rattle.git_location.proofs.SettledClass.WebClassLemmas.{plain_lowercase}
 use Rattle.git_reads.specs.Credentials.{CredentialCut, CredentialDecodes, CredentialReading}
-use Rattle.git_reads.specs.Git.{git_decode, is_git_escape}
+use Rattle.git_reads.specs.Git.{git_decode}
+use Rattle.git_laws.proofs.GitReadings.GitCutLemmas.{no_git_escape}
 use Rattle.git_rules.specs.Normal.{CutsPort, HostFor, HostPort, IsNormalOf, NormalAuthority, NormalPlace, asterisk, lacks_host}
 use Rattle.git_rules.specs.NormalPieces.{CutsBefore}
 use Rattle.git_rules.specs.OtherHosts.{DiffersPlainly, FollowsScheme, LacksUser, NamesOtherHost, is_user_end}
 use Rattle.git_rules.specs.PartialUrls.{CutsProtocol, HasText, ReadsPartly}
 use Rattle.git_rules.specs.PatternEntries.{RanksSubsection}
 use Rattle.git_rules.specs.Patterns.{HasRank, in_first_label, labels_of, MatchesHost, MatchesLabel, MatchesLabels}
+use Rattle.git_rules.proofs.NormalForms.NormalWebLemmas.{plain_there}
 use Rattle.git_rules.proofs.Matched.HostLemmas.{labels_byte, labels_dot, not_empty_first}
 use Rattle.git_rules.proofs.Matched.LabelLemmas.{labels_some}
 
@@ -146,11 +148,6 @@ name_front q z text name digits free is (CutsPort.in_brackets x back joined none
 name_front q z text name digits free is (CutsPort.at_colon joined none flat) =
     reaches (λ b. b == colon) q z name (colon ∷ digits) free (inr refl) (sym is ∙ joined)
 
--- a text that begins with a plain byte has a host
-plain_there : (q z : List ℕ) → 0 < length q → list_all is_plain_host_byte q ≡ true → lacks_host (q ++ z) ≡ false
-plain_there [] z some h = absurd (omega (arith, some))
-plain_there (b ∷ q) z some h = grind (arith, nat_tests)
-
 -- the host begins so too
 host_front : (q z scheme text name digits host : List ℕ) → 0 < length q → list_all is_plain_host_byte q ≡ true → text ≡ q ++ z → ((y : List ℕ) × (name ≡ q ++ y)) → HostFor scheme text name digits host → (y : List ℕ) × (host ≡ q ++ y)
 host_front q z scheme text name digits host some plain is (y, begins) (HostFor.named there same) =
@@ -174,15 +171,11 @@ normal_front url rest q x n follows alone some plain is h =
 
 -- ---- the host of a text that may lack parts
 
--- only `%` begins an escape
-no_escape : (b high low : ℕ) → (b == percent_sign) ≡ false → is_git_escape b high low ≡ false
-no_escape b high low other = rw other refl
-
 -- a byte that isn't `%` is decoded to itself
 decode_byte : (b : ℕ) (t : List ℕ) → (b == percent_sign) ≡ false → git_decode (b ∷ t) ≡ b ∷ git_decode t
 decode_byte b [] other = refl
 decode_byte b (c ∷ []) other = refl
-decode_byte b (high ∷ low ∷ t) other = cond-false _ _ _ (no_escape b high low other)
+decode_byte b (high ∷ low ∷ t) other = cond-false _ _ _ (no_git_escape b high low other)
 
 -- a front without `%` is decoded to itself
 decode_front : (q z : List ℕ) → FreeOf percent_sign q → git_decode (q ++ z) ≡ q ++ git_decode z

@@ -86,7 +86,8 @@ record IsOwnHost (globs : Bool) (host : List ℕ) : Type 0 where
   there : (suffix : List ℕ) → lacks_host (host ++ suffix) ≡ false
   ends : CutsPort host host []
 
-plain_there : (host suffix : List ℕ) → 0 < length host → list_all is_plain_host_byte host ≡ true → lacks_host (host ++ suffix) ≡ false
+-- a text that begins with a plain byte has a host
+pub plain_there : (host suffix : List ℕ) → 0 < length host → list_all is_plain_host_byte host ≡ true → lacks_host (host ++ suffix) ≡ false
 plain_there [] suffix some h = absurd (omega (arith, some))
 plain_there (b ∷ bs) suffix some h = grind (arith, nat_tests)
 

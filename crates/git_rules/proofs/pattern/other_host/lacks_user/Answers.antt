@@ -1,4 +1,4 @@
--- The text is cut before its first `/` or `@`, which is no `@`.
+-- The text is cut before its first `/` or `@`, which isn't an `@`.
 use Rattle.std.proofs.Common.{◌∙◌, sym}
 use Rattle.std.proofs.lemmas.Bool.{not-true}
 use Rattle.git_rules.proofs.Matched.OtherHostLemmas.{user_lacking}
