@@ -21,9 +21,9 @@ use explain_report::location_report::Report;
 use explain_report::memory::both;
 use explain_report::readers::{Readers, instead_of};
 use explain_report::refusal::Refusal;
-use explain_report::rules::{Rules, found_by};
+use explain_report::rules::{ReadLine, Rules, findings_by, found_by};
 use explain_report::text::line::SeenLine;
-use explain_report::text::secret::has_secret;
+use explain_report::text::marked::MarkedLine;
 use explain_report::text::seen::Seen;
 use git_audit::danger::{Danger, dangers};
 use gix_url::parse::parse;
@@ -114,17 +114,54 @@ impl Line<'_, '_> {
         page: &mut Page,
     ) -> Result<(String, Findings), AllocError> {
         let found = dangers(alloc, self.bytes, &url.as_ref())?;
-        let (found, rules) = both(found, self.rules(alloc, Some(url)))?;
-        let findings = Findings::of_location(url, found.as_slice()).union(found_by(rules.as_ref()));
-        let notes = Notes::of(found.as_slice(), findings, rules.as_ref());
+        let own = Findings::of_location(url, found.as_slice());
         let answer = match self.style.layout {
-            Layout::Quiet => Ok(String::new(alloc)),
-            Layout::Only(part) => only::line(alloc, self.bytes, url, part),
+            Layout::Quiet => self.with_findings(alloc, Ok(String::new(alloc)), own),
+            Layout::Only(part) => {
+                let answer = only::line(alloc, self.bytes, url, part);
+                self.with_findings(alloc, answer, own)
+            }
+            _ => self.reported(alloc, url, found.as_slice(), own, page),
+        };
+        drop(found);
+        answer
+    }
+
+    /// An answer that doesn't report how Git uses the line, and the findings in it. Without the configuration the line
+    /// has these findings.
+    fn with_findings(
+        self,
+        alloc: Global,
+        answer: Result<String, AllocError>,
+        own: Findings,
+    ) -> Result<(String, Findings), AllocError> {
+        let answer = answer?;
+        let (answer, found) = both(
+            answer,
+            findings_by(alloc, self.style.config, self.bytes, own),
+        )?;
+        Ok((answer, own.union(found)))
+    }
+
+    /// The report about a location with these dangers, and the findings in it. Without the configuration it has these
+    /// findings.
+    fn reported(
+        self,
+        alloc: Global,
+        url: &Url,
+        dangers: &[Danger],
+        own: Findings,
+        page: &mut Page,
+    ) -> Result<(String, Findings), AllocError> {
+        let line = MarkedLine::of(self.bytes);
+        let rules = self.rules(alloc, line, Some(url), dangers, own)?;
+        let findings = own.union(found_by(rules.as_ref()));
+        let notes = Notes::of(dangers, findings, rules.as_ref());
+        let answer = match self.style.layout {
             Layout::Sarif => line_results::location(alloc, self, url, notes),
-            _ => self.location(alloc, url, notes, page),
+            _ => self.location(alloc, line, url, notes, page),
         };
         drop(rules);
-        drop(found);
         Ok((answer?, findings))
     }
 
@@ -132,15 +169,18 @@ impl Line<'_, '_> {
     fn location(
         self,
         alloc: Global,
+        line: MarkedLine<'_>,
         url: &Url,
         notes: Notes<'_>,
         page: &mut Page,
     ) -> Result<String, AllocError> {
-        let seen = Seen::of(alloc, self.bytes, url)?;
-        let answer = match seen.shown(self.bytes, url) {
-            Some((bytes, shown)) => {
-                let readers = Readers::of_location(alloc, self.bytes, url, shown.host());
-                self.shown_so(alloc, bytes, shown, readers, notes, page)
+        let seen = Seen::of(alloc, line, url)?;
+        let answer = match seen.shown(line, url) {
+            Some((shown, location)) => {
+                let host = location.host();
+                let readers = Readers::of_location(alloc, line, url, notes.dangers, host);
+                let reading = (location, line.has_secret());
+                self.shown_so(alloc, shown, reading, readers, notes, page)
             }
             None => self.withheld(alloc, url, notes, page),
         };
@@ -148,22 +188,23 @@ impl Line<'_, '_> {
         answer
     }
 
-    /// The report about a location whose line is shown as these bytes, with the programs that may read it differently.
+    /// The report about a location whose line is shown as this line, with the programs that may read it differently.
+    /// The pair is the location that the shown line is read as, and whether a part of the own line may be a secret.
     fn shown_so<'t>(
         self,
         alloc: Global,
-        bytes: &'t [u8],
-        url: &'t Url,
+        line: MarkedLine<'t>,
+        (url, has_hidden): (&'t Url, bool),
         readers: Result<Option<Readers>, AllocError>,
         notes: Notes<'_>,
         page: &mut Page,
     ) -> Result<String, AllocError> {
         let readers = readers?;
-        let (readers, seen) = both(readers, SeenLine::of(alloc, bytes))?;
+        let (readers, seen) = both(readers, SeenLine::of(alloc, line))?;
         let ((readers, seen), report) = both((readers, seen), Report::of(alloc, url))?;
         let has_instead = instead_of(readers.as_ref()).is_some();
-        let reading = Reading::of(url, &report, has_instead, has_secret(self.bytes));
-        let found = hint::find(alloc, bytes, Some(reading));
+        let reading = Reading::of(url, &report, has_instead, has_hidden);
+        let found = hint::find(alloc, line.bytes, Some(reading));
         let (((seen, report), readers), found) = both(((seen, report), readers), found)?;
         let notes = Notes {
             dangers: notes.dangers,
@@ -218,10 +259,23 @@ impl Line<'_, '_> {
         answer
     }
 
-    /// How Git uses the line by the configuration that is given. The line is parsed as this location, or is
-    /// refused.
-    fn rules(self, alloc: Global, url: Option<&Url>) -> Result<Option<Rules>, AllocError> {
-        Rules::of_input(alloc, self.style.config, self.bytes, url)
+    /// How Git uses the line by the configuration that is given. The line is parsed as this location, or is refused,
+    /// and has these dangers and findings.
+    fn rules(
+        self,
+        alloc: Global,
+        line: MarkedLine<'_>,
+        url: Option<&Url>,
+        dangers: &[Danger],
+        found: Findings,
+    ) -> Result<Option<Rules>, AllocError> {
+        let read = ReadLine {
+            line,
+            url,
+            dangers,
+            found,
+        };
+        Rules::of_input(alloc, self.style.config, read)
     }
 
     /// The report about a line that isn't a location, and the findings in it. The error may be that memory was refused.
@@ -234,28 +288,43 @@ impl Line<'_, '_> {
         if let Error::Memory = error {
             return Err(AllocError);
         }
-        let rules = self.rules(alloc, None)?;
-        let findings = Findings::of_refused().union(found_by(rules.as_ref()));
+        let own = Findings::of_refused();
+        match self.style.layout {
+            Layout::Quiet => self.with_findings(alloc, Ok(String::new(alloc)), own),
+            Layout::Only(_) => self.with_findings(alloc, String::from_str(alloc, "\n"), own),
+            _ => self.refused(alloc, error, own, page),
+        }
+    }
+
+    /// The report about a line that is refused, and the findings in it. Without the configuration it has these findings.
+    fn refused(
+        self,
+        alloc: Global,
+        error: &Error,
+        own: Findings,
+        page: &mut Page,
+    ) -> Result<(String, Findings), AllocError> {
+        let line = MarkedLine::of(self.bytes);
+        let rules = self.rules(alloc, line, None, &[], own)?;
+        let findings = own.union(found_by(rules.as_ref()));
         let answer = match self.style.layout {
-            Layout::Quiet => Ok(String::new(alloc)),
-            Layout::Only(_) => String::from_str(alloc, "\n"),
             Layout::Sarif => line_results::refusal(alloc, self, error, rules.as_ref()),
-            _ => self.refusal(alloc, error, findings, rules.as_ref(), page),
+            _ => self.refusal(alloc, error, line, (findings, rules.as_ref()), page),
         };
         drop(rules);
         Ok((answer?, findings))
     }
 
-    /// The report about a line that is refused.
+    /// The report about a line that is refused. It has these findings, and Git uses it so by the configuration.
     fn refusal(
         self,
         alloc: Global,
         error: &Error,
-        findings: Findings,
-        rules: Option<&Rules>,
+        line: MarkedLine<'_>,
+        (findings, rules): (Findings, Option<&Rules>),
         page: &mut Page,
     ) -> Result<String, AllocError> {
-        let seen = SeenLine::of(alloc, self.bytes)?;
+        let seen = SeenLine::of(alloc, line)?;
         let (seen, refusal) = both(seen, Refusal::with_git(alloc, self.bytes, error))?;
         let readers = Readers::of_refused(alloc, self.bytes);
         let ((seen, refusal), readers) = both((seen, refusal), readers)?;

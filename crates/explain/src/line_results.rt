@@ -133,7 +133,8 @@ fn add_rules(
         &rules.fetch,
         rules.fetch.rewritten,
     )?;
-    add_route(alloc, items, Way::Push, &rules.push, rules.push.rewritten)
+    let push = rules.push();
+    add_route(alloc, items, Way::Push, push, push.rewritten)
 }
 
 /// Adds the findings about a text that Git connects to: about its transport, and with `with_text` about the text.

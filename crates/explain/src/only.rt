@@ -6,6 +6,7 @@
 use bstr::ByteSlice;
 use explain_report::memory::no_memory;
 use explain_report::text::line::write_shown;
+use explain_report::text::marked::MarkedLine;
 use explain_report::text::seen::Seen;
 use gix_url::{PathComponents, Scheme, Url};
 use std::alloc::{AllocError, Global};
@@ -50,13 +51,14 @@ impl Part {
 /// is empty if it is missing or isn't shown. Control characters, backslashes and bytes that are not UTF-8 are escaped,
 /// so the result is one line.
 pub fn line(alloc: Global, text: &[u8], url: &Url, part: Part) -> Result<String, AllocError> {
-    let seen = Seen::of(alloc, text, url)?;
-    let line = match seen.shown(text, url) {
+    let line = MarkedLine::of(text);
+    let seen = Seen::of(alloc, line, url)?;
+    let answer = match seen.shown(line, url) {
         Some((_, shown)) => line_of(alloc, shown, part),
         None => String::from_str(alloc, "\n"),
     };
     drop(seen);
-    line
+    answer
 }
 
 /// The line with a part of a location.

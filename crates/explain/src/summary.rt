@@ -11,9 +11,9 @@ use crate::summary::table::text_of;
 use bstr::BStr;
 use explain_report::finding::Findings;
 use explain_report::form::Form;
-use explain_report::memory::both;
 use explain_report::rules::config::Config;
-use explain_report::rules::{Rules, found_by};
+use explain_report::rules::findings_by;
+use explain_report::text::marked::MarkedLine;
 use explain_report::text::seen::Seen;
 use git_audit::danger::dangers;
 use gix_url::lines::RunError;
@@ -174,12 +174,10 @@ impl Summary {
         config: Option<&Config<'_>>,
     ) -> Result<Findings, AllocError> {
         let found = dangers(self.alloc, line, &url.as_ref())?;
-        let (found, rules) = both(found, Rules::of_input(self.alloc, config, line, Some(url)))?;
         let own = Findings::of_location(url, found.as_slice());
-        let findings = own.union(found_by(rules.as_ref()));
-        drop(rules);
         self.dangers.add(found.as_slice());
         drop(found);
+        let findings = own.union(findings_by(self.alloc, config, line, own)?);
         self.forms.add(Form::of(url));
         self.verdicts.add_location(!own.unsettled);
         self.verdicts.add(findings);
@@ -193,6 +191,7 @@ impl Summary {
             bump(&mut self.without_host);
             return Ok(());
         };
+        let line = MarkedLine::of(line);
         let seen = Seen::of(self.alloc, line, url)?;
         let host = match seen.shown(line, url) {
             Some((_, shown)) => shown.host().unwrap_or(""),
@@ -209,9 +208,8 @@ impl Summary {
         line: &[u8],
         config: Option<&Config<'_>>,
     ) -> Result<Findings, AllocError> {
-        let rules = Rules::of_input(self.alloc, config, line, None)?;
-        let findings = Findings::of_refused().union(found_by(rules.as_ref()));
-        drop(rules);
+        let own = Findings::of_refused();
+        let findings = own.union(findings_by(self.alloc, config, line, own)?);
         bump(&mut self.verdicts.refused);
         self.verdicts.add(findings);
         bump(&mut self.without_host);

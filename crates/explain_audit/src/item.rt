@@ -7,6 +7,7 @@ use crate::kind::Kind;
 use bstr::BStr;
 use explain_report::location_report::{Report, reading_of_git};
 use explain_report::refusal::Refusal;
+use explain_report::text::marked::MarkedLine;
 use explain_report::text::seen::Seen;
 use git_audit::danger::{Danger, dangers};
 use git_rules::rewrite::host::names_same_host;
@@ -101,8 +102,9 @@ pub fn add_reading(
     if url.is_settled() && url.agrees_with_git() {
         return Ok(());
     }
-    let seen = Seen::of(alloc, text, url)?;
-    let added = match seen.shown(text, url) {
+    let line = MarkedLine::of(text);
+    let seen = Seen::of(alloc, line, url)?;
+    let added = match seen.shown(line, url) {
         Some((_, shown)) => add_report_of(alloc, found, shown),
         None => add_withheld(alloc, found, url),
     };

@@ -318,7 +318,8 @@ impl ModuleReport {
         config: &Config<'_>,
         url: &[u8],
     ) -> Result<(), AllocError> {
-        let route = Route::of_rewritten(alloc, config, &config.rewrites.rewrite_fetch(url))?;
+        let text = config.rewrites.rewrite_fetch(url);
+        let route = Route::of_rewritten(alloc, config, None, &text)?;
         self.found = self.found.union(route.found);
         for name in &names_of(alloc, route.found)? {
             note_name(&mut self.findings, name)?;

@@ -5,6 +5,7 @@ pub mod Refusals
 pub mod Secrets
 pub mod Entries
 pub mod Rules
+pub mod Pushes
 pub mod Findings
 pub mod Hints
 pub mod Marks

@@ -8,11 +8,13 @@ use Rattle.git_rules.specs.Policies.{Policy}
 use Rattle.git_rules.specs.Protocols.{Decides, IsAllowed}
 use Rattle.git_rules.specs.SameHost.{HaveSameHost}
 use Rattle.git_rules.specs.Settings.{AreSettings, RefusesSettings}
+use Rattle.git_rules.specs.TextTransports.{HasTransport, LacksTransport}
 use Rattle.git_rules.specs.declared.pattern.settings.SettingsError.{SettingsError}
 use Rattle.git_rules.specs.declared.pattern.settings.SettingsError.TheVariants.{Memory}
 use Rattle.git_rules.specs.declared.protocols.Reason.{Reason}
 use Rattle.git_rules.specs.declared.protocols.Reason.TheVariants as reason
 use Rattle.git_rules.specs.declared.protocols.Permission.{Permission}
+use Rattle.git_rules.specs.declared.protocols.text.NoTransport.{NoTransport}
 use Rattle.git_rules.specs.declared.protocols.Permission.TheVariants as permission
 use Rattle.gix_url.specs.Location.{Location}
 use Rattle.explain_report.specs.Marks.{is_empty}
@@ -51,10 +53,18 @@ list_variable reason.AllowList = Some (codes "GIT_ALLOW_PROTOCOL")
 list_variable (reason.Entry at) = None
 list_variable reason.Default = None
 
+-- whether Git uses the transport with this name
+abbrev pub IsUsed : Policy → List ℕ → Bool → Type 0
+IsUsed policy name b = (p : Permission) × Decides policy name p × (IsTrue b ↔ IsAllowed p)
+
+-- whether Git has a transport for the text, and uses it
+abbrev pub HasUsedTransport : Policy → List ℕ → Bool → Type 0
+HasUsedTransport policy text b = ((name : List ℕ) × HasTransport text name × IsUsed policy name b)
+    ⊎ ((why : NoTransport) × LacksTransport text why × (b ≡ false))
+
 -- whether the configuration without the variables allows the transport to users
 abbrev pub IsAllowedToUsers : Policy → List ℕ → Bool → Type 0
-IsAllowedToUsers policy name b = (p : Permission)
-    × Decides (record policy { allow_list = None; from_user = None }) name p × (IsTrue b ↔ IsAllowed p)
+IsAllowedToUsers policy name b = IsUsed (record policy { allow_list = None; from_user = None }) name b
 
 -- the other variable, if the transport is allowed without it
 abbrev pub user_variable : Bool → Option (List ℕ)

@@ -7,6 +7,7 @@
 ghost use Rattle.std.specs.Prelude.{◌≤◌};
 
 use crate::memory::both;
+use crate::text::lossy;
 use bstr::{BStr, ByteSlice};
 use git_reads::decode::append_decoded;
 use git_reads::port::digits_port;
@@ -160,9 +161,23 @@ fn host_of(alloc: Global, host: &[u8], buffer: &mut Vec<u8>) -> Result<Option<St
     if host.starts_with(b"[") {
         return literal(alloc, host);
     }
-    match ipv4(host) {
+    match ipv4_if_digit(host) {
         Some(address) => Ok(Some(address.to_string(alloc)?)),
+        None if is_plain(host) && !host.is_empty() => Ok(Some(lossy(alloc, host)?)),
         None => name(alloc, host, buffer),
+    }
+}
+
+/// Whether each byte is a letter, a digit, `.`, `-` or `_`, which curl keeps in a name.
+fn is_plain(text: &[u8]) -> bool {
+    text.iter().all(|byte| byte.is_ascii_alphanumeric() || matches!(*byte, b'.' | b'-' | b'_'))
+}
+
+/// The address written as one to four numbers, the first of which begins with a digit.
+fn ipv4_if_digit(host: &[u8]) -> Option<Ipv4Addr> {
+    match host {
+        [b'0'..=b'9', ..] => ipv4(host),
+        _ => None,
     }
 }
 
@@ -336,6 +351,11 @@ fn write_target(out: &mut String, path: &[u8], query: &[u8]) -> Result<(), Alloc
 
 /// Appends a text, with escapes in place of the bytes above 127.
 fn write_escaped(out: &mut String, text: &[u8]) -> Result<(), AllocError> {
+    if text.is_ascii()
+        && let Ok(ascii) = text.to_str()
+    {
+        return out.push_str(ascii);
+    }
     for byte in text {
         match byte {
             0..0x80 => out.push(char::from(*byte))?,

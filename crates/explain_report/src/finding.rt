@@ -59,12 +59,19 @@ impl Findings {
     pub fn of_transport(transport: Option<&Transport>) -> Findings
         ensures { result ≡ record spec.none { policy = not (spec.is_used transport.entry) } }
     {
+        Findings::of_use(is_used(transport))
+    }
+
+    /// Returns the finding about a text, by whether Git has a transport for it and uses it.
+    pub fn of_use(is_used: bool) -> Findings
+        ensures { result ≡ record spec.none { policy = not is_used } }
+    {
         Findings {
             danger: false,
             unsettled: false,
             refused: false,
             git_differs: false,
-            policy: !is_used(transport),
+            policy: !is_used,
         }
     }
 

@@ -18,6 +18,7 @@ use crate::form::Form;
 use crate::git_report::{GitReads, PASSED_ON, is_of_web};
 use crate::memory::both;
 use crate::path::{Components, Home, Meaning};
+use crate::text::lossy;
 use bstr::{BString, ByteSlice};
 use gix_url::{ArgumentSafety, Url, WriteFault};
 use serde::Serialize;
@@ -251,7 +252,7 @@ fn shown_text(alloc: Global, url: &Url, facts: &Facts) -> Result<Option<String>,
     match &facts.text {
         Err(_) => Ok(None),
         Ok(_) if url.password().is_some() => Ok(Some(url.to_string(alloc)?)),
-        Ok(text) => Ok(Some(text.as_bstr().to_string(alloc)?)),
+        Ok(text) => Ok(Some(lossy(alloc, text.as_bytes())?)),
     }
 }
 

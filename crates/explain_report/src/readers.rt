@@ -3,7 +3,7 @@
 //!
 //! A host that doesn't occur in a shown part of the line is reported as `redacted`.
 
-ghost use Rattle.std.specs.Prelude.{◌≡◌, IfOk, IfSome, IsNone, None, false, string_bytes};
+ghost use Rattle.std.specs.Prelude.{◌≡◌, ◌↔◌, IfOk, IfSome, IsNone, IsTrue, None, false, string_bytes};
 ghost use Rattle.explain_report.specs.Reasons.{HasReason};
 ghost use Rattle.git_readers.specs.Conditions.{IsUnambiguous};
 ghost use Rattle.explain_report.specs.Secrets.{has_secret};
@@ -19,8 +19,10 @@ use crate::readers::instead::url_instead;
 use crate::readers::taken::{Taken, beside_host, beside_location, has, is_none};
 use crate::text::line::Quoted;
 use crate::text::lossy;
+use crate::text::marked::MarkedLine;
 use crate::text::secret::part_of_shown;
 use bstr::BString;
+use git_audit::danger::Danger;
 use gix_url::Url;
 use gix_url::unambiguous::Condition;
 use serde::Serialize;
@@ -57,11 +59,13 @@ pub struct OtherHost {
 }
 
 impl Readers {
-    /// Returns the other readings of a line that is read as this location, whose host is shown as `host`.
+    /// Returns the other readings of a line that is read as this location, whose host is shown as `host`. These are all
+    /// dangers of the line: without [`Danger::MisreadHost`] no group takes another host.
     pub fn of_location(
         alloc: Global,
-        line: &[u8],
+        line: MarkedLine<'_>,
         url: &Url,
+        dangers: &[Danger],
         host: Option<&str>,
     ) -> Result<Option<Readers>, AllocError>
         ensures none { IfOk result (λ readers. IsNone readers → IsUnambiguous url.now) }
@@ -69,7 +73,11 @@ impl Readers {
         ensures instead { IfOk result (λ readers. IfSome readers (λ it.
             IfSome it.instead (λ text. has_secret (string_bytes text) ≡ false))) }
     {
-        let others = others_of_location(alloc, line, url, host)?;
+        let others = if dangers.iter().any(is_misread_host) {
+            others_of_location(alloc, line.bytes, url, host)?
+        } else {
+            Vec::new(alloc)
+        };
         match url.unmet_condition() {
             Some(unmet) => {
                 let (others, instead) = both(others, url_instead(alloc, line, url))?;
@@ -99,6 +107,13 @@ impl Readers {
             instead,
         }
     }
+}
+
+/// Whether the danger is that some group takes another host.
+fn is_misread_host(danger: &Danger) -> bool
+    ensures { IsTrue result ↔ (danger.now ≡ Danger.MisreadHost) }
+{
+    matches!(danger, Danger::MisreadHost)
 }
 
 /// Returns the URL of the same place that fewer programs read differently, if one is reported.

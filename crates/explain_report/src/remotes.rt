@@ -163,7 +163,7 @@ fn routes(
 ) -> Result<Vec<Route>, AllocError> {
     let mut routes = Vec::new(alloc);
     for text in texts {
-        routes.push(Route::of_rewritten(alloc, config, text)?)?;
+        routes.push(Route::of_rewritten(alloc, config, None, text)?)?;
     }
     Ok(routes)
 }

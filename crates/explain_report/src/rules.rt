@@ -4,8 +4,9 @@
 //! [`config`] is the configuration, which is read once for all lines. [`transports`], [`credentials`] and `settings`
 //! apply it to the rewritten text, [`setting`] shows an entry without secrets, and [`rows`] puts the results in words.
 
-ghost use Rattle.std.specs.Prelude.{◌≡◌, ◌↔◌, IfOk, IsNone, MatchOption, option_map};
-ghost use Rattle.explain_report.specs.Findings.{none, union};
+ghost use Rattle.std.specs.Prelude.{◌≡◌, ◌↔◌, IfOk, IsNone, IsTrue, MatchOption, option_map};
+ghost use Rattle.explain_report.specs.Findings.{none};
+ghost use Rattle.explain_report.specs.Pushes.{found_by_rules, pushed_route};
 ghost use Rattle.explain_report.specs.Rules.{SaysSameHost};
 
 pub mod config;
@@ -23,7 +24,8 @@ use crate::rules::config::Config;
 use crate::rules::credentials::Credentials;
 use crate::rules::setting::Setting;
 use crate::rules::settings::settings_for;
-use crate::rules::transports::{Lack, Transport, transport_for};
+use crate::rules::transports::{Lack, Transport, has_used_transport, transport_for};
+use crate::text::marked::MarkedLine;
 use crate::text::secret::shown_text;
 use bstr::BString;
 use git_audit::danger::{Danger, dangers};
@@ -31,20 +33,32 @@ use git_rules::rewrite::host::names_same_host;
 use git_rules::rewrite::outcome::Rewritten;
 use gix_url::parse::parse;
 use gix_url::{Error, Url};
-use serde::Serialize;
+use serde::{Described, Serialize, Serializer};
 use std::alloc::{AllocError, Global};
 
 /// How Git uses a line by a configuration.
-#[derive(Drop, Serialize)]
+#[derive(Drop)]
 pub struct Rules {
     /// The text from which a remote with this URL is fetched.
     pub fetch: Route,
-    /// The text to which it is pushed.
-    pub push: Route,
+    /// The text to which it is pushed, unless that is the text from which it is fetched.
+    pub own_push: Option<Route>,
     /// The settings of Git's credential code for the text to fetch from, if that is of HTTP.
     pub credential: Option<Credentials>,
     /// The entries of each name of `http.*` that Git uses for that text.
     pub http: Vec<Setting>,
+}
+
+/// A line as it is read.
+#[derive(Clone, Copy)]
+pub struct ReadLine<'b> {
+    pub line: MarkedLine<'b>,
+    /// Its location, unless it is refused.
+    pub url: Option<&'b Url>,
+    /// The dangers of the line and its location.
+    pub dangers: &'b [Danger],
+    /// The findings about the line, which has these dangers.
+    pub found: Findings,
 }
 
 /// A text that Git fetches from or pushes to.
@@ -70,75 +84,168 @@ pub struct Route {
     pub found: Findings,
 }
 
+impl Described for Rules {}
+
+impl Serialize for Rules {
+    fn serialize<S: Serializer>(&self, out: &mut S) -> Result<(), S::Error> {
+        out.begin_map(Some(4))?;
+        out.key("fetch")?;
+        self.fetch.serialize(out)?;
+        out.key("push")?;
+        self.push().serialize(out)?;
+        out.key("credential")?;
+        self.credential.serialize(out)?;
+        out.key("http")?;
+        self.http.serialize(out)?;
+        out.end_map()
+    }
+}
+
 impl Rules {
-    /// Returns how Git uses a line by the configuration, if one is given. `url` is the location of the line, unless the
-    /// line is refused.
+    /// Returns how Git uses a line by the configuration, if one is given.
     pub fn of_input(
         alloc: Global,
         config: Option<&Config<'_>>,
-        line: &[u8],
-        url: Option<&Url>,
+        read: ReadLine<'_>,
     ) -> Result<Option<Rules>, AllocError>
         ensures { IfOk result (λ rules. IsNone rules ↔ IsNone config.entry) }
     {
         match config {
             None => Ok(None),
-            Some(config) => Ok(Some(Rules::of(alloc, config, line, url)?)),
+            Some(config) => Ok(Some(Rules::of(alloc, config, read)?)),
         }
     }
 
-    /// How Git uses a line. `url` is the location of the line, unless the line is refused.
-    fn of(
-        alloc: Global,
-        config: &Config<'_>,
-        line: &[u8],
-        url: Option<&Url>,
-    ) -> Result<Rules, AllocError> {
-        let fetch = Goal::of(alloc, &config.rewrites.rewrite_fetch(line))?;
-        let (fetch, push) = both(
-            fetch,
-            Goal::of(alloc, &config.rewrites.rewrite_push(line, false)),
-        )?;
-        let rules = Rules::of_goals(alloc, config, url, &fetch, &push);
-        drop(push);
-        drop(fetch);
-        rules
-    }
-
-    /// Returns the findings about the texts to which the line is rewritten.
-    pub fn found(&self) -> Findings
-        ensures { result ≡ union self.now.fetch.found self.now.push.found }
-    {
-        self.fetch.found.union(self.push.found)
-    }
-
-    /// How Git uses the texts to which the line is rewritten.
-    fn of_goals(
-        alloc: Global,
-        config: &Config<'_>,
-        url: Option<&Url>,
-        fetch: &Goal,
-        push: &Goal,
-    ) -> Result<Rules, AllocError> {
-        let routes = both(
-            Route::of(alloc, config, url, fetch)?,
-            Route::of(alloc, config, url, push),
-        )?;
-        let found = both(routes, settings_of(alloc, config, fetch))?;
-        let ((fetch, push), (credential, http)) = found;
+    /// How Git uses a line by the configuration.
+    fn of(alloc: Global, config: &Config<'_>, read: ReadLine<'_>) -> Result<Rules, AllocError> {
+        let line = read.line.bytes;
+        let (fetched, pushed) = (
+            config.rewrites.rewrite_fetch(line),
+            config.rewrites.rewrite_push(line, false),
+        );
+        let own_push = if is_same_text(&fetched, &pushed) {
+            Ok(None)
+        } else {
+            Route::of_rewritten(alloc, config, read.url, &pushed).map(Some)
+        };
+        let (own_push, found) = both(own_push?, fetched_by(alloc, config, read, &fetched))?;
+        let (fetch, (credential, http)) = found;
         Ok(Rules {
             fetch,
-            push,
+            own_push,
             credential,
             http,
         })
     }
+
+    /// Returns the text to which a remote with this URL is pushed.
+    pub fn push(&self) -> &Route
+        ensures { result.now ≡ pushed_route self.now }
+    {
+        match &self.own_push {
+            None => &self.fetch,
+            Some(push) => push,
+        }
+    }
+
+    /// Returns the findings about the texts to which the line is rewritten.
+    pub fn found(&self) -> Findings
+        ensures { result ≡ found_by_rules self.now }
+    {
+        self.fetch.found.union(self.push().found)
+    }
+}
+
+/// Whether two rules, or none, rewrite a line to the same text.
+fn is_same_text(fetched: &Rewritten<'_>, pushed: &Rewritten<'_>) -> bool
+    ensures base { IsTrue result → fetched.now.base ≡ pushed.now.base }
+    ensures rest { IsTrue result → fetched.now.rest ≡ pushed.now.rest }
+{
+    is_same_base(fetched.base, pushed.base) && fetched.rest == pushed.rest
+}
+
+/// Whether both rules put the same text in place of the front, or there is none.
+fn is_same_base(fetched: Option<&[u8]>, pushed: Option<&[u8]>) -> bool
+    ensures { IsTrue result
+        → option_map (λ t. t.now) fetched.entry ≡ option_map (λ t. t.now) pushed.entry }
+{
+    match (fetched, pushed) {
+        (None, None) => true,
+        (Some(fetched), Some(pushed)) => fetched == pushed,
+        (None, Some(_)) | (Some(_), None) => false,
+    }
+}
+
+/// The route to the text from which Git fetches, with the settings for that text.
+fn fetched_by(
+    alloc: Global,
+    config: &Config<'_>,
+    read: ReadLine<'_>,
+    fetched: &Rewritten<'_>,
+) -> Result<(Route, (Option<Credentials>, Vec<Setting>)), AllocError> {
+    if !fetched.is_rewritten() {
+        return both(
+            Route::of_line(alloc, config, read)?,
+            settings_of(alloc, config, read.line.bytes, read.url),
+        );
+    }
+    let goal = Goal::of(alloc, fetched)?;
+    let route = Route::of(alloc, config, read.url, &goal);
+    let settings = settings_of(alloc, config, goal.text.as_bytes(), goal.url.as_ref());
+    drop(goal);
+    both(route?, settings)
+}
+
+/// Returns the findings about the texts to which a line with these findings is rewritten by the configuration, if one
+/// is given: those of [`Rules::found`], without the values that are reported.
+pub fn findings_by(
+    alloc: Global,
+    config: Option<&Config<'_>>,
+    line: &[u8],
+    own: Findings,
+) -> Result<Findings, AllocError> {
+    let Some(config) = config else {
+        return Ok(Findings::none());
+    };
+    let (fetched, pushed) = (
+        config.rewrites.rewrite_fetch(line),
+        config.rewrites.rewrite_push(line, false),
+    );
+    let found = text_findings(alloc, config, &fetched, own)?;
+    if is_same_text(&fetched, &pushed) {
+        return Ok(found);
+    }
+    Ok(found.union(text_findings(alloc, config, &pushed, own)?))
+}
+
+/// The findings about a text to which a line with these findings is rewritten.
+fn text_findings(
+    alloc: Global,
+    config: &Config<'_>,
+    text: &Rewritten<'_>,
+    own: Findings,
+) -> Result<Findings, AllocError> {
+    if !text.is_rewritten() {
+        return Ok(own.union(findings_of_use(config, text.rest)));
+    }
+    let goal = Goal::of(alloc, text)?;
+    let dangers = goal.dangers(alloc);
+    let (goal, dangers) = both(goal, dangers)?;
+    let of_text = goal.found(dangers.as_slice());
+    let of_use = findings_of_use(config, goal.text.as_bytes());
+    drop(dangers);
+    drop(goal);
+    Ok(of_text.union(of_use))
+}
+
+/// The finding about the transport of a text.
+fn findings_of_use(config: &Config<'_>, text: &[u8]) -> Findings {
+    Findings::of_use(has_used_transport(&config.protocols, text))
 }
 
 /// Returns the findings about the texts to which a line is rewritten by the configuration, if one is given.
 pub fn found_by(rules: Option<&Rules>) -> Findings
-    ensures { MatchOption rules.entry (result ≡ none)
-        (λ it. result ≡ union it.now.fetch.found it.now.push.found) }
+    ensures { MatchOption rules.entry (result ≡ none) (λ it. result ≡ found_by_rules it.now) }
 {
     match rules {
         None => Findings::none(),
@@ -146,11 +253,10 @@ pub fn found_by(rules: Option<&Rules>) -> Findings
     }
 }
 
-/// The text to which a line is rewritten, and its location.
+/// A text to which a line is rewritten, and its location.
 #[derive(Drop)]
 struct Goal {
     text: BString,
-    is_rewritten: bool,
     /// The location, unless the text is refused.
     url: Option<Url>,
 }
@@ -160,11 +266,7 @@ impl Goal {
     fn of(alloc: Global, rewritten: &Rewritten<'_>) -> Result<Goal, AllocError> {
         let text = rewritten.to_bstring(alloc)?;
         let (text, url) = both_read(alloc, text)?;
-        Ok(Goal {
-            text,
-            is_rewritten: rewritten.is_rewritten(),
-            url,
-        })
+        Ok(Goal { text, url })
     }
 }
 
@@ -200,19 +302,39 @@ fn both_read(alloc: Global, text: BString) -> Result<(BString, Option<Url>), All
 }
 
 impl Route {
-    /// Returns the route to a rewritten text.
+    /// Returns the route to a rewritten text. `line` is the location of the line, unless the line is refused.
     pub fn of_rewritten(
         alloc: Global,
         config: &Config<'_>,
+        line: Option<&Url>,
         text: &Rewritten<'_>,
     ) -> Result<Route, AllocError> {
         let goal = Goal::of(alloc, text)?;
-        let route = Route::of(alloc, config, None, &goal);
+        let route = Route::of(alloc, config, line, &goal);
         drop(goal);
-        route
+        let mut route = route?;
+        route.rewritten = text.is_rewritten();
+        Ok(route)
     }
 
-    /// The route to a goal. `line` is the location of the line, unless the line is refused.
+    /// The route to the line itself.
+    fn of_line(
+        alloc: Global,
+        config: &Config<'_>,
+        read: ReadLine<'_>,
+    ) -> Result<Route, AllocError> {
+        let text = read.line.shown_text(alloc)?;
+        let (mut route, found) = both(
+            Route::to(alloc, config, read.line.bytes, text)?,
+            copied(alloc, read.dangers),
+        )?;
+        route.same_host = same_host(read.url, read.url);
+        route.found = route.found.union(read.found);
+        route.found_dangers = found;
+        named(alloc, route)
+    }
+
+    /// The route to a text to which a rule rewrites a line. `line` is the location of the line, unless it is refused.
     fn of(
         alloc: Global,
         config: &Config<'_>,
@@ -221,56 +343,78 @@ impl Route {
     ) -> Result<Route, AllocError> {
         let bytes = goal.text.as_bytes();
         let text = shown_text(alloc, bytes)?;
+        let (mut route, found) = both(Route::to(alloc, config, bytes, text)?, goal.dangers(alloc))?;
+        route.rewritten = true;
+        route.same_host = same_host(line, goal.url.as_ref());
+        route.found = route.found.union(goal.found(found.as_slice()));
+        route.found_dangers = found;
+        named(alloc, route)
+    }
+
+    /// The route to a text, which is shown so, with its transport and nothing else.
+    fn to(
+        alloc: Global,
+        config: &Config<'_>,
+        bytes: &[u8],
+        text: String,
+    ) -> Result<Route, AllocError> {
         let (text, (transport, no_transport)) = both(
             text,
             transport_for(alloc, &config.protocols, bytes),
         )?;
-        let route = Route {
+        Ok(Route {
             text,
-            rewritten: goal.is_rewritten,
-            same_host: is_same_host(line, goal),
+            rewritten: false,
+            same_host: None,
             found: Findings::of_transport(transport.as_ref()),
             transport,
             no_transport,
             dangers: Vec::new(alloc),
             found_dangers: Vec::new(alloc),
-        };
-        let (mut route, found) = both(route, goal.dangers(alloc))?;
-        route.found = route.found.union(goal.found(found.as_slice()));
-        route.found_dangers = found;
-        let (mut route, names) = both_named(alloc, route)?;
-        route.dangers = names;
-        Ok(route)
+        })
     }
 }
 
-/// A route, and the names of the dangers of its text.
-fn both_named(alloc: Global, route: Route) -> Result<(Route, Vec<&'static str>), AllocError> {
-    let names = names(alloc, route.found_dangers.as_slice());
-    both(route, names)
+/// A copy of these dangers.
+fn copied(alloc: Global, dangers: &[Danger]) -> Result<Vec<Danger>, AllocError> {
+    let mut copy = Vec::new(alloc);
+    copy.extend_from_slice(dangers)?;
+    Ok(copy)
 }
 
-/// Whether a goal names the same host as the line, if both are locations.
-fn is_same_host(line: Option<&Url>, goal: &Goal) -> Option<bool>
-    ensures { SaysSameHost (option_map (λ url. url.now) line.entry) goal.now.url result }
+/// A route with the names of the dangers of its text.
+fn named(alloc: Global, route: Route) -> Result<Route, AllocError> {
+    let names = names(alloc, route.found_dangers.as_slice());
+    let (mut route, names) = both(route, names)?;
+    route.dangers = names;
+    Ok(route)
+}
+
+/// Whether a text names the same host as the line, if both are locations.
+fn same_host(line: Option<&Url>, text: Option<&Url>) -> Option<bool>
+    ensures { SaysSameHost (option_map (λ url. url.now) line.entry)
+        (option_map (λ url. url.now) text.entry) result }
 {
-    match (line, &goal.url) {
+    match (line, text) {
         (Some(line), Some(url)) => Some(names_same_host(&line.as_ref(), &url.as_ref())),
         _ => None,
     }
 }
 
-/// The settings of Git's credential code for a goal of HTTP, and the entries of `http.*` that Git uses for it. Both are
-/// empty for another goal.
+/// The settings of Git's credential code for a text with this location, if it is of HTTP, and the entries of `http.*`
+/// that Git uses for it. Both are empty for another text.
 fn settings_of(
     alloc: Global,
     config: &Config<'_>,
-    goal: &Goal,
+    text: &[u8],
+    url: Option<&Url>,
 ) -> Result<(Option<Credentials>, Vec<Setting>), AllocError> {
-    if !goal.url.as_ref().is_some_and(is_of_web) {
+    if !url.is_some_and(is_of_web) {
         return Ok((None, Vec::new(alloc)));
     }
-    let text = goal.text.as_bytes();
     let credential = Credentials::of(alloc, config.credentials.as_slice(), text)?;
+    if config.http.is_empty() {
+        return Ok((credential, Vec::new(alloc)));
+    }
     both(credential, settings_for(alloc, config, text))
 }

@@ -1,12 +1,14 @@
 //! Texts as `explain` shows them.
 //!
-//! [`secret`] replaces possible secrets in a text, and [`seen`] decides how to show a line that is read as a location,
-//! with the offsets of `place`. [`cut`] cuts a line into named pieces, which `joined` compares with the shown text.
+//! [`secret`] replaces possible secrets in a text, [`marked`] finds whether a line has one, and [`seen`] decides how to
+//! show a line that is read as a location, with the offsets of `place`. [`cut`] cuts a line into named pieces, which
+//! `joined` compares with the shown text.
 //! [`line`] writes texts for a terminal, with `printed` and `shell_word`.
 
 pub mod cut;
 mod joined;
 pub mod line;
+pub mod marked;
 mod place;
 mod printed;
 pub mod secret;
@@ -23,7 +25,7 @@ use std::alloc::{AllocError, Global};
 pub(crate) fn lossy(alloc: Global, bytes: &[u8]) -> Result<String, AllocError>
     ensures { IfOk result (λ text. string_bytes text ≡ lossy_text bytes.now) }
 {
-    bytes.as_bstr().to_string(alloc)
+    bytes.to_str_lossy(alloc)?.into_owned(alloc)
 }
 
 /// Decodes a part as text, if it is present.

@@ -32,13 +32,17 @@ shown_same [] none = refl
 shown_same (shown bytes ∷ parts) none = ap (λ t. bytes ++ t) (shown_same parts none)
 shown_same (hidden bytes ∷ parts) none = absurd (false≢true (sym none))
 
+-- a text in which nothing is hidden is shown as it is
+pub shown_plain : (text : List ℕ) → joined (parts_of text) ≡ text → has_secret text ≡ false → shown_of text ≡ text
+shown_plain text whole none = shown_same (parts_of text) none ∙ whole
+
 -- a text is shown as itself around nothing, if it is shown as it is
 pub shown_alone : (text : List ℕ) → shown_of text ≡ text → IsShownAround text
 shown_alone text same = (text, [], [], sym (append-nil text), same ∙ sym (append-nil text))
 
 -- a text in which nothing is hidden is shown as itself
 pub shown_whole : (text : List ℕ) → joined (parts_of text) ≡ text → has_secret text ≡ false → IsShownAround text
-shown_whole text whole none = shown_alone text (shown_same (parts_of text) none ∙ whole)
+shown_whole text whole none = shown_alone text (shown_plain text whole none)
 
 -- pieces are shown as those without the bytes that may be secrets
 shown_outlined : (parts : List Part) → parts_shown parts ≡ parts_shown (outlined parts)

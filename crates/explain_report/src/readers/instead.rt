@@ -7,6 +7,7 @@ ghost use Rattle.explain_report.specs.Places.{AreSamePlace};
 ghost use Rattle.explain_report.specs.Secrets.{has_secret};
 
 use crate::advice::slip::has_one_slash;
+use crate::text::marked::MarkedLine;
 use crate::text::secret::has_secret;
 use bstr::{BStr, ByteSlice};
 use git_audit::misreading::is_misread;
@@ -20,7 +21,7 @@ use std::fmt::Write;
 /// line and none does from the URL. No part of the line or the URL may be a secret.
 pub(crate) fn url_instead(
     alloc: Global,
-    line: &[u8],
+    line: MarkedLine<'_>,
     url: &Url,
 ) -> Result<Option<String>, AllocError>
     ensures { IfOk result (λ found. IfSome found (λ text. has_secret (string_bytes text) ≡ false)) }
@@ -28,12 +29,12 @@ pub(crate) fn url_instead(
     if !url.agrees_with_git() || url.password().is_some() {
         return Ok(None);
     }
-    if has_secret(line) || has_one_slash(line) {
+    if line.has_secret() || has_one_slash(line.bytes) {
         return Ok(None);
     }
     match rooted_path(url) {
         None => Ok(None),
-        Some(path) => better(alloc, line, url, path),
+        Some(path) => better(alloc, line.bytes, url, path),
     }
 }
 

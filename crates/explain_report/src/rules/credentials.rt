@@ -1,11 +1,15 @@
 //! The settings of Git's credential code by a configuration, for a text of HTTP.
 
+ghost use Rattle.std.specs.Prelude.{IfErr, IfOk};
+ghost use Rattle.git_reads.specs.Views.{credential_reading};
+ghost use Rattle.git_rules.specs.Credentials.{AreCredentials, RefusesCredentials};
+
 use crate::memory::both;
 use crate::rules::setting::Setting;
 use crate::text::secret::{has_secret, part_of_shown, shown_part};
 use git_rules::config::Entry;
 use git_rules::credentials::{self, CredentialsError, credentials_for};
-use gix_url::credential::{Buffers, reading};
+use gix_url::credential::{Buffers, Request, reading};
 use serde::Serialize;
 use std::alloc::{AllocError, Global};
 
@@ -31,7 +35,7 @@ impl Credentials {
         let Some(request) = reading(text, &mut buffers)? else {
             return Ok(None);
         };
-        match credentials_for(alloc, entries, &request) {
+        match used_for(alloc, entries, &request) {
             Ok(used) => {
                 let user = user_of(text, request.user, used.user);
                 Ok(Some(Credentials::shown(alloc, entries, &used, user)?))
@@ -60,6 +64,28 @@ impl Credentials {
             user,
             use_http_path: used.use_http_path,
         })
+    }
+}
+
+/// The settings that Git uses for a request. Without an entry they are those of the request alone, and the URL by which
+/// Git compares entries isn't built.
+fn used_for<'a>(
+    alloc: Global,
+    entries: &[Entry<'a>],
+    request: &Request<'a>,
+) -> Result<credentials::Credentials<'a>, CredentialsError>
+    ensures used { IfOk result
+        (λ used. AreCredentials (credential_reading request.now) entries.now used) }
+    ensures refused { IfErr result
+        (λ error. RefusesCredentials (credential_reading request.now) entries.now error) }
+{
+    match entries {
+        [] => Ok(credentials::Credentials {
+            helpers: Vec::new(alloc),
+            user: request.user,
+            use_http_path: false,
+        }),
+        [_, ..] => credentials_for(alloc, entries, request),
     }
 }
 

@@ -75,7 +75,7 @@ impl Way {
 pub fn of_line<'a>(alloc: Global, rules: &'a Rules) -> Result<Vec<Row<'a>>, AllocError> {
     let mut rows: Vec<Row<'a>> = Vec::new(alloc);
     line_route(alloc, &mut rows, Way::Fetch, &rules.fetch)?;
-    line_route(alloc, &mut rows, Way::Push, &rules.push)?;
+    line_route(alloc, &mut rows, Way::Push, rules.push())?;
     credential(alloc, &mut rows, &rules.credential)?;
     settings(
         alloc,
@@ -275,10 +275,10 @@ fn transports<'a>(
     rules: &'a Rules,
 ) -> Result<(), AllocError> {
     transport(alloc, rows, Way::Fetch, &rules.fetch, "")?;
-    if is_same(&rules.fetch, &rules.push) {
+    if is_same(&rules.fetch, rules.push()) {
         Ok(())
     } else {
-        transport(alloc, rows, Way::Push, &rules.push, " for pushing")
+        transport(alloc, rows, Way::Push, rules.push(), " for pushing")
     }
 }
 

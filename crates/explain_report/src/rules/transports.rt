@@ -4,7 +4,7 @@ ghost use Rattle.std.specs.Prelude.{◌≡◌, ◌↔◌, IfOk, IsTrue, Ok, opti
 ghost use Rattle.git_rules.specs.Protocols.{IsLastOf};
 ghost use Rattle.explain_report.specs.Rules as spec;
 ghost use Rattle.explain_report.specs.Secrets.{text_shown};
-ghost use Rattle.explain_report.specs.Rules.{IsAllowedToUsers, IsEntryAt, IsRefusing, IsVariableOf, ReportsPermission};
+ghost use Rattle.explain_report.specs.Rules.{HasUsedTransport, IsAllowedToUsers, IsEntryAt, IsRefusing, IsUsed, IsVariableOf, ReportsPermission};
 
 use crate::memory::both;
 use crate::rules::setting::Setting;
@@ -79,6 +79,23 @@ pub fn transport_for(
         Ok(name) => Ok((Some(Transport::named(alloc, protocols, name)?), None)),
         Err(why) => Ok((None, Some(Lack::of(alloc, why)?))),
     }
+}
+
+/// Whether Git has a transport for a text, and uses it.
+pub(crate) fn has_used_transport(protocols: &Protocols<'_>, text: &[u8]) -> bool
+    ensures { HasUsedTransport protocols.now text.now result }
+{
+    match transport_of(text) {
+        Ok(name) => is_used(protocols, name),
+        Err(_) => false,
+    }
+}
+
+/// Whether Git uses the transport with this name.
+fn is_used(protocols: &Protocols<'_>, name: &str) -> bool
+    ensures { IsUsed protocols.now name.now result }
+{
+    protocols.permission(name).is_allowed()
 }
 
 impl Lack {

@@ -3,14 +3,15 @@
 //! No text written here contains a control character, so it can't control a terminal. No contract says that
 //! different texts are written differently.
 
-ghost use Rattle.std.specs.Prelude.{◌≡◌, ◌++◌, ℕ, IfOk, List, OnOk, string_bytes};
+ghost use Rattle.std.specs.Prelude.{◌≡◌, ◌++◌, ℕ, IfOk, List, OnOk, false, string_bytes};
 ghost use Rattle.explain_report.specs.Printed.{IsPrinted, WritesPrinted};
 ghost use Rattle.explain_report.specs.Pieces.{AreShownOf, cut_shown};
-ghost use Rattle.explain_report.specs.Secrets.{shown_of, text_shown};
+ghost use Rattle.explain_report.specs.Secrets.{has_secret, shown_of, text_shown};
 
 use crate::text::cut::{Cut, Part, Piece};
 use crate::text::joined::shows;
 use crate::text::lossy;
+use crate::text::marked::{MarkedLine, plain};
 use crate::text::printed::{Spelling, spelled, write_quoted, write_text};
 use crate::text::secret::{between, shown_bytes};
 use crate::text::shell_word::write_word;
@@ -30,11 +31,26 @@ pub struct SeenLine<'a> {
 
 impl<'a> SeenLine<'a> {
     /// Returns a line, which is refused or has no secret except in its password, as it is shown.
-    pub fn of(alloc: Global, line: &'a [u8]) -> Result<SeenLine<'a>, AllocError>
-        ensures input { IfOk result (λ seen. string_bytes seen.input ≡ text_shown line.now) }
-        ensures pieces { IfOk result (λ seen. AreShownOf line.now (cut_shown seen.cut)) }
+    pub fn of(alloc: Global, line: MarkedLine<'a>) -> Result<SeenLine<'a>, AllocError>
+        ensures input { IfOk result (λ seen. string_bytes seen.input ≡ text_shown line.entry.bytes.now) }
+        ensures pieces { IfOk result (λ seen. AreShownOf line.entry.bytes.now (cut_shown seen.cut)) }
     {
-        SeenLine::in_pieces(alloc, line, pieces_of(line))
+        if line.has_secret() {
+            return SeenLine::in_pieces(alloc, line.bytes, pieces_of(line.bytes));
+        }
+        SeenLine::plain(alloc, line)
+    }
+
+    /// A line without secrets as it is shown.
+    fn plain(alloc: Global, line: MarkedLine<'a>) -> Result<SeenLine<'a>, AllocError>
+        requires { has_secret line.bytes.now ≡ false }
+        ensures input { IfOk result (λ seen. string_bytes seen.input ≡ text_shown line.entry.bytes.now) }
+        ensures pieces { IfOk result (λ seen. AreShownOf line.entry.bytes.now (cut_shown seen.cut)) }
+    {
+        let shown = plain(line);
+        let cut = pieces_showing(line.bytes, pieces_of(line.bytes), shown);
+        let input = lossy(alloc, shown)?;
+        Ok(SeenLine { cut, input })
     }
 
     /// Returns a line as it is shown, without the parts of its location.

@@ -9,8 +9,9 @@ ghost use Rattle.git_syntax.specs.Grammar.{Spells};
 ghost use Rattle.gix_url.specs.Location.{Location};
 ghost use Rattle.explain_report.specs.Secrets.{HaveSameVerdicts, IsSeen, IsShownAround, has_secret, shown_as, shown_of};
 
+use crate::text::marked::MarkedLine;
 use crate::text::place::is_moved;
-use crate::text::secret::{has_secret, is_same, shown_bytes, word_for};
+use crate::text::secret::{is_same, shown_bytes, word_for};
 use bstr::BStr;
 use git_audit::secret::law::law_secrets;
 use git_refusals::parts::{Parts, Span, parts_of};
@@ -39,11 +40,12 @@ pub struct OtherLine {
 
 impl Seen {
     /// Returns the way to show a line that is read as this location.
-    pub fn of(alloc: Global, line: &[u8], url: &Url) -> Result<Seen, AllocError>
-        ensures { IfOk result (IsSeen line.now url.now) }
+    pub fn of(alloc: Global, marked: MarkedLine<'_>, url: &Url) -> Result<Seen, AllocError>
+        ensures { IfOk result (IsSeen marked.entry.bytes.now url.now) }
     {
         law_secrets();
-        if !has_secret(line) {
+        let line = marked.bytes;
+        if !marked.has_secret() {
             return Ok(Seen::Line);
         }
         let shown = shown_bytes(alloc, line)?;
@@ -101,12 +103,16 @@ impl Seen {
     }
 
     /// Returns the line and the location to report in place of these, or `None` if they are withheld.
-    pub fn shown<'b>(&'b self, line: &'b [u8], url: &'b Url) -> Option<(&'b [u8], &'b Url)>
-        ensures { option_map (λ it. (it.0.now, it.1.now)) result ≡ shown_as line.now url.now self.now }
+    pub fn shown<'b>(
+        &'b self,
+        line: MarkedLine<'b>,
+        url: &'b Url,
+    ) -> Option<(MarkedLine<'b>, &'b Url)>
+        ensures { option_map (λ it. (it.0.bytes.now, it.1.now)) result ≡ shown_as line.entry.bytes.now url.now self.now }
     {
         match self {
             Seen::Line => Some((line, url)),
-            Seen::Other(other) => Some((other.line.as_slice(), &other.url)),
+            Seen::Other(other) => Some((MarkedLine::of(other.line.as_slice()), &other.url)),
             Seen::Withheld => None,
         }
     }

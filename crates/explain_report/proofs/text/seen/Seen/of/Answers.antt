@@ -4,4 +4,4 @@ use Rattle.explain_report.proofs.text.seen.Seen.of.Goals as goal
 
 pub returns-then-not-has_secret : goal.returns-then-not-has_secret
 returns-then-not-has_secret c =
-    shown_whole c.args.line.now (c.law_secrets.ensures.whole c.args.line.now) (sym c.has_secret.ensures ∙ c.if-not-has_secret.true)
+    shown_whole c.args.marked.bytes.now (c.law_secrets.ensures.whole c.args.marked.bytes.now) (sym c.has_secret.ensures ∙ c.if-not-has_secret.true)
