@@ -6,5 +6,6 @@ pub mod EntryLemmas
 pub mod PieceLemmas
 pub mod ProblemLemmas
 pub mod ReadingLemmas
+pub mod SettingLemmas
 pub mod BufferLemmas
 pub mod ShownLemmas

@@ -1,5 +1,5 @@
 -- The entries of `http.*` whose values Git uses for a URL, for C: their indices.
-use Rattle.std.specs.Prelude.{◌≡◌, ℕ, ◌⊎◌, false, List, length, Option, Some, None}
+use Rattle.std.specs.Prelude.{◌≡◌, ℕ, ◌⊎◌, false, List, [], ◌∷◌, length, max, Option, Some, None}
 use Rattle.git_rules.specs.Config.{ConfigEntry}
 use Rattle.git_rules.specs.Normal.{NormalPlace, IsNormalOf}
 use Rattle.git_rules.specs.NormalFlaws.{HasFlaw}
@@ -8,7 +8,7 @@ use Rattle.git_rules.specs.declared.normal.NormalError.{NormalError}
 use Rattle.git_rules.specs.declared.normal.NormalError.TheVariants as flaw
 use Rattle.gix_url_c.specs.declared.rules.settings.SettingNumbers.{SettingNumbers}
 use Rattle.gix_url_c.specs.declared.rules.stops.Stop.{Stop}
-use Rattle.gix_url_c.specs.Output.{Puts}
+use Rattle.gix_url_c.specs.Output.{Puts, or_nothing}
 use Rattle.gix_url_c.specs.Stops.{StopsAt, no_stop, no_value}
 
 -- the number of the reason why a URL has no normal form: its place in the order of the header
@@ -20,6 +20,11 @@ abnormal_number flaw.NoHost = 3
 abnormal_number flaw.BadHost = 4
 abnormal_number flaw.BadPort = 5
 abnormal_number flaw.AboveRoot = 6
+
+-- the length of the longest subsection, or 0 if there is none
+abbrev pub longest_subsection : List ConfigEntry → ℕ
+longest_subsection [] = 0
+longest_subsection (e ∷ entries) = max (length (or_nothing e.subsection)) (longest_subsection entries)
 
 -- indices are copied
 abbrev pub PutsIndices : List ℕ → ℕ → SettingNumbers → List ℕ → List ℕ → ℕ → Type 0

@@ -5,11 +5,12 @@ ghost use Rattle.git_rules.specs.Normal.{NormalPlace};
 ghost use Rattle.gix_url_c.specs.Codes.{UnlessMemory, UnlessNone, memory, no_room, ok};
 ghost use Rattle.gix_url_c.specs.Entries.{entries_passed};
 ghost use Rattle.gix_url_c.specs.Left.{LeavesLengths, LeavesBuffer};
-ghost use Rattle.gix_url_c.specs.SettingNumbers.{PutsIndices, ReportsFor, ReportsSettings, abnormal_number};
+ghost use Rattle.gix_url_c.specs.SettingNumbers.{PutsIndices, ReportsFor, ReportsSettings, abnormal_number, longest_subsection};
 ghost use Rattle.gix_url_c.specs.Stops.{LeavesStop, no_stop};
 
 use crate::buffer::put;
 use crate::codes::{MEMORY, NO_LOCATION};
+use crate::output::part;
 use crate::rules::entries::{EntryBytes, entries_of};
 use crate::rules::stops::{NO_VALUE, Stop, no_stop, stop_at};
 use git_rules::config::Entry;
@@ -177,13 +178,13 @@ fn write_indices(found: &[usize], why: u8, built: &mut SettingNumbers, indices: 
     put(found, indices)
 }
 
-/// The length of the longest subsection.
-fn longest(entries: &[Entry<'_>]) -> usize {
+/// The length of the longest subsection, or 0 if there is none.
+fn longest(entries: &[Entry<'_>]) -> usize
+    ensures { result ≡ longest_subsection entries.now }
+{
     let mut longest: usize = 0;
     for entry in entries {
-        if let Some(subsection) = entry.subsection {
-            longest = longest.max(subsection.len());
-        }
+        longest = longest.max(part(entry.subsection).len());
     }
     longest
 }
