@@ -3,7 +3,7 @@
 ghost use Rattle.std.specs.Prelude.{◌≡◌, ◌<◌, ◌⊎◌, IfOk, IfSome, None, length, map};
 ghost use Rattle.std.specs.List.{concat};
 ghost use Rattle.bstr.specs.Owned.{bstring_bytes};
-ghost use Rattle.git_rules.specs.SecureShell.{command_words};
+ghost use Rattle.git_rules.specs.SecureShell.{command_words, ssh_refusal};
 ghost use Rattle.git_rules.specs.declared.ssh.program.ProgramVariant.TheVariants.{Known};
 ghost use Rattle.gix_url_c.specs.Codes.{UnlessMemory, UnlessNone, memory, no_room, ok};
 ghost use Rattle.gix_url_c.specs.Input.{IsNone, location_of};
@@ -80,8 +80,8 @@ pub struct WordNumbers {
 /// Copies the words with which Git runs Secure Shell for the location to the buffer, and their lengths to `lengths`:
 /// [`git_rules::ssh::ssh_command_for`].
 ///
-/// Returns 0; 1 if memory is refused; 101 if the parts aren't a location, or a number of the request has no meaning;
-/// 102 if the words or the lengths don't fit.
+/// Returns 0; 1 if memory is refused, which isn't asked for if there is no command; 101 if the parts aren't a location,
+/// or a number of the request has no meaning; 102 if the words or the lengths don't fit.
 #[unsafe(no_mangle)]
 pub extern "C" fn gix_url_c_ssh_words(
     alloc: Global,
@@ -97,6 +97,7 @@ pub extern "C" fn gix_url_c_ssh_words(
     ensures buffer { LeavesBuffer result buffer.old buffer.new }
     ensures lengths { LeavesBuffer result lengths.old lengths.new }
     ensures numbers { LeavesLengths result built.old built.new }
+    ensures allocates { (result ≡ memory) → ssh_refusal (request_passed request.now) (location_of passed.now) ≡ None }
 {
     let Some(url) = location_of(passed) else {
         return NO_LOCATION;
@@ -121,6 +122,7 @@ fn write_command(
     ensures buffer { LeavesBuffer result buffer.old buffer.new }
     ensures lengths { LeavesBuffer result lengths.old lengths.new }
     ensures numbers { LeavesLengths result built.old built.new }
+    ensures allocates { (result ≡ memory) → ssh_refusal request.now url.now ≡ None }
 {
     match ssh_command_for(url, request) {
         Ok(command) => write_words(alloc, &command, built, buffer, lengths),
