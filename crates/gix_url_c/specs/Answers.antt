@@ -60,6 +60,10 @@ ReportsFault f problem code = (code ≡ unwritable) × (problem ≡ write_proble
 abbrev pub PutsText : List ℕ → List ℕ → List ℕ → ℕ → ℕ → Type 0
 PutsText t old new len code = (len ≡ length t) × Puts t old new code
 
+-- the location has a text
+abbrev pub HasText : Location → Type 0
+HasText v = (t : List ℕ) × (text v ≡ Ok t)
+
 -- a length as it is reported: the largest number of C if it is longer, and no buffer is so long
 abbrev pub reported_length : ℕ → ℕ
 reported_length n = min n (2 ^ 64 - 1)

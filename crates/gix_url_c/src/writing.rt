@@ -5,7 +5,7 @@
 
 ghost use Rattle.std.specs.Prelude.{◌≡◌, if◌then◌else◌, nat_lt};
 ghost use Rattle.gix_url.specs.Text.{text};
-ghost use Rattle.gix_url_c.specs.Answers.{ReportsAgreement, ReportsCondition, ReportsDisplay, ReportsSettled, ReportsText, reported_length};
+ghost use Rattle.gix_url_c.specs.Answers.{HasText, ReportsAgreement, ReportsCondition, ReportsDisplay, ReportsSettled, ReportsText, reported_length};
 ghost use Rattle.gix_url_c.specs.Codes.{UnlessMemory, UnlessNone, memory, no_problem, no_room, ok};
 ghost use Rattle.gix_url_c.specs.Input.{IsNone, location_of};
 ghost use Rattle.gix_url_c.specs.Left.{LeavesLengths, LeavesProblem, LeavesBuffer};
@@ -108,8 +108,8 @@ pub extern "C" fn gix_url_c_write(
 /// Copies the text that the `Display` of [`gix_url::UrlRef`] writes, with `redacted` in place of the
 /// password, to the buffer, and reports its length.
 ///
-/// Returns 0; 1 if memory is refused; 8 if the location has no text, with the fault; 101 if the parts aren't a
-/// location; 102 if the text doesn't fit.
+/// Returns 0; 1 if memory is refused, which isn't asked for if the location has no text; 8 if it has none, with the
+/// fault; 101 if the parts aren't a location; 102 if the text doesn't fit.
 #[unsafe(no_mangle)]
 pub extern "C" fn gix_url_c_display(
     alloc: Global,
@@ -124,6 +124,7 @@ pub extern "C" fn gix_url_c_display(
     ensures buffer { LeavesBuffer result buffer.old buffer.new }
     ensures length { LeavesLengths result len.old len.new }
     ensures problem { LeavesProblem result no_problem reported.new }
+    ensures allocates { (result ≡ memory) → HasText (location_of passed.now) }
 {
     *reported = no_problem();
     match location_of(passed) {
@@ -171,6 +172,7 @@ fn show(
     ensures buffer { LeavesBuffer result buffer.old buffer.new }
     ensures length { LeavesLengths result len.old len.new }
     ensures problem { LeavesProblem result reported.old reported.new }
+    ensures allocates { (result ≡ memory) → HasText url.now }
 {
     if let Err(fault) = url.text_len() {
         *reported = unwritable(fault);
