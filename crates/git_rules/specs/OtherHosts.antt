@@ -2,7 +2,7 @@
 -- such a URL.
 use Rattle.std.specs.Prelude.{◌≡◌, ℕ, Bool, true, false, ◌||◌, ◌==◌, List, [], ◌∷◌, ◌++◌, codes, Option, Some, None}
 use Rattle.std.specs.List.{list_all}
-use Rattle.git_syntax.specs.Bytes.{at_sign, dot, slash, FreeOf, Lacks, begins_with, is_path_start, is_scheme_text}
+use Rattle.git_syntax.specs.Bytes.{dot, begins_with, is_scheme_text}
 use Rattle.git_location.specs.WebClass.{is_plain_host_byte}
 use Rattle.git_reads.specs.Credentials.{CredentialReading}
 use Rattle.git_rules.specs.Normal.{NormalPlace, IsNormalOf}
@@ -19,15 +19,6 @@ pub record FollowsScheme (url rest : List ℕ) : Type 0 where
   pub scheme : List ℕ
   pub scheme_text : is_scheme_text scheme ≡ true
   pub joined : url ≡ scheme ++ (codes "://" ++ rest)
-
--- `/` or `@`
-abbrev pub is_user_end : ℕ → Bool
-is_user_end b = b == slash || b == at_sign
-
--- an authority at the front of the text has no user information
-abbrev pub LacksUser : List ℕ → Type 0
-LacksUser text = (authority suffix : List ℕ) → text ≡ authority ++ suffix → Lacks (is_path_start true) authority
-    → FreeOf at_sign authority
 
 -- after a common front the text goes on with a byte with which the host doesn't go on, all of bytes of plain hosts.
 -- That byte isn't a `.` after the whole host

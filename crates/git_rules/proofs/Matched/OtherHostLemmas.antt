@@ -7,8 +7,8 @@ use Rattle.std.proofs.lemmas.Bool.{and_from, both_ways, cases_Bool, cond-false, 
 use Rattle.std.proofs.lemmas.Bool.Decides.{nat_tests}
 use Rattle.std.proofs.lemmas.List.{append_cancel_left, length-append, map-append}
 use Rattle.std.proofs.lemmas.List.Folds.{list_all-append}
-use Rattle.git_syntax.specs.Bytes.{at_sign, colon, dot, percent_sign, slash, FreeOf, Lacks, begins_by, begins_with, is_path_start, lowercase}
-use Rattle.git_syntax.proofs.Texts.CutLemmas.{free_head_tail, free_of_all, heads, held_free, lacks_head_tail, lacks_of_all, lacks_parts, lacks_weaker, mark_cut_unique, not_free, scheme_text_free, tails}
+use Rattle.git_syntax.specs.Bytes.{at_sign, colon, dot, percent_sign, FreeOf, Lacks, begins_by, begins_with, is_path_start, lowercase}
+use Rattle.git_syntax.proofs.Texts.CutLemmas.{free_head_tail, free_of_all, heads, held_free, lacks_head_tail, lacks_of_all, lacks_parts, mark_cut_unique, not_free, scheme_text_free, tails}
 use Rattle.git_syntax.proofs.Parsing.FormLemmas.{scheme_cut_unique}
 use Rattle.git_location.specs.WebClass.{is_plain_host_byte}
 use Rattle.git_location.proofs.SettledClass.WebClassLemmas.{plain_lowercase}
@@ -16,8 +16,7 @@ use Rattle.git_reads.specs.Credentials.{CredentialCut, CredentialDecodes, Creden
 use Rattle.git_reads.specs.Git.{git_decode}
 use Rattle.git_laws.proofs.GitReadings.GitCutLemmas.{no_git_escape}
 use Rattle.git_rules.specs.Normal.{CutsPort, HostFor, HostPort, IsNormalOf, NormalAuthority, NormalPlace, asterisk, lacks_host}
-use Rattle.git_rules.specs.NormalPieces.{CutsBefore}
-use Rattle.git_rules.specs.OtherHosts.{DiffersPlainly, FollowsScheme, LacksUser, NamesOtherHost, is_user_end}
+use Rattle.git_rules.specs.OtherHosts.{DiffersPlainly, FollowsScheme, NamesOtherHost}
 use Rattle.git_rules.specs.PartialUrls.{CutsProtocol, HasText, ReadsPartly}
 use Rattle.git_rules.specs.PatternEntries.{RanksSubsection}
 use Rattle.git_rules.specs.Patterns.{HasRank, in_first_label, labels_of, MatchesHost, MatchesLabel, MatchesLabels}
@@ -125,20 +124,6 @@ reaches test (b ∷ q) x (c ∷ front) back lacks stops e =
 plain_lacks_path : (q : List ℕ) → list_all is_plain_host_byte q ≡ true → Lacks (is_path_start true) q
 plain_lacks_path q h = lacks_of_all is_plain_host_byte (is_path_start true) (λ b is. grind (arith, nat_tests)) q h
 
--- a rest that doesn't begin with `@` is empty or begins with the other byte that ends a user
-slash_stops : (back : List ℕ) → begins_with at_sign back ≡ false → (back ≡ []) ⊎ (begins_by is_user_end back ≡ true) → (back ≡ []) ⊎ (begins_by (λ b. b == slash) back ≡ true)
-slash_stops back other (inl empty) = inl empty
-slash_stops [] other (inr ends) = inl refl
-slash_stops (b ∷ bs) other (inr ends) = inr (grind (arith, nat_tests))
-
--- an authority ends before the first `/` or `@`, if that isn't an `@`
-pub user_lacking : (text front back : List ℕ) → CutsBefore is_user_end text front back → begins_with at_sign back ≡ false → LacksUser text
-user_lacking text front back cut other authority suffix is before =
-    let flat : Lacks (λ b. b == slash) authority = lacks_weaker (λ b. b == slash) (is_path_start true) (λ b e. grind (arith, nat_tests)) authority before in
-    let (z, longer) = reaches (λ b. b == slash) authority suffix front back flat (slash_stops back other cut.begins) (sym is ∙ cut.joined) in
-    let free : FreeOf at_sign front = lacks_weaker (λ b. b == at_sign) is_user_end (λ b e. grind (arith, nat_tests)) front cut.lacks in
-    (lacks_parts (λ b. b == at_sign) authority z (subst (FreeOf at_sign) longer free)).0
-
 -- ---- the host of a normal form
 
 -- the name of a host begins with each plain text at the front of the host and its port
@@ -155,6 +140,10 @@ host_front q z scheme text name digits host some plain is (y, begins) (HostFor.n
 host_front q z scheme text name digits host some plain is (y, begins) (HostFor.missing lacking file none empty) =
     absurd (false≢true (sym (plain_there q z some plain) ∙ sym (ap lacks_host is) ∙ lacking))
 
+-- an authority at the front of a text without `@` has no user information
+free_authority : (text authority suffix : List ℕ) → FreeOf at_sign text → text ≡ authority ++ suffix → FreeOf at_sign authority
+free_authority text authority suffix free is = (lacks_parts (λ b. b == at_sign) authority suffix (subst (FreeOf at_sign) is free)).0
+
 -- so does the host of an authority without user information
 authority_front : (q z scheme text host : List ℕ) (user : Option (List ℕ)) (port : Option ℕ) → 0 < length q → list_all is_plain_host_byte q ≡ true → FreeOf at_sign text → text ≡ q ++ z → NormalAuthority true scheme text user host port → (y : List ℕ) × (host ≡ q ++ y)
 authority_front q z scheme text host user port some plain alone is (NormalAuthority.alone free none h) =
@@ -163,11 +152,11 @@ authority_front q z scheme text host user port some plain alone is (NormalAuthor
     absurd (not_free at_sign info rest (subst (FreeOf at_sign) joined alone))
 
 -- so does the host of a URL
-normal_front : (url rest q x : List ℕ) (n : NormalPlace) → FollowsScheme url rest → LacksUser rest → 0 < length q → list_all is_plain_host_byte q ≡ true → rest ≡ q ++ x → IsNormalOf true url n → (y : List ℕ) × (n.host ≡ q ++ y)
+normal_front : (url rest q x : List ℕ) (n : NormalPlace) → FollowsScheme url rest → FreeOf at_sign rest → 0 < length q → list_all is_plain_host_byte q ≡ true → rest ≡ q ++ x → IsNormalOf true url n → (y : List ℕ) × (n.host ≡ q ++ y)
 normal_front url rest q x n follows alone some plain is h =
     let cut = scheme_cut_unique follows.scheme h.scheme rest (h.authority ++ h.suffix) (scheme_text_free follows.scheme colon follows.scheme_text refl) (scheme_text_free h.scheme colon h.cut.scheme_text refl) (sym follows.joined ∙ h.cut.joined) in
     let front = reaches (is_path_start true) q x h.authority h.suffix (plain_lacks_path q plain) h.cut.path_starts (sym is ∙ cut.1) in
-    authority_front q front.0 (lowercase h.scheme) h.authority n.host n.user n.port some plain (alone h.authority h.suffix cut.1 h.cut.before_path) front.1 h.authority_form
+    authority_front q front.0 (lowercase h.scheme) h.authority n.host n.user n.port some plain (free_authority rest h.authority h.suffix alone cut.1) front.1 h.authority_form
 
 -- ---- the host of a text that may lack parts
 
@@ -207,11 +196,11 @@ partly_rest url rest protocol other follows (inr (plain, joined)) =
     (mark_cut_unique follows.scheme protocol rest other (held_free follows.scheme (scheme_text_free follows.scheme colon follows.scheme_text refl)) plain (sym follows.joined ∙ joined)).1
 
 -- the host of its parts begins with the plain text
-partly_front : (url rest q x : List ℕ) (r : CredentialReading) → FollowsScheme url rest → LacksUser rest → list_all is_plain_host_byte q ≡ true → rest ≡ q ++ x → ReadsPartly url r → (y : List ℕ) × (r.host ≡ q ++ y)
+partly_front : (url rest q x : List ℕ) (r : CredentialReading) → FollowsScheme url rest → FreeOf at_sign rest → list_all is_plain_host_byte q ≡ true → rest ≡ q ++ x → ReadsPartly url r → (y : List ℕ) × (r.host ≡ q ++ y)
 partly_front url rest q x r follows alone plain is h =
     let whole = partly_rest url rest r.protocol (h.authority ++ h.suffix) follows h.cut.protocol_cut in
     let front = reaches (is_path_start true) q x h.authority h.suffix (plain_lacks_path q plain) h.cut.path_start (sym is ∙ whole) in
-    let same = host_alone h.authority h.pieces.named r.user r.password (alone h.authority h.suffix whole h.cut.before_path) h.pieces.cut in
+    let same = host_alone h.authority h.pieces.named r.user r.password (free_authority rest h.authority h.suffix alone whole) h.pieces.cut in
     decoded_front q front.0 h.pieces.named r.host plain (same ∙ front.1) h.pieces.host
 
 -- ---- another host
@@ -232,7 +221,7 @@ not_host front own y b other e =
     false≢true (sym other ∙ ap (begins_with b) rest ∙ eq-eqb b b refl)
 
 -- the URL names another host
-pub names_other : (url rest host : List ℕ) → FollowsScheme url rest → LacksUser rest → DiffersPlainly rest host → NamesOtherHost url host
+pub names_other : (url rest host : List ℕ) → FollowsScheme url rest → FreeOf at_sign rest → DiffersPlainly rest host → NamesOtherHost url host
 names_other url rest host follows alone d =
     let q = d.front ++ d.byte ∷ [] in
     let plain : list_all is_plain_host_byte q ≡ true = list_all-append is_plain_host_byte d.front (d.byte ∷ []) ∙ and_from _ _ d.plain_front (and_from _ _ d.plain_byte refl) in

@@ -1,19 +1,16 @@
 //! Whether a URL names another host, as its first bytes tell, without its normal form.
 
-ghost use Rattle.std.specs.Prelude.{◌≡◌, ◌∷◌, [], IsTrue, MatchOption};
-ghost use Rattle.memchr.specs.Find.{IsFirstByte};
+ghost use Rattle.std.specs.Prelude.{◌≡◌, ◌∷◌, ◌++◌, [], IsTrue, MatchOption, codes};
+ghost use Rattle.git_syntax.specs.Bytes.{FreeOf, at_sign};
 ghost use Rattle.git_location.specs.WebClass as web;
-ghost use Rattle.git_rules.specs.NormalPieces.{CutsBefore};
-ghost use Rattle.git_rules.specs.OtherHosts.{DiffersPlainly, FollowsScheme, LacksUser, NamesOtherHost, is_user_end};
+ghost use Rattle.git_rules.specs.OtherHosts.{DiffersPlainly, FollowsScheme, NamesOtherHost};
 
-use crate::pattern::suffix;
-use git_syntax::bytes::starts_with_byte;
-use memchr::memchr2;
+use git_syntax::bytes::{after, is_free_of};
 
 /// Whether the URL names another host. False says nothing.
 ///
-/// It is true for a URL of HTTP without user information whose host goes on differently after a common front, if
-/// the front and the byte after it are lower-case letters, digits, `-`, `.` and `_`.
+/// It is true for a URL of HTTP without an `@` whose host goes on differently after a common front, if the front and
+/// the byte after it are lower-case letters, digits, `-`, `.` and `_`.
 pub(crate) fn names_other_host(url: &[u8], host: &[u8]) -> bool
     ensures { IsTrue result → NamesOtherHost url.now host.now }
 {
@@ -23,27 +20,39 @@ pub(crate) fn names_other_host(url: &[u8], host: &[u8]) -> bool
     }
 }
 
-/// Whether the text after a scheme has no user information and names another host. False says nothing.
+/// Whether the text after a scheme has no `@` and names another host. False says nothing.
 fn is_other(rest: &[u8], host: &[u8]) -> bool
-    ensures { IsTrue result → (DiffersPlainly rest.now host.now × LacksUser rest.now) }
+    ensures { IsTrue result → (DiffersPlainly rest.now host.now × FreeOf at_sign rest.now) }
 {
     if !differs_plainly(rest, host) {
         return false;
     }
-    lacks_user(rest)
+    is_free_of(rest, b'@')
 }
 
 /// The text after `https://` or `http://`, if the URL begins so.
 fn after_scheme(url: &[u8]) -> Option<&[u8]>
     ensures { MatchOption result (Unit {0}) (λ rest. FollowsScheme url.now rest.now) }
 {
-    match suffix(b"https://", url) {
-        Some(rest) => Some(rest),
-        None => match suffix(b"http://", url) {
-            Some(rest) => Some(rest),
-            None => None,
-        },
+    let rest = after_http(url)?;
+    match after(rest, b's') {
+        Some(more) => Some(after_mark(more)?),
+        None => Some(after_mark(rest)?),
     }
+}
+
+/// The text after `http`, if it begins so.
+fn after_http(text: &[u8]) -> Option<&[u8]>
+    ensures { MatchOption result (Unit {0}) (λ rest. text.now ≡ codes "http" ++ rest.now) }
+{
+    after(after(after(after(text, b'h')?, b't')?, b't')?, b'p')
+}
+
+/// The text after `://`, if it begins so.
+fn after_mark(text: &[u8]) -> Option<&[u8]>
+    ensures { MatchOption result (Unit {0}) (λ rest. text.now ≡ codes "://" ++ rest.now) }
+{
+    after(after(after(text, b':')?, b'/')?, b'/')
 }
 
 /// Whether the text goes on differently than the host after a common front, all of bytes of plain hosts.
@@ -87,29 +96,4 @@ fn is_plain_host_byte(byte: u8) -> bool
         || byte == b'-'
         || byte == b'.'
         || byte == b'_'
-}
-
-/// Whether an authority at the front of the text has no user information.
-fn lacks_user(text: &[u8]) -> bool
-    ensures { IsTrue result → LacksUser text.now }
-{
-    let (_, rest) = cut_before_user_end(text);
-    !starts_with_byte(rest, b'@')
-}
-
-/// Splits a text before the first `/` or `@`.
-fn cut_before_user_end(text: &[u8]) -> (&[u8], &[u8])
-    ensures { CutsBefore is_user_end text.now result.0.now result.1.now }
-{
-    match user_end(text) {
-        Some(at) => text.split_at(at),
-        None => text.split_at(text.len()),
-    }
-}
-
-/// The index of the first `/` or `@`.
-fn user_end(text: &[u8]) -> Option<usize>
-    ensures { IsFirstByte is_user_end text.now result }
-{
-    memchr2(b'/', b'@', text)
 }
