@@ -1,6 +1,6 @@
 -- The entries of a configuration file, and its errors.
 use Rattle.std.specs.Prelude.{◌≡◌, ℕ, ◌+◌, ◌<◌, ◌≤◌, ◌==◌, ◌⊎◌, Bool, true, false, List, [], ◌∷◌, ◌++◌, Option, Some, None, Result, Ok, Err, length, take, count_by}
-use Rattle.git_syntax.specs.Bytes.{FreeOf, dot, newline}
+use Rattle.git_syntax.specs.Bytes.{FreeOf, carriage_return, dot, newline}
 use Rattle.git_modules.specs.declared.config_file.FileEntry.{FileEntry}
 use Rattle.git_modules.specs.declared.config_file.flaw.FileError.{FileError}
 use Rattle.git_modules.specs.declared.config_file.flaw.FileError.TheVariants as error
@@ -64,12 +64,18 @@ abbrev pub named_line : Bool → ℕ → ℕ
 named_line false line = line
 named_line true line = line + 1
 
--- the error is that of a refusal: its reason, its offset, and the line that Git names
+-- the offset is between the carriage return and the line feed of a line end
+abbrev pub IsInLineEnd : List ℕ → ℕ → Type 0
+IsInLineEnd text at = (front : List ℕ) × (rest : List ℕ) × (text ≡ front ++ carriage_return ∷ newline ∷ rest)
+    × (at ≡ length front + 1)
+
+-- the error is that of a refusal: its reason, its offset, which is at the front of a line end, and the line that Git
+-- names
 abbrev pub IsErrorOf : List ℕ → Refusal → FileError → Type 0
 IsErrorOf text refusal error.Memory = ⊥
 IsErrorOf text refusal error.ShortBuffer = ⊥
 IsErrorOf text refusal (error.Refused flaw at line) = (flaw ≡ refusal.flaw) × IsPlace text refusal.rest at
-    × (line ≡ named_line refusal.is_late (line_at text at))
+    × (¬ IsInLineEnd text at) × (line ≡ named_line refusal.is_late (line_at text at))
 
 -- the error is that of a result that is refused
 abbrev pub IsErrorAt : {A : Type 0} → List ℕ → Result A Refusal → FileError → Type 0

@@ -5,10 +5,11 @@ ghost use Rattle.git_syntax.specs.Bytes.{newline};
 ghost use Rattle.git_modules.specs.ConfigFileBytes as spec;
 ghost use Rattle.git_modules.specs.ConfigFileItems.{mark_end, mark_rest, start_of};
 ghost use Rattle.git_modules.specs.ConfigFilePieces as piece;
-ghost use Rattle.git_modules.specs.ConfigFiles.{line_at, named_line};
+ghost use Rattle.git_modules.specs.ConfigFiles.{IsErrorOf, IsInLineEnd, line_at};
 
 use crate::config_file::bytes::{byte_at, ends_line};
 use crate::config_file::flaw::{FileError, Flaw};
+use git_syntax::bytes::{before, starts_with_byte};
 
 /// The reason why reading ends at an offset.
 #[derive(Clone, Copy)]
@@ -96,14 +97,32 @@ pub(super) fn error_at(text: &[u8], from: usize, line: usize, wrong: Wrong) -> F
     requires line { line ≡ line_at text.now from }
     requires order { from ≤ wrong.at }
     requires within { wrong.at ≤ length text.now }
-    ensures { result ≡ FileError.Refused wrong.flaw wrong.at
-        (named_line wrong.is_late (line_at text.now wrong.at)) }
+    ensures { IsErrorOf text.now (piece.refusal_of text.now wrong) result }
 {
     let lines = lines_between(text, from, wrong.at);
     let late = if wrong.is_late { 1 } else { 0 };
     FileError::Refused {
         flaw: wrong.flaw,
-        at: wrong.at,
+        at: front_of_line_end(text, wrong.at),
         line: line + lines + late,
+    }
+}
+
+/// The offset, or that of the carriage return before it if a line end is around the offset. Git reads both bytes of a
+/// line end as one.
+fn front_of_line_end(text: &[u8], at: usize) -> usize
+    requires { at ≤ length text.now }
+    ensures within { result ≤ at }
+    ensures left { spec.left_at text.now result ≡ spec.left_at text.now at }
+    ensures line { line_at text.now result ≡ line_at text.now at }
+    ensures front { ¬ IsInLineEnd text.now result }
+{
+    let (front, rest) = text.split_at(at);
+    if !starts_with_byte(rest, b'\n') {
+        return at;
+    }
+    match before(front, b'\r') {
+        Some(kept) => kept.len(),
+        None => at,
     }
 }
