@@ -6,14 +6,13 @@
 //! and `only` prints one part; with `--json` the report is one object, and `--html` adds the object and the
 //! row of the line to the page. `tests/programs` and the stored run test the reports.
 
+use crate::object::object_of;
 use crate::results::Origin;
 use crate::style::{Layout, Style};
 use crate::{line_results, only, shown};
 use bstr::BStr;
-use explain_audit::kind::names_of;
 use explain_page::page::Page;
 use explain_page::row::Row;
-use explain_report::advice::danger::names;
 use explain_report::advice::hint::{self, Hint};
 use explain_report::advice::reading::Reading;
 use explain_report::finding::Findings;
@@ -28,7 +27,6 @@ use explain_report::text::seen::Seen;
 use git_audit::danger::{Danger, dangers};
 use gix_url::parse::parse;
 use gix_url::{Error, Url};
-use serde::Serialize;
 use std::alloc::{AllocError, Global};
 
 /// A line, and the options for its report.
@@ -41,29 +39,6 @@ pub struct Line<'a, 'e: 'a> {
     /// The origin of the line.
     pub origin: &'a Origin,
     pub style: Style<'a, 'e>,
-}
-
-/// The report about a line: a location, or why there is none.
-#[derive(Clone, Copy, Serialize)]
-struct Answer<'b, 'a: 'b> {
-    /// The number of the line, from 1.
-    line: u64,
-    /// The line as it may be shown.
-    input: &'b str,
-    /// The location that the line is parsed as.
-    location: Option<&'b Report<'a>>,
-    /// Why the line isn't a location.
-    refusal: Option<&'b Refusal>,
-    /// Programs that may read the line differently.
-    readers: Option<&'b Readers>,
-    /// The names of the dangers in the line.
-    dangers: &'b [&'static str],
-    /// The names of the findings in the line, for which a run may fail.
-    findings: &'b [&'static str],
-    /// Likely mistakes in the line.
-    hints: &'b [Hint],
-    /// How Git uses the line by the configuration, if one is given.
-    rules: Option<&'b Rules>,
 }
 
 /// The parts of a report besides the location or the refusal.
@@ -384,38 +359,5 @@ impl Line<'_, '_> {
         drop(object);
         added?;
         Ok(String::new(alloc))
-    }
-}
-
-/// The object of a line with this row.
-fn object_of(alloc: Global, row: &Row<'_, '_>, notes: Notes<'_>) -> Result<String, AllocError> {
-    let (names, found) = both(names(alloc, notes.dangers)?, names_of(alloc, notes.found))?;
-    let object = json(
-        alloc,
-        &Answer {
-            line: row.number,
-            input: row.seen.input.as_str(),
-            location: row.location,
-            refusal: row.refusal,
-            readers: notes.readers,
-            dangers: names.as_slice(),
-            findings: found.as_slice(),
-            hints: notes.hints,
-            rules: notes.rules,
-        },
-    );
-    drop(found);
-    drop(names);
-    object
-}
-
-/// The report as one line of JSON. Each part of a report has a JSON form, so the call fails only if memory is refused.
-pub fn json<T: Serialize>(alloc: Global, answer: &T) -> Result<String, AllocError> {
-    match serde_json::to_string(alloc, answer) {
-        Ok(mut line) => {
-            line.push('\n')?;
-            Ok(line)
-        }
-        Err(_) => Err(AllocError),
     }
 }

@@ -19,6 +19,7 @@ mod line_end;
 mod line_results;
 mod module_rows;
 mod modules;
+mod object;
 mod only;
 mod options;
 mod paint;

@@ -23,7 +23,7 @@ pub fn answer(
 ) -> Result<String, AllocError> {
     match layout {
         Layout::Quiet => Ok(String::new(alloc)),
-        Layout::Json => crate::answer::json(alloc, report),
+        Layout::Json => crate::object::json(alloc, report),
         Layout::Sarif => results(alloc, report, origin),
         _ => rows(alloc, report),
     }

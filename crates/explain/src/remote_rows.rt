@@ -8,7 +8,7 @@ use crate::style::Layout;
 use crate::{line_results, rule_rows};
 use explain_audit::kind::names_of;
 use explain_report::remotes::RemoteReport;
-use explain_report::rules::Route;
+use explain_report::rules::route::Route;
 use explain_report::rules::rows::{Way, of_route};
 use explain_report::text::line::Quoted;
 use serde::Serialize;
@@ -41,7 +41,7 @@ struct FoundRemote<'a> {
 /// The object of a remote.
 fn json(alloc: Global, remote: &RemoteReport) -> Result<String, AllocError> {
     let names = names_of(alloc, remote.found())?;
-    let answer = crate::answer::json(
+    let answer = crate::object::json(
         alloc,
         &FoundRemote {
             report: remote,

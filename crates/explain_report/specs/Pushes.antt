@@ -2,7 +2,7 @@
 use Rattle.std.specs.Prelude.{Option, Some, None}
 use Rattle.explain_report.specs.Findings.{union}
 use Rattle.explain_report.specs.declared.finding.Findings.{Findings}
-use Rattle.explain_report.specs.declared.rules.Route.{Route}
+use Rattle.explain_report.specs.declared.rules.route.Route.{Route}
 use Rattle.explain_report.specs.declared.rules.Rules.{Rules}
 
 -- the second route, unless there is none

@@ -1,7 +1,7 @@
 -- The transports of two texts that Git uses.
 use Rattle.std.specs.Prelude.{ℕ, Bool, false, bytes_eq, List, Option, Some, None, option_map, string_bytes}
 use Rattle.std.specs.Option.{option_eq}
-use Rattle.explain_report.specs.declared.rules.Route.{Route}
+use Rattle.explain_report.specs.declared.rules.route.Route.{Route}
 
 -- the name of the transport, if Git has one
 abbrev pub transport_name : Route → Option (List ℕ)

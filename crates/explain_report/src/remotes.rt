@@ -5,8 +5,8 @@ ghost use Rattle.explain_report.specs.Rules.{remote_name};
 
 use crate::finding::Findings;
 use crate::memory::both;
-use crate::rules::Route;
 use crate::rules::config::Config;
+use crate::rules::route::Route;
 use crate::text::secret::{shown_part, shown_text};
 use git_rules::config::Entry;
 use git_rules::remote::{Remote, RemoteError};

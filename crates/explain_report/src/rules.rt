@@ -1,38 +1,37 @@
 //! The way Git uses a line by a configuration: the texts that it fetches from and pushes to, with their transports and
 //! settings.
 //!
-//! [`config`] is the configuration, which is read once for all lines. [`transports`], [`credentials`] and `settings`
-//! apply it to the rewritten text, [`setting`] shows an entry without secrets, and [`rows`] puts the results in words.
+//! [`config`] is the configuration, which is read once for all lines. [`route`] has a rewritten text. [`transports`],
+//! [`credentials`] and `settings` apply the configuration to it, [`setting`] shows an entry without secrets, and
+//! [`rows`] puts the results in words.
 
 ghost use Rattle.std.specs.Prelude.{◌≡◌, ◌↔◌, IfOk, IsNone, IsTrue, MatchOption, option_map};
 ghost use Rattle.explain_report.specs.Findings.{none};
 ghost use Rattle.explain_report.specs.Pushes.{found_by_rules, pushed_route};
-ghost use Rattle.explain_report.specs.Rules.{SaysSameHost};
 
 pub mod config;
 pub mod credentials;
+mod goal;
+pub mod route;
 pub mod rows;
 pub mod setting;
 mod settings;
 pub mod transports;
 
-use crate::advice::danger::names;
 use crate::finding::Findings;
 use crate::git_report::is_of_web;
 use crate::memory::both;
 use crate::rules::config::Config;
 use crate::rules::credentials::Credentials;
+use crate::rules::goal::Goal;
+use crate::rules::route::Route;
 use crate::rules::setting::Setting;
 use crate::rules::settings::settings_for;
-use crate::rules::transports::{Lack, Transport, has_used_transport, transport_for};
+use crate::rules::transports::has_used_transport;
 use crate::text::marked::MarkedLine;
-use crate::text::secret::shown_text;
-use bstr::BString;
-use git_audit::danger::{Danger, dangers};
-use git_rules::rewrite::host::names_same_host;
+use git_audit::danger::Danger;
 use git_rules::rewrite::outcome::Rewritten;
-use gix_url::parse::parse;
-use gix_url::{Error, Url};
+use gix_url::Url;
 use serde::{Described, Serialize, Serializer};
 use std::alloc::{AllocError, Global};
 
@@ -58,29 +57,6 @@ pub struct ReadLine<'b> {
     /// The dangers of the line and its location.
     pub dangers: &'b [Danger],
     /// The findings about the line, which has these dangers.
-    pub found: Findings,
-}
-
-/// A text that Git fetches from or pushes to.
-#[derive(Drop, Serialize)]
-pub struct Route {
-    /// The text, with `redacted` in place of possible secrets.
-    pub text: String,
-    /// Whether a rule has rewritten it.
-    pub rewritten: bool,
-    /// Whether it names the same host as the line, if both are locations.
-    pub same_host: Option<bool>,
-    /// The transport that Git uses for the text, if it has one.
-    pub transport: Option<Transport>,
-    /// The reason why Git has no transport for the text.
-    pub no_transport: Option<Lack>,
-    /// The names of the dangers of the text.
-    pub dangers: Vec<&'static str>,
-    /// The dangers of the text.
-    #[serde(skip)]
-    pub found_dangers: Vec<Danger>,
-    /// The findings about the text, for which a run may fail.
-    #[serde(skip)]
     pub found: Findings,
 }
 
@@ -250,154 +226,6 @@ pub fn found_by(rules: Option<&Rules>) -> Findings
     match rules {
         None => Findings::none(),
         Some(rules) => rules.found(),
-    }
-}
-
-/// A text to which a line is rewritten, and its location.
-#[derive(Drop)]
-struct Goal {
-    text: BString,
-    /// The location, unless the text is refused.
-    url: Option<Url>,
-}
-
-impl Goal {
-    /// The text to which a line is rewritten.
-    fn of(alloc: Global, rewritten: &Rewritten<'_>) -> Result<Goal, AllocError> {
-        let text = rewritten.to_bstring(alloc)?;
-        let (text, url) = both_read(alloc, text)?;
-        Ok(Goal { text, url })
-    }
-}
-
-impl Goal {
-    /// The dangers of the text and of its location.
-    fn dangers(&self, alloc: Global) -> Result<Vec<Danger>, AllocError> {
-        match &self.url {
-            Some(url) => dangers(alloc, self.text.as_bytes(), &url.as_ref()),
-            None => Ok(Vec::new(alloc)),
-        }
-    }
-
-    /// The findings about the text, which has these dangers.
-    fn found(&self, dangers: &[Danger]) -> Findings {
-        match &self.url {
-            Some(url) => Findings::of_location(url, dangers),
-            None => Findings::of_refused(),
-        }
-    }
-}
-
-/// The text, and its location unless it is refused.
-fn both_read(alloc: Global, text: BString) -> Result<(BString, Option<Url>), AllocError> {
-    let url = match parse(alloc, text.as_bstr()) {
-        Ok(url) => Ok(Some(url)),
-        Err(Error::Memory) => Err(AllocError),
-        Err(error) => {
-            drop(error);
-            Ok(None)
-        }
-    };
-    both(text, url)
-}
-
-impl Route {
-    /// Returns the route to a rewritten text. `line` is the location of the line, unless the line is refused.
-    pub fn of_rewritten(
-        alloc: Global,
-        config: &Config<'_>,
-        line: Option<&Url>,
-        text: &Rewritten<'_>,
-    ) -> Result<Route, AllocError> {
-        let goal = Goal::of(alloc, text)?;
-        let route = Route::of(alloc, config, line, &goal);
-        drop(goal);
-        let mut route = route?;
-        route.rewritten = text.is_rewritten();
-        Ok(route)
-    }
-
-    /// The route to the line itself.
-    fn of_line(
-        alloc: Global,
-        config: &Config<'_>,
-        read: ReadLine<'_>,
-    ) -> Result<Route, AllocError> {
-        let text = read.line.shown_text(alloc)?;
-        let (mut route, found) = both(
-            Route::to(alloc, config, read.line.bytes, text)?,
-            copied(alloc, read.dangers),
-        )?;
-        route.same_host = same_host(read.url, read.url);
-        route.found = route.found.union(read.found);
-        route.found_dangers = found;
-        named(alloc, route)
-    }
-
-    /// The route to a text to which a rule rewrites a line. `line` is the location of the line, unless it is refused.
-    fn of(
-        alloc: Global,
-        config: &Config<'_>,
-        line: Option<&Url>,
-        goal: &Goal,
-    ) -> Result<Route, AllocError> {
-        let bytes = goal.text.as_bytes();
-        let text = shown_text(alloc, bytes)?;
-        let (mut route, found) = both(Route::to(alloc, config, bytes, text)?, goal.dangers(alloc))?;
-        route.rewritten = true;
-        route.same_host = same_host(line, goal.url.as_ref());
-        route.found = route.found.union(goal.found(found.as_slice()));
-        route.found_dangers = found;
-        named(alloc, route)
-    }
-
-    /// The route to a text, which is shown so, with its transport and nothing else.
-    fn to(
-        alloc: Global,
-        config: &Config<'_>,
-        bytes: &[u8],
-        text: String,
-    ) -> Result<Route, AllocError> {
-        let (text, (transport, no_transport)) = both(
-            text,
-            transport_for(alloc, &config.protocols, bytes),
-        )?;
-        Ok(Route {
-            text,
-            rewritten: false,
-            same_host: None,
-            found: Findings::of_transport(transport.as_ref()),
-            transport,
-            no_transport,
-            dangers: Vec::new(alloc),
-            found_dangers: Vec::new(alloc),
-        })
-    }
-}
-
-/// A copy of these dangers.
-fn copied(alloc: Global, dangers: &[Danger]) -> Result<Vec<Danger>, AllocError> {
-    let mut copy = Vec::new(alloc);
-    copy.extend_from_slice(dangers)?;
-    Ok(copy)
-}
-
-/// A route with the names of the dangers of its text.
-fn named(alloc: Global, route: Route) -> Result<Route, AllocError> {
-    let names = names(alloc, route.found_dangers.as_slice());
-    let (mut route, names) = both(route, names)?;
-    route.dangers = names;
-    Ok(route)
-}
-
-/// Whether a text names the same host as the line, if both are locations.
-fn same_host(line: Option<&Url>, text: Option<&Url>) -> Option<bool>
-    ensures { SaysSameHost (option_map (λ url. url.now) line.entry)
-        (option_map (λ url. url.now) text.entry) result }
-{
-    match (line, text) {
-        (Some(line), Some(url)) => Some(names_same_host(&line.as_ref(), &url.as_ref())),
-        _ => None,
     }
 }
 

@@ -6,10 +6,11 @@
 ghost use Rattle.std.specs.Prelude.{◌≡◌, option_map};
 ghost use Rattle.explain_report.specs.Routes as spec;
 
+use crate::rules::Rules;
 use crate::rules::credentials::Credentials;
+use crate::rules::route::Route;
 use crate::rules::setting::Setting;
 use crate::rules::transports::Transport;
-use crate::rules::{Route, Rules};
 use std::alloc::{AllocError, Global};
 
 /// A row.
