@@ -179,7 +179,7 @@ impl Line<'_, '_> {
         let ((readers, seen), report) = both((readers, seen), Report::of(alloc, url))?;
         let has_instead = instead_of(readers.as_ref()).is_some();
         let reading = Reading::of(url, &report, has_instead, has_hidden);
-        let found = hint::find(alloc, line.bytes, Some(reading));
+        let found = hint::find(alloc, line.bytes, Some(&reading));
         let (((seen, report), readers), found) = both(((seen, report), readers), found)?;
         let notes = Notes {
             dangers: notes.dangers,

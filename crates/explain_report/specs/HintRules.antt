@@ -1,5 +1,5 @@
 -- The hints that apply to a line. A refused line has no reading.
-use Rattle.std.specs.Prelude.{ℕ, Bool, true, false, not, ◌&&◌, ◌||◌, ◌==◌, if◌then◌else◌, bytes_eq, List, [], ◌∷◌, codes, Option, Some, None, option_map}
+use Rattle.std.specs.Prelude.{ℕ, Bool, false, not, ◌&&◌, ◌||◌, ◌==◌, if◌then◌else◌, List, [], ◌∷◌, codes, Option, Some, None, option_map}
 use Rattle.std.specs.Option.{is_none, is_some}
 use Rattle.std.specs.Borrow.{Bor}
 use Rattle.git_syntax.specs.Bytes.{begins_with, slash, space, tab, tilde}

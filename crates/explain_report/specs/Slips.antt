@@ -1,10 +1,9 @@
 -- Conditions of hints about likely mistakes in the bytes of a line.
-use Rattle.std.specs.Prelude.{ℕ, Bool, true, false, not, ◌&&◌, ◌||◌, ◌==◌, nat_le, if◌then◌else◌, bytes_eq, List, [], ◌∷◌, length, codes, Option, Some, None, option_map}
+use Rattle.std.specs.Prelude.{ℕ, Bool, false, not, ◌&&◌, ◌||◌, ◌==◌, nat_le, if◌then◌else◌, bytes_eq, List, [], ◌∷◌, length, codes, Option, Some, None, option_map}
 use Rattle.std.specs.List.{list_all, list_any}
 use Rattle.std.specs.Option.{option_and_then}
 use Rattle.std.specs.Char.{is_ascii, is_ascii_alphabetic, is_ascii_alphanumeric, is_ascii_digit, is_ascii_uppercase}
 use Rattle.git_syntax.specs.Bytes.{backslash, begins_by, begins_with, colon, left_bracket, right_bracket, slash, tilde}
-use Rattle.git_audit.specs.Dangers.{has_front}
 use Rattle.explain_report.specs.Hints.{is_user}
 use Rattle.explain_report.specs.Marks.{before, begins_with_some, suffix, halves, has_end, holds, is_among, is_among_in_any_case, is_empty, is_word, last_halves, passes, some_passes}
 

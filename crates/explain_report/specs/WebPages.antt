@@ -1,5 +1,5 @@
 -- Addresses of web pages about a part of a repository, as forges write them.
-use Rattle.std.specs.Prelude.{ℕ, Bool, true, false, not, ◌&&◌, ◌||◌, ◌==◌, List, [], ◌∷◌, codes, Option}
+use Rattle.std.specs.Prelude.{ℕ, Bool, false, not, ◌&&◌, ◌||◌, ◌==◌, List, [], ◌∷◌, codes, Option}
 use Rattle.git_syntax.specs.Bytes.{slash}
 use Rattle.explain_report.specs.Marks.{before, halves, is_among, is_empty, passes, some_passes}
 

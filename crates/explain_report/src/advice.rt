@@ -1,12 +1,11 @@
 //! Advice about a line: [`danger`] has warnings about the use of a location, and [`hint`] finds likely mistakes in a
 //! line and its [`reading`].
 //!
-//! The conditions of hints are in `slip`, `pasted`, `host_name` and `web_page`, which cut texts with `marks`.
+//! The conditions of hints are in `slip`, `pasted`, `host_name` and `web_page`.
 
 pub mod danger;
 pub mod hint;
 mod host_name;
-mod marks;
 mod pasted;
 pub mod reading;
 pub(crate) mod slip;

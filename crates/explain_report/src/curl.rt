@@ -6,11 +6,13 @@
 
 ghost use Rattle.std.specs.Prelude.{◌≤◌};
 
+use crate::marks::{before, halves, holds};
 use crate::memory::both;
 use crate::text::lossy;
 use bstr::{BStr, ByteSlice};
 use git_reads::decode::append_decoded;
 use git_reads::port::digits_port;
+use git_syntax::bytes::cut_before_path;
 use gix_url::Url;
 use percent_encoding::percent_decode;
 use serde::Serialize;
@@ -69,12 +71,9 @@ impl Curl {
 
 /// The pieces of a text, or `None` if curl refuses one of them. A third slash after the scheme is skipped.
 fn cut(text: &[u8]) -> Option<Pieces<'_>> {
-    let (_, rest) = text.split_once_str(b"://")?;
+    let (_, rest) = halves(text, b"://")?;
     let rest = rest.strip_prefix(b"/").unwrap_or(rest);
-    let (authority, rest) = match rest.find_byteset(b"/?#") {
-        Some(at) => rest.split_at(at),
-        None => (rest, b"".as_slice()),
-    };
+    let (authority, rest) = cut_before_path(rest, true);
     let (host, port) = host_and_port(after_user(authority)?)?;
     let (path, query) = path_and_query(rest)?;
     Some(Pieces {
@@ -88,11 +87,11 @@ fn cut(text: &[u8]) -> Option<Pieces<'_>> {
 /// The text after the user information, which the first `@` ends. A user without a password must not contain an escaped
 /// byte 0.
 fn after_user(authority: &[u8]) -> Option<&[u8]> {
-    let Some((information, named)) = authority.split_once_str(b"@") else {
+    let Some((information, named)) = halves(authority, b"@") else {
         return Some(authority);
     };
     let is_user_alone = !information.contains(&b':');
-    if has_control(information) || (is_user_alone && information.contains_str(b"%00")) {
+    if has_control(information) || (is_user_alone && holds(information, b"%00")) {
         return None;
     }
     Some(named)
@@ -119,11 +118,8 @@ fn path_and_query(rest: &[u8]) -> Option<(&[u8], &[u8])> {
     if has_control(rest) {
         return None;
     }
-    let front = match rest.split_once_str(b"#") {
-        Some((front, _)) => front,
-        None => rest,
-    };
-    match front.split_once_str(b"?") {
+    let front = before(rest, b"#");
+    match halves(front, b"?") {
         None => Some((front, b"")),
         found => found,
     }
@@ -186,7 +182,7 @@ fn name(alloc: Global, host: &[u8], buffer: &mut Vec<u8>) -> Result<Option<Strin
     buffer.clear();
     append_decoded(buffer, host)?;
     let is_name = !buffer.is_empty() && buffer.iter().all(|byte| is_in_names(*byte));
-    if !is_name || host.contains_str(b"%00") {
+    if !is_name || holds(host, b"%00") {
         return Ok(None);
     }
     let decoded = buffer.as_slice().replace(alloc, b"%", b"%25")?;
@@ -204,7 +200,7 @@ fn is_in_names(byte: u8) -> bool {
 fn ipv4(host: &[u8]) -> Option<Ipv4Addr> {
     let (mut fronts, mut limit, mut rest) = (0u64, 0x1_0000_0000u64, host);
     for _number in 0..3 {
-        let Some((front, suffix)) = rest.split_once_str(b".") else {
+        let Some((front, suffix)) = halves(rest, b".") else {
             break;
         };
         limit /= 256;
@@ -262,7 +258,7 @@ fn literal(alloc: Global, host: &[u8]) -> Result<Option<String>, AllocError> {
 /// The texts inside of the brackets before and after the first `%`, which may be written `%25`.
 fn address_and_zone(host: &[u8]) -> Option<(&[u8], &[u8])> {
     let inside = host.strip_prefix(b"[")?.strip_suffix(b"]")?;
-    let (address, zone) = match inside.split_once_str(b"%") {
+    let (address, zone) = match halves(inside, b"%") {
         None => (inside, b"".as_slice()),
         Some((_, [])) => return None,
         Some((address, [b'2', b'5', zone @ ..])) if !zone.is_empty() => (address, zone),
@@ -322,7 +318,7 @@ fn target(alloc: Global, pieces: Pieces<'_>, buffer: &mut Vec<u8>) -> Result<Str
 /// Appends a path without its segments `.` and `..`. Each `..` also removes the segment before it.
 fn without_dots(out: &mut Vec<u8>, path: &[u8]) -> Result<(), AllocError> {
     let mut ends_with_dots = false;
-    for segment in path.split_str(b"/").skip(1) {
+    for segment in path.split(|byte| *byte == b'/').skip(1) {
         ends_with_dots = matches!(segment, b"." | b"..");
         match segment {
             b"." => {}

@@ -5,7 +5,7 @@
 //! [`curl`] and [`difference`]; [`refusal`] explains why a line is refused. [`text`] shows lines without secrets,
 //! [`rules`] applies a configuration to a line, [`remotes`] reports the remotes of the configuration itself,
 //! [`readers`] lists other readings, [`advice`] has dangers and hints, and [`finding`] has the conditions for which a
-//! run may fail. The reports are data; the crates above format them.
+//! run may fail. `marks` cuts texts for all of them. The reports are data; the crates above format them.
 //!
 //! A function allocates only if it can return an error; `AllocError` means that an allocation failed.
 #![tactic(auto)]
@@ -20,6 +20,7 @@ pub mod finding;
 pub mod form;
 pub mod git_report;
 pub mod location_report;
+mod marks;
 pub mod memory;
 pub mod path;
 pub mod readers;

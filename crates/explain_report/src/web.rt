@@ -1,7 +1,7 @@
 //! Names and words for a location of HTTP whose text Git's credential code, curl and this library may read differently,
 //! by the condition that it doesn't meet.
 
-use bstr::ByteSlice;
+use crate::marks::suffix;
 use gix_url::WebCondition;
 
 /// The name of the unmet condition.
@@ -81,11 +81,7 @@ pub(crate) fn words(unmet: Option<WebCondition>, host: &str) -> &'static str {
 
 /// The effect of the host's last label on Git and curl.
 fn last_label_words(host: &[u8]) -> &'static str {
-    let last = match host.rsplit_once_str(b".") {
-        Some((_, last)) => last,
-        None => host,
-    };
-    match last {
+    match suffix(host, b".") {
         [] => "may read another host than curl: the host ends in a dot",
         [b'-' | b'_', ..] => {
             "may read another host than curl: the last label of the host begins with - or _"

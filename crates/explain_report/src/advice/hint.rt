@@ -4,7 +4,7 @@
 //! A hint depends on the bytes of a line and on its location, and shows neither. [`find`] returns the hints that apply
 //! by `specs/HintRules.antt`.
 
-ghost use Rattle.std.specs.Prelude.{◌≡◌, IfOk};
+ghost use Rattle.std.specs.Prelude.{◌≡◌, IfOk, option_map};
 ghost use Rattle.std.specs.List.{filter};
 ghost use Rattle.explain_report.specs.HintRules as spec;
 
@@ -129,9 +129,10 @@ pub enum Hint {
 pub fn find(
     alloc: Global,
     line: &[u8],
-    reading: Option<Reading<'_>>,
+    reading: Option<&Reading<'_>>,
 ) -> Result<Vec<Hint>, AllocError>
-    ensures { IfOk result (λ found. found.items ≡ filter (spec.applies line.now reading.entry) spec.every_hint) }
+    ensures { IfOk result (λ found. found.items
+        ≡ filter (spec.applies line.now (option_map (λ it. it.now) reading.entry)) spec.every_hint) }
 {
     let all = Hint::ALL;
     all.iter()

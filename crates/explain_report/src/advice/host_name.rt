@@ -9,8 +9,8 @@ ghost use Rattle.explain_report.specs.Scripts.{is_drawn_alike, is_mixed, is_mixe
 ghost use Rattle.explain_report.specs.Hints.{is_label, is_label_byte, is_user, is_user_byte};
 ghost use Rattle.explain_report.specs.Marks.{is_among, last_halves, passes};
 
-use crate::advice::marks::{halves, is_among, last_halves};
 use crate::advice::slip::place::is_wide;
+use crate::marks::{halves, is_among, last_halves};
 use bstr::ByteSlice;
 use unicode::properties::Script;
 

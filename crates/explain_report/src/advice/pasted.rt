@@ -5,7 +5,7 @@ ghost use Rattle.std.specs.Prelude.{◌≡◌};
 ghost use Rattle.std.specs.List.{list_all};
 ghost use Rattle.explain_report.specs.Pasted as spec;
 
-use crate::advice::marks::{begins_with_some, halves, holds, is_among_in_any_case, last_halves};
+use crate::marks::{begins_with_some, halves, holds, is_among_in_any_case, last_halves};
 
 /// Whether the line begins with a command of Git, with or without a prompt before it.
 pub(crate) fn begins_with_command(line: &[u8]) -> bool
@@ -115,6 +115,16 @@ fn is_name_of_url(name: &[u8]) -> bool
 
 /// Whether the line ends with the name of a bare repository, followed by punctuation.
 pub(crate) fn ends_like_sentence(line: &[u8]) -> bool
+    ensures { result ≡ spec.ends_like_sentence line.now }
+{
+    match line {
+        [.., last] if ends_clause(*last) => ends_after_repository(line),
+        _ => false,
+    }
+}
+
+/// Whether the line ends with the name of a bare repository, followed by punctuation.
+fn ends_after_repository(line: &[u8]) -> bool
     ensures { result ≡ spec.ends_like_sentence line.now }
 {
     match last_halves(line, b".git") {

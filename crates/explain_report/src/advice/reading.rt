@@ -6,9 +6,9 @@ ghost use Rattle.explain_report.specs.HintRules as spec;
 ghost use Rattle.explain_report.specs.Marks.{is_among, is_empty};
 ghost use Rattle.explain_report.specs.Revisions.{has_revision, is_of_revision, some_is_of_revision};
 
-use crate::advice::marks::{holds, is_among};
 use crate::form::Form;
 use crate::location_report::Report;
+use crate::marks::{holds, is_among};
 use crate::path::{Components, Field};
 use gix_url::Url;
 
@@ -53,43 +53,43 @@ impl<'b> Reading<'b> {
     }
 
     /// Whether the scheme is one of HTTP.
-    pub(crate) fn is_of_web(self) -> bool
-        ensures { result ≡ spec.is_of_web self.entry }
+    pub(crate) fn is_of_web(&self) -> bool
+        ensures { result ≡ spec.is_of_web self.now }
     {
         is_among(self.scheme.as_bytes(), &["http", "https"])
     }
 
     /// Whether the scheme is that of Secure Shell or of `git://`.
-    pub(crate) fn is_of_shell_or_git(self) -> bool
-        ensures { result ≡ spec.is_of_shell_or_git self.entry }
+    pub(crate) fn is_of_shell_or_git(&self) -> bool
+        ensures { result ≡ spec.is_of_shell_or_git self.now }
     {
         is_among(self.scheme.as_bytes(), &["ssh", "git"])
     }
 
     /// Whether the scheme is this one.
-    pub(crate) fn is_of(self, scheme: &str) -> bool
-        ensures { result ≡ spec.is_of scheme.now self.entry }
+    pub(crate) fn is_of(&self, scheme: &str) -> bool
+        ensures { result ≡ spec.is_of scheme.now self.now }
     {
         self.scheme.as_bytes() == scheme.as_bytes()
     }
 
     /// Whether there is a password that another hint is about.
-    pub(crate) fn has_password_with_hint(self) -> bool
-        ensures { result ≡ spec.has_password_with_hint self.entry }
+    pub(crate) fn has_password_with_hint(&self) -> bool
+        ensures { result ≡ spec.has_password_with_hint self.now }
     {
         self.has_password && (self.is_of_web() || self.is_of("ssh"))
     }
 
     /// Whether it is a file, and has a host.
-    pub(crate) fn is_of_file_with_host(self) -> bool
-        ensures { result ≡ spec.is_of_file_with_host self.entry }
+    pub(crate) fn is_of_file_with_host(&self) -> bool
+        ensures { result ≡ spec.is_of_file_with_host self.now }
     {
         self.is_of("file") && is_some_text(self.host)
     }
 
     /// Whether a revision is named in a place that Git doesn't read one from.
-    pub(crate) fn names_revision(self) -> bool
-        ensures { result ≡ spec.names_revision self.entry }
+    pub(crate) fn names_revision(&self) -> bool
+        ensures { result ≡ spec.names_revision self.now }
     {
         if self.is_of_shell_or_git() {
             return holds(self.path, b".git#") || holds(self.path, b".git?");
@@ -98,8 +98,8 @@ impl<'b> Reading<'b> {
     }
 
     /// Whether the host is the short name of a forge, and the path is that of a repository there.
-    pub(crate) fn has_short_name(self) -> bool
-        ensures { result ≡ spec.has_short_name self.entry }
+    pub(crate) fn has_short_name(&self) -> bool
+        ensures { result ≡ spec.has_short_name self.now }
     {
         is_short_name(self.host) && self.user.is_none() && !self.path.starts_with(b"/")
     }

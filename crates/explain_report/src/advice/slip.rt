@@ -12,8 +12,8 @@ mod edit;
 pub(crate) mod place;
 
 use crate::advice::host_name::is_user;
-use crate::advice::marks::{begins_with_some, halves, is_among, is_among_in_any_case};
 use crate::advice::slip::edit::is_near_one_of;
+use crate::marks::{begins_with_some, halves, is_among, is_among_in_any_case};
 
 /// Whether the line is a word that may be the name of a remote.
 pub(crate) fn is_remote_name(line: &[u8]) -> bool

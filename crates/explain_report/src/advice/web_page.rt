@@ -4,7 +4,7 @@ ghost use Rattle.std.specs.Prelude.{◌≡◌, option_map};
 ghost use Rattle.explain_report.specs.Marks.{is_among, some_passes};
 ghost use Rattle.explain_report.specs.WebPages as spec;
 
-use crate::advice::marks::{before, halves, is_among};
+use crate::marks::{before, halves, is_among};
 
 /// Whether a path of HTTP names a page about a part of a repository, as forges write it. Either the path without query
 /// and fragment has `/-/` followed by a page segment of GitLab; or the host is one of the forges, and two segments are

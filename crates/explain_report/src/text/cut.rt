@@ -8,6 +8,7 @@ ghost use Rattle.std.specs.Prelude.{◌≡◌};
 ghost use Rattle.explain_report.specs.Pieces.{cut_shown, piece_shown, pieces_shown, text_shown_as};
 ghost use Rattle.explain_report.specs.Secrets.{password_shown};
 
+use crate::marks::{halves, holds};
 use crate::text::secret::{between, size_of, word_for};
 use bstr::ByteSlice;
 use git_audit::secret::secrets;
@@ -289,7 +290,7 @@ fn host_alone(text: &[u8], is_of_ssh: bool) -> (&[u8], &[u8], &[u8]) {
     if let Some(host) = in_brackets(bracketed) {
         return (b"[", host, close);
     }
-    match text.split_once_str(b":") {
+    match halves(text, b":") {
         Some((host, [])) if !has_escaped_colon(host) => (b"", host, b":"),
         _ => (b"", text, b""),
     }
@@ -297,7 +298,7 @@ fn host_alone(text: &[u8], is_of_ssh: bool) -> (&[u8], &[u8], &[u8]) {
 
 /// Whether a text contains an escaped colon.
 fn has_escaped_colon(text: &[u8]) -> bool {
-    text.contains_str(b"%3A") || text.contains_str(b"%3a")
+    holds(text, b"%3A") || holds(text, b"%3a")
 }
 
 /// The text inside of brackets.
@@ -311,8 +312,11 @@ fn halves_at<'a>(
     mark: &'static [u8],
     is_looked_for: bool,
 ) -> (&'a [u8], &'a [u8], &'a [u8]) {
-    match text.split_once_str(mark) {
-        Some((front, back)) if is_looked_for => (front, mark, back),
-        _ => (text, b"", b""),
+    if !is_looked_for {
+        return (text, b"", b"");
+    }
+    match halves(text, mark) {
+        Some((front, back)) => (front, mark, back),
+        None => (text, b"", b""),
     }
 }

@@ -18,8 +18,8 @@ use crate::text::secret::has_secret;
 
 impl Hint {
     /// Whether the hint applies to a line.
-    pub(super) fn applies(self, line: &[u8], reading: Option<Reading<'_>>) -> bool
-        ensures { result ≡ spec.applies line.now reading.entry self }
+    pub(super) fn applies(self, line: &[u8], reading: Option<&Reading<'_>>) -> bool
+        ensures { result ≡ spec.applies line.now (option_map (λ it. it.now) reading.entry) self }
     {
         match reading {
             None => self.is_in_refused(line) || self.is_in_bytes(line),
@@ -30,8 +30,8 @@ impl Hint {
     }
 
     /// Whether the hint is about another text or about a hidden part, and applies to the reading.
-    fn is_beside(self, reading: Reading<'_>) -> bool
-        ensures { result ≡ spec.is_beside self reading.entry }
+    fn is_beside(self, reading: &Reading<'_>) -> bool
+        ensures { result ≡ spec.is_beside self reading.now }
     {
         match self {
             Hint::WriteInstead => reading.has_instead,
@@ -87,8 +87,8 @@ impl Hint {
     }
 
     /// Whether the hint is about the reading of a line, and applies to this one.
-    fn is_in_read(self, line: &[u8], reading: Reading<'_>) -> bool
-        ensures { result ≡ spec.is_in_form reading.entry.form self line.now reading.entry }
+    fn is_in_read(self, line: &[u8], reading: &Reading<'_>) -> bool
+        ensures { result ≡ spec.is_in_form reading.now.form self line.now reading.now }
     {
         match reading.form {
             Form::Local => self.is_in_path(line),
@@ -115,8 +115,8 @@ impl Hint {
     }
 
     /// Whether the hint is about the scp form, and applies to this line.
-    fn is_in_scp(self, line: &[u8], reading: Reading<'_>) -> bool
-        ensures { result ≡ spec.is_in_scp self line.now reading.entry }
+    fn is_in_scp(self, line: &[u8], reading: &Reading<'_>) -> bool
+        ensures { result ≡ spec.is_in_scp self line.now reading.now }
     {
         match self {
             Hint::WindowsPath => place::begins_with_drive(line),
@@ -127,8 +127,8 @@ impl Hint {
     }
 
     /// Whether the hint is about URLs, and applies to this one.
-    fn is_in_url(self, reading: Reading<'_>) -> bool
-        ensures { result ≡ spec.is_in_url self reading.entry }
+    fn is_in_url(self, reading: &Reading<'_>) -> bool
+        ensures { result ≡ spec.is_in_url self reading.now }
     {
         match self {
             Hint::StoredPassword => reading.is_of_web() && reading.has_password,
@@ -144,8 +144,8 @@ impl Hint {
     }
 
     /// Whether the hint is about URLs and the scp form, and applies to this line.
-    fn is_in_remote(self, line: &[u8], reading: Reading<'_>) -> bool
-        ensures { result ≡ spec.is_in_remote self line.now reading.entry }
+    fn is_in_remote(self, line: &[u8], reading: &Reading<'_>) -> bool
+        ensures { result ≡ spec.is_in_remote self line.now reading.now }
     {
         match self {
             Hint::EndOfSentence => pasted::ends_like_sentence(line),
@@ -158,8 +158,8 @@ impl Hint {
     }
 
     /// Whether the hint is about the remote helper `ext`, and applies to this reading.
-    fn is_in_helper(self, reading: Reading<'_>) -> bool
-        ensures { result ≡ spec.is_in_helper self reading.entry }
+    fn is_in_helper(self, reading: &Reading<'_>) -> bool
+        ensures { result ≡ spec.is_in_helper self reading.now }
     {
         match self {
             Hint::RunsCommand => reading.is_of("ext"),

@@ -7,9 +7,7 @@ ghost use Rattle.git_syntax.specs.Bytes.{begins_by};
 ghost use Rattle.explain_report.specs.Marks.{some_passes};
 ghost use Rattle.explain_report.specs.Slips as spec;
 
-use crate::advice::marks::{
-    before, begins_with_some, halves, holds, is_among, last_halves, suffix,
-};
+use crate::marks::{before, begins_with_some, halves, holds, is_among, last_halves, suffix};
 
 /// The text after the `://` of a URL that names a host.
 fn rest_of_url(line: &[u8]) -> Option<&[u8]>

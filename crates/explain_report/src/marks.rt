@@ -2,6 +2,7 @@
 
 ghost use Rattle.std.specs.Prelude.{◌≡◌, option_map};
 ghost use Rattle.std.specs.List.{list_any};
+ghost use Rattle.memchr.specs.Find.{FindsNeedle};
 ghost use Rattle.git_audit.specs.Dangers.{has_front};
 ghost use Rattle.explain_report.specs.Marks as spec;
 
@@ -11,14 +12,37 @@ use bstr::ByteSlice;
 pub(crate) fn halves<'a>(text: &'a [u8], mark: &[u8]) -> Option<(&'a [u8], &'a [u8])>
     ensures { option_map (λ p. (p.0.now, p.1.now)) result ≡ spec.halves mark.now text.now }
 {
-    text.split_once_str(mark)
+    let at = place_of(text, mark)?;
+    Some((text.split_at(at).0, text.split_at(at + mark.len()).1))
 }
 
-/// The texts before and after the last such mark, if there is one.
+/// The offset of the first such mark, if there is one. A search for its first byte costs less than one for all of it
+/// if the text is short.
+fn place_of(text: &[u8], mark: &[u8]) -> Option<usize>
+    ensures { FindsNeedle text.now mark.now 0 result }
+{
+    let [first, ..] = mark else {
+        return Some(0);
+    };
+    let mut from = 0usize;
+    while let Some(at) = text.split_at(from).1.find_byte(*first) {
+        from += at;
+        if text.split_at(from).1.starts_with(mark) {
+            return Some(from);
+        }
+        from += 1;
+    }
+    None
+}
+
+/// The texts before and after the last such mark, if there is one. Most texts have none.
 pub(crate) fn last_halves<'a>(text: &'a [u8], mark: &[u8]) -> Option<(&'a [u8], &'a [u8])>
     ensures { option_map (λ p. (p.0.now, p.1.now)) result ≡ spec.last_halves mark.now text.now }
 {
-    text.rsplit_once_str(mark)
+    match place_of(text, mark) {
+        Some(_) => text.rsplit_once_str(mark),
+        None => None,
+    }
 }
 
 /// Whether the text contains such a mark.
