@@ -35,7 +35,7 @@ fn place_of(text: &[u8], mark: &[u8]) -> Option<usize>
     None
 }
 
-/// The texts before and after the last such mark, if there is one. Most texts have none.
+/// The texts before and after the last such mark, if there is one. Most texts have none, and aren't searched from the end.
 pub(crate) fn last_halves<'a>(text: &'a [u8], mark: &[u8]) -> Option<(&'a [u8], &'a [u8])>
     ensures { option_map (λ p. (p.0.now, p.1.now)) result ≡ spec.last_halves mark.now text.now }
 {

@@ -113,7 +113,8 @@ fn is_name_of_url(name: &[u8]) -> bool
     is_among_in_any_case(name, &["url", "pushurl"])
 }
 
-/// Whether the line ends with the name of a bare repository, followed by punctuation.
+/// Whether the line ends with the name of a bare repository, followed by punctuation. Few lines end with punctuation, and
+/// only these are searched.
 pub(crate) fn ends_like_sentence(line: &[u8]) -> bool
     ensures { result ≡ spec.ends_like_sentence line.now }
 {
@@ -123,7 +124,7 @@ pub(crate) fn ends_like_sentence(line: &[u8]) -> bool
     }
 }
 
-/// Whether the line ends with the name of a bare repository, followed by punctuation.
+/// Whether nothing but punctuation follows the last `.git` of the line, and at least one byte does.
 fn ends_after_repository(line: &[u8]) -> bool
     ensures { result ≡ spec.ends_like_sentence line.now }
 {
