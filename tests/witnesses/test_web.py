@@ -59,8 +59,9 @@ def given():
 def with_written(texts):
     """The cases of texts, and of those that are written for what is read in them; and the texts of the latter, by those."""
     cases = cases_of(texts)
+    known = {*texts}
     source = {writing.text(it.location): it.text for it in cases if it.is_settled}
-    source = {written: text for written, text in source.items() if written not in {*texts}}
+    source = {written: text for written, text in source.items() if written not in known}
     return [*cases, *cases_of(source)], source
 
 
