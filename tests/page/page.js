@@ -38,6 +38,15 @@ const focused = () => document.activeElement?.id || document.activeElement?.type
 // The first control of the page gets the focus.
 const toTop = () => document.querySelector('.skip').focus();
 
+// The last line of the first group gets the focus. Returns the first line of the second group.
+const toBorder = () => {
+  document.querySelector('#lines > tbody > tr:last-child a').focus();
+  return document.querySelector('#lines > tbody + tbody > tr').id;
+};
+
+// The line that has the focus.
+const line = () => document.activeElement.closest('tr')?.id;
+
 // The lines that are visible, in order, and the words of the page about that.
 const shown = () => [[...document.querySelectorAll('#lines > tbody > tr:not(.more)')].filter(it => it.checkVisibility())
   .map(it => +it.id.slice(1)).sort((a, b) => a - b), document.querySelector('#shown').textContent];

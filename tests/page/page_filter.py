@@ -47,6 +47,13 @@ def use(page, controls):
     page.ask("drawn")
 
 
+def show_all(page):
+    """Presses the button that shows all lines again, reached by Tab from the control that has the focus."""
+    reach(page, "reset")
+    page.press(Keys.ENTER)
+    page.ask("drawn")
+
+
 def faults_of(page, wanted):
     """What the filter shows otherwise, and that it shows all again when it is reset."""
     for controls, are_shown in cases(wanted):
@@ -56,11 +63,17 @@ def faults_of(page, wanted):
             yield f"by {controls} {len(numbers)} lines are shown: {numbers[:5]}"
         if said != f"{len(numbers)} of {len(wanted)} lines shown":
             yield f"by {controls} {len(numbers)} lines are shown, and it says {said!r}"
-        reach(page, "reset")
-        page.press(Keys.ENTER)
-        page.ask("drawn")
+        show_all(page)
         if page.ask("shown") != [[*range(1, len(wanted) + 1)], f"{len(wanted)} of {len(wanted)} lines shown"]:
             yield f"after {controls} {page.ask('shown')} is shown"
+
+
+def border_faults(page):
+    """Whether Tab leads from the last line of a group to the first line of the next one."""
+    wanted = page.ask("toBorder")
+    page.press(Keys.TAB)
+    if page.ask("line") != wanted:
+        yield f"from the last line of a group Tab leads to {page.ask('line')}, and not to {wanted}"
 
 
 def detail_faults(page):

@@ -47,7 +47,7 @@ VARIABLES = ("GIT_ALLOW_PROTOCOL", "GIT_PROTOCOL_FROM_USER")
 # high its row may be: other lines are beside it.
 MOST_SECONDS, MOST_HEIGHT = 60, 400
 # Of the page of 10,000 remotes and of ten times as many: its bytes, in how many milliseconds it has to be loaded and its first text
-# seen, at best of a few tries. What a filter may take, from the top of the page: a dozen keys.
+# seen, at best of a few tries. In how many seconds it has to be filtered by a dozen keys, and then to show no line and all of them again.
 SIZES, TRIES, MOST_FILTERED = {1: (10_000_000, 2_000), 10: (100_000_000, 5_000)}, 3, 10
 
 
@@ -180,6 +180,11 @@ def test_large(page, times):
     assert not [*page_filter.skip_faults(page)]
     page_filter.use(page, {"f-verdict": "settled", "f-host": "github"})
     assert time.monotonic() - started <= MOST_FILTERED
+    started = time.monotonic()
+    page_filter.use(page, {"f-text": "no line"})
+    page_filter.show_all(page)
+    assert time.monotonic() - started <= MOST_FILTERED
+    assert not [*page_filter.border_faults(page)]
     most_bytes, most_milliseconds = SIZES[times]
     assert os.path.getsize(file) < most_bytes and max(map(min, zip(*taken))) < most_milliseconds
 

@@ -26,7 +26,7 @@ pub const PAGE: [Part; 15] = [
         r##"<!DOCTYPE html>
 <html lang="en">
 <meta charset="utf-8">
-<meta http-equiv="Content-Security-Policy" content="default-src 'none'; style-src 'sha256-BqmJTYUbeSgv7EgaRVSe1RavggxG6UJPwhJ9uCOOPDE='; script-src 'sha256-9PoMD2qzUjX+7edcyDsKM46sZMWag3LvO3aqWIJcjJ0='; base-uri 'none'; form-action 'none'">
+<meta http-equiv="Content-Security-Policy" content="default-src 'none'; style-src 'sha256-e5Y5iG0hhv03dNVW1aNlvOzUPeF58wfC7QjFy3QvGCE='; script-src 'sha256-Zxmc4MnFyKWctxKaFfj/HFEp0UaaKC4MFb6wgRh5gJ0='; base-uri 'none'; form-action 'none'">
 <meta name="viewport" content="width=device-width, initial-scale=1">
 <meta name="color-scheme" content="light dark">
 <meta name="generator" content="explain --html">
@@ -64,10 +64,12 @@ table { border-collapse: collapse; }
 th, td { text-align: left; vertical-align: top; padding: .25rem .5rem; white-space: break-spaces; unicode-bidi: isolate; }
 dd { margin: 0; white-space: break-spaces; unicode-bidi: isolate; }
 
-/* The lines. Those that aren't seen are laid out late, by groups: a browser takes minutes for all of them. */
+/* The lines. Those that aren't seen are laid out late, by groups: a browser takes minutes for all of them. Each group has a reading flow
+   of its own: otherwise Chromium lays out all groups to find what the first Tab reaches. */
 #lines, #lines > * { display: block; }
 #lines > caption { text-align: left; color: var(--dim); }
-#lines > tbody { content-visibility: auto; contain-intrinsic-size: auto 600rem; }
+#lines > tbody { content-visibility: auto; contain-intrinsic-size: auto 600rem; reading-flow: source-order; }
+#lines > tbody[hidden] { content-visibility: hidden; contain-intrinsic-size: 0 !important; }
 #lines > tbody:empty { display: none; }
 #lines > * > tr { display: grid; grid-template-columns: 5rem minmax(0, 5fr) minmax(0, 3fr) minmax(0, 3fr) minmax(0, 2fr); border-bottom: 1px solid var(--line); }
 #lines > * > tr[hidden] { display: none; }
@@ -371,6 +373,12 @@ footer { margin-top: 2rem; border-top: 1px solid var(--line); padding-top: .5rem
   const say = (count) => {
     by("shown").textContent = `${count} of ${lines.length} lines shown`;
   };
+  // Hides all groups, and computes their style. The browser then forgets which of them it has laid out, and how high they were. Otherwise
+  // it lays out, with all lines that are shown now, each group of which few lines were shown before.
+  const forgetLayout = () => {
+    groups.forEach((it) => { it.hidden = true; });
+    getComputedStyle(by("lines").lastElementChild).getPropertyValue("content-visibility");
+  };
   const holds = (value, part) => (part === "" ? true : String(value ?? "").toLowerCase().includes(part));
   const apply = () => {
     const [text, part, form, verdict, danger, host] = ["text", "part", "form", "verdict", "danger", "host"].map((it) => by(`f-${it}`).value);
@@ -378,6 +386,7 @@ footer { margin-top: 2rem; border-top: 1px solid var(--line); padding-top: .5rem
       && (!danger || (danger === "any" ? it.isDangerous : it.dangers.includes(danger)))
       && holds(it.host, host.toLowerCase()) && holds(it[part], text.toLowerCase());
     const left = new Map(groups.map((it) => [it, 0]));
+    forgetLayout();
     let count = 0;
     for (const it of lines) {
       const { row } = it, isHidden = !isShown(it);
