@@ -6,6 +6,7 @@ A maker chooses by numbers, 0 for the first piece. `examples` makes different te
 at once, and hypothesis makes the numbers of one for which a fault is found smaller.
 """
 import functools
+import itertools
 import json
 import re
 from collections import defaultdict, namedtuple
@@ -96,11 +97,11 @@ class Made(namedtuple("Made", "maker what", defaults=["text"])):
 
     @functools.cache
     def examples(self, count):
-        """This many different ones, by their representations, each with what makes it again: this, and a call for the numbers."""
+        """This many different ones, by their representations, each with the number by which it is made."""
         found = {}
         for number in range(10 * count):
             it = self.by(Random(number).getrandbits)
-            found.setdefault(repr(it), (it, self, lambda number=number: Random(number).getrandbits))
+            found.setdefault(repr(it), (it, number))
             if len(found) == count:
                 return found
         raise ValueError(f"only {len(found)} different examples can be made")
@@ -110,12 +111,12 @@ made = Made
 
 
 def examples(source, count):
-    return [it for it, *_ in source.examples(count).values()]
+    return [it for it, _ in source.examples(count).values()]
 
 
-def shrink(source, again, faults):
-    """Fails with the smallest example by these numbers, or by smaller ones, that has a fault alone."""
-    used, bits = [], again()
+def shrink(source, number, faults):
+    """Fails with the smallest example by the numbers of this one, or by smaller ones, that has a fault alone."""
+    used, bits = [], Random(number).getrandbits
     source.by(lambda size: used.append(bits(size)) or used[-1])
 
     @settings(database=InMemoryExampleDatabase(), deadline=None, phases=(Phase.reuse, Phase.shrink), suppress_health_check=[*HealthCheck],
@@ -147,13 +148,13 @@ def compare(source, count, faults, others=()):
     """Fails if `faults` finds any among this many examples and the others: pairs of an example, or None if it isn't known, and words.
     Returns all examples."""
     origins = source.examples(count)
-    every = [*{repr(it): it for it in (*others, *(it for it, *_ in origins.values()))}.values()]
+    every = [*{repr(it): it for it in (*others, *(it for it, _ in origins.values()))}.values()]
     found = [*faults(every)]
     if found:
         bad = next((it for it, _ in found if repr(it) in origins), None) or culprit(every, faults)
         print(words := "\n".join([f"{len(found)} faults", *(fault for _, fault in found[:SHOWN])]))
         if repr(bad) in origins:
-            shrink(*origins[repr(bad)][1:], faults)
+            shrink(source, origins[repr(bad)][1], faults)
         pytest.fail(words)
     return every
 
@@ -296,6 +297,11 @@ class NearMaker(LocationMaker, spelled=str):
     def other(self):
         scheme = self.one_of(self.SCHEMES)
         return f"{scheme}://{self.named('ssh', None)}{self.one_of(self.URL_PATHS)}" if self.below(4) else self.one_of(self.HELPERS)
+
+    def argument(self):
+        """A text that can be an argument of a command, one in three of which another maker makes."""
+        texts = (self.one_of((NearMaker,) * 4 + (WebMaker, LocationMaker))(self.bits).text() for _ in itertools.count())
+        return next(filter(can_be_an_argument, texts))
 
 
 def changed_texts():

@@ -15,7 +15,6 @@ repository's remotes also fails if no text needs a condition or a shape, or if o
 Places are compared in one form (`reader_places.py`). A program that converts the scp form to a URL may refuse one, and its path is compared
 without its first slash. For texts other than URLs, a reader of URLs is only asked whether it finds a host in them.
 """
-import contextlib
 import functools
 from collections import defaultdict, namedtuple
 from concurrent.futures import ThreadPoolExecutor
@@ -24,7 +23,6 @@ import pytest
 import reader_facts as facts
 import reader_groups as groups
 from git_runs import order_of
-from hypothesis import HealthCheck, Phase, Verbosity, given, seed, settings, strategies
 from reader_places import git_place, is_same, own_readers, said_place, with_decoded_path
 from reader_programs import READERS, ask, build, version
 from rt_api import outdated
@@ -32,65 +30,15 @@ from runs import answers
 from second_reading import git_class, grammar, writing
 from second_reading.unambiguous import CONDITIONS, broken, pieces
 from tables import texts_of_rows
-from texts import LocationMaker, Made, NearMaker, WebMaker, can_be_an_argument, changed_texts, compare, remotes, table
+from texts import NearMaker, can_be_an_argument, changed_texts, compare, made, remotes, table
 
 pytestmark = pytest.mark.needs("git")
 # The number of made texts, and of texts for a reader that is started for each of them.
 SCALES = {"sample": (30_000, 1_500), "whole": (50_000, 12_000)}
 # Of shapes and conditions for which texts are rarely made.
 GIVEN = table("Given", "READERS")
-# Longer texts of rows are left out. So many texts are made with one seed: more take longer each.
-LONGEST, ROUND = 4096, 2_000
-HOW = settings(max_examples=10 * ROUND, database=None, deadline=None, phases=(Phase.generate,), suppress_health_check=[*HealthCheck],
-               verbosity=Verbosity.quiet, report_multiple_bugs=False)
-# Strategies are kept, since it takes time to make one.
-below, index = functools.cache(lambda count: strategies.integers(0, count - 1)), functools.cache(lambda count: strategies.sampled_from(range(count)))
-
-
-class Enough(Exception):
-    """As many texts are made as are asked for."""
-
-
-def made(maker):
-    """A strategy of texts, each with what makes it again."""
-    def by_draws(draw):
-        it, numbers = maker(None), []
-
-        def number(strategy, count):
-            found = draw(strategy(count))
-            numbers.append(-(-found * 65536 // count))
-            return found
-
-        it.below, it.one_of = lambda count: number(below, count), lambda some: some[number(index, len(some))]
-        return it.text(), Made(maker, "text"), lambda: (lambda _, left=iter(numbers): next(left))
-
-    # Of a function without a name hypothesis would read the source each time.
-    return strategies.composite(by_draws)()
-
-
-def is_argument(it):
-    return can_be_an_argument(it[0])
-
-
-class Drawn:
-    """Texts by draws of hypothesis, since `groups.jsonl` counts those."""
-
-    TEXTS = strategies.one_of([made(NearMaker)] * 4 + [made(WebMaker), made(LocationMaker)]).filter(is_argument)
-
-    @functools.cache
-    def examples(self, count):
-        found = {}
-        while len(found) < count:
-            wanted = min(count, len(found) + ROUND)
-
-            def take(it):
-                found.setdefault(repr(it[0]), it)
-                if len(found) >= wanted:
-                    raise Enough
-
-            with contextlib.suppress(Enough):
-                seed(len(found))(HOW(given(self.TEXTS)(take)))()
-        return found
+# Longer texts of rows are left out.
+LONGEST = 4096
 
 
 class Case:
@@ -175,7 +123,7 @@ class Run:
         more = changed_texts() if self.is_whole else []
         shown = [text for *_, text, _ in facts.shown_lines()]
         others = [*filter(can_be_an_argument, [*shown, *GIVEN, *lines, *texts_of_rows(LONGEST), *more])]
-        texts = compare(Drawn(), count, lambda texts: faults(texts, started), others)
+        texts = compare(made(NearMaker, "argument"), count, lambda texts: faults(texts, started), others)
         self.cases, self.readers = asked(tuple(texts), started)
         self.known = [it for it in self.readers if facts.versions().get(it.name) == it.version]
 
