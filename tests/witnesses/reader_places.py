@@ -151,7 +151,7 @@ def own_readers():
     if git and curl:
         # After the end of an empty path of the scp form Git looks for a `~`, in other bytes.
         yield ("Git", git.split()[-1], lambda text, form: form not in ("http", "other") and pieces(text).path != b"",
-               lambda texts: [shown_place(said) for _, said in ask_git(texts)])
+               lambda texts: [*map(shown_place, ask_git("fetch-pack --diag-url", texts))])
         yield ("Git credential", git.split()[-1], lambda text, form: form == "http" and can_be_a_line(text),
                lambda texts: [place(*it[:-1], b"/" + it.path) if isinstance(it, Web) else REFUSED
                               for it in ask_credential(texts)])

@@ -14,7 +14,6 @@ import json
 import os
 import random
 import re
-import subprocess
 import tempfile
 from collections import namedtuple
 
@@ -27,11 +26,11 @@ from row_text import bytes_of, text_of
 from runs import answers
 from second_reading import git_class, grammar, writing
 from texts import Programs
-from transports import shown
+from transports import in_loops, shown
 
 SHOW = r"""f() { { printf '\001'; printf '%s\001' "$@"; printf '%s\001\002' "$GIT_PROTOCOL"; } >&2; false; }; f"""
 # A shell reads a command, and writes the words that it reads.
-READ = r'eval "set -- $1"; printf "%s\001" "$@"'
+READ = r'(eval "set -- $text"; printf "%s\001" "$@")'
 SERVICES = ("git-upload-pack", "git-receive-pack", "git-upload-archive")
 VARIANTS = ("ssh", "plink", "putty", "tortoiseplink", "simple")
 # The programs that may replace a service, with the words that a shell reads in them; None if it expands something.
@@ -185,14 +184,10 @@ def judged(cases):
 
 def misread(cases):
     """The commands in which a shell reads other words than the program's and the path."""
-    for it in cases:
-        program = program_of(it.run)
-        own = PROGRAMS.get(program, [program])
-        if isinstance(it.git, list) and own:
-            said = subprocess.run(["sh", "-c", READ, "sh", it.git[-1]], stdout=subprocess.PIPE, check=False).stdout
-            read = said.split(b"\1")[:-1]
-            if read != [*own, path_of(it.git[-1], it.run)]:
-                yield f"a shell reads {read!r}: {it}"
+    plain = [(it, words) for it in cases if isinstance(it.git, list) and (words := PROGRAMS.get(program_of(it.run), [program_of(it.run)]))]
+    for (it, words), said in zip(plain, in_loops(READ, [it.git[-1] for it, _ in plain])):
+        if said.split(b"\1")[:-1] != [*words, path_of(it.git[-1], it.run)]:
+            yield f"a shell reads {said!r}: {it}"
 
 
 def orders(asked):

@@ -40,20 +40,21 @@ def shown(answer):
     return found and found[1].split(b"\x01")
 
 
-def in_loops(command, texts, files, **more):
-    """The output of a command for each `$text`. A shell runs it for many of them, which takes a fourth of the time."""
+def in_loops(command, texts, files=(), **more):
+    """The output of a command for each `$text`. A shell runs it for many of them, which takes a fourth of the time, and once for equal ones."""
     loop = f"for text; do {command} 2>&1; printf '\\0'; done"
-    parts = [texts[at : at + 200] for at in range(0, len(texts), 200)]
+    every = [*dict.fromkeys(texts)]
+    parts = [every[at : at + 200] for at in range(0, len(every), 200)]
     said = in_repositories(lambda ask, _, some: ask("sh", "-c", loop, "sh", *some).split(b"\0")[:-1], [([], parts)], files, **more)
     assert [*map(len, said)] == [*map(len, parts)]
-    return [it for some in said for it in some]
+    found = dict(zip(every, (it for some in said for it in some)))
+    return [found[it] for it in texts]
 
 
-def ask_git(texts):
-    """Git's results for texts, if only Secure Shell is allowed: for each the transport with the words for its program,
-    and the reading."""
-    commands = ('git ls-remote -- "$text"', 'git fetch-pack --diag-url "$text"')
-    return [*zip(*(in_loops(it, texts, {"GIT_SSH": SHOW}, GIT_ALLOW_PROTOCOL="ssh", GIT_SSH_VARIANT="ssh") for it in commands))]
+def ask_git(command, texts):
+    """Git's answers to texts, if only Secure Shell is allowed: `ls-remote --` shows the transport with the words for its program, and
+    `fetch-pack --diag-url` the reading."""
+    return in_loops(f'git {command} "$text"', texts, {"GIT_SSH": SHOW}, GIT_ALLOW_PROTOCOL="ssh", GIT_SSH_VARIANT="ssh")
 
 
 def host_and_port(text):
@@ -140,12 +141,9 @@ def program_faults(readings, answers):
 # ---- OpenSSH
 
 def ask_secure_shell(pairs):
-    """OpenSSH's answers to words, each with its port or None."""
-    def said(ask, _, pair):
-        word, port = pair
-        return ask("sh", "-c", 'ssh -F "$SETTINGS" -G "$@" x', "sh", *([] if port is None else ["-p", str(port)]), word)
-
-    return in_repositories(said, [([], pairs)], {"SETTINGS": f"User {NO_USER.decode()}\n"})
+    """OpenSSH's answers to words, each with its port or None: a loop gets the option for the port, a space and the word."""
+    texts = [b"%s %s" % (b"" if port is None else b"-p%d" % port, word) for word, port in pairs]
+    return in_loops('ssh -F "$SETTINGS" -G ${text%% *} "${text#* }" x', texts, {"SETTINGS": f"User {NO_USER.decode()}\n"})
 
 
 def heard_fault(answer, reading):
