@@ -1,4 +1,5 @@
 """Bytes, sets of bytes, escapes and cuts of a text."""
+import re
 
 LETTERS = frozenset(b"abcdefghijklmnopqrstuvwxyzABCDEFGHIJKLMNOPQRSTUVWXYZ")
 DIGITS = frozenset(b"0123456789")
@@ -38,15 +39,7 @@ def is_escape(t):
 
 def dec(t):
     """Each escape is one byte, every other byte is literal."""
-    out, i = bytearray(), 0
-    while i < len(t):
-        if is_escape(t[i:i + 3]):
-            out.append(int(t[i + 1:i + 3], 16))
-            i += 3
-        else:
-            out.append(t[i])
-            i += 1
-    return bytes(out)
+    return re.sub(rb"%([0-9A-Fa-f]{2})", lambda it: bytes([int(it[1], 16)]), t)
 
 
 def enc(escaped, t):
