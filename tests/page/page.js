@@ -17,8 +17,14 @@ const details = () => JSON.stringify([...document.querySelectorAll('#lines > tbo
   return [+row.id.slice(1), opens && press(false) && row.nextElementSibling !== more, ...found];
 }));
 
-const counts = () => ['danger', 'verdict', 'form', 'host'].map(id => [...document.querySelectorAll(`#by-${id} tr`)].map(it =>
-  [it.querySelector('th').textContent, +it.querySelector('td').textContent]));
+// The counts, once the page has them.
+const counted = async () => {
+  while (document.querySelector('#counts').hidden) {
+    await new Promise(done => setTimeout(done));
+  }
+};
+const counts = async () => (await counted(), ['danger', 'verdict', 'form', 'host'].map(id => [...document.querySelectorAll(`#by-${id} tr`)].map(it =>
+  [it.querySelector('th').textContent, +it.querySelector('td').textContent])));
 
 // What a page is made of, each once; texts outside of all, controls without a label or an id, comments, and ids that are there twice.
 const made = () => {
@@ -60,8 +66,9 @@ const controls = () => ['#filter', '#counts', '#to-counts'].some(it => document.
 // Waits until the typed text is drawn.
 const drawn = () => new Promise(done => requestAnimationFrame(() => requestAnimationFrame(() => done(1))));
 
-// When the page was loaded, and when its first text was seen.
-const times = () => [performance.getEntriesByType('navigation')[0].loadEventEnd, performance.getEntriesByName('first-contentful-paint')[0].startTime];
+// When the page was loaded, when its first text was seen, and when it has the counts, at the latest.
+const times = async () => (await counted(), [performance.getEntriesByType('navigation')[0].loadEventEnd,
+  performance.getEntriesByName('first-contentful-paint')[0].startTime, performance.now()]);
 
 // Opens the details of each line.
 const openAll = () => document.querySelectorAll('#lines > tbody > tr:not(.more) a').forEach(it => it.ariaExpanded === 'true' || it.click());

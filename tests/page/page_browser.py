@@ -40,13 +40,16 @@ class Browser(webdriver.Chrome):
         self.set_script_timeout(300)
         self.execute_cdp_cmd("Page.addScriptToEvaluateOnNewDocument", {"source": LISTENER, "worldName": "listener"})
 
-    def open(self, file, width=1280, dark=False, script=True):
-        """Opens the page of a file, until its load event, with its script or without. What went wrong before is forgotten."""
+    def open(self, file, width=1280, dark=False, script=True, first=""):
+        """Opens the page of a file, until its load event, with its script or without, and with one that runs first. What went wrong before
+        is forgotten."""
         self.file, self.address = file, f"file://{file}"
         self.look(width, dark)
         self.execute_cdp_cmd("Emulation.setScriptExecutionDisabled", {"value": not script})
         self.found()
+        added = self.execute_cdp_cmd("Page.addScriptToEvaluateOnNewDocument", {"source": first})
         self.get(self.address)
+        self.execute_cdp_cmd("Page.removeScriptToEvaluateOnNewDocument", added)
 
     def look(self, width, dark=False, media=""):
         """Sets the width of the window, light or dark colours, and screen or paper."""
@@ -58,6 +61,12 @@ class Browser(webdriver.Chrome):
     def ask(self, name, *given):
         """The result of a function of `page.js`, which may be a promise."""
         return self.execute_script(f"{ASKED} return {name}(...arguments)", *given)
+
+    def laid_out(self):
+        """The number of the boxes that are laid out, without those of pages that were open before."""
+        for it in ("Performance.enable", "HeapProfiler.collectGarbage"):
+            self.execute_cdp_cmd(it, {})
+        return next(it["value"] for it in self.execute_cdp_cmd("Performance.getMetrics", {})["metrics"] if it["name"] == "LayoutObjects")
 
     def press(self, keys):
         webdriver.ActionChains(self).send_keys(keys).perform()

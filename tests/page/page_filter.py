@@ -1,7 +1,17 @@
 """The filter of a page, used by the keyboard alone: the lines that are shown are those of the answers."""
+import json
+
 from page_answers import form, verdict
 from second_reading.dangers import WORDS
 from selenium.webdriver import Keys
+
+
+# Types into the filter as soon as all lines are there.
+EARLY = """addEventListener('DOMContentLoaded', () => {
+  const text = document.querySelector('#f-text');
+  text.value = %s;
+  text.dispatchEvent(new Event('input', { bubbles: true }));
+})"""
 
 
 def reach(page, name):
@@ -66,6 +76,15 @@ def faults_of(page, wanted):
         show_all(page)
         if page.ask("shown") != [[*range(1, len(wanted) + 1)], f"{len(wanted)} of {len(wanted)} lines shown"]:
             yield f"after {controls} {page.ask('shown')} is shown"
+
+
+def early_faults(page, file, lines, text):
+    """What a page doesn't show whose filter is used before its script has read all lines, or doesn't count then."""
+    page.open(file, first=EARLY % json.dumps(text))
+    if page.ask("shown")[0] != [n for n, it in enumerate(lines, 1) if text in it.decode()]:
+        yield f"by {text!r}, typed at once, {page.ask('shown')} is shown"
+    if sum(count for _, count in page.ask("counts")[1]) != len(lines):
+        yield f"counted are {page.ask('counts')}"
 
 
 def border_faults(page):

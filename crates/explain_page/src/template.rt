@@ -26,7 +26,7 @@ pub const PAGE: [Part; 15] = [
         r##"<!DOCTYPE html>
 <html lang="en">
 <meta charset="utf-8">
-<meta http-equiv="Content-Security-Policy" content="default-src 'none'; style-src 'sha256-e5Y5iG0hhv03dNVW1aNlvOzUPeF58wfC7QjFy3QvGCE='; script-src 'sha256-Zxmc4MnFyKWctxKaFfj/HFEp0UaaKC4MFb6wgRh5gJ0='; base-uri 'none'; form-action 'none'">
+<meta http-equiv="Content-Security-Policy" content="default-src 'none'; style-src 'sha256-e5Y5iG0hhv03dNVW1aNlvOzUPeF58wfC7QjFy3QvGCE='; script-src 'sha256-UZKPVJmwqDpokUXXjTwY/hidKBX/HsHIhzKuoPH15sY='; base-uri 'none'; form-action 'none'">
 <meta name="viewport" content="width=device-width, initial-scale=1">
 <meta name="color-scheme" content="light dark">
 <meta name="generator" content="explain --html">
@@ -241,7 +241,15 @@ footer { margin-top: 2rem; border-top: 1px solid var(--line); padding-top: .5rem
       form: FORMS[at.form ?? "none"], verdict: verdictOf(it), dangers: it.dangers, isDangerous: it.findings.includes("danger"),
     };
   };
-  const lines = Array.from(document.querySelectorAll("#lines > tbody > tr"), factsOf);
+  // What the filter and the counts need of the lines. It is read by pieces, and between them the browser does what the reader asks for.
+  const PIECE = 2000;
+  const rows = Array.from(document.querySelectorAll("#lines > tbody > tr"));
+  const lines = [];
+  const readTo = (end) => {
+    for (const row of rows.slice(lines.length, end)) {
+      lines.push(factsOf(row));
+    }
+  };
   const groups = Array.from(document.querySelectorAll("#lines > tbody"));
 
   // The details of a line.
@@ -350,11 +358,11 @@ footer { margin-top: 2rem; border-top: 1px solid var(--line); padding-top: .5rem
   };
   const countTable = (id, heading, rows) => make("table", { id: `by-${id}` }, make("caption", {}, heading),
     ...rows.map(([name, count]) => make("tr", {}, make("th", { scope: "row" }, make("div", {}, ...shown(name))), make("td", {}, String(count)))));
-  const dangerWords = {};
-  for (const { row, dangers } of lines) {
-    dangers.forEach((name, at) => dangerWords[name] ??= row.querySelectorAll("td > b")[at].textContent);
-  }
   const counts = () => {
+    const dangerWords = {};
+    for (const { row, dangers } of lines) {
+      dangers.forEach((name, at) => dangerWords[name] ??= row.querySelectorAll("td > b")[at].textContent);
+    }
     const hosts = counted(lines.map((it) => it.host).filter((it) => it !== null && it !== undefined)), others = hosts.slice(HOSTS);
     const sum = others.reduce((all, [, count]) => all + count, 0), none = lines.filter((it) => (it.host ?? null) === null).length;
     const dangers = counted(lines.flatMap((it) => it.dangers)).map(([name, count]) => [dangerWords[name], count, name]);
@@ -368,10 +376,18 @@ footer { margin-top: 2rem; border-top: 1px solid var(--line); padding-top: .5rem
     by("f-form").append(...forms.map(([it]) => option(it, it)));
     by("counts").hidden = by("to-counts").hidden = false;
   };
+  const readOn = () => {
+    readTo(lines.length + PIECE);
+    if (lines.length < rows.length) {
+      setTimeout(readOn);
+    } else {
+      counts();
+    }
+  };
 
   // The filter.
   const say = (count) => {
-    by("shown").textContent = `${count} of ${lines.length} lines shown`;
+    by("shown").textContent = `${count} of ${rows.length} lines shown`;
   };
   // Hides all groups, and computes their style. The browser then forgets which of them it has laid out, and how high they were. Otherwise
   // it lays out, with all lines that are shown now, each group of which few lines were shown before.
@@ -386,6 +402,7 @@ footer { margin-top: 2rem; border-top: 1px solid var(--line); padding-top: .5rem
       && (!danger || (danger === "any" ? it.isDangerous : it.dangers.includes(danger)))
       && holds(it.host, host.toLowerCase()) && holds(it[part], text.toLowerCase());
     const left = new Map(groups.map((it) => [it, 0]));
+    readTo(rows.length);
     forgetLayout();
     let count = 0;
     for (const it of lines) {
@@ -411,8 +428,8 @@ footer { margin-top: 2rem; border-top: 1px solid var(--line); padding-top: .5rem
   by("filter").addEventListener("reset", () => setTimeout(apply));
   by("filter").addEventListener("submit", (event) => event.preventDefault());
   by("filter").hidden = false;
-  counts();
-  say(lines.length);
+  say(rows.length);
+  readOn();
   addEventListener("hashchange", openTarget);
   openTarget();
 })();
