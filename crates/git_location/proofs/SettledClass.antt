@@ -5,3 +5,4 @@ pub mod UnchangedLemmas
 pub mod WebClassLemmas
 pub mod SimpleTextLemmas
 pub mod ConditionLemmas
+pub mod FrontLemmas

@@ -58,14 +58,14 @@ bracketed_longest host =
     let whole = length-append (escaped_percents host) (right_bracket ∷ []) in
     omega (arith, few, whole)
 
-host_longest : (v : Location) (host : Option (List ℕ)) → length (host_part v host) ≤ 3 * optional_length host + 2
+pub host_longest : (v : Location) (host : Option (List ℕ)) → length (host_part v host) ≤ 3 * optional_length host + 2
 host_longest v None = omega arith
 host_longest v (Some host) =
     cond_both (needs_brackets v.port host) _ _ (λ t. length t ≤ 3 * length host + 2) (λ needed. bracketed_longest host)
     (λ unneeded. let few = open_longest v.scheme host in omega (arith, few))
 
 -- a port has at most five digits
-port_longest : (port : Option ℕ) → IfSome port (λ p. p < 65536) → length (port_part port) ≤ 6
+pub port_longest : (port : Option ℕ) → IfSome port (λ p. p < 65536) → length (port_part port) ≤ 6
 port_longest None small = omega arith
 port_longest (Some p) small =
     let digits = length-decimal-le 5 p (omega arith) (omega (arith, small)) (omega (arith, small)) in

@@ -1,11 +1,12 @@
 -- Hosts and texts that the tests of the settled class decide.
-use Rattle.std.specs.Prelude.{◌≡◌, ℕ, ◌+◌, false, ◌⊎◌, List, [], ◌∷◌, ◌++◌, length, drop, Option, MatchOption, Ok}
+use Rattle.std.specs.Prelude.{◌≡◌, ℕ, ◌+◌, false, ◌⊎◌, List, [], ◌∷◌, ◌++◌, length, drop, Option, None, IfSome, MatchOption, Ok, true, ◌<◌, ◌≤◌}
 use Rattle.std.specs.Borrow.{Bor}
 use Rattle.git_syntax.specs.Location.{Location}
-use Rattle.git_syntax.specs.Bytes.{colon, left_bracket, right_bracket, FreeOf}
+use Rattle.git_syntax.specs.Bytes.{begins_by, begins_with, slash, colon, left_bracket, right_bracket, FreeOf}
 use Rattle.git_syntax.specs.Escapes.{has_percent}
 use Rattle.git_syntax.specs.Addresses.{Literal}
 use Rattle.git_syntax.specs.Schemes.{scheme_text}
+use Rattle.git_syntax.specs.Internal.LengthChecks.{is_skipped}
 use Rattle.git_location.specs.Text.{text, canonical_text}
 use Rattle.git_syntax.specs.Authority.{Fits}
 use Rattle.git_location.specs.Settled.{HasCredentials, HasFittingText, HasUrlPath, IsHosted, IsRawPath, IsWebName}
@@ -28,6 +29,15 @@ StripsBrackets host r = MatchOption r
 -- a host of HTTP that a colon may follow
 abbrev pub IsClosedHost : List ℕ → Type 0
 IsClosedHost host = IsBracketedLiteral host ⊎ (IsWebName host × (has_percent host ≡ false))
+
+-- the host begins with a byte that the length test doesn't skip, and is short
+abbrev pub IsShortHost : List ℕ → Type 0
+IsShortHost host = (0 < length host) × (begins_by is_skipped host ≡ false) × (length host ≤ 300)
+
+-- there is no user, and the path and its spelling, if there is one, begin with `/`
+abbrev pub IsRootedWithoutUser : Location → Type 0
+IsRootedWithoutUser v = (v.user ≡ None) × (begins_with slash v.path ≡ true)
+    × IfSome v.spelling (λ s. begins_with slash s ≡ true)
 
 -- a path of a settled URL, which is raw if no spelling matches it
 abbrev pub HasRawPath : Location → Type 0

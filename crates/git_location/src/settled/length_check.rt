@@ -1,21 +1,22 @@
 //! The length test of a location's text, piece by piece. The lengths of the fields decide nearly all cases.
 
 ghost use Rattle.std.specs.Prelude.{◌≡◌, ◌≤◌, ◌*◌, ◌^◌, ◌↔◌, ◌+◌, IsTrue, Ok, drop, length, option_map};
-ghost use Rattle.git_syntax.specs.Bytes.{FreeOf, colon};
+ghost use Rattle.git_syntax.specs.Bytes.{FreeOf, begins_by, colon};
 ghost use Rattle.git_location.specs.Internal.Pieces.{AreOwn, pieces_text};
 ghost use Rattle.git_syntax.specs.Schemes.{scheme_text};
 ghost use Rattle.git_location.specs.Settled.{HasFittingText};
 ghost use Rattle.git_location.specs.Text.{canonical_text, text};
 ghost use Rattle.git_syntax.specs.Schemes as spec;
-ghost use Rattle.git_syntax.specs.Internal.LengthChecks.{is_rest_short, is_text_in_time};
+ghost use Rattle.git_syntax.specs.Internal.LengthChecks.{is_rest_short, is_skipped, is_text_in_time};
 ghost use Rattle.git_syntax.specs.Internal.FoundPieces.{optional_length};
-ghost use Rattle.git_location.specs.Internal.SettledPieces.{IsPiecesShort};
+ghost use Rattle.git_location.specs.Internal.SettledPieces.{IsRootedWithoutUser, IsShortHost, IsPiecesShort};
 ghost use Rattle.git_location.specs.Internal.Sinks.{ChecksPast, checks_joined, checks_nothing};
 
 use crate::url_ref::UrlRef;
 use crate::value::law_borrowed_value;
 use crate::writer::piece::Pieces;
 use crate::writer::sink::Sink;
+use git_syntax::bytes::starts_with_byte;
 use git_syntax::length::{LIMIT, LengthCheck};
 use itoa::Buffer;
 use std::convert::Infallible;
@@ -29,7 +30,7 @@ pub(crate) fn has_fitting_text(url: &UrlRef<'_>, laid: Option<&Pieces<'_>>) -> b
 {
     match laid {
         Some(pieces) => are_short(url.scheme.as_str().as_bytes(), pieces),
-        None => has_short_parts(url) || is_own_short(url),
+        None => has_short_parts(url) || has_short_front(url) || is_own_short(url),
     }
 }
 
@@ -41,6 +42,53 @@ fn has_short_parts(url: &UrlRef<'_>) -> bool
     ensures { IsTrue result → HasFittingText url.now }
 {
     longest_len(url) <= LIMIT as u128
+}
+
+/// Whether the path of the location starts in time, however long it is: there is no user, and however much of the host is written
+/// as escapes, the path begins within the limit.
+fn has_short_front(url: &UrlRef<'_>) -> bool
+    requires no_colon { FreeOf colon (scheme_text url.now.scheme) }
+    requires canonical { text url.now ≡ Ok (canonical_text url.now) }
+    ensures { IsTrue result → HasFittingText url.now }
+{
+    law_borrowed_value(url);
+    if !is_rooted_without_user(url) || url.scheme.as_str().len() > LIMIT {
+        return false;
+    }
+    match url.host {
+        None => false,
+        Some(host) => is_short_host(host.as_bytes()),
+    }
+}
+
+/// Whether there is no user, and the path and its spelling, if there is one, begin with `/`.
+fn is_rooted_without_user(url: &UrlRef<'_>) -> bool
+    ensures { IsTrue result → IsRootedWithoutUser url.now }
+{
+    if url.user.is_some() || !starts_with_byte(url.path, b'/') {
+        return false;
+    }
+    match url.spelling {
+        None => true,
+        Some(spelling) => starts_with_byte(spelling, b'/'),
+    }
+}
+
+/// Whether the host begins with a byte that the length test doesn't skip, and is so short that it fits with each byte as an escape.
+fn is_short_host(host: &[u8]) -> bool
+    ensures { IsTrue result → IsShortHost host.now }
+{
+    !host.is_empty() && !begins_skipped(host) && host.len() <= 300
+}
+
+/// Whether the text begins with a byte that the length test skips.
+fn begins_skipped(text: &[u8]) -> bool
+    ensures { result ≡ begins_by is_skipped text.now }
+{
+    match text {
+        [] => false,
+        [first, ..] => *first == b'/' || *first == b'\\' || first.is_ascii_whitespace(),
+    }
 }
 
 /// An upper bound for the length of the location's text as a URL: an escape has three bytes, and the marks and
