@@ -78,14 +78,23 @@ pub(crate) fn rank_in(
     ensures buffer { OnOk result
         (BufferSuffices section.now name.now (option_copied place.entry) (length buffer.old) entry.now) }
 {
-    if !entry.sets(section, name) {
-        return Ok(None);
-    }
     match entry.subsection {
-        None => Ok(Some(LOWEST)),
+        None => {
+            if entry.sets(section, name) {
+                Ok(Some(LOWEST))
+            } else {
+                Ok(None)
+            }
+        }
         Some(url) => match place {
             None => Ok(None),
-            Some(place) => url_rank(url, place, buffer),
+            Some(place) => {
+                // The test of the host takes less than the comparison of the names.
+                if is_elsewhere(url, place.host, buffer.len()) || !entry.sets(section, name) {
+                    return Ok(None);
+                }
+                url_rank(url, place, buffer)
+            }
         },
     }
 }
@@ -99,9 +108,6 @@ fn url_rank(
     ensures rank { RanksUrlIn place.now (length buffer.old) url.now result }
     ensures buffer { OnOk result (3 * length url.now + 1 ≤ length buffer.old) }
 {
-    if is_elsewhere(url, place.host, buffer.len()) {
-        return Ok(None);
-    }
     match UrlPattern::parse_in(url, buffer) {
         Ok(pattern) => Ok(pattern.rank_for(place)),
         Err(error) => {

@@ -1,17 +1,8 @@
 -- By the one normal form of the URL, if there is one.
-use Rattle.std.proofs.Common.{length, subst, true}
+use Rattle.std.proofs.Common.{length, true}
 use Rattle.std.proofs.lemmas.Bool.{both_ways}
-use Rattle.git_rules.specs.Normal.{NormalPlace}
-use Rattle.git_rules.specs.OtherHosts.{NamesOtherHost}
 use Rattle.git_rules.proofs.Matched.EntryLemmas.{long_enough, no_form, too_short, url_ranked}
-use Rattle.git_rules.proofs.Matched.OtherHostLemmas.{elsewhere_unranked}
 use Rattle.git_rules.proofs.pattern.entries.url_rank.Goals as goal
-
-pub returns-then-is_elsewhere-clause-rank : goal.returns-then-is_elsewhere-clause-rank
-returns-then-is_elsewhere-clause-rank c = elsewhere_unranked c.args.place.now c.args.url.now (subst (λ (p : NormalPlace). NamesOtherHost c.args.url.now p.host) c.place.view_is (c.is_elsewhere.ensures c.if-is_elsewhere.true).1)
-
-pub returns-then-is_elsewhere-clause-buffer : goal.returns-then-is_elsewhere-clause-buffer
-returns-then-is_elsewhere-clause-buffer c = (c.is_elsewhere.ensures c.if-is_elsewhere.true).0
 
 pub returns-in-Ok-clause-rank : goal.returns-in-Ok-clause-rank
 returns-in-Ok-clause-rank c = url_ranked c.args.place.now c.in-Ok.pattern c.args.url.now c.rank_for.result c.in-Ok.ensures.1 c.rank_for.ensures
