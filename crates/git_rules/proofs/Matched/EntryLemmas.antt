@@ -1,6 +1,5 @@
 -- The rank of an entry, by that of its URL.
-use Rattle.std.proofs.Common.{◌≡◌, ◌∙◌, ◌∷◌, ◌++◌, ap, All, take, drop, get_or, suc, ℕ, ◌+◌, ◌*◌, ◌<◌, ◌≤◌, List, length, refl, sym, subst, arith, Bool, true, false, Option, Some, None, IfSome, Result, Ok, Err, OnOk}
-use Rattle.std.proofs.lemmas.Bool.{both_ways}
+use Rattle.std.proofs.Common.{◌≡◌, ◌∙◌, ◌∷◌, ◌++◌, ap, All, take, drop, get_or, suc, ℕ, ◌+◌, ◌*◌, ◌<◌, ◌≤◌, List, length, refl, sym, subst, arith, Bool, true, Option, Some, None, IfSome, Result, Ok, Err}
 use Rattle.std.proofs.lemmas.List.{take_all}
 use Rattle.git_rules.specs.declared.normal.NormalError.{NormalError}
 use Rattle.git_rules.specs.declared.normal.NormalError.TheVariants.{NoRoom, NoUrl, BrokenEscape, NoHost, BadHost, BadPort, AboveRoot}
@@ -45,28 +44,6 @@ long_enough globs text buffer_len NoHost other h = h.0
 long_enough globs text buffer_len BadHost other h = h.0
 long_enough globs text buffer_len BadPort other h = h.0
 long_enough globs text buffer_len AboveRoot other h = h.0
-
--- an entry that doesn't set the variable needs no buffer
-pub unset_fits : (section name : List ℕ) (place : Option NormalPlace) (buffer_len : ℕ) (e : ConfigEntry) → sets section name e ≡ false → BufferSuffices section name place buffer_len e
-unset_fits section name None buffer_len e other = tt
-unset_fits section name (Some place) buffer_len e other = λ of. absurd (both_ways _ other of)
-
--- nor does one for all places
-pub everywhere_fits : (section name : List ℕ) (place : Option NormalPlace) (buffer_len : ℕ) (e : ConfigEntry) → e.subsection ≡ None → BufferSuffices section name place buffer_len e
-everywhere_fits section name None buffer_len e whole = tt
-everywhere_fits section name (Some place) buffer_len e whole =
-    λ of. subst (λ s. IfSome s (λ url. 3 * length url + 1 ≤ buffer_len)) (sym whole) tt
-
--- nor does any without a place
-pub placeless_fits : (section name : List ℕ) (place : Option NormalPlace) (buffer_len : ℕ) (e : ConfigEntry) → place ≡ None → BufferSuffices section name place buffer_len e
-placeless_fits section name None buffer_len e none = tt
-placeless_fits section name (Some place) buffer_len e none = cc
-
--- an entry needs the buffer that its URL needs
-pub entry_fits : (section name url : List ℕ) (place : NormalPlace) (buffer_len : ℕ) (e : ConfigEntry) (r : Result (Option Rank) NormalError) → e.subsection ≡ Some url → OnOk r (3 * length url + 1 ≤ buffer_len) → OnOk r (BufferSuffices section name (Some place) buffer_len e)
-entry_fits section name url place buffer_len e (Ok rank) same enough =
-    λ of. subst (λ s. IfSome s (λ u. 3 * length u + 1 ≤ buffer_len)) (sym same) enough
-entry_fits section name url place buffer_len e (Err error) same enough = tt
 
 -- an entry of the variable has the rank of its URL
 pub entry_ranked : (section name url : List ℕ) (place : NormalPlace) (buffer_len : ℕ) (e : ConfigEntry) (r : Result (Option Rank) NormalError) → sets section name e ≡ true → e.subsection ≡ Some url → RanksUrlIn place buffer_len url r → RanksIn section name (Some place) buffer_len e r

@@ -1,6 +1,6 @@
 -- URLs that name another host: hosts that go on differently after a common front don't match, and the host of a URL
 -- begins with the plain bytes at the front of its authority.
-use Rattle.std.proofs.Common.{◌≡◌, ◌∙◌, ◌<◌, ℕ, Bool, true, false, ◌==◌, ◌⊎◌, inl, inr, List, [], ◌∷◌, ◌++◌, length, refl, sym, ap, subst, arith, append_assoc, Option, Some, None, codes}
+use Rattle.std.proofs.Common.{◌≡◌, ◌∙◌, ◌<◌, ℕ, Bool, true, false, ◌==◌, ◌⊎◌, inl, inr, List, [], ◌∷◌, ◌++◌, length, refl, sym, ap, subst, arith, append_assoc, Option, codes}
 use Rattle.std.specs.List.{list_all}
 use Rattle.std.specs.Char.{to_ascii_lowercase}
 use Rattle.std.proofs.lemmas.Bool.{and_from, both_ways, cases_Bool, cond-false, eq-eqb, eqb-true, false≢true}
@@ -18,8 +18,7 @@ use Rattle.git_laws.proofs.GitReadings.GitCutLemmas.{no_git_escape}
 use Rattle.git_rules.specs.Normal.{CutsPort, HostFor, HostPort, IsNormalOf, NormalAuthority, NormalPlace, asterisk, lacks_host}
 use Rattle.git_rules.specs.OtherHosts.{DiffersPlainly, FollowsScheme, NamesOtherHost}
 use Rattle.git_rules.specs.PartialUrls.{CutsProtocol, HasText, ReadsPartly}
-use Rattle.git_rules.specs.PatternEntries.{RanksSubsection}
-use Rattle.git_rules.specs.Patterns.{HasRank, in_first_label, labels_of, MatchesHost, MatchesLabel, MatchesLabels}
+use Rattle.git_rules.specs.Patterns.{in_first_label, labels_of, MatchesHost, MatchesLabel, MatchesLabels}
 use Rattle.git_rules.proofs.NormalForms.NormalWebLemmas.{plain_there}
 use Rattle.git_rules.proofs.Matched.HostLemmas.{labels_byte, labels_dot, not_empty_first}
 use Rattle.git_rules.proofs.Matched.LabelLemmas.{labels_some}
@@ -249,9 +248,3 @@ further text host front rest own more others byte first is own_is plain rest_is 
   own_is ∙ ap (λ z. front ++ z) first_is ∙ ap (λ b. front ++ b ∷ others) same ∙ sym (append_assoc front (byte ∷ []) others),
   list_all-append is_plain_host_byte front (byte ∷ []) ∙ and_from _ _ plain (and_from _ _ good refl),
 )
-
--- ---- entries of another host
-
--- the URL has no rank for a place with this host
-pub elsewhere_unranked : (place : NormalPlace) (url : List ℕ) → NamesOtherHost url place.host → HasRank (RanksSubsection (Some place)) (Some url) None
-elsewhere_unranked place url other = λ k ranked. other.pattern ranked.0 ranked.1 ranked.2.0.host
